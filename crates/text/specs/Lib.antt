@@ -1,0 +1,4 @@
+pub mod Choice
+pub mod Loop
+pub mod Scan
+pub mod Table

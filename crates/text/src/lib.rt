@@ -1,0 +1,1 @@
+// Byte strings: what the layers above need of them.
