@@ -2,3 +2,13 @@ pub mod Choice
 pub mod Loop
 pub mod Scan
 pub mod Table
+pub mod Equal
+pub mod Order
+pub mod OrderLaws
+pub mod Copy
+pub mod Class
+pub mod Counted
+pub mod Join
+pub mod Digits
+pub mod Decimal
+pub mod Working

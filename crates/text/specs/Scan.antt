@@ -6,7 +6,7 @@ use mathlib.Core.List.{List, [], _∷_}
 use Prim.Native.Nat.{ℕ, zero, suc, _+_, _<_, _≤_}
 use native.Mathlib.Omega.{arith}
 use native.Mathlib.Numerals.{add-one}
-use native.Mathlib.Nat.{add-zero, add-suc, suc-add}
+use native.Mathlib.Nat.{add-zero, zero-add, add-suc, suc-add}
 use lib.ListN.{length, getD, drop, drop-of-length-le}
 use lib.Seq.{drop-cons}
 use Rattle.text.specs.Choice.{pick}
@@ -32,6 +32,10 @@ module _ (p : ℕ → Bool) (s : List ℕ) (i : ℕ) where
   pub past-end : length s ≤ i → past p s i ≡ i
   unfolding past
   past-end h = rw (drop-of-length-le s h) (add-zero i)
+
+  pub past-front : past p s 0 ≡ run p s
+  unfolding past
+  past-front = zero-add (run p s)
 
 -- the same as steps of a loop whose invariant is `past p s i ≡ r`: these `search` finds by itself
 module _ (p : ℕ → Bool) (s : List ℕ) (i r : ℕ) where

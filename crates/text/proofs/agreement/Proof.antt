@@ -1,0 +1,67 @@
+use mathlib.Core.Path.{_≡_}
+use Prim.Native.Nat.{_-_}
+use lib.ListN.{length}
+use Rattle.text.specs.Working.Common.{common, commonFrom, common-start, common-end, common-short, common-stop, common-more}
+use borrow.Author.Needs.{needs}
+use Rattle.text.proofs.agreement.Statement.{statement}
+use Rattle.text.proofs.agreement.Tie as tie
+use Rattle.text.proofs.agreement.Reads as reads
+use Rattle.text.proofs.agreement.Lts as lts
+
+abbrev Inv-loop : tie.InvT-loop
+Inv-loop a b i₀ i = commonFrom a b i ≡ common a b
+
+abbrev μ-loop : tie.MeasureT-loop
+μ-loop a b i₀ i = length a - i
+
+-- src/lib.rt:20:5
+loop-holds : tie.Need-loop-holds Inv-loop μ-loop
+loop-holds c = search common-start
+
+-- src/lib.rt:22:13
+returns : tie.Need-returns Inv-loop μ-loop
+returns c = search common-short
+
+-- src/lib.rt:24:12
+shared-slice-read-if2 : tie.Need-shared-slice-read-if2 Inv-loop μ-loop
+shared-slice-read-if2 c = search needs
+
+-- src/lib.rt:24:20
+shared-slice-read-if2-2 : tie.Need-shared-slice-read-if2-2 Inv-loop μ-loop
+shared-slice-read-if2-2 c = search needs
+
+-- src/lib.rt:25:13
+returns-2 : tie.Need-returns-2 Inv-loop μ-loop
+returns-2 c = search common-stop
+
+-- src/lib.rt:27:9
+add-i : tie.Need-add-i Inv-loop μ-loop
+add-i c = search needs
+
+-- src/lib.rt:20:5
+loop-less : tie.Need-loop-less Inv-loop μ-loop
+loop-less c = search needs
+
+-- src/lib.rt:20:5
+loop-again : tie.Need-loop-again Inv-loop μ-loop
+loop-again c = search common-more
+
+-- src/lib.rt:16:1
+returns-3 : tie.Need-returns-3 Inv-loop μ-loop
+returns-3 c = search common-end
+
+pub agreement-spec : {M : Type 1} → statement M
+agreement-spec =
+    tie.close
+    (tie.spec
+    Inv-loop
+    μ-loop
+    loop-holds
+    returns
+    shared-slice-read-if2
+    shared-slice-read-if2-2
+    returns-2
+    add-i
+    loop-less
+    loop-again
+    returns-3)

@@ -1,0 +1,25 @@
+use Rattle.text.specs.Choice.{tests}
+use Rattle.text.specs.Class.{isLetter}
+use borrow.Author.Needs.{needs}
+use Rattle.text.proofs.is_letter.Statement.{statement}
+use Rattle.text.proofs.is_letter.Tie as tie
+use Rattle.text.proofs.is_letter.Reads as reads
+use Rattle.text.proofs.is_letter.Lts as lts
+
+-- src/lib.rt:128:9
+returns : tie.Need-returns
+unfolding isLetter
+returns c = search (needs, tests)
+
+-- src/lib.rt:131:9
+returns-2 : tie.Need-returns-2
+unfolding isLetter
+returns-2 c = search (needs, tests)
+
+-- src/lib.rt:124:1
+returns-3 : tie.Need-returns-3
+unfolding isLetter
+returns-3 c = search (needs, tests)
+
+pub is-letter-spec : {M : Type 1} → statement M
+is-letter-spec = tie.close (tie.spec returns returns-2 returns-3)

@@ -1,0 +1,57 @@
+use Rattle.text.specs.Working.Deciding.{decimal-none, decimal-minus, decimal-plain}
+use borrow.Author.Needs.{needs}
+use Rattle.text.proofs.to_integer.Statement.{statement}
+use Rattle.text.proofs.to_integer.Tie as tie
+use Rattle.text.proofs.to_integer.Reads as reads
+use Rattle.text.proofs.to_integer.Lts as lts
+use Rattle.text.proofs.without_sign.Reads as without-sign-reads
+
+-- src/lib.rt:406:9
+returns : tie.Need-returns
+returns c = search decimal-none
+
+-- src/lib.rt:408:8
+shared-slice-read-if2 : tie.Need-shared-slice-read-if2
+shared-slice-read-if2 c = search needs
+
+-- src/lib.rt:409:35
+sub-without-sign : tie.Need-sub-without-sign
+sub-without-sign c = search needs
+
+-- src/lib.rt:409:35
+part-without-sign-start : tie.Need-part-without-sign-start
+part-without-sign-start c = search needs
+
+-- src/lib.rt:409:35
+part-without-sign-end : tie.Need-part-without-sign-end
+part-without-sign-end c = search needs
+
+-- src/lib.rt:409:9
+without-sign-requires : tie.Need-without-sign-requires
+without-sign-requires c κs = search needs
+
+-- src/lib.rt:409:9
+returns-2 : tie.Need-returns-2
+returns-2 c = search decimal-minus
+
+-- src/lib.rt:411:5
+without-sign-requires-2 : tie.Need-without-sign-requires-2
+without-sign-requires-2 c κs = search needs
+
+-- src/lib.rt:402:1
+returns-3 : tie.Need-returns-3
+returns-3 c = search decimal-plain
+
+pub to-integer-spec : {M : Type 1} → statement M
+to-integer-spec =
+    tie.close
+    (tie.spec
+    returns
+    shared-slice-read-if2
+    sub-without-sign
+    part-without-sign-start
+    part-without-sign-end
+    without-sign-requires
+    returns-2
+    without-sign-requires-2
+    returns-3)

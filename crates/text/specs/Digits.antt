@@ -1,0 +1,15 @@
+-- The number that decimal digits write. Assumes nothing.
+use mathlib.Core.List.{List, [], _∷_}
+use Prim.Native.Nat.{ℕ, _+_, _-_, _*_, min}
+
+-- the value of digits behind a value
+unfoldable pub valueFrom : ℕ → List ℕ → ℕ
+valueFrom v [] = v
+valueFrom v (b ∷ bs) = valueFrom (v * 10 + (b - 48)) bs
+
+unfoldable pub value : List ℕ → ℕ
+value ds = valueFrom 0 ds
+
+-- numbers are told apart up to here
+abbrev pub limit : ℕ
+limit = 4294967295

@@ -1,0 +1,60 @@
+-- Working definition: a decimal number held at a limit while its digits are read, and what it is. Assumes nothing.
+use mathlib.Core.Path.{_≡_, refl, sym, ap, _∙_}
+use mathlib.Core.Bool.{Bool, true, false}
+use mathlib.Core.List.{List, [], _∷_}
+use Prim.Native.Nat.{ℕ, zero, suc, _+_, _-_, _*_, _<_, _≤_, min}
+use native.Mathlib.Omega.{arith}
+use native.Mathlib.Numerals.{add-one}
+use lib.Dec.{leb}
+use lib.ListN.{length, getD, drop, drop-of-length-le}
+use lib.Seq.{drop-cons}
+use Rattle.text.specs.Digits.{valueFrom, value, limit}
+
+-- one digit more, held at the limit
+unfoldable pub hold : ℕ → ℕ → ℕ
+hold v b = min (min v limit * 10 + (b - 48)) limit
+
+unfoldable pub holdAll : ℕ → List ℕ → ℕ
+holdAll v [] = v
+holdAll v (b ∷ bs) = holdAll (hold v b) bs
+
+hold-step : (v b : ℕ) → hold (min v limit) b ≡ min (v * 10 + (b - 48)) limit
+unfolding hold
+hold-step v b = omega arith
+
+hold-all : (bs : List ℕ) (v : ℕ) → holdAll (min v limit) bs ≡ min (valueFrom v bs) limit
+unfolding holdAll valueFrom
+hold-all [] v = refl
+hold-all (b ∷ bs) v = rw (hold-step v b) (hold-all bs (v * 10 + (b - 48)))
+
+-- what the loop over a string gives
+unfoldable pub holdRest : List ℕ → ℕ → ℕ → ℕ
+holdRest s i v = holdAll v (drop i s)
+
+pub hold-start : (s : List ℕ) → holdRest s 0 0 ≡ min (value s) limit
+unfolding holdRest value
+hold-start s = hold-all s 0
+
+module _ (s : List ℕ) (i v r : ℕ) (inv : holdRest s i v ≡ r) where
+  pub hold-more : i < length s → (w : ℕ) → w ≡ hold v (getD s i 0) → holdRest s (i + 1) w ≡ r
+  unfolding holdRest holdAll
+  hold-more h w e = rw (add-one i, e) (rw (drop-cons s i 0 h) at inv)
+
+  pub hold-end : length s ≤ i → v ≡ r
+  unfolding holdRest holdAll
+  hold-end h = rw (drop-of-length-le s h) at inv
+
+-- the ways out of `hold`
+module _ (v b : ℕ) where
+  pub hold-high : 429496729 < v → 4294967295 ≡ hold v b
+  unfolding hold
+  hold-high h = omega arith
+
+  module _ (low : v ≤ 429496729) (d : ℕ) (de : d ≡ b - 48) where
+    pub hold-over : 4294967295 < v * 10 + d → 4294967295 ≡ hold v b
+    unfolding hold
+    hold-over h = omega arith
+
+    pub hold-in : v * 10 + d ≤ 4294967295 → v * 10 + d ≡ hold v b
+    unfolding hold
+    hold-in h = omega arith
