@@ -6,6 +6,7 @@ pub mod Equal
 pub mod Order
 pub mod OrderLaws
 pub mod Copy
+pub mod CopyLaws
 pub mod Class
 pub mod Counted
 pub mod Join

@@ -180,12 +180,6 @@ fn wide(b: u8) -> usize
     b as usize
 }
 
-fn place(p: u16) -> usize
-    ensures { λ r. ⌜ r ≡ p ⌝ }
-{
-    p as usize
-}
-
 // The number in two bytes, big-endian; a byte past the end counts as 0.
 pub fn pair_at(s: &[u8], at: usize) -> usize
     ensures { λ r. ⌜ r ≡ pairAt (now (s .entry)) at ⌝ }
@@ -229,14 +223,14 @@ fn lead(i: usize) -> usize
 }
 
 // Does the joined text fit into so many bytes?
-fn joined_fits(s: &[u8], places: &[u16], room: usize) -> bool
+fn joined_fits(s: &[u8], places: &[usize], room: usize) -> bool
     ensures { λ r. ⌜ r ≡ leb (length (joined (map (counted (now (s .entry))) (now (places .entry))))) room ⌝ }
 {
     let mut left = room;
     let mut i: usize = 0;
     while i < places.len() {
         let c = lead(i);
-        let p = place(places[i]);
+        let p = places[i];
         let n = counted_at(s, p).len();
         if left < c {
             return false;
@@ -267,14 +261,14 @@ fn copy_item(dst: &mut [u8], at: usize, i: usize, item: &[u8]) -> bool
     false
 }
 
-fn write_joined(dst: &mut [u8], at: usize, s: &[u8], places: &[u16])
+fn write_joined(dst: &mut [u8], at: usize, s: &[u8], places: &[usize])
     requires { ⌜ at + length (joined (map (counted (now s)) (now places))) ≤ length (now dst) ⌝ }
     ensures { λ _. ⌜ now (dst .exit) ≡ put (now (dst .entry)) at (joined (map (counted (now (s .entry))) (now (places .entry)))) ⌝ }
 {
     let mut to = at;
     let mut i: usize = 0;
     while i < places.len() {
-        let p = place(places[i]);
+        let p = places[i];
         let c = lead(i);
         let item = counted_at(s, p);
         let n = item.len();
@@ -285,7 +279,7 @@ fn write_joined(dst: &mut [u8], at: usize, s: &[u8], places: &[u16])
 }
 
 // Joins the strings at the places with commas, into dst at a place; where they don't fit, nothing is written.
-pub fn join_at(dst: &mut [u8], at: usize, s: &[u8], places: &[u16]) -> bool
+pub fn join_at(dst: &mut [u8], at: usize, s: &[u8], places: &[usize]) -> bool
     ensures { λ r. ⌜ copied r (now (dst .exit)) ≡ copyAt (now (dst .entry)) at (joined (map (counted (now (s .entry))) (now (places .entry)))) ⌝ }
 {
     if dst.len() < at {

@@ -13,7 +13,6 @@ use Rattle.text.proofs.joined_fits.Reads as reads
 use Rattle.text.proofs.joined_fits.Lts as lts
 use Rattle.text.proofs.counted_at.Reads as counted-at-reads
 use Rattle.text.proofs.lead.Reads as lead-reads
-use Rattle.text.proofs.place.Reads as place-reads
 
 abbrev Inv-loop : tie.InvT-loop
 Inv-loop s places room left₀ i₀ left i = fitsRest s places i left ≡ leb (length (joined (map (counted s) places))) room
@@ -21,55 +20,51 @@ Inv-loop s places room left₀ i₀ left i = fitsRest s places i left ≡ leb (l
 abbrev μ-loop : tie.MeasureT-loop
 μ-loop s places room left₀ i₀ left i = length places - i
 
--- src/lib.rt:235:5
+-- src/lib.rt:231:5
 loop-holds : tie.Need-loop-holds Inv-loop μ-loop
 loop-holds c = search fits-start
 
--- src/lib.rt:236:13
+-- src/lib.rt:232:13
 lead-requires : tie.Need-lead-requires Inv-loop μ-loop
 lead-requires c κs = search needs
 
--- src/lib.rt:237:23
-mul-place : tie.Need-mul-place Inv-loop μ-loop
-mul-place c = search needs
+-- src/lib.rt:233:17
+mul-p : tie.Need-mul-p Inv-loop μ-loop
+mul-p c = search needs
 
--- src/lib.rt:237:23
-shared-slice-read-place : tie.Need-shared-slice-read-place Inv-loop μ-loop
-shared-slice-read-place c = search needs
+-- src/lib.rt:233:17
+shared-slice-read-p : tie.Need-shared-slice-read-p Inv-loop μ-loop
+shared-slice-read-p c = search needs
 
--- src/lib.rt:237:13
-place-requires : tie.Need-place-requires Inv-loop μ-loop
-place-requires c κs = search needs
-
--- src/lib.rt:238:17
+-- src/lib.rt:234:17
 counted-at-requires : tie.Need-counted-at-requires Inv-loop μ-loop
 counted-at-requires c κs = search needs
 
--- src/lib.rt:240:13
+-- src/lib.rt:236:13
 returns : tie.Need-returns Inv-loop μ-loop
 returns c = search fits-no-comma
 
--- src/lib.rt:243:13
+-- src/lib.rt:239:13
 returns-2 : tie.Need-returns-2 Inv-loop μ-loop
 returns-2 c = search fits-no-item
 
--- src/lib.rt:245:16
+-- src/lib.rt:241:16
 sub-left : tie.Need-sub-left Inv-loop μ-loop
 sub-left c = search needs
 
--- src/lib.rt:246:9
+-- src/lib.rt:242:9
 add-i : tie.Need-add-i Inv-loop μ-loop
 add-i c = search needs
 
--- src/lib.rt:235:5
+-- src/lib.rt:231:5
 loop-less : tie.Need-loop-less Inv-loop μ-loop
 loop-less c = search needs
 
--- src/lib.rt:235:5
+-- src/lib.rt:231:5
 loop-again : tie.Need-loop-again Inv-loop μ-loop
-loop-again c = let l = c .before .before .before .before .before .before .before .loop in fits-more _ _ (l .i) (l .left) _ (l .inv) (c .before .before .before .before .before .before .loop-test .taken) _ (c .before .before .before .before .before .lead .ensures) _ (c .before .before .before .place .ensures) _ (c .before .before .counted-at .ensures) (c .before .if1 .left) (c .if2 .left)
+loop-again c = search fits-more
 
--- src/lib.rt:230:1
+-- src/lib.rt:226:1
 returns-3 : tie.Need-returns-3 Inv-loop μ-loop
 returns-3 c = search fits-end
 
@@ -81,9 +76,8 @@ joined-fits-spec =
     μ-loop
     loop-holds
     lead-requires
-    mul-place
-    shared-slice-read-place
-    place-requires
+    mul-p
+    shared-slice-read-p
     counted-at-requires
     returns
     returns-2

@@ -10,7 +10,6 @@ use Rattle.text.proofs.write_joined.Lts as lts
 use Rattle.text.proofs.copy_item.Reads as copy-item-reads
 use Rattle.text.proofs.counted_at.Reads as counted-at-reads
 use Rattle.text.proofs.lead.Reads as lead-reads
-use Rattle.text.proofs.place.Reads as place-reads
 
 abbrev Inv-loop : tie.InvT-loop
 Inv-loop dst₀ at s places to₀ i₀ dst to i = (length dst ≡ length dst₀) × Joins dst₀ at s places dst to i
@@ -18,59 +17,55 @@ Inv-loop dst₀ at s places to₀ i₀ dst to i = (length dst ≡ length dst₀)
 abbrev μ-loop : tie.MeasureT-loop
 μ-loop dst₀ at s places to₀ i₀ dst to i = length places - i
 
--- src/lib.rt:274:5
+-- src/lib.rt:270:5
 loop-holds : tie.Need-loop-holds Inv-loop μ-loop
 loop-holds c = (search needs, search joins-start)
 
--- src/lib.rt:275:23
-mul-place : tie.Need-mul-place Inv-loop μ-loop
-mul-place c = search needs
+-- src/lib.rt:271:17
+mul-p : tie.Need-mul-p Inv-loop μ-loop
+mul-p c = search needs
 
--- src/lib.rt:275:23
-shared-slice-read-place : tie.Need-shared-slice-read-place Inv-loop μ-loop
-shared-slice-read-place c = search needs
+-- src/lib.rt:271:17
+shared-slice-read-p : tie.Need-shared-slice-read-p Inv-loop μ-loop
+shared-slice-read-p c = search needs
 
--- src/lib.rt:275:13
-place-requires : tie.Need-place-requires Inv-loop μ-loop
-place-requires c κs = search needs
-
--- src/lib.rt:276:13
+-- src/lib.rt:272:13
 lead-requires : tie.Need-lead-requires Inv-loop μ-loop
 lead-requires c κs = search needs
 
--- src/lib.rt:277:13
+-- src/lib.rt:273:13
 counted-at-requires : tie.Need-counted-at-requires Inv-loop μ-loop
 counted-at-requires c κs = search needs
 
--- src/lib.rt:279:9
+-- src/lib.rt:275:9
 copy-item-requires : tie.Need-copy-item-requires Inv-loop μ-loop
 copy-item-requires c κs = search needs
 
--- src/lib.rt:280:14
+-- src/lib.rt:276:14
 add-to : tie.Need-add-to Inv-loop μ-loop
-add-to c = let w = joins-room _ _ _ _ _ _ _ (c .before .before .before .before .before .before .before .before .before .loop .inv .1) (c .before .before .before .before .before .before .before .before .loop-test .taken) _ _ (c .before .before .before .before .before .before .place .ensures) (c .before .before .before .before .before .lead .ensures) _ (c .before .before .before .before .counted-at .ensures) in search needs
+add-to c = let w = joins-room _ _ _ _ _ _ _ (c .before .before .before .before .before .before .before .before .loop .inv .1) (c .before .before .before .before .before .before .before .loop-test .taken) _ (c .before .before .before .before .before .lead .ensures) _ (c .before .before .before .before .counted-at .ensures) in search needs
 
--- src/lib.rt:280:14
+-- src/lib.rt:276:14
 add-to-2 : tie.Need-add-to-2 Inv-loop μ-loop
-add-to-2 c = let w = joins-room _ _ _ _ _ _ _ (c .before .before .before .before .before .before .before .before .before .loop .inv .1) (c .before .before .before .before .before .before .before .before .loop-test .taken) _ _ (c .before .before .before .before .before .before .place .ensures) (c .before .before .before .before .before .lead .ensures) _ (c .before .before .before .before .counted-at .ensures) in search needs
+add-to-2 c = let w = joins-room _ _ _ _ _ _ _ (c .before .before .before .before .before .before .before .before .loop .inv .1) (c .before .before .before .before .before .before .before .loop-test .taken) _ (c .before .before .before .before .before .lead .ensures) _ (c .before .before .before .before .counted-at .ensures) in search needs
 
--- src/lib.rt:281:9
+-- src/lib.rt:277:9
 add-i : tie.Need-add-i Inv-loop μ-loop
 add-i c = search needs
 
--- src/lib.rt:274:5
+-- src/lib.rt:270:5
 loop-less : tie.Need-loop-less Inv-loop μ-loop
 loop-less c = search needs
 
--- src/lib.rt:274:5
+-- src/lib.rt:270:5
 loop-again : tie.Need-loop-again Inv-loop μ-loop
 loop-again c = (search needs, search joins-more)
 
--- src/lib.rt:268:1
+-- src/lib.rt:264:1
 same-length : tie.Need-same-length Inv-loop μ-loop
 same-length c = search needs
 
--- src/lib.rt:268:1
+-- src/lib.rt:264:1
 returns : tie.Need-returns Inv-loop μ-loop
 returns c = search joins-end
 
@@ -81,9 +76,8 @@ write-joined-spec =
     Inv-loop
     μ-loop
     loop-holds
-    mul-place
-    shared-slice-read-place
-    place-requires
+    mul-p
+    shared-slice-read-p
     lead-requires
     counted-at-requires
     copy-item-requires

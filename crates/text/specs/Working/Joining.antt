@@ -12,6 +12,7 @@ use lib.Seq.{drop-cons, take-suc, take-at, drop-append-add, drop-drop, set-at, l
 use borrow.Author.Tests.{lt-ltb, le-ltb, le-leb, lt-leb, eq-eqb, ne-eqb, leb-true, leb-false}
 use Rattle.text.specs.Choice.{pick, split, clash}
 use Rattle.text.specs.Copy.{Copied, copied, put, copyAt}
+use Rattle.text.specs.CopyLaws.{put-nil, put-append, put-length}
 use Rattle.text.specs.Counted.{counted}
 use Rattle.text.specs.Join.{followed, joined}
 
@@ -53,27 +54,6 @@ left-cons s ps i h = rw (add-one i, drop-cons ps i 0 h) (behind-cons i (counted 
 left-nil : (s ps : List ℕ) (i : ℕ) → length ps ≤ i → leftOf s ps i ≡ []
 unfolding leftOf
 left-nil s ps i h = rw (drop-of-length-le ps h) (behind-nil i)
-
--- a string put piece by piece
-put-nil : (d : List ℕ) (at : ℕ) → put d at [] ≡ d
-unfolding put
-put-nil d at = rw (add-zero at, append-nil (take at d)) (take-append-drop at d)
-
-pub put-append : (d : List ℕ) (at : ℕ) (a b : List ℕ) → at ≤ length d → put d at (a ++ b) ≡ put (put d at a) (at + length a) b
-unfolding put
-put-append d at a b h =
-    let l : length (take at d ++ a) ≡ at + length a = length-append (take at d) a ∙ ap (λ (n : ℕ). n + length a) (length-take-le at d h) in
-    let t : take (at + length a) (take at d ++ a ++ drop (at + length a) d) ≡ take at d ++ a = take-at (take at d ++ a) (drop (at + length a) d) (at + length a) l in
-    let k : at + length a + length b ≡ length (take at d ++ a) + length b = ap (λ (n : ℕ). n + length b) (sym l) in
-    let u : drop (at + length a + length b) (take at d ++ a ++ drop (at + length a) d) ≡ drop (length b) (drop (at + length a) d)
-    = ap (λ (n : ℕ). drop n (take at d ++ a ++ drop (at + length a) d)) k ∙ drop-append-add (take at d ++ a) (drop (at + length a) d) (length b) in
-    let m : at + length a + length b ≡ at + length (a ++ b) = omega (arith, length-append a b) in
-    let w : drop (length b) (drop (at + length a) d) ≡ drop (at + length (a ++ b)) d = drop-drop (length b) (at + length a) d ∙ ap (λ (n : ℕ). drop n d) m in
-    rw (t, u, w) (ap (λ (x : List ℕ). x ++ drop (at + length (a ++ b)) d) (sym (append-assoc (take at d) a b)))
-
-pub put-length : (d : List ℕ) (at : ℕ) (a : List ℕ) → at + length a ≤ length d → length (put d at a) ≡ length d
-unfolding put
-put-length d at a h = simp (length-append, length-take, length-drop) (omega arith)
 
 -- the ways out of `copy_item`
 put-comma : (d : List ℕ) (at : ℕ) (x : List ℕ) → at < length d → set (put d (at + 1) x) at 44 ≡ put d at (44 ∷ x)
@@ -146,10 +126,10 @@ module _ (s ps : List ℕ) (i left : ℕ) (r : Bool) (inv : fitsRest s ps i left
   unfolding fitsRest
   fits-end h = sym (le-leb 0 left (omega arith)) ∙ (rw (left-nil s ps i h) at inv)
 
-  module _ (h : i < length ps) (c : ℕ) (ce : c ≡ length (comma i)) (p : ℕ) (pe : p ≡ getD ps i 0) (x : List ℕ) (xe : x ≡ counted s p) where
+  module _ (h : i < length ps) (c : ℕ) (ce : c ≡ length (comma i)) (x : List ℕ) (xe : x ≡ counted s (getD ps i 0)) where
     next-length : length (nextOf s ps i) ≡ c + length x
     unfolding nextOf
-    next-length = rw (← pe, xe) (comma-length i c (counted s p) ce)
+    next-length = rw xe (comma-length i c (counted s (getD ps i 0)) ce)
 
     all-length : length (leftOf s ps i) ≡ c + length x + length (leftOf s ps (i + 1))
     all-length = rw (left-cons s ps i h) (length-append (nextOf s ps i) (leftOf s ps (i + 1)) ∙ ap (λ (m : ℕ). m + length (leftOf s ps (i + 1))) next-length)
@@ -186,12 +166,12 @@ module _ (d₀ : List ℕ) (at : ℕ) (s ps : List ℕ) where
     pub joins-end : length ps ≤ i → d ≡ put d₀ at (joined (map (counted s) ps))
     joins-end h = sym (put-nil d to) ∙ ap (λ (x : List ℕ). put d to x) (sym (left-nil s ps i h)) ∙ inv .puts
 
-    module _ (h : i < length ps) (p c : ℕ) (pe : p ≡ getD ps i 0) (ce : c ≡ length (comma i)) (x : List ℕ) (xe : x ≡ counted s p) where
+    module _ (h : i < length ps) (c : ℕ) (ce : c ≡ length (comma i)) (x : List ℕ) (xe : x ≡ counted s (getD ps i 0)) where
       step-length : length (nextOf s ps i) ≡ c + length x
-      step-length = next-length s ps i 0 _ refl h c ce p pe x xe
+      step-length = next-length s ps i 0 _ refl h c ce x xe
 
       step-room : to + (c + length x + length (leftOf s ps (i + 1))) ≤ length d
-      step-room = let z : length (leftOf s ps i) ≡ c + length x + length (leftOf s ps (i + 1)) = all-length s ps i 0 _ refl h c ce p pe x xe in omega (arith, inv .room)
+      step-room = let z : length (leftOf s ps i) ≡ c + length x + length (leftOf s ps (i + 1)) = all-length s ps i 0 _ refl h c ce x xe in omega (arith, inv .room)
 
       pub joins-room : to + c + length x ≤ length d
       joins-room = omega (arith, step-room)
@@ -202,7 +182,7 @@ module _ (d₀ : List ℕ) (at : ℕ) (s ps : List ℕ) where
         wrote =
             let l : to + length (comma i ++ x) ≤ length d = omega (arith, comma-length i c x ce, joins-room) in
             let q : copied t e ≡ copied true (put d to (comma i ++ x)) = is ∙ copy-fits d to (comma i ++ x) l in
-            rw (← pe, ← xe) (cc)
+            rw (← xe) (cc)
 
         pub joins-more : Joins d₀ at s ps e (to + c + length x) (i + 1)
         joins-more =
