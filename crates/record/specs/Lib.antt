@@ -5,4 +5,5 @@ pub mod Field
 pub mod Item
 pub mod Record
 pub mod Places
+pub mod Reading
 pub mod Working

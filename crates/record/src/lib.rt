@@ -3,10 +3,13 @@ mod limits;
 
 use limits::*;
 ghost use mathlib.Core.Path.{_≡_};
-ghost use lib.ListN.{length};
+ghost use Prim.Native.Nat.{_≤_};
+ghost use lib.ListN.{length, take};
+ghost use Rattle.text.specs.Copy.{put};
 ghost use Rattle.text.specs.Counted.{counted};
 ghost use Rattle.record.specs.Field.{nameFront, among};
-ghost use Rattle.record.specs.Working.Groups.{ran, byGroup, itemsInto, groupInto, both, groupsInto, told, restInto, tableInto};
+ghost use Rattle.record.specs.Working.Groups.{ran, byGroup, itemsInto, groupInto, both, groupsInto, restInto, tableInto};
+ghost use Rattle.record.specs.Reading.{told, readInto};
 ghost use Rattle.record.specs.Working.Moves.{countMove, lengthMove, contentMove, fieldMove, plainMove, nameMove, valueMove, attributeMove, assertionMove, itemMove, seenOf};
 
 // A place in the record.
@@ -419,5 +422,41 @@ fn record_at(s: &[u8], table: &mut [usize]) -> Reading
             second,
             next,
         } => rest_at(s, table, first, second, next),
+    }
+}
+
+// Copies the first n entries.
+fn copy_entries(dst: &mut [usize], src: &[usize], n: usize)
+    requires { ⌜ (n ≤ length (now src)) × (n ≤ length (now dst)) ⌝ }
+    ensures { λ _. ⌜ now (dst .exit) ≡ put (now (dst .entry)) 0 (take n (now (src .entry))) ⌝ }
+{
+    let mut i: usize = 0;
+    while i < n {
+        dst[i] = src[i];
+        i += 1;
+    }
+}
+
+// Reads a record: the table's first entries become the places of all items. A refusal leaves the table as it was.
+pub fn read(s: &[u8], table: &mut [usize; MOST_ITEMS]) -> Reading
+    ensures { λ r. ⌜ told r (now (table .exit)) ≡ readInto (now (s .entry)) (now (table .entry)) ⌝ }
+{
+    let mut found = [0usize; MOST_ITEMS];
+    match record_at(s, &mut found) {
+        Reading::Refused { number, at } => Reading::Refused { number, at },
+        Reading::Accepted {
+            values,
+            requesters,
+            attributes,
+            assertions,
+        } => {
+            copy_entries(table, &found, assertions);
+            Reading::Accepted {
+                values,
+                requesters,
+                attributes,
+                assertions,
+            }
+        }
     }
 }

@@ -10,6 +10,7 @@ use lib.ListN.{length, getD, set}
 use borrow.Author.Tests.{lt-ltb, le-ltb, le-leb, lt-leb, eq-eqb, ne-eqb}
 use Rattle.text.specs.Choice.{pick}
 use Rattle.record.specs.Limits.{mostRecord, leastValues, mostValues, leastRequesters, mostRequesters, leastAttributes, mostAttributes, leastAssertions, mostAssertions}
+use Rattle.record.specs.Reading.{Told, told}
 use Rattle.record.specs.Working.Moves.{cursor, seenOf, countMove, itemMove}
 use Rattle.record.specs.declared.Cursor.{Cursor}
 use Rattle.record.specs.declared.Moved.{Moved}
@@ -25,9 +26,6 @@ pub data Ran : Type 0 where
 
 pub data Both : Type 0 where
   both : Groups → List ℕ → Both
-
-pub data Told : Type 0 where
-  told : Reading → List ℕ → Told
 
 -- the number that is meant for a group
 unfoldable pub byGroup : ℕ → ℕ → ℕ → ℕ → ℕ → ℕ

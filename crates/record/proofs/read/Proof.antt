@@ -1,0 +1,53 @@
+use Rattle.record.specs.Working.Entry.{read-refused, read-table, read-found, read-accepted}
+use borrow.Author.Needs.{needs}
+use Rattle.record.proofs.read.Statement.{statement}
+use Rattle.record.proofs.read.Tie as tie
+use Rattle.record.proofs.read.Reads as reads
+use Rattle.record.proofs.read.Lts as lts
+use Rattle.record.proofs.copy_entries.Reads as copy-entries-reads
+use Rattle.record.proofs.record_at.Reads as record-at-reads
+
+-- src/lib.rt:445:24
+slice-aggregate-record-at : tie.Need-slice-aggregate-record-at
+slice-aggregate-record-at c = search needs
+
+-- src/lib.rt:445:11
+record-at-requires : tie.Need-record-at-requires
+record-at-requires c κs = search needs
+
+-- src/lib.rt:446:28
+enum-known-number : tie.Need-enum-known-number
+enum-known-number c = search needs
+
+-- src/lib.rt:448:13
+enum-known-values : tie.Need-enum-known-values
+enum-known-values c = search needs
+
+-- src/lib.rt:453:33
+slice-aggregate-copy-entries : tie.Need-slice-aggregate-copy-entries
+slice-aggregate-copy-entries c = search needs
+
+-- src/lib.rt:453:13
+copy-entries-requires : tie.Need-copy-entries-requires
+copy-entries-requires c κs = (search read-found, search read-table)
+
+-- src/lib.rt:441:1
+returns : tie.Need-returns
+returns c = search read-refused
+
+-- src/lib.rt:441:1
+returns-2 : tie.Need-returns-2
+returns-2 c = search read-accepted
+
+pub read-spec : {M : Type 1} → statement M
+read-spec =
+    tie.close
+    (tie.spec
+    slice-aggregate-record-at
+    record-at-requires
+    enum-known-number
+    enum-known-values
+    slice-aggregate-copy-entries
+    copy-entries-requires
+    returns
+    returns-2)
