@@ -6,4 +6,8 @@ pub mod Item
 pub mod Record
 pub mod Places
 pub mod Reading
+pub mod Encode
+pub mod Valid
+pub mod Stands
+pub mod RoundTrip
 pub mod Working
