@@ -5,9 +5,11 @@ pub mod Field
 pub mod Item
 pub mod Record
 pub mod Places
+pub mod Lies
 pub mod Reading
 pub mod Encode
 pub mod Valid
 pub mod Stands
 pub mod RoundTrip
+pub mod Located
 pub mod Working

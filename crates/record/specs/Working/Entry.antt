@@ -70,13 +70,13 @@ record Took (t : List ℕ) (w : Verdict) (u : List ℕ) (v r a c : ℕ) : Type 0
   holds : u ≡ put t 0 (places query)
   few : length (places query) ≤ mostItems
 
-refused-of : {t : List ℕ} {w : Verdict} {x : Told} → Whole t w x → (m : Reading) (u : List ℕ) → told m u ≡ x → (k p : ℕ) → m ≡ Refused k p → w ≡ refused k p
+refused-of : {s t : List ℕ} {w : Verdict} {x : Told} → Whole s t w x → (m : Reading) (u : List ℕ) → told m u ≡ x → (k p : ℕ) → m ≡ Refused k p → w ≡ refused k p
 unfolding groupEnds
-refused-of (whole-to q l) m u e k p f = cc
+refused-of (whole-to q l lies) m u e k p f = cc
 refused-of whole-no m u e k p f = cc
 
-accepted-of : {t : List ℕ} {w : Verdict} {x : Told} → Whole t w x → (m : Reading) (u : List ℕ) → told m u ≡ x → (v r a c : ℕ) → m ≡ Accepted v r a c → Took t w u v r a c
-accepted-of (whole-to q l) m u e v r a c f = record { query = q; is = refl; ends = cc; holds = cc; few = l }
+accepted-of : {s t : List ℕ} {w : Verdict} {x : Told} → Whole s t w x → (m : Reading) (u : List ℕ) → told m u ≡ x → (v r a c : ℕ) → m ≡ Accepted v r a c → Took t w u v r a c
+accepted-of (whole-to q l lies) m u e v r a c f = record { query = q; is = refl; ends = cc; holds = cc; few = l }
 accepted-of whole-no m u e v r a c f = let z : _≡_ {A = ℕ} 0 1 = cc in absurd (omega arith)
 
 front-of : (t u p : List ℕ) (c : ℕ) → u ≡ put t 0 p → c ≡ length p → take c u ≡ p

@@ -18,6 +18,7 @@ use Rattle.record.specs.Read.{Read, got, bad, andThen}
 use Rattle.record.specs.Field.{countAt, lengthAt, contentAt, fieldAt, nameFront, permitted, among, distinct}
 use Rattle.record.specs.Item.{plainAt, valueAt, requesterAt, nameAt, attributeAt, assertionAt}
 use Rattle.record.specs.Places.{stringSize, attributeSize, assertionSize}
+use Rattle.record.specs.Lies.{StringAt, AttributeAt, AssertionAt}
 use Rattle.record.specs.Working.Moves.{cursor, onTo, countMove, lengthMove, contentMove, fieldMove, permittedMove, distinctMove, plainMove, valueMove, nameMove, attributeMove, assertionMove}
 use Rattle.record.specs.declared.Cursor.{Cursor}
 use Rattle.record.specs.declared.Moved.{Moved}
@@ -38,11 +39,12 @@ tie-pick : {A : Type 0} {S : ℕ → ℕ → A → Type 0} (b : Bool) {x y : Rea
 tie-pick true f g = f refl
 tie-pick false f g = g refl
 
--- where an item lies: its string starts `lead` bytes in, it takes `size` bytes, and its string is `key`
-pub record Spot {A : Type 0} (s : List ℕ) (key : A → List ℕ) (size : A → ℕ) (lead at v p : ℕ) (a : A) : Type 0 where
+-- where an item lies: its string starts `lead` bytes in, it takes `size` bytes, its string is `key`, and it lies there as `At` says
+pub record Spot {A : Type 0} (s : List ℕ) (key : A → List ℕ) (At : ℕ → A → Type 0) (size : A → ℕ) (lead at v p : ℕ) (a : A) : Type 0 where
   pub start : v ≡ at + lead
   pub end : p ≡ at + size a
   pub string : counted s v ≡ key a
+  pub lies : At v a
 
 abbrev pub itself : List ℕ → List ℕ
 itself b = b
@@ -78,13 +80,13 @@ part-length s at n h = simp (length-take, length-drop) (omega arith)
 
 module _ (s : List ℕ) (least most at : ℕ) where
   content-spot : (n v p : ℕ) (b : List ℕ) → n ≡ pairAt s at → v ≡ at + 2 → p ≡ at + 2 + n → b ≡ part s (at + 2) n → at + 2 + n ≤ length s
-      → Spot s itself stringSize 2 at v p b
+      → Spot s itself (StringAt s) stringSize 2 at v p b
   unfolding stringSize
   content-spot n v p b e ve pe be h =
       let l : length b ≡ n = rw be (part-length s (at + 2) n h) in
-      record { start = ve; end = omega arith; string = rw (ve, be) (counted-is s at n e h) }
+      record { start = ve; end = omega arith; string = rw (ve, be) (counted-is s at n e h); lies = rw (ve, be) (counted-is s at n e h) }
 
-  field-tie : Ties (Spot s itself stringSize 2 at) (fieldAt s least most at) (fieldMove s least most at)
+  field-tie : Ties (Spot s itself (StringAt s) stringSize 2 at) (fieldAt s least most at) (fieldMove s least most at)
   unfolding fieldAt fieldMove
   field-tie =
       tie-then (λ n p. contentAt s n p) (λ n p. contentMove s n p) (length-tie s least most at)
@@ -92,7 +94,7 @@ module _ (s : List ℕ) (least most at : ℕ) where
       (spots n ne (content-tie s n (at + 2)))) where
         spots : (n : ℕ) → n ≡ pairAt s at → {r : Read (List ℕ)} {m : Moved}
             → Ties (λ v p b. (v ≡ at + 2) × (p ≡ at + 2 + n) × (b ≡ part s (at + 2) n) × (at + 2 + n ≤ length s)) r m
-            → Ties (Spot s itself stringSize 2 at) r m
+            → Ties (Spot s itself (StringAt s) stringSize 2 at) r m
         spots n e (tie-to (ve, pe, be, h)) = tie-to (content-spot n _ _ _ e ve pe be h)
         spots n e tie-no = tie-no
 
@@ -106,7 +108,7 @@ module _ {A : Type 0} {S : ℕ → ℕ → A → Type 0} (s : List ℕ) (at v : 
   distinct-tie seen {r} {m} t = rw (string, start) (tie-pick {S = S} (among b seen) {x = bad 7 (at + 2)} {y = r} (λ e. tie-no) (λ e. t))
 
 module _ (s : List ℕ) (least most at : ℕ) where
-  pub plain-tie : Ties (Spot s itself stringSize 2 at) (plainAt s least most at) (plainMove s least most at)
+  pub plain-tie : Ties (Spot s itself (StringAt s) stringSize 2 at) (plainAt s least most at) (plainMove s least most at)
   unfolding plainAt plainMove
   plain-tie =
       tie-then (λ b p. permitted (run (inClass plain) b) b (at + 2) (got b p))
@@ -114,17 +116,17 @@ module _ (s : List ℕ) (least most at : ℕ) where
       (field-tie s least most at) (λ v p b spot. permitted-tie s at v b (spot .start) (spot .string) (run (inClass plain)) (tie-to spot))
 
 module _ (s : List ℕ) (seen : List (List ℕ)) (at : ℕ) where
-  pub value-tie : Ties (Spot s itself stringSize 2 at) (valueAt s seen at) (valueMove s seen at)
+  pub value-tie : Ties (Spot s itself (StringAt s) stringSize 2 at) (valueAt s seen at) (valueMove s seen at)
   unfolding valueAt valueMove
   value-tie =
       tie-then (λ b p. distinct b seen (at + 2) (got b p)) (λ v p. distinctMove (counted s v) seen v (To v (cursor p)))
       (plain-tie s leastValue mostValue at) (λ v p b spot. distinct-tie s at v b (spot .start) (spot .string) seen (tie-to spot))
 
-  pub requester-tie : Ties (Spot s itself stringSize 2 at) (requesterAt s seen at) (plainMove s leastRequester mostRequester at)
+  pub requester-tie : Ties (Spot s itself (StringAt s) stringSize 2 at) (requesterAt s seen at) (plainMove s leastRequester mostRequester at)
   unfolding requesterAt
   requester-tie = plain-tie s leastRequester mostRequester at
 
-  name-tie : Ties (Spot s itself stringSize 2 at) (nameAt s seen at) (nameMove s seen at)
+  name-tie : Ties (Spot s itself (StringAt s) stringSize 2 at) (nameAt s seen at) (nameMove s seen at)
   unfolding nameAt nameMove
   name-tie =
       tie-then (λ b p. permitted (nameFront b) b (at + 2) (distinct b seen (at + 2) (got b p)))
@@ -139,12 +141,14 @@ abbrev pub textOf : Supplied → List ℕ
 textOf a = a .text
 
 module _ (s : List ℕ) (seen : List Attribute) (at : ℕ) where
-  attribute-spot : (v p w q : ℕ) (n x : List ℕ) → Spot s itself stringSize 2 at v p n → Spot s itself stringSize 2 p w q x
-      → Spot s nameOf attributeSize 2 at v q (record { name = n; value = x })
-  unfolding attributeSize
-  attribute-spot v p w q n x one two = record { start = one .start; end = omega (arith, one .end, two .end); string = one .string }
+  attribute-spot : (v p w q : ℕ) (n x : List ℕ) → Spot s itself (StringAt s) stringSize 2 at v p n → Spot s itself (StringAt s) stringSize 2 p w q x
+      → Spot s nameOf (AttributeAt s) attributeSize 2 at v q (record { name = n; value = x })
+  unfolding attributeSize stringSize
+  attribute-spot v p w q n x one two =
+      let z : w ≡ v + length n + 2 = omega (arith, one .start, one .end, two .start) in
+      record { start = one .start; end = omega (arith, one .end, two .end); string = one .string; lies = (one .string, rw z at (two .string)) }
 
-  pub attribute-tie : Ties (Spot s nameOf attributeSize 2 at) (attributeAt s seen at) (attributeMove s (map nameOf seen) at)
+  pub attribute-tie : Ties (Spot s nameOf (AttributeAt s) attributeSize 2 at) (attributeAt s seen at) (attributeMove s (map nameOf seen) at)
   unfolding attributeAt attributeMove
   attribute-tie =
       tie-then (λ n p. andThen (plainAt s leastSetting mostSetting p) (λ x q. got (record { name = n; value = x }) q))
@@ -154,17 +158,19 @@ module _ (s : List ℕ) (seen : List Attribute) (at : ℕ) where
       (λ w q x two. tie-to (attribute-spot v p w q n x one two)))
 
 module _ (s : List ℕ) (seen : List Supplied) (at : ℕ) where
-  assertion-spot : (v p : ℕ) (x : List ℕ) → Spot s itself stringSize 2 (at + 1) v p x
-      → Spot s textOf assertionSize 3 at v p (record { standing = getD s at 0; text = x })
+  assertion-spot : (v p : ℕ) (x : List ℕ) → Spot s itself (StringAt s) stringSize 2 (at + 1) v p x
+      → Spot s textOf (AssertionAt s) assertionSize 3 at v p (record { standing = getD s at 0; text = x })
   unfolding assertionSize
-  assertion-spot v p x one = record { start = omega (arith, one .start); end = omega (arith, one .end); string = one .string }
+  assertion-spot v p x one =
+      let z : v - 3 ≡ at = omega (arith, one .start) in
+      record { start = omega (arith, one .start); end = omega (arith, one .end); string = one .string; lies = (one .string, rw z) }
 
-  text-tie : {r : Read (List ℕ)} {m : Moved} → Ties (Spot s itself stringSize 2 (at + 1)) r m
-      → Ties (Spot s textOf assertionSize 3 at) (andThen r (λ t p. got (record { standing = getD s at 0; text = t }) p)) m
+  text-tie : {r : Read (List ℕ)} {m : Moved} → Ties (Spot s itself (StringAt s) stringSize 2 (at + 1)) r m
+      → Ties (Spot s textOf (AssertionAt s) assertionSize 3 at) (andThen r (λ t p. got (record { standing = getD s at 0; text = t }) p)) m
   text-tie (tie-to spot) = tie-to (assertion-spot _ _ _ spot)
   text-tie tie-no = tie-no
 
-  pub assertion-tie : Ties (Spot s textOf assertionSize 3 at) (assertionAt s seen at) (assertionMove s at)
+  pub assertion-tie : Ties (Spot s textOf (AssertionAt s) assertionSize 3 at) (assertionAt s seen at) (assertionMove s at)
   unfolding assertionAt assertionMove
   assertion-tie =
       tie-pick (leb (length s) at) (λ e. tie-no)
