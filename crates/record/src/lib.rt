@@ -1,6 +1,7 @@
 // The query record: a cursor goes over it from left to right and finds where each item lies.
 mod limits;
 
+pub use limits::MOST_ITEMS;
 use limits::*;
 ghost use mathlib.Core.Path.{_≡_};
 ghost use Prim.Native.Nat.{_≤_};
