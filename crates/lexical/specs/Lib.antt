@@ -1,0 +1,4 @@
+pub mod Kind
+pub mod Class
+pub mod Classes
+pub mod Run

@@ -1,0 +1,4 @@
+// The lexical layer: the class of each byte, lines, tokens, literals, numbers and keywords.
+pub mod class;
+pub mod kind;
+pub mod scan;
