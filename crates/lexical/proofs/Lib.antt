@@ -1,1 +1,2 @@
 pub mod ScanWays
+pub mod WordWays

@@ -2,3 +2,4 @@ pub mod Kind
 pub mod Class
 pub mod Classes
 pub mod Run
+pub mod Word

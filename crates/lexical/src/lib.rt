@@ -2,3 +2,4 @@
 pub mod class;
 pub mod kind;
 pub mod scan;
+pub mod word;
