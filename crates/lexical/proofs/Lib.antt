@@ -1,2 +1,4 @@
 pub mod ScanWays
 pub mod WordWays
+pub mod LabelWays
+pub mod OperatorWays

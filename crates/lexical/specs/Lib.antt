@@ -3,3 +3,5 @@ pub mod Class
 pub mod Classes
 pub mod Run
 pub mod Word
+pub mod Label
+pub mod Operator

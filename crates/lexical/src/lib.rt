@@ -1,5 +1,7 @@
 // The lexical layer: the class of each byte, lines, tokens, literals, numbers and keywords.
 pub mod class;
 pub mod kind;
+pub mod label;
+pub mod operator;
 pub mod scan;
 pub mod word;
