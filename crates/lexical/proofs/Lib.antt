@@ -2,3 +2,4 @@ pub mod ScanWays
 pub mod WordWays
 pub mod LabelWays
 pub mod OperatorWays
+pub mod UnitWays

@@ -5,3 +5,4 @@ pub mod Run
 pub mod Word
 pub mod Label
 pub mod Operator
+pub mod Unit

@@ -2,6 +2,8 @@
 pub mod class;
 pub mod kind;
 pub mod label;
+pub mod number;
 pub mod operator;
 pub mod scan;
+pub mod unit;
 pub mod word;
