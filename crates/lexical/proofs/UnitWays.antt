@@ -7,6 +7,7 @@ use native.Mathlib.Omega.{arith}
 use lib.ListN.{length, getD}
 use borrow.Author.Tests.{lt-ltb, le-ltb, le-leb, lt-leb, eq-eqb, ne-eqb}
 use Rattle.text.specs.Scan.{past}
+use Rattle.lexical.specs.Bounds.{past-from}
 use Rattle.lexical.specs.Run.{inRun, WHITE}
 use Rattle.lexical.specs.declared.unit.Unit.{Unit}
 use Rattle.lexical.specs.Unit.{gives, drops, closes, spoils, bare, octal, control, coded, octalUnit, escapeUnit, barred, unitAt}
@@ -77,11 +78,6 @@ module _ (s : List ℕ) (i : ℕ) where
         pub unit-plain : t ≡ false → gives 1 (getD s i 0) ≡ unitAt s i
         unfolding unitAt
         unit-plain h = simp (lt-leb _ _ in-s, ne-eqb _ _ nq, ne-eqb _ _ nb, sym te, h)
-
--- the end of a run is not before its start
-pub past-from : (p : ℕ → Bool) (s : List ℕ) (i : ℕ) → i ≤ past p s i
-unfolding past
-past-from p s i = omega arith
 
 pub drops-some : (p : ℕ → Bool) (s : List ℕ) (i e : ℕ) → e ≡ past p s (i + 2) → i ≤ e
 drops-some p s i e h = omega (arith, past-from p s (i + 2))

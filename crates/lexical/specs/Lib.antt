@@ -6,3 +6,5 @@ pub mod Word
 pub mod Label
 pub mod Operator
 pub mod Unit
+pub mod Bounds
+pub mod UnitLaws
