@@ -8,3 +8,5 @@ pub mod Operator
 pub mod Unit
 pub mod Bounds
 pub mod UnitLaws
+pub mod Literal
+pub mod LiteralLaws
