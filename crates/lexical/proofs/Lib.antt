@@ -3,3 +3,4 @@ pub mod WordWays
 pub mod LabelWays
 pub mod OperatorWays
 pub mod UnitWays
+pub mod LiteralWays

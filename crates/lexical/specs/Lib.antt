@@ -10,3 +10,4 @@ pub mod Bounds
 pub mod UnitLaws
 pub mod Literal
 pub mod LiteralLaws
+pub mod Decode
