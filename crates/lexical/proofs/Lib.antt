@@ -4,3 +4,4 @@ pub mod LabelWays
 pub mod OperatorWays
 pub mod UnitWays
 pub mod LiteralWays
+pub mod TokenWays

@@ -11,3 +11,6 @@ pub mod UnitLaws
 pub mod Literal
 pub mod LiteralLaws
 pub mod Decode
+pub mod Token
+pub mod Line
+pub mod KindLaws

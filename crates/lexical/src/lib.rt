@@ -6,5 +6,6 @@ pub mod literal;
 pub mod number;
 pub mod operator;
 pub mod scan;
+pub mod token;
 pub mod unit;
 pub mod word;
