@@ -7,12 +7,13 @@ use native.Mathlib.Omega.{arith}
 use native.Mathlib.Nat.{not-suc-le-zero}
 use lib.Dec.{eqb, leb}
 use lib.ListN.{length}
-use borrow.Author.Tests.{le-leb, lt-leb, leb-true}
+use borrow.Author.Tests.{eqb-true, le-leb, lt-leb, leb-true}
 use Rattle.text.specs.Choice.{pick, pick-if}
 use Rattle.lexical.specs.declared.unit.Unit.{Unit}
 use Rattle.lexical.specs.Unit.{GIVES, CLOSES, unitAt}
-use Rattle.lexical.specs.UnitLaws.{unit-moves}
-use Rattle.lexical.specs.Literal.{inside, units, unitsAt}
+use Rattle.lexical.specs.UnitLaws.{unit-moves, unit-closing}
+use Rattle.lexical.specs.Literal.{inside, units, unitsAt, closing, literalEnd}
+use Rattle.lexical.specs.Bounds.{chosen}
 
 -- more fuel than needed changes nothing
 units-same : (n m : ℕ) (s : List ℕ) (i : ℕ) → length s - i < n → length s - i < m → units n s i ≡ units m s i
@@ -37,3 +38,25 @@ module _ (s : List ℕ) (i : ℕ) where
   pub units-last : GIVES < unitAt s i .kind → unitsAt s i ≡ unitAt s i ∷ []
   unfolding unitsAt units
   units-last h = rw (lt-leb _ _ h)
+
+-- a literal ends within the text, behind where it starts
+Closed : ℕ → ℕ → ℕ → Type 0
+Closed n i e = (e ≡ 0 → ⊥) → (i < e) × (e ≤ n)
+
+closing-within : (n : ℕ) (s : List ℕ) (i : ℕ) → Closed (length s) i (closing i (units n s i))
+unfolding units Closed
+closing-within zero s i = λ z. absurd (z refl)
+closing-within (suc n) s i =
+    chosen (Closed (length s) i) (eqb (unitAt s i .kind) CLOSES) (i + 1) _
+    (λ e z. let l : i < length s = unit-closing s i (eqb-true _ _ e) in (omega arith, omega arith))
+    (λ e. chosen (λ (us : List Unit). Closed (length s) i (closing (i + unitAt s i .width) us)) (inside (unitAt s i)) _ []
+    (λ f z.
+    let p : (1 ≤ unitAt s i .width) × (i + unitAt s i .width ≤ length s) = unit-moves s i (leb-true _ _ f) in
+    let q : (i + unitAt s i .width < closing (i + unitAt s i .width) (units n s (i + unitAt s i .width))) × (closing (i + unitAt s i .width) (units n s (i + unitAt s i .width)) ≤ length s)
+        = closing-within n s (i + unitAt s i .width) z in
+    (omega (arith, q .0), q .1))
+    (λ f z. absurd (z refl)))
+
+pub end-within : (s : List ℕ) (i : ℕ) → (literalEnd s i ≡ 0 → ⊥) → (i < literalEnd s i) × (literalEnd s i ≤ length s)
+unfolding literalEnd unitsAt Closed
+end-within s i = closing-within (suc (length s - i)) s i
