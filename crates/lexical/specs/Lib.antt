@@ -14,3 +14,4 @@ pub mod Decode
 pub mod Token
 pub mod Line
 pub mod KindLaws
+pub mod TokenLaws
