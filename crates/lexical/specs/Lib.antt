@@ -15,3 +15,4 @@ pub mod Token
 pub mod Line
 pub mod KindLaws
 pub mod TokenLaws
+pub mod LineLaws

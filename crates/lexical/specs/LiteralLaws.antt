@@ -53,7 +53,7 @@ closing-within (suc n) s i =
     (λ f z.
     let p : (1 ≤ unitAt s i .width) × (i + unitAt s i .width ≤ length s) = unit-moves s i (leb-true _ _ f) in
     let q : (i + unitAt s i .width < closing (i + unitAt s i .width) (units n s (i + unitAt s i .width))) × (closing (i + unitAt s i .width) (units n s (i + unitAt s i .width)) ≤ length s)
-        = closing-within n s (i + unitAt s i .width) z in
+    = closing-within n s (i + unitAt s i .width) z in
     (omega (arith, q .0), q .1))
     (λ f z. absurd (z refl)))
 

@@ -89,6 +89,24 @@ width-some k h =
     one : (t : Bool) (k r : ℕ) → 0 < k → Above 0 r → Above 0 (pick t k r)
     one t k r h l = chosen (Above 0) t k r (λ e. above k h) (λ e. l)
 
+-- a float literal goes on from its digits, and ends within the text
+Between : ℕ → ℕ → ℕ → Type 0
+Between a b n = (a ≤ n) × (n ≤ b)
+
+float-between : (s : List ℕ) (e : ℕ) → e ≤ length s → Between e (length s) (floatEnd s e)
+unfolding floatEnd Between
+float-between s e h =
+    let here : Between e (length s) e = (omega arith, h) in
+    chosen (Between e (length s)) (leb (length s) e) e _ (λ l. here)
+    (λ l. chosen (Between e (length s)) (eqb (getD s e 0) 46) _ e
+    (λ p. chosen (Between e (length s)) (leb (past (inRun NUMERALS) s (e + 1)) (e + 1)) e _ (λ f. here)
+    (λ f. (omega (arith, past-from (inRun NUMERALS) s (e + 1)), past-within (inRun NUMERALS) s (e + 1) (omega (arith, leb-false (length s) e l)))))
+    (λ p. here))
+
+float-from : (s : List ℕ) (e : ℕ) → e ≤ length s → (e ≤ floatEnd s e) × (floatEnd s e ≤ length s)
+unfolding Between
+float-from s e h = float-between s e h
+
 module _ (s : List ℕ) (at i : ℕ) (from : at ≤ i) (in-s : i < length s) where
   fixed-fine : (k : ℕ) → Some k → Wide s i k → Fine s at (fixed k i)
   fixed-fine k (n, m) w =
@@ -99,7 +117,7 @@ module _ (s : List ℕ) (at i : ℕ) (from : at ≤ i) (in-s : i < length s) whe
       let z : i + widthOf k ≡ i = omega (arith, width-fault k h) in
       subst (λ (j : ℕ). Fine s at (token k i j)) (sym z) (fault k i n m h from in-s))
 
-  illegal-fine : Fine s at (illegalAt i)
+  pub illegal-fine : Fine s at (illegalAt i)
   illegal-fine = fault Kind.ILLEGAL i (λ z. let no : ⊥ = omega (arith, z) in no) (λ z. let no : ⊥ = omega (arith, z) in no) (omega arith) from in-s
 
   pub bad-fine : Fine s at (badLine i)
@@ -126,3 +144,24 @@ module _ (s : List ℕ) (at i : ℕ) (from : at ≤ i) (in-s : i < length s) whe
       real n i (past (inRun k) s i) h from
       (omega (arith, past-more (inRun k) s i in-s e, past-from (inRun k) s (i + 1)))
       (past-within (inRun k) s i (omega (arith, in-s)))
+
+  name-fine : classOf (getD s i 0) ≡ LETTER → Fine s at (token Kind.NAME i (past (inRun WORD) s i))
+  unfolding inRun hasClass
+  name-fine e = run-fine WORD Kind.NAME (omega arith) (simp e)
+
+  number-fine : classOf (getD s i 0) ≡ DIGIT → Fine s at (numberToken s i)
+  unfolding numberToken inRun hasClass
+  number-fine e =
+      let d : Fine s at (token Kind.DIGITS i (past (inRun NUMERALS) s i)) = run-fine NUMERALS Kind.DIGITS (omega arith) (simp e) in
+      let l : past (inRun NUMERALS) s i ≤ length s = past-within (inRun NUMERALS) s i (omega (arith, in-s)) in
+      chosen (Fine s at) (eqb (floatEnd s (past (inRun NUMERALS) s i)) (past (inRun NUMERALS) s i)) _ _ (λ f. d)
+      (λ f. real Kind.FLOAT i (floatEnd s (past (inRun NUMERALS) s i)) (omega arith) from
+      (omega (arith, past-from (inRun NUMERALS) s i, float-from s (past (inRun NUMERALS) s i) l .0, eqb-false (floatEnd s (past (inRun NUMERALS) s i)) (past (inRun NUMERALS) s i) f))
+      (float-from s (past (inRun NUMERALS) s i) l .1))
+
+  pub token-fine : (mode : ℕ) → Fine s at (tokenFrom s mode i)
+  unfolding tokenFrom
+  token-fine mode =
+      chosen (Fine s at) (eqb (classOf (getD s i 0)) LETTER) _ _ (λ e. name-fine (eqb-true _ _ e))
+      (λ e. chosen (Fine s at) (eqb (classOf (getD s i 0)) DIGIT) _ _ (λ f. number-fine (eqb-true _ _ f))
+      (λ f. chosen (Fine s at) (eqb (classOf (getD s i 0)) QUOTE) _ _ (λ g. literal-fine) (λ g. operator-fine mode)))
