@@ -5,3 +5,4 @@ pub mod OperatorWays
 pub mod UnitWays
 pub mod LiteralWays
 pub mod TokenWays
+pub mod LineWays

@@ -2,6 +2,7 @@
 pub mod class;
 pub mod kind;
 pub mod label;
+pub mod line;
 pub mod literal;
 pub mod number;
 pub mod operator;
