@@ -6,3 +6,4 @@ pub mod UnitWays
 pub mod LiteralWays
 pub mod TokenWays
 pub mod LineWays
+pub mod NumberWays

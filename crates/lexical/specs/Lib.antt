@@ -16,3 +16,4 @@ pub mod Line
 pub mod KindLaws
 pub mod TokenLaws
 pub mod LineLaws
+pub mod Number
