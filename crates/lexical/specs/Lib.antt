@@ -17,3 +17,4 @@ pub mod KindLaws
 pub mod TokenLaws
 pub mod LineLaws
 pub mod Number
+pub mod Decoded
