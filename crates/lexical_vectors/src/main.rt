@@ -2,12 +2,15 @@
 // A token is kind@start-end, then the decoded bytes of a literal, the value of digits, or the keyword that a name is; the last is the end or a fault.
 use lexical::kind;
 use lexical::line::token_at;
-use lexical::literal::{decode_into, literal_length};
+use lexical::literal::decode_into;
+use lexical::literal::literal_length;
 use lexical::number::number_at;
 use lexical::scan::byte_at;
 use lexical::token::Token;
-use lexical::word::{is_false, is_true};
+use lexical::word::is_false;
+use lexical::word::is_true;
 use libc::STDOUT_FILENO;
+ghost use Prim.Native.Nat.{_<_, _≤_};
 
 fn put(b: &[u8]) {
     io::write_all(STDOUT_FILENO, b);
@@ -17,24 +20,33 @@ fn put_number(n: usize) {
     io::print_decimal(STDOUT_FILENO, n as u64);
 }
 
-fn put_hex(b: &[u8]) {
+fn put_byte(b: u8) {
+    io::print_hex(STDOUT_FILENO, b as u64, 2);
+}
+
+// The first n bytes of b.
+fn put_hex(b: &[u8], n: usize) {
     let mut i: usize = 0;
-    while i < b.len() {
-        io::print_hex(STDOUT_FILENO, b[i] as u64, 2);
+    while i < n {
+        if b.len() <= i {
+            return;
+        }
+        put_byte(b[i]);
         i += 1;
     }
 }
 
-// What a literal gives; no text of the file is as long as the buffer.
+// What a literal gives, where buf has room for it.
+fn put_decoded(s: &[u8], start: usize, buf: &mut [u8]) {
+    put(b"=");
+    if decode_into(s, start, buf, 0) {
+        put_hex(buf, literal_length(s, start));
+    }
+}
+
 fn put_literal(s: &[u8], start: usize) {
     let mut buf = io::large_buffer();
-    let n = literal_length(s, start);
-    put(b"=");
-    if decode_into(s, start, &mut buf, 0) {
-        if n <= 65536 {
-            put_hex(&buf[..n]);
-        }
-    }
+    put_decoded(s, start, &mut buf);
 }
 
 fn put_value(s: &[u8], t: Token) {
@@ -97,7 +109,9 @@ fn show(s: &[u8]) {
     put(b"\n");
 }
 
-fn hex_value(b: u8) -> u8 {
+fn hex_value(b: u8) -> u8
+    ensures { λ r. ⌜ r < 16 ⌝ }
+{
     if b < b'0' {
         return 0;
     }
@@ -133,7 +147,9 @@ fn escaped(b: u8, c: u8, d: u8) -> u8 {
     b
 }
 
-fn escape_width(b: u8) -> usize {
+fn escape_width(b: u8) -> usize
+    ensures { λ r. ⌜ r ≤ 4 ⌝ }
+{
     if b == b'x' {
         return 4;
     }
@@ -146,10 +162,16 @@ struct Piece {
 }
 
 // The byte of a text that stands in the file at i, and where the next one does.
-fn piece(d: &[u8], i: usize) -> Piece {
-    let a = byte_at(d, i, 0);
+fn piece_at(d: &[u8], i: usize) -> Piece {
+    if d.len() <= i {
+        return Piece { byte: 0, next: i };
+    }
+    let a = d[i];
     if a != b'\\' {
-        return Piece { byte: a, next: i + 1 };
+        return Piece {
+            byte: a,
+            next: i + 1,
+        };
     }
     let b = byte_at(d, i, 1);
     Piece {
@@ -169,7 +191,7 @@ fn show_all(d: &[u8], text: &mut [u8]) {
             i += 1;
             continue;
         }
-        let p = piece(d, i);
+        let p = piece_at(d, i);
         if p.next <= i {
             return;
         }
