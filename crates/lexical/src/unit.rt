@@ -161,7 +161,7 @@ pub fn unit_at(s: &[u8], i: usize) -> Unit
     }
     if a == b'\\' {
         let b = byte_at(s, i, 1);
-        if b == 10 {
+        if b == b'\n' {
             let e = skip(s, i + 2, WHITE);
             return Unit {
                 kind: DROPS,
