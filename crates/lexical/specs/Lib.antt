@@ -18,3 +18,4 @@ pub mod TokenLaws
 pub mod LineLaws
 pub mod Number
 pub mod Decoded
+pub mod Reason

@@ -1,6 +1,7 @@
 // The kinds of token, and where in a text a token is looked for; specs/Kind.antt says what each is.
 ghost use mathlib.Core.Path.{_≡_};
 ghost use Rattle.lexical.specs.Kind.{opened};
+ghost use Rattle.lexical.specs.Reason.{reasonOf};
 
 pub const END: u8 = 0;
 
@@ -109,4 +110,17 @@ pub fn mode_of(kind: u8) -> u8
         return IN_COMMENT;
     }
     IN_FIELD
+}
+
+// The reason for a fault of this kind, or 0; its place is the token's start.
+pub fn reason_of(kind: u8) -> u8
+    ensures { λ r. ⌜ r ≡ reasonOf kind ⌝ }
+{
+    if kind == ILLEGAL {
+        return 1;
+    }
+    if kind == BAD_LINE {
+        return 3;
+    }
+    0
 }
