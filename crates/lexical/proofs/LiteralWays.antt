@@ -17,16 +17,8 @@ use Rattle.lexical.specs.declared.unit.Unit.{Unit}
 use Rattle.lexical.specs.Unit.{GIVES, CLOSES, spoils, unitAt}
 use Rattle.lexical.specs.UnitLaws.{unit-moves}
 use Rattle.lexical.specs.Literal.{units, unitsAt, closing, given, literalEnd, decodedAt}
-use Rattle.lexical.specs.LiteralLaws.{units-more, units-last}
+use Rattle.lexical.specs.LiteralLaws.{units-more, units-last, units-end}
 use Rattle.lexical.specs.Decode.{Ran, ran, decodeInto}
-use Rattle.lexical.proofs.UnitWays.{unit-end}
-
--- behind the end there is one unit, which spoils
-units-end : (s : List ℕ) (i : ℕ) → length s ≤ i → unitsAt s i ≡ spoils ∷ []
-units-end s i h =
-    let e : spoils ≡ unitAt s i = unit-end s i h in
-    let k : GIVES < unitAt s i .kind = subst (λ (u : Unit). GIVES < u .kind) e (omega arith) in
-    units-last s i k ∙ ap (λ (u : Unit). u ∷ []) (sym e)
 
 module _ (s : List ℕ) (i : ℕ) (u : Unit) (ue : u ≡ unitAt s i) where
   -- the units from here, by the unit at hand

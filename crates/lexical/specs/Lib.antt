@@ -19,3 +19,4 @@ pub mod LineLaws
 pub mod Number
 pub mod Decoded
 pub mod Reason
+pub mod Between

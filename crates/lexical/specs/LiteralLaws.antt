@@ -1,5 +1,5 @@
 -- The units of a literal one after the other. Assumes nothing.
-use mathlib.Core.Path.{_≡_, refl, sym, ap, _∙_}
+use mathlib.Core.Path.{_≡_, refl, sym, ap, _∙_, subst}
 use mathlib.Core.Bool.{Bool, true, false}
 use mathlib.Core.List.{List, [], _∷_}
 use Prim.Native.Nat.{ℕ, zero, suc, _+_, _-_, _≤_, _<_}
@@ -10,7 +10,7 @@ use lib.ListN.{length}
 use borrow.Author.Tests.{eqb-true, le-leb, lt-leb, leb-true}
 use Rattle.text.specs.Choice.{pick, pick-if}
 use Rattle.lexical.specs.declared.unit.Unit.{Unit}
-use Rattle.lexical.specs.Unit.{GIVES, CLOSES, unitAt}
+use Rattle.lexical.specs.Unit.{GIVES, CLOSES, spoils, unitAt}
 use Rattle.lexical.specs.UnitLaws.{unit-moves, unit-closing}
 use Rattle.lexical.specs.Literal.{inside, units, unitsAt, closing, literalEnd}
 use Rattle.lexical.specs.Bounds.{chosen}
@@ -39,16 +39,24 @@ module _ (s : List ℕ) (i : ℕ) where
   unfolding unitsAt units
   units-last h = rw (lt-leb _ _ h)
 
+-- behind the end there is one unit, which spoils
+pub units-end : (s : List ℕ) (i : ℕ) → length s ≤ i → unitsAt s i ≡ spoils ∷ []
+unfolding unitAt
+units-end s i h =
+    let e : spoils ≡ unitAt s i = simp (le-leb _ _ h) in
+    let k : GIVES < unitAt s i .kind = subst (λ (u : Unit). GIVES < u .kind) e (omega arith) in
+    units-last s i k ∙ ap (λ (u : Unit). u ∷ []) (sym e)
+
 -- a literal ends within the text, behind where it starts
-Closed : ℕ → ℕ → ℕ → Type 0
+unfoldable pub Closed : ℕ → ℕ → ℕ → Type 0
 Closed n i e = (e ≡ 0 → ⊥) → (i < e) × (e ≤ n)
 
-closing-within : (n : ℕ) (s : List ℕ) (i : ℕ) → Closed (length s) i (closing i (units n s i))
+pub closing-within : (n : ℕ) (s : List ℕ) (i : ℕ) → Closed (length s) i (closing i (units n s i))
 unfolding units Closed
 closing-within zero s i = λ z. absurd (z refl)
 closing-within (suc n) s i =
     chosen (Closed (length s) i) (eqb (unitAt s i .kind) CLOSES) (i + 1) _
-    (λ e z. let l : i < length s = unit-closing s i (eqb-true _ _ e) in (omega arith, omega arith))
+    (λ e z. let l : i < length s = unit-closing s i (eqb-true _ _ e) .0 in (omega arith, omega arith))
     (λ e. chosen (λ (us : List Unit). Closed (length s) i (closing (i + unitAt s i .width) us)) (inside (unitAt s i)) _ []
     (λ f z.
     let p : (1 ≤ unitAt s i .width) × (i + unitAt s i .width ≤ length s) = unit-moves s i (leb-true _ _ f) in

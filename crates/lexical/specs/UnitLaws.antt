@@ -39,7 +39,7 @@ abbrev pub Bytes : List ℕ → Type 0
 Bytes s = (j : ℕ) → getD s j 0 < 256
 
 -- What holds of each kind of unit holds of the unit at i.
-module _ (s : List ℕ) (i : ℕ) (P : Unit → Type 0) (on-spoils : P spoils) (on-closes : i < length s → P closes)
+module _ (s : List ℕ) (i : ℕ) (P : Unit → Type 0) (on-spoils : P spoils) (on-closes : i < length s → getD s i 0 ≡ 34 → P closes)
     (on-drops : (w : ℕ) → 1 ≤ w → i + w ≤ length s → P (drops w))
     (on-gives : (w b : ℕ) → 1 ≤ w → i + w ≤ length s → (b ≡ 0 → ⊥) → (Bytes s → b < 256) → P (gives w b)) where
   module _ (b c d : ℕ) (be : b ≡ getD s (i + 1) 0) (ce : c ≡ getD s (i + 2) 0) (de : d ≡ getD s (i + 3) 0) where
@@ -97,7 +97,7 @@ module _ (s : List ℕ) (i : ℕ) (P : Unit → Type 0) (on-spoils : P spoils) (
   unfolding unitAt
   unit-case =
       chosen P (leb (length s) i) spoils _ (λ z. on-spoils)
-      (λ z. chosen P (eqb (getD s i 0) 34) closes _ (λ q. on-closes (leb-false _ _ z))
+      (λ z. chosen P (eqb (getD s i 0) 34) closes _ (λ q. on-closes (leb-false _ _ z) (eqb-true _ _ q))
       (λ q. chosen P (eqb (getD s i 0) 92) _ _
       (λ b. chosen P (eqb (getD s (i + 1) 0) 10) _ _ (λ n. on-newline (eqb-true _ _ n)) (λ n. on-escape _ _ _ refl refl refl))
       (λ b. on-plain (leb-false _ _ z))))
@@ -106,21 +106,22 @@ module _ (s : List ℕ) (i : ℕ) (P : Unit → Type 0) (on-spoils : P spoils) (
 pub unit-moves : (s : List ℕ) (i : ℕ) → unitAt s i .kind ≤ GIVES → (1 ≤ unitAt s i .width) × (i + unitAt s i .width ≤ length s)
 unit-moves s i =
     unit-case s i (λ u. u .kind ≤ GIVES → (1 ≤ u .width) × (i + u .width ≤ length s))
-    (λ h. let no : ⊥ = omega (arith, h) in absurd no) (λ l h. let no : ⊥ = omega (arith, h) in absurd no) (λ w h k z. (h, k)) (λ w b h k n m z. (h, k))
+    (λ h. let no : ⊥ = omega (arith, h) in absurd no) (λ l q h. let no : ⊥ = omega (arith, h) in absurd no) (λ w h k z. (h, k)) (λ w b h k n m z. (h, k))
 
 -- No unit gives a NUL.
 pub unit-solid : (s : List ℕ) (i : ℕ) → unitAt s i .kind ≡ GIVES → unitAt s i .byte ≡ 0 → ⊥
 unit-solid s i =
     unit-case s i (λ u. u .kind ≡ GIVES → u .byte ≡ 0 → ⊥)
-    (λ h. let no : ⊥ = omega (arith, h) in absurd no) (λ l h. let no : ⊥ = omega (arith, h) in absurd no)
+    (λ h. let no : ⊥ = omega (arith, h) in absurd no) (λ l q h. let no : ⊥ = omega (arith, h) in absurd no)
     (λ w h k z. let no : ⊥ = omega (arith, z) in absurd no) (λ w b h k n m z. n)
 
 -- A unit of bytes gives a byte.
 pub unit-byte : (s : List ℕ) (i : ℕ) → Bytes s → unitAt s i .byte < 256
-unit-byte s i all = unit-case s i (λ u. u .byte < 256) (omega arith) (λ l. omega arith) (λ w h k. omega arith) (λ w b h k n m. m all)
+unit-byte s i all = unit-case s i (λ u. u .byte < 256) (omega arith) (λ l q. omega arith) (λ w h k. omega arith) (λ w b h k n m. m all)
 
--- A closing quote stands within the text.
-pub unit-closing : (s : List ℕ) (i : ℕ) → unitAt s i .kind ≡ CLOSES → i < length s
+-- A closing quote is a quote of the text.
+pub unit-closing : (s : List ℕ) (i : ℕ) → unitAt s i .kind ≡ CLOSES → (i < length s) × (getD s i 0 ≡ 34)
 unit-closing s i =
-    unit-case s i (λ u. u .kind ≡ CLOSES → i < length s)
-    (λ h. let no : ⊥ = omega (arith, h) in absurd no) (λ l h. l) (λ w h k z. let no : ⊥ = omega (arith, z) in absurd no) (λ w b h k n m z. let no : ⊥ = omega (arith, z) in absurd no)
+    unit-case s i (λ u. u .kind ≡ CLOSES → (i < length s) × (getD s i 0 ≡ 34))
+    (λ h. let no : ⊥ = omega (arith, h) in absurd no) (λ l q h. (l, q))
+    (λ w h k z. let no : ⊥ = omega (arith, z) in absurd no) (λ w b h k n m z. let no : ⊥ = omega (arith, z) in absurd no)
