@@ -1,8 +1,8 @@
 -- The ways out of the functions of `literal`. Assumes nothing.
-use mathlib.Core.Path.{_≡_, refl, sym, ap, _∙_, subst}
-use mathlib.Core.Bool.{Bool, true, false}
+use mathlib.Core.Path.{_≡_, refl, sym, ap, _∙_}
+use mathlib.Core.Bool.{true, false}
 use mathlib.Core.List.{List, [], _∷_}
-use Prim.Native.Nat.{ℕ, zero, suc, _+_, _-_, _≤_, _<_, _^_}
+use Prim.Native.Nat.{ℕ, _+_, _-_, _≤_, _<_, _^_}
 use native.Mathlib.Omega.{arith}
 use native.Mathlib.Nat.{lt-of-le-of-lt}
 use mir.Syntax.{w64}
@@ -14,11 +14,11 @@ use lib.Seq.{sets}
 use borrow.Author.Tests.{eqb-true, eqb-false, lt-ltb, le-ltb, eq-eqb, ne-eqb}
 use Rattle.text.specs.Choice.{split}
 use Rattle.lexical.specs.declared.unit.Unit.{Unit}
-use Rattle.lexical.specs.Unit.{GIVES, CLOSES, spoils, unitAt}
+use Rattle.lexical.specs.Unit.{GIVES, CLOSES, unitAt}
 use Rattle.lexical.specs.UnitLaws.{unit-moves}
-use Rattle.lexical.specs.Literal.{units, unitsAt, closing, given, literalEnd, decodedAt}
+use Rattle.lexical.specs.Literal.{units, unitsAt, given, literalEnd, decodedAt}
 use Rattle.lexical.specs.LiteralLaws.{units-more, units-last, units-end}
-use Rattle.lexical.specs.Decode.{Ran, ran, decodeInto}
+use Rattle.lexical.specs.Decode.{ran, decodeInto}
 
 module _ (s : List ℕ) (i : ℕ) (u : Unit) (ue : u ≡ unitAt s i) where
   -- the units from here, by the unit at hand

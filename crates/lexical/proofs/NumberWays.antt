@@ -1,15 +1,13 @@
 -- The ways out of the functions of `number`. Assumes nothing.
-use mathlib.Core.Path.{_≡_, refl, sym, ap, _∙_}
-use mathlib.Core.Bool.{Bool, true, false}
+use mathlib.Core.Path.{_≡_, refl, _∙_}
 use mathlib.Core.List.{List, [], _∷_}
 use Prim.Native.Nat.{ℕ, zero, suc, _+_, _-_, _*_, _≤_, _<_}
 use native.Mathlib.Omega.{arith}
 use native.Mathlib.Numerals.{add-one}
 use lib.Dec.{leb}
-use lib.ListN.{length, getD, take, drop, drop-of-length-le}
+use lib.ListN.{length, getD, take, drop-of-length-le}
 use lib.Seq.{slice, drop-cons, getD-take}
-use borrow.Author.Tests.{le-leb, lt-leb, leb-true, leb-false}
-use Rattle.text.specs.Choice.{pick, split}
+use borrow.Author.Tests.{le-leb, leb-true, leb-false}
 use Rattle.lexical.specs.Bounds.{chosen}
 use Rattle.lexical.specs.Number.{LIMIT, decimal, held, numberAt}
 

@@ -4,11 +4,7 @@ use mathlib.Core.Bool.{Bool, true, false}
 use Prim.Native.Nat.{ℕ}
 use borrow.Author.Tests.{eq-eqb, ne-eqb}
 use Rattle.lexical.specs.Kind.{ILLEGAL, OF}
-use Rattle.lexical.specs.Operator.{equalPair, pairOf, markKind, isOf, operatorKind}
-
-pub pair-equal : (c b r : ℕ) → b ≡ 61 → r ≡ equalPair c → r ≡ pairOf c b
-unfolding pairOf
-pair-equal c b r h e = simp (eq-eqb _ _ h) e
+use Rattle.lexical.specs.Operator.{pairOf, markKind, isOf, operatorKind}
 
 module _ (mode c b d : ℕ) (t : Bool) (te : t ≡ isOf mode c b d) where
   pub operator-of : t ≡ true → OF ≡ operatorKind mode c b d

@@ -1,16 +1,16 @@
 -- What a literal gives is what the bytes between its quotes give. Assumes nothing.
 use mathlib.Core.Path.{_≡_, refl, sym, ap, _∙_, subst}
-use mathlib.Core.Bool.{Bool, true, false}
-use mathlib.Core.List.{List, [], _∷_}
+use mathlib.Core.Bool.{Bool, false}
+use mathlib.Core.List.{List, _∷_}
 use Prim.Native.Nat.{ℕ, zero, suc, _+_, _-_, _≤_, _<_}
 use native.Mathlib.Omega.{arith}
 use native.Mathlib.Numerals.{add-one}
 use lib.Dec.{eqb, leb, ltb}
 use lib.ListN.{length, getD, take, drop, length-drop, List·getD-eq-default}
 use lib.Seq.{slice, getD-take, getD-drop, drop-drop, length-take-le}
-use borrow.Author.Tests.{le-leb, lt-leb, eq-eqb, ne-eqb, eqb-true, eqb-false, leb-true, leb-false, ltb-true, ltb-false}
-use Rattle.text.specs.Choice.{pick, split, bool-iff}
-use Rattle.text.specs.Scan.{run, past, past-more, past-stop, past-end}
+use borrow.Author.Tests.{le-leb, lt-leb, ne-eqb, eqb-true, leb-true, ltb-true, ltb-false}
+use Rattle.text.specs.Choice.{split, bool-iff}
+use Rattle.text.specs.Scan.{past, past-more, past-stop, past-end}
 use Rattle.lexical.specs.Bounds.{chosen, past-from}
 use Rattle.lexical.specs.Run.{inRun, WHITE}
 use Rattle.lexical.specs.declared.unit.Unit.{Unit}

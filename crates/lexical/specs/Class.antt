@@ -5,9 +5,11 @@ use lib.Dec.{eqb, leb}
 use Rattle.text.specs.Choice.{pick}
 use Rattle.lexical.specs.Kind
 
+-- the first test or the second
 abbrev pub or : Bool → Bool → Bool
 or a b = pick a true b
 
+-- a byte from lo to hi
 abbrev pub within : ℕ → ℕ → ℕ → Bool
 within lo hi b = pick (leb lo b) (leb b hi) false
 
@@ -19,6 +21,7 @@ OTHER = 0
 abbrev pub BLANK : ℕ
 BLANK = 1
 
+-- the byte that ends a line
 abbrev pub NEWLINE : ℕ
 NEWLINE = 2
 
@@ -26,9 +29,11 @@ NEWLINE = 2
 abbrev pub LETTER : ℕ
 LETTER = 3
 
+-- "digits"
 abbrev pub DIGIT : ℕ
 DIGIT = 4
 
+-- what opens and closes a literal
 abbrev pub QUOTE : ℕ
 QUOTE = 5
 
@@ -36,13 +41,15 @@ QUOTE = 5
 abbrev pub HASH : ℕ
 HASH = 6
 
+-- "a byte 0"
 abbrev pub NUL : ℕ
 NUL = 7
 
--- "|" and "~", which are no tokens but begin one
+-- "|", which is no token but begins one, as does "~"
 abbrev pub BAR : ℕ
 BAR = 8
 
+-- "~"
 abbrev pub TILDE : ℕ
 TILDE = 9
 

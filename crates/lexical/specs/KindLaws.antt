@@ -1,19 +1,18 @@
 -- A label or an operator lies within the text. Assumes nothing.
-use mathlib.Core.Path.{_≡_, refl, sym, ap, _∙_}
+use mathlib.Core.Path.{_≡_, refl, sym, _∙_}
 use mathlib.Core.Bool.{Bool, true, false}
 use mathlib.Core.List.{List, [], _∷_}
-use Prim.Native.Nat.{ℕ, zero, suc, _+_, _-_, _≤_, _<_}
+use Prim.Native.Nat.{ℕ, suc, _+_, _-_, _≤_, _<_}
 use native.Mathlib.Omega.{arith}
-use native.Mathlib.Nat.{add-zero, add-suc, suc-add}
-use lib.Dec.{eqb, leb, ltb}
+use lib.Dec.{eqb, ltb}
 use lib.ListN.{length, getD}
-use borrow.Author.Tests.{eq-eqb, ne-eqb, eqb-true, eqb-false, ltb-false, le-ltb}
-use Rattle.text.specs.Choice.{pick, clash, split}
+use borrow.Author.Tests.{ne-eqb, eqb-true, eqb-false, ltb-false, le-ltb}
+use Rattle.text.specs.Choice.{pick, clash}
 use Rattle.lexical.specs.Bounds.{chosen, byte-within}
 use Rattle.lexical.specs.Kind
 use Rattle.lexical.specs.Class.{classOf}
 use Rattle.lexical.specs.Word.{lower, stands}
-use Rattle.lexical.specs.Label.{labelKind, word-keynote-version, word-local-constants, word-authorizer, word-licensees, word-conditions, word-comment, word-signature}
+use Rattle.lexical.specs.Label.{labelKind}
 use Rattle.lexical.specs.Operator.{equalPair, pairOf, markKind, isOf, operatorKind}
 use Rattle.lexical.specs.Token.{widthOf, operatorAt}
 

@@ -1,5 +1,5 @@
 -- Lines, and the token that comes next in a text. Assumes nothing.
-use mathlib.Core.Bool.{Bool, true, false}
+use mathlib.Core.Bool.{Bool, true}
 use mathlib.Core.List.{List}
 use Prim.Native.Nat.{ℕ, _+_, _-_}
 use lib.Dec.{eqb, leb}
@@ -62,6 +62,7 @@ lineTurn s mode i =
     pick (leb (length s) i) (done (endOf s))
     (pick (eqb (lineAt s mode i .kind) Kind.NEXT) (next (lineAt s mode i .end)) (done (lineAt s mode i)))
 
+-- what the lines from i on give
 unfoldable pub linesFrom : List ℕ → ℕ → ℕ → Token
 linesFrom s mode i = loop (λ j. length s - j) (λ j. endOf s) (lineTurn s mode) i
 

@@ -1,22 +1,18 @@
 -- Where lines lie, and the laws of the token that comes next. Assumes nothing.
-use mathlib.Core.Path.{_≡_, refl, sym, ap, _∙_, subst}
-use mathlib.Core.Bool.{Bool, true, false}
-use mathlib.Core.List.{List, [], _∷_}
-use Prim.Native.Nat.{ℕ, zero, suc, _+_, _-_, _≤_, _<_}
+use mathlib.Core.Path.{_≡_, refl, sym, subst}
+use mathlib.Core.List.{List}
+use Prim.Native.Nat.{ℕ, _+_, _-_, _≤_, _<_}
 use native.Mathlib.Omega.{arith}
-use native.Mathlib.Nat.{add-zero}
-use lib.Dec.{eqb, leb, ltb}
+use lib.Dec.{eqb, leb}
 use lib.ListN.{length, getD}
-use borrow.Author.Tests.{eq-eqb, ne-eqb, eqb-true, eqb-false, ltb-true, ltb-false, lt-ltb, leb-true, leb-false}
-use Rattle.text.specs.Choice.{pick, split}
-use Rattle.text.specs.Loop.{Step, next, done, loop, loop-ind}
+use borrow.Author.Tests.{eqb-true, eqb-false, leb-false}
+use Rattle.text.specs.Loop.{Step, next, done, loop-ind}
 use Rattle.text.specs.Scan.{past}
 use Rattle.lexical.specs.Bounds.{chosen, past-from}
 use Rattle.lexical.specs.Kind
 use Rattle.lexical.specs.Class.{classOf, BLANK, NEWLINE, HASH}
 use Rattle.lexical.specs.Run.{inRun, BLANKS, FREE}
-use Rattle.lexical.specs.Label.{labelKind}
-use Rattle.lexical.specs.Token.{endOf, illegalAt, badLine, nextLine, fixed, tokenFrom}
+use Rattle.lexical.specs.Token.{endOf}
 use Rattle.lexical.specs.TokenLaws.{Fine, ended, fault, further, real, illegal-fine, bad-fine, label-fine, token-fine}
 use Rattle.lexical.specs.Line.{restOfLine, visible, inLine, blankTo, indented, lineAt, lineTurn, linesFrom, tokenAt}
 use Rattle.lexical.specs.declared.token.Token.{Token}

@@ -1,14 +1,13 @@
 -- The units of a literal one after the other. Assumes nothing.
 use mathlib.Core.Path.{_≡_, refl, sym, ap, _∙_, subst}
-use mathlib.Core.Bool.{Bool, true, false}
 use mathlib.Core.List.{List, [], _∷_}
 use Prim.Native.Nat.{ℕ, zero, suc, _+_, _-_, _≤_, _<_}
 use native.Mathlib.Omega.{arith}
 use native.Mathlib.Nat.{not-suc-le-zero}
-use lib.Dec.{eqb, leb}
+use lib.Dec.{eqb}
 use lib.ListN.{length}
 use borrow.Author.Tests.{eqb-true, le-leb, lt-leb, leb-true}
-use Rattle.text.specs.Choice.{pick, pick-if}
+use Rattle.text.specs.Choice.{pick-if}
 use Rattle.lexical.specs.declared.unit.Unit.{Unit}
 use Rattle.lexical.specs.Unit.{GIVES, CLOSES, spoils, unitAt}
 use Rattle.lexical.specs.UnitLaws.{unit-moves, unit-closing}

@@ -1,5 +1,5 @@
 -- Operators: which one begins with given bytes, by the longest reading. Assumes nothing.
-use mathlib.Core.Bool.{Bool, true, false}
+use mathlib.Core.Bool.{Bool, false}
 use Prim.Native.Nat.{ℕ}
 use lib.Dec.{eqb, ltb}
 use Rattle.text.specs.Choice.{pick}

@@ -1,5 +1,5 @@
 -- The runs of bytes that are scanned over. Assumes nothing.
-use mathlib.Core.Bool.{Bool, true, false, not}
+use mathlib.Core.Bool.{Bool, false, not}
 use Prim.Native.Nat.{ℕ}
 use lib.Dec.{eqb}
 use Rattle.text.specs.Choice.{pick}
@@ -21,6 +21,7 @@ FREE = 2
 abbrev pub WORD : ℕ
 WORD = 3
 
+-- "digits"
 abbrev pub NUMERALS : ℕ
 NUMERALS = 4
 

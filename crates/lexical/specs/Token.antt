@@ -12,6 +12,7 @@ use Rattle.lexical.specs.Operator.{operatorKind}
 use Rattle.lexical.specs.Literal.{literalEnd}
 use Rattle.lexical.specs.declared.token.Token.{Token}
 
+-- a token of kind k from i to before e
 abbrev pub token : ℕ → ℕ → ℕ → Token
 token k i e = record { kind = k; start = i; end = e }
 
@@ -52,6 +53,7 @@ fixed k i = token k i (i + widthOf k)
 unfoldable pub operatorAt : List ℕ → ℕ → ℕ → ℕ
 operatorAt s mode i = operatorKind mode (classOf (getD s i 0)) (getD s (i + 1) 0) (getD s (i + 2) 0)
 
+-- the operator at i, or a fault
 unfoldable pub operatorToken : List ℕ → ℕ → ℕ → Token
 operatorToken s mode i = fixed (operatorAt s mode i) i
 
@@ -69,6 +71,7 @@ floatEnd s e =
 abbrev pub numberTo : List ℕ → ℕ → ℕ → Token
 numberTo s i e = pick (eqb (floatEnd s e) e) (token Kind.DIGITS i e) (token Kind.FLOAT i (floatEnd s e))
 
+-- "digits, float literal (digits "." digits)", "longest reading"
 unfoldable pub numberToken : List ℕ → ℕ → Token
 numberToken s i = numberTo s i (past (inRun NUMERALS) s i)
 

@@ -1,5 +1,5 @@
 -- One unit of a literal: a byte, an escape, a line continuation, the closing quote. Assumes nothing.
-use mathlib.Core.Bool.{Bool, true, false}
+use mathlib.Core.Bool.{Bool}
 use mathlib.Core.List.{List}
 use Prim.Native.Nat.{ℕ, _+_, _-_, _*_}
 use lib.Dec.{eqb, leb, ltb}
@@ -26,15 +26,19 @@ CLOSES = 2
 abbrev pub SPOILS : ℕ
 SPOILS = 3
 
+-- w bytes that give the byte b
 abbrev pub gives : ℕ → ℕ → Unit
 gives w b = record { kind = GIVES; width = w; byte = b }
 
+-- w bytes that give none
 abbrev pub drops : ℕ → Unit
 drops w = record { kind = DROPS; width = w; byte = 0 }
 
+-- the closing quote
 abbrev pub closes : Unit
 closes = record { kind = CLOSES; width = 1; byte = 0 }
 
+-- what no literal can hold
 abbrev pub spoils : Unit
 spoils = record { kind = SPOILS; width = 0; byte = 0 }
 

@@ -1,16 +1,16 @@
 -- What holds of every unit of a literal: it moves on within the text, and gives no NUL and no number above 255. Assumes nothing.
-use mathlib.Core.Path.{_≡_, refl, sym, _∙_}
+use mathlib.Core.Path.{_≡_, refl, _∙_}
 use mathlib.Core.Bool.{Bool, true, false}
-use mathlib.Core.List.{List, [], _∷_}
-use Prim.Native.Nat.{ℕ, zero, suc, _+_, _-_, _*_, _≤_, _<_}
+use mathlib.Core.List.{List}
+use Prim.Native.Nat.{ℕ, _+_, _-_, _≤_, _<_}
 use native.Mathlib.Omega.{arith}
 use lib.Dec.{eqb, leb, ltb}
 use lib.ListN.{length, getD}
-use borrow.Author.Tests.{ltb-true, ltb-false, eq-eqb, leb-true, leb-false, eqb-true, eqb-false}
+use borrow.Author.Tests.{ltb-false, eq-eqb, leb-true, leb-false, eqb-true, eqb-false}
 use Rattle.text.specs.Choice.{pick, clash}
 use Rattle.text.specs.Scan.{past}
 use Rattle.lexical.specs.Bounds.{chosen, past-from, past-within, byte-within}
-use Rattle.lexical.specs.Class.{or, within}
+use Rattle.lexical.specs.Class.{within}
 use Rattle.lexical.specs.Run.{inRun, WHITE}
 use Rattle.lexical.specs.declared.unit.Unit.{Unit}
 use Rattle.lexical.specs.Unit.{GIVES, CLOSES, gives, drops, closes, spoils, bare, octal, control, coded, octalUnit, escapeUnit, barred, unitAt}

@@ -20,9 +20,10 @@ stands s i (x ∷ xs) = pick (eqb (lower (getD s i 0)) x) (stands s (suc i) xs) 
 unfoldable pub spells : List ℕ → ℕ → ℕ → List ℕ → Bool
 spells s start end w = pick (ltb end start) false (pick (eqb (end - start) (length w)) (stands s start w) false)
 
--- "true, false"
+-- the keyword true, in small letters
 abbrev pub word-true : List ℕ
 word-true = 116 ∷ 114 ∷ 117 ∷ 101 ∷ []
 
+-- the keyword false, in small letters
 abbrev pub word-false : List ℕ
 word-false = 102 ∷ 97 ∷ 108 ∷ 115 ∷ 101 ∷ []

@@ -1,6 +1,6 @@
 // The kinds of token, and where in a text a token is looked for; specs/Kind.antt says what each is.
 ghost use mathlib.Core.Path.{_≡_};
-ghost use Rattle.lexical.specs.Kind.{opened};
+ghost use Rattle.lexical.specs.Kind.{opened, modeAfter};
 ghost use Rattle.lexical.specs.Reason.{reasonOf};
 
 pub const END: u8 = 0;
@@ -110,6 +110,19 @@ pub fn mode_of(kind: u8) -> u8
         return IN_COMMENT;
     }
     IN_FIELD
+}
+
+// Where it goes on behind any token.
+pub fn mode_after(mode: u8, kind: u8) -> u8
+    ensures { λ r. ⌜ r ≡ modeAfter mode kind ⌝ }
+{
+    if kind < KEYNOTE_VERSION {
+        return mode;
+    }
+    if SIGNATURE < kind {
+        return mode;
+    }
+    mode_of(kind)
 }
 
 // The reason for a fault of this kind, or 0; its place is the token's start.

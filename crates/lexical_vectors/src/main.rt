@@ -79,17 +79,6 @@ fn put_token(s: &[u8], t: Token) {
     put_value(s, t);
 }
 
-// Where the text goes on behind a token.
-fn mode_after(mode: u8, k: u8) -> u8 {
-    if k < kind::KEYNOTE_VERSION {
-        return mode;
-    }
-    if kind::SIGNATURE < k {
-        return mode;
-    }
-    kind::mode_of(k)
-}
-
 fn show(s: &[u8]) {
     let mut mode = kind::BEFORE;
     let mut at: usize = 0;
@@ -103,7 +92,7 @@ fn show(s: &[u8]) {
             break;
         }
         put(b" ");
-        mode = mode_after(mode, t.kind);
+        mode = kind::mode_after(mode, t.kind);
         at = t.end;
     }
     put(b"\n");

@@ -1,5 +1,4 @@
-use Prim.Native.Nat.{_-_, _+_, _≤_}
-use lib.ListN.{length}
+use Prim.Native.Nat.{_-_}
 use borrow.Author.Needs.{needs}
 use Rattle.lexical_vectors.proofs.put_hex.Statement.{statement}
 use Rattle.lexical_vectors.proofs.put_hex.Tie as tie

@@ -1,6 +1,6 @@
 use mathlib.Core.Path.{_≡_}
 use Rattle.lexical_vectors.proofs.Prefix.{length-prefix, stored-within, stored-length}
-use Prim.Native.Nat.{_-_, _+_, _≤_}
+use Prim.Native.Nat.{_-_, _≤_}
 use lib.ListN.{length}
 use borrow.Author.Needs.{needs}
 use Rattle.lexical_vectors.proofs.show_all.Statement.{statement}

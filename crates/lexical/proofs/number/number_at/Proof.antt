@@ -1,7 +1,6 @@
 use Rattle.lexical.proofs.NumberWays.{numberRest, number-start, number-end, number-past, number-more, number-low}
 use Rattle.lexical.specs.Number.{LIMIT, numberAt}
 use Prim.Native.Nat.{_≤_}
-use lib.ListN.{length}
 use Prim.Native.Nat.{_-_}
 use mathlib.Core.Path.{_≡_}
 use borrow.Author.Needs.{needs}
