@@ -60,10 +60,10 @@ module _ (s : List ℕ) (i : ℕ) where
       (one-label _ _ Kind.COMMENT _ refl refl
       (one-label _ _ Kind.SIGNATURE Kind.BAD-LINE refl refl (λ z. let no : ⊥ = omega (arith, z) in absurd no)))))))
 
--- an operator of two bytes is two bytes wide, and its second byte is no NUL
+-- an operator of two bytes is two bytes wide, its kind stands behind "-of", and its second byte is no NUL
 module _ (c b : ℕ) where
   abbrev Pair : ℕ → Type 0
-  Pair k = (k ≡ Kind.ILLEGAL → ⊥) → widthOf k ≡ 2
+  Pair k = (k ≡ Kind.ILLEGAL → ⊥) → (widthOf k ≡ 2) × (Kind.OF < k)
 
   no-pair : Pair Kind.ILLEGAL
   no-pair n = absurd (n refl)
@@ -71,19 +71,19 @@ module _ (c b : ℕ) where
   equal-pair : Pair (equalPair c)
   unfolding equalPair widthOf
   equal-pair =
-      chosen Pair (eqb c Kind.ASSIGN) Kind.EQUAL _ (λ e n. refl)
-      (λ e. chosen Pair (eqb c Kind.NOT) Kind.UNEQUAL _ (λ f n. refl)
-      (λ f. chosen Pair (eqb c Kind.LESS) Kind.AT-MOST _ (λ g n. refl)
-      (λ g. chosen Pair (eqb c Kind.GREATER) Kind.AT-LEAST _ (λ h n. refl)
-      (λ h. chosen Pair (eqb c 9) Kind.MATCHES Kind.ILLEGAL (λ k n. refl) (λ k. no-pair)))))
+      chosen Pair (eqb c Kind.ASSIGN) Kind.EQUAL _ (λ e n. (refl, omega arith))
+      (λ e. chosen Pair (eqb c Kind.NOT) Kind.UNEQUAL _ (λ f n. (refl, omega arith))
+      (λ f. chosen Pair (eqb c Kind.LESS) Kind.AT-MOST _ (λ g n. (refl, omega arith))
+      (λ g. chosen Pair (eqb c Kind.GREATER) Kind.AT-LEAST _ (λ h n. (refl, omega arith))
+      (λ h. chosen Pair (eqb c 9) Kind.MATCHES Kind.ILLEGAL (λ k n. (refl, omega arith)) (λ k. no-pair)))))
 
   pub pair-width : Pair (pairOf c b)
   unfolding pairOf widthOf
   pair-width =
       chosen Pair (eqb b 61) (equalPair c) _ (λ e. equal-pair)
-      (λ e. chosen Pair (eqb b 62) _ _ (λ f. chosen Pair (eqb c Kind.MINUS) Kind.ARROW Kind.ILLEGAL (λ g n. refl) (λ g. no-pair))
-      (λ f. chosen Pair (eqb b 38) _ _ (λ g. chosen Pair (eqb c Kind.AMPERSAND) Kind.AND Kind.ILLEGAL (λ h n. refl) (λ h. no-pair))
-      (λ g. chosen Pair (eqb b 124) _ Kind.ILLEGAL (λ h. chosen Pair (eqb c 8) Kind.OR Kind.ILLEGAL (λ k n. refl) (λ k. no-pair)) (λ h. no-pair))))
+      (λ e. chosen Pair (eqb b 62) _ _ (λ f. chosen Pair (eqb c Kind.MINUS) Kind.ARROW Kind.ILLEGAL (λ g n. (refl, omega arith)) (λ g. no-pair))
+      (λ f. chosen Pair (eqb b 38) _ _ (λ g. chosen Pair (eqb c Kind.AMPERSAND) Kind.AND Kind.ILLEGAL (λ h n. (refl, omega arith)) (λ h. no-pair))
+      (λ g. chosen Pair (eqb b 124) _ Kind.ILLEGAL (λ h. chosen Pair (eqb c 8) Kind.OR Kind.ILLEGAL (λ k n. (refl, omega arith)) (λ k. no-pair)) (λ h. no-pair))))
 
   pub pair-second : (pairOf c b ≡ Kind.ILLEGAL → ⊥) → b ≡ 0 → ⊥
   unfolding pairOf
@@ -121,7 +121,7 @@ module _ (s : List ℕ) (mode i : ℕ) where
   pair-wide : (pairOf (classOf (getD s i 0)) (getD s (i + 1) 0) ≡ Kind.ILLEGAL → ⊥) → Wide s i (pairOf (classOf (getD s i 0)) (getD s (i + 1) 0))
   pair-wide n z =
       let l : i + 1 < length s = byte-within s (i + 1) (pair-second (classOf (getD s i 0)) (getD s (i + 1) 0) n) in
-      omega (arith, pair-width (classOf (getD s i 0)) (getD s (i + 1) 0) n)
+      omega (arith, pair-width (classOf (getD s i 0)) (getD s (i + 1) 0) n .0)
 
   pub operator-wide : Wide s i (operatorAt s mode i)
   unfolding operatorAt operatorKind widthOf

@@ -12,6 +12,7 @@ use Rattle.lexical.specs.Bounds.{chosen, past-from}
 use Rattle.lexical.specs.Kind
 use Rattle.lexical.specs.Class.{classOf, BLANK, NEWLINE, HASH}
 use Rattle.lexical.specs.Run.{inRun, BLANKS, FREE}
+use Rattle.lexical.specs.Literal.{literalEnd}
 use Rattle.lexical.specs.Token.{endOf}
 use Rattle.lexical.specs.TokenLaws.{Fine, ended, fault, further, real, illegal-fine, bad-fine, label-fine, token-fine}
 use Rattle.lexical.specs.Line.{restOfLine, visible, inLine, blankTo, indented, lineAt, lineTurn, linesFrom, tokenAt}
@@ -66,14 +67,14 @@ pub fine-next : (s : List ℕ) (at : ℕ) (t : Token) → Fine s at t → t .kin
 fine-next s at _ ended h = let no : ⊥ = omega (arith, h) in absurd no
 fine-next s at _ (fault k p n m l f g) h = absurd (m h)
 fine-next s at _ (further p f g) h = (f, g)
-fine-next s at _ (real k i e l f g m) h = let no : ⊥ = omega (arith, h, l) in absurd no
+fine-next s at _ (real k i e l f g m o) h = let no : ⊥ = omega (arith, h, l) in absurd no
 
 -- what is found from a later place is found from an earlier one
 fine-from : (s : List ℕ) (at from : ℕ) (t : Token) → at ≤ from → Fine s from t → Fine s at t
 fine-from s at from _ a ended = ended
 fine-from s at from _ a (fault k p n m l f g) = fault k p n m l (omega (arith, a, f)) g
 fine-from s at from _ a (further p f g) = further p (omega (arith, a, f)) g
-fine-from s at from _ a (real k i e l f g m) = real k i e l (omega (arith, a, f)) g m
+fine-from s at from _ a (real k i e l f g m o) = real k i e l (omega (arith, a, f)) g m o
 
 -- what is found, and is more than a further line
 pub data Found (s : List ℕ) (at : ℕ) (t : Token) : Type 0 where
@@ -122,19 +123,25 @@ module _ (s : List ℕ) (at : ℕ) where
   found-real _ (found ended n) h = let no : ⊥ = omega (arith, h) in absurd no
   found-real _ (found (fault k p a b l f g) n) h = let no : ⊥ = omega (arith, h, l) in absurd no
   found-real _ (found (further p f g) n) h = absurd (n refl)
-  found-real _ (found (real k i e l f g m) n) h = (f, g, m)
+  found-real _ (found (real k i e l f g m o) n) h = (f, g, m)
 
   found-fault : (t : Token) → Found s at t → (t .kind ≡ Kind.END → ⊥) → t .kind ≤ Kind.BAD-LINE → (at ≤ t .start) × (t .start < length s) × (t .end ≡ t .start)
   found-fault _ (found ended n) z h = absurd (z refl)
   found-fault _ (found (fault k p a b l f g) n) z h = (f, g, refl)
   found-fault _ (found (further p f g) n) z h = absurd (n refl)
-  found-fault _ (found (real k i e l f g m) n) z h = let no : ⊥ = omega (arith, h, l) in absurd no
+  found-fault _ (found (real k i e l f g m o) n) z h = let no : ⊥ = omega (arith, h, l) in absurd no
 
   found-end : (t : Token) → Found s at t → t .kind ≡ Kind.END → t ≡ endOf s
   found-end _ (found ended n) h = refl
   found-end _ (found (fault k p a b l f g) n) h = absurd (a h)
   found-end _ (found (further p f g) n) h = absurd (n refl)
-  found-end _ (found (real k i e l f g m) n) h = let no : ⊥ = omega (arith, h, l) in absurd no
+  found-end _ (found (real k i e l f g m o) n) h = let no : ⊥ = omega (arith, h, l) in absurd no
+
+  found-literal : (t : Token) → Found s at t → t .kind ≡ Kind.LITERAL → literalEnd s (t .start + 1) ≡ t .end
+  found-literal _ (found ended n) h = let no : ⊥ = omega (arith, h) in absurd no
+  found-literal _ (found (fault k p a b l f g) n) h = let no : ⊥ = omega (arith, h, l) in absurd no
+  found-literal _ (found (further p f g) n) h = absurd (n refl)
+  found-literal _ (found (real k i e l f g m o) n) h = o h
 
   found-more : (t : Token) → Found s at t → t .kind ≡ Kind.NEXT → ⊥
   found-more t (found f n) = n
@@ -157,3 +164,7 @@ module _ (s : List ℕ) (mode at : ℕ) where
   -- The next line is no token.
   pub token-next : tokenAt s mode at .kind ≡ Kind.NEXT → ⊥
   token-next = found-more s at (tokenAt s mode at) (token-found s mode at)
+
+  -- A literal ends behind its closing quote.
+  pub token-literal : tokenAt s mode at .kind ≡ Kind.LITERAL → literalEnd s (tokenAt s mode at .start + 1) ≡ tokenAt s mode at .end
+  token-literal h = found-literal s at (tokenAt s mode at) (token-found s mode at) h

@@ -1,5 +1,5 @@
 -- Where tokens lie: what is found lies within the text, not before the place from which it was looked for. Assumes nothing.
-use mathlib.Core.Path.{_≡_, sym, subst}
+use mathlib.Core.Path.{_≡_, refl, sym, subst}
 use mathlib.Core.Bool.{Bool, true}
 use mathlib.Core.List.{List}
 use Prim.Native.Nat.{ℕ, _+_, _-_, _≤_, _<_}
@@ -27,18 +27,52 @@ pub data Fine (s : List ℕ) (at : ℕ) : Token → Type 0 where
   ended : Fine s at (endOf s)
   fault : (k p : ℕ) → (k ≡ Kind.END → ⊥) → (k ≡ Kind.NEXT → ⊥) → k ≤ Kind.BAD-LINE → at ≤ p → p < length s → Fine s at (token k p p)
   further : (p : ℕ) → at < p → p ≤ length s → Fine s at (nextLine p)
-  real : (k i e : ℕ) → Kind.BAD-LINE < k → at ≤ i → i < e → e ≤ length s → Fine s at (token k i e)
+  real : (k i e : ℕ) → Kind.BAD-LINE < k → at ≤ i → i < e → e ≤ length s → (k ≡ Kind.LITERAL → literalEnd s (i + 1) ≡ e) → Fine s at (token k i e)
 
 width-fault : (k : ℕ) → k ≤ Kind.BAD-LINE → widthOf k ≡ 0
 unfolding widthOf
 width-fault k h = simp (lt-ltb k 4 (omega (arith, h)))
 
--- the end and the next line are no kinds of labels and operators
-abbrev Some : ℕ → Type 0
-Some k = (k ≡ Kind.END → ⊥) × (k ≡ Kind.NEXT → ⊥)
+-- the end, the next line and a literal are no kinds of labels and operators
+data Some : ℕ → Type 0 where
+  some : (k : ℕ) → (k ≡ Kind.END → ⊥) → (k ≡ Kind.NEXT → ⊥) → (k ≡ Kind.LITERAL → ⊥) → Some k
 
-some : (k : ℕ) → Kind.BAD-LINE ≤ k → Some k
-some k h = (λ e. let no : ⊥ = omega (arith, h, e) in no, λ e. let no : ⊥ = omega (arith, h, e) in no)
+some-low : (k : ℕ) → Kind.NEXT < k → k < Kind.LITERAL → Some k
+some-low k h l =
+    some k (λ e. let no : ⊥ = omega (arith, h, e) in no) (λ e. let no : ⊥ = omega (arith, h, e) in no) (λ e. let no : ⊥ = omega (arith, l, e) in no)
+
+some-high : (k : ℕ) → Kind.LITERAL < k → Some k
+some-high k h =
+    some k (λ e. let no : ⊥ = omega (arith, h, e) in no) (λ e. let no : ⊥ = omega (arith, h, e) in no) (λ e. let no : ⊥ = omega (arith, h, e) in no)
+
+some-illegal : Some Kind.ILLEGAL
+some-illegal =
+    some Kind.ILLEGAL (λ e. let no : ⊥ = omega (arith, e) in no) (λ e. let no : ⊥ = omega (arith, e) in no) (λ e. let no : ⊥ = omega (arith, e) in no)
+
+label-some : (s : List ℕ) (i : ℕ) → Some (labelKind s i)
+unfolding labelKind
+label-some s i =
+    one _ Kind.KEYNOTE-VERSION _ (omega arith) (omega arith)
+    (one _ Kind.LOCAL-CONSTANTS _ (omega arith) (omega arith)
+    (one _ Kind.AUTHORIZER _ (omega arith) (omega arith)
+    (one _ Kind.LICENSEES _ (omega arith) (omega arith)
+    (one _ Kind.CONDITIONS _ (omega arith) (omega arith)
+    (one _ Kind.COMMENT _ (omega arith) (omega arith)
+    (one _ Kind.SIGNATURE Kind.BAD-LINE (omega arith) (omega arith) (some-low Kind.BAD-LINE (omega arith) (omega arith))))))))
+  where
+    one : (w : List ℕ) (k r : ℕ) → Kind.NEXT < k → k < Kind.LITERAL → Some r → Some (pick (stands s i w) k r)
+    one w k r h l m = chosen Some (stands s i w) k r (λ e. some-low k h l) (λ e. m)
+
+operator-some : (s : List ℕ) (mode i : ℕ) → Some (operatorAt s mode i)
+unfolding operatorAt operatorKind markKind
+operator-some s mode i =
+    chosen Some (isOf mode (classOf (getD s i 0)) (getD s (i + 1) 0) (getD s (i + 2) 0)) Kind.OF _ (λ e. some-high Kind.OF (omega arith))
+    (λ e. chosen Some (eqb (pairOf (classOf (getD s i 0)) (getD s (i + 1) 0)) Kind.ILLEGAL) _ _
+    (λ f. chosen Some (ltb (classOf (getD s i 0)) Kind.OPEN) Kind.ILLEGAL _ (λ g. some-illegal)
+    (λ g. some-high (classOf (getD s i 0)) (omega (arith, ltb-false (classOf (getD s i 0)) Kind.OPEN g))))
+    (λ f.
+    let p : Kind.OF < pairOf (classOf (getD s i 0)) (getD s (i + 1) 0) = pair-width (classOf (getD s i 0)) (getD s (i + 1) 0) (eqb-false _ _ f) .1 in
+    some-high _ (omega (arith, p))))
 
 -- a number is above n
 data Above (n : ℕ) : ℕ → Type 0 where
@@ -46,33 +80,6 @@ data Above (n : ℕ) : ℕ → Type 0 where
 
 is-above : (n k : ℕ) → Above n k → n < k
 is-above n k (above _ h) = h
-
-label-some : (s : List ℕ) (i : ℕ) → Above Kind.NEXT (labelKind s i)
-unfolding labelKind
-label-some s i =
-    one _ Kind.KEYNOTE-VERSION _ (omega arith)
-    (one _ Kind.LOCAL-CONSTANTS _ (omega arith)
-    (one _ Kind.AUTHORIZER _ (omega arith)
-    (one _ Kind.LICENSEES _ (omega arith)
-    (one _ Kind.CONDITIONS _ (omega arith)
-    (one _ Kind.COMMENT _ (omega arith) (one _ Kind.SIGNATURE Kind.BAD-LINE (omega arith) (above Kind.BAD-LINE (omega arith))))))))
-  where
-    one : (w : List ℕ) (k r : ℕ) → Kind.NEXT < k → Above Kind.NEXT r → Above Kind.NEXT (pick (stands s i w) k r)
-    one w k r h l = chosen (Above Kind.NEXT) (stands s i w) k r (λ e. above k h) (λ e. l)
-
-pair-some : (c b : ℕ) → (pairOf c b ≡ Kind.ILLEGAL → ⊥) → Kind.BAD-LINE ≤ pairOf c b
-pair-some c b n =
-    split (ltb Kind.BAD-LINE (pairOf c b)) (λ e. omega (arith, ltb-true Kind.BAD-LINE (pairOf c b) e))
-    (λ e. let no : ⊥ = omega (arith, pair-width c b n, width-fault (pairOf c b) (ltb-false Kind.BAD-LINE (pairOf c b) e)) in absurd no)
-
-operator-some : (s : List ℕ) (mode i : ℕ) → Some (operatorAt s mode i)
-unfolding operatorAt operatorKind markKind
-operator-some s mode i =
-    chosen Some (isOf mode (classOf (getD s i 0)) (getD s (i + 1) 0) (getD s (i + 2) 0)) Kind.OF _ (λ e. some Kind.OF (omega arith))
-    (λ e. chosen Some (eqb (pairOf (classOf (getD s i 0)) (getD s (i + 1) 0)) Kind.ILLEGAL) _ _
-    (λ f. chosen Some (ltb (classOf (getD s i 0)) Kind.OPEN) Kind.ILLEGAL _ (λ g. (λ z. let no : ⊥ = omega (arith, z) in no, λ z. let no : ⊥ = omega (arith, z) in no))
-    (λ g. some (classOf (getD s i 0)) (omega (arith, ltb-false (classOf (getD s i 0)) Kind.OPEN g))))
-    (λ f. some _ (pair-some (classOf (getD s i 0)) (getD s (i + 1) 0) (eqb-false _ _ f))))
 
 width-some : (k : ℕ) → Kind.BAD-LINE < k → Above 0 (widthOf k)
 unfolding widthOf
@@ -108,9 +115,9 @@ float-from s e h = float-between s e h
 
 module _ (s : List ℕ) (at i : ℕ) (from : at ≤ i) (in-s : i < length s) where
   fixed-fine : (k : ℕ) → Some k → Wide s i k → Fine s at (fixed k i)
-  fixed-fine k (n, m) w =
+  fixed-fine k (some _ n m o) w =
       split (ltb Kind.BAD-LINE k)
-      (λ e. let h : Kind.BAD-LINE < k = ltb-true _ _ e in real k i (i + widthOf k) h from (omega (arith, is-above 0 (widthOf k) (width-some k h))) (w h))
+      (λ e. let h : Kind.BAD-LINE < k = ltb-true _ _ e in real k i (i + widthOf k) h from (omega (arith, is-above 0 (widthOf k) (width-some k h))) (w h) (λ e. absurd (o e)))
       (λ e.
       let h : k ≤ Kind.BAD-LINE = ltb-false _ _ e in
       let z : i + widthOf k ≡ i = omega (arith, width-fault k h) in
@@ -123,7 +130,7 @@ module _ (s : List ℕ) (at i : ℕ) (from : at ≤ i) (in-s : i < length s) whe
   bad-fine = fault Kind.BAD-LINE i (λ z. let no : ⊥ = omega (arith, z) in no) (λ z. let no : ⊥ = omega (arith, z) in no) (omega arith) from in-s
 
   pub label-fine : Fine s at (fixed (labelKind s i) i)
-  label-fine = fixed-fine (labelKind s i) (some (labelKind s i) (is-above Kind.NEXT (labelKind s i) (label-some s i))) (label-wide s i)
+  label-fine = fixed-fine (labelKind s i) (label-some s i) (label-wide s i)
 
   operator-fine : (mode : ℕ) → Fine s at (operatorToken s mode i)
   unfolding operatorToken
@@ -135,14 +142,14 @@ module _ (s : List ℕ) (at i : ℕ) (from : at ≤ i) (in-s : i < length s) whe
       chosen (Fine s at) (eqb (literalEnd s (i + 1)) 0) (illegalAt i) _ (λ e. illegal-fine)
       (λ e.
       let p : (i + 1 < literalEnd s (i + 1)) × (literalEnd s (i + 1) ≤ length s) = end-within s (i + 1) (eqb-false _ _ e) in
-      real Kind.LITERAL i (literalEnd s (i + 1)) (omega arith) from (omega (arith, p .0)) (p .1))
+      real Kind.LITERAL i (literalEnd s (i + 1)) (omega arith) from (omega (arith, p .0)) (p .1) (λ z. refl))
 
   -- a run whose first byte belongs to it
-  run-fine : (k n : ℕ) → Kind.BAD-LINE < n → inRun k (getD s i 0) ≡ true → Fine s at (token n i (past (inRun k) s i))
+  run-fine : (k n : ℕ) → Kind.LITERAL < n → inRun k (getD s i 0) ≡ true → Fine s at (token n i (past (inRun k) s i))
   run-fine k n h e =
-      real n i (past (inRun k) s i) h from
+      real n i (past (inRun k) s i) (omega (arith, h)) from
       (omega (arith, past-more (inRun k) s i in-s e, past-from (inRun k) s (i + 1)))
-      (past-within (inRun k) s i (omega (arith, in-s)))
+      (past-within (inRun k) s i (omega (arith, in-s))) (λ z. let no : ⊥ = omega (arith, h, z) in absurd no)
 
   name-fine : classOf (getD s i 0) ≡ LETTER → Fine s at (token Kind.NAME i (past (inRun WORD) s i))
   unfolding inRun hasClass
@@ -156,7 +163,7 @@ module _ (s : List ℕ) (at i : ℕ) (from : at ≤ i) (in-s : i < length s) whe
       chosen (Fine s at) (eqb (floatEnd s (past (inRun NUMERALS) s i)) (past (inRun NUMERALS) s i)) _ _ (λ f. d)
       (λ f. real Kind.FLOAT i (floatEnd s (past (inRun NUMERALS) s i)) (omega arith) from
       (omega (arith, past-from (inRun NUMERALS) s i, float-from s (past (inRun NUMERALS) s i) l .0, eqb-false (floatEnd s (past (inRun NUMERALS) s i)) (past (inRun NUMERALS) s i) f))
-      (float-from s (past (inRun NUMERALS) s i) l .1))
+      (float-from s (past (inRun NUMERALS) s i) l .1) (λ z. let no : ⊥ = omega (arith, z) in absurd no))
 
   pub token-fine : (mode : ℕ) → Fine s at (tokenFrom s mode i)
   unfolding tokenFrom
