@@ -20,3 +20,5 @@ pub mod Number
 pub mod Decoded
 pub mod Reason
 pub mod Between
+pub mod Tokens
+pub mod TokensLaws
