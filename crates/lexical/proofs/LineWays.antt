@@ -1,0 +1,157 @@
+-- The ways out of the functions of `line`. Assumes nothing.
+use mathlib.Core.Path.{_≡_, sym, ap, _∙_}
+use mathlib.Core.Bool.{Bool, true, false}
+use mathlib.Core.List.{List}
+use Prim.Native.Nat.{ℕ, _+_, _-_, _≤_, _<_, _^_}
+use native.Mathlib.Omega.{arith}
+use native.Mathlib.Nat.{add-zero}
+use mir.Syntax.{w64}
+use mir.Val.{Fits}
+use lib.Dec.{eqb}
+use lib.ListN.{length, getD}
+use borrow.Author.Tests.{le-leb, lt-leb, eq-eqb, ne-eqb}
+use Rattle.text.specs.Loop.{loop-next, loop-done}
+use Rattle.text.specs.Scan.{past}
+use Rattle.lexical.specs.Kind
+use Rattle.lexical.specs.Class.{classOf, BLANK, NEWLINE, HASH}
+use Rattle.lexical.specs.Run.{inRun, BLANKS, FREE}
+use Rattle.lexical.specs.Label.{labelKind}
+use Rattle.lexical.specs.Token.{endOf, illegalAt, badLine, nextLine, widthOf, fixed, tokenFrom, token}
+use Rattle.lexical.specs.KindLaws.{label-wide}
+use Rattle.lexical.specs.Line.{restOfLine, visible, inLine, blankTo, indented, lineAt, linesFrom, tokenAt}
+use Rattle.lexical.specs.LineLaws.{fine-next, line-fine}
+use Rattle.lexical.specs.declared.token.Token.{Token}
+use Rattle.lexical.proofs.TokenWays.{wide-fits}
+
+module _ (s : List ℕ) (i e : ℕ) (ee : e ≡ past (inRun FREE) s i) where
+  pub rest-end : length s ≤ e → endOf s ≡ restOfLine s i
+  unfolding restOfLine
+  rest-end h = simp (sym ee, le-leb _ _ h)
+
+  module _ (h : e < length s) where
+    pub rest-nul : getD s e 0 ≡ 0 → illegalAt e ≡ restOfLine s i
+    unfolding restOfLine
+    rest-nul z = simp (sym ee, lt-leb _ _ h, eq-eqb _ _ z)
+
+    pub rest-next : (getD s e 0 ≡ 0 → ⊥) → nextLine (e + 1) ≡ restOfLine s i
+    unfolding restOfLine
+    rest-next z = simp (sym ee, lt-leb _ _ h, ne-eqb _ _ z)
+
+module _ (s : List ℕ) (mode i : ℕ) where
+  pub visible-end : length s ≤ i → endOf s ≡ visible s mode i
+  unfolding visible
+  visible-end h = simp (le-leb _ _ h)
+
+  module _ (h : i < length s) (c : ℕ) (ce : c ≡ classOf (getD s i 0)) where
+    pub visible-next : c ≡ NEWLINE → nextLine (i + 1) ≡ visible s mode i
+    unfolding visible
+    visible-next e = simp (lt-leb _ _ h, sym ce, eq-eqb _ _ e)
+
+    module _ (n : c ≡ NEWLINE → ⊥) (r : Token) where
+      pub visible-hash : c ≡ HASH → r ≡ restOfLine s i → r ≡ visible s mode i
+      unfolding visible
+      visible-hash e re = simp (lt-leb _ _ h, sym ce, ne-eqb _ _ n, eq-eqb _ _ e) re
+
+      pub visible-token : (c ≡ HASH → ⊥) → r ≡ tokenFrom s mode i → r ≡ visible s mode i
+      unfolding visible
+      visible-token e re = simp (lt-leb _ _ h, sym ce, ne-eqb _ _ n, ne-eqb _ _ e) re
+
+  module _ (r : Token) where
+    pub in-comment : mode ≡ Kind.IN-COMMENT → r ≡ restOfLine s i → r ≡ inLine s mode i
+    unfolding inLine
+    in-comment e re = simp (eq-eqb _ _ e) re
+
+    pub in-field : (e : ℕ) → (mode ≡ Kind.IN-COMMENT → ⊥) → e ≡ past (inRun BLANKS) s i → r ≡ visible s mode e → r ≡ inLine s mode i
+    unfolding inLine
+    in-field e n ee re = simp (ne-eqb _ _ n, sym ee) re
+
+pub blank-end : (s : List ℕ) (e : ℕ) → length s ≤ e → true ≡ blankTo s e
+unfolding blankTo
+blank-end s e h = simp (le-leb _ _ h)
+
+pub blank-line : (s : List ℕ) (e c : ℕ) → e < length s → c ≡ classOf (getD s e 0) → eqb c NEWLINE ≡ blankTo s e
+unfolding blankTo
+blank-line s e c h ce = simp (lt-leb _ _ h, sym ce)
+
+module _ (s : List ℕ) (mode i e : ℕ) where
+  pub indented-field : (r : Token) → (mode ≡ Kind.BEFORE → ⊥) → r ≡ inLine s mode i → r ≡ indented s mode i e
+  unfolding indented
+  indented-field r n re = simp (ne-eqb _ _ n) re
+
+  module _ (m : mode ≡ Kind.BEFORE) (b c : ℕ) (ce : c ≡ classOf b) (be : b ≡ getD s (e + 0) 0) where
+    here : c ≡ classOf (getD s e 0)
+    here = ce ∙ ap classOf (be ∙ ap (λ (j : ℕ). getD s j 0) (add-zero e))
+
+    pub indented-hash : (r : Token) → c ≡ HASH → r ≡ restOfLine s e → r ≡ indented s mode i e
+    unfolding indented
+    indented-hash r h re = simp (eq-eqb _ _ m, sym here, eq-eqb _ _ h) re
+
+    pub indented-bad : (c ≡ HASH → ⊥) → badLine i ≡ indented s mode i e
+    unfolding indented
+    indented-bad h = simp (eq-eqb _ _ m, sym here, ne-eqb _ _ h)
+
+module _ (s : List ℕ) (i k w : ℕ) (ke : k ≡ labelKind s i) (we : w ≡ widthOf k) where
+  pub label-fits : length s < 2 ^ 64 → Fits w64 i → Fits w64 (i + w)
+  label-fits l f = wide-fits s i k w (rw ke (label-wide s i)) we l f
+
+  pub label-made : token k i (i + w) ≡ fixed (labelKind s i) i
+  label-made = simp (sym ke, we)
+
+module _ (s : List ℕ) (mode i : ℕ) where
+  pub line-end : length s ≤ i → endOf s ≡ lineAt s mode i
+  unfolding lineAt
+  line-end h = simp (le-leb _ _ h)
+
+  module _ (h : i < length s) (e : ℕ) (ee : e ≡ past (inRun BLANKS) s i) (b : Bool) (be : b ≡ blankTo s e) where
+    pub line-blank : b ≡ true → badLine i ≡ lineAt s mode i
+    unfolding lineAt
+    line-blank t = simp (lt-leb _ _ h, sym ee, sym be, t)
+
+    module _ (bn : b ≡ false) (c : ℕ) (ce : c ≡ classOf (getD s i 0)) (r : Token) where
+      pub line-hash : c ≡ HASH → r ≡ restOfLine s i → r ≡ lineAt s mode i
+      unfolding lineAt
+      line-hash f re = simp (lt-leb _ _ h, sym ee, sym be, bn, sym ce, eq-eqb _ _ f) re
+
+      module _ (n : c ≡ HASH → ⊥) where
+        pub line-indented : c ≡ BLANK → r ≡ indented s mode i e → r ≡ lineAt s mode i
+        unfolding lineAt
+        line-indented f re = simp (lt-leb _ _ h, sym ee, sym be, bn, sym ce, ne-eqb _ _ n, eq-eqb _ _ f) re
+
+        pub line-label : (c ≡ BLANK → ⊥) → r ≡ fixed (labelKind s i) i → r ≡ lineAt s mode i
+        unfolding lineAt
+        line-label f re = simp (lt-leb _ _ h, sym ee, sym be, bn, sym ce, ne-eqb _ _ n, ne-eqb _ _ f) re
+
+module _ (s : List ℕ) (mode i : ℕ) (r : Token) (inv : linesFrom s mode i ≡ r) where
+  pub lines-end : length s ≤ i → endOf s ≡ r
+  unfolding linesFrom
+  lines-end h = sym (loop-done _ _ _ i (endOf s) (simp (le-leb _ _ h))) ∙ inv
+
+  module _ (h : i < length s) (t : Token) (te : t ≡ lineAt s mode i) where
+    pub lines-found : (t .kind ≡ Kind.NEXT → ⊥) → t ≡ r
+    unfolding linesFrom
+    lines-found n = sym (loop-done _ _ _ i t (simp (lt-leb _ _ h, sym te, ne-eqb _ _ n))) ∙ inv
+
+    module _ (n : t .kind ≡ Kind.NEXT) where
+      next-line : (i < t .end) × (t .end ≤ length s)
+      next-line = fine-next s i t (rw te (line-fine s mode i)) n
+
+      pub lines-more : linesFrom s mode (t .end) ≡ r
+      unfolding linesFrom
+      lines-more = sym (loop-next _ _ _ i (t .end) (simp (lt-leb _ _ h, sym te, eq-eqb _ _ n)) (omega (arith, h, next-line .0, next-line .1))) ∙ inv
+
+      pub lines-less : length s - t .end < length s - i
+      lines-less = omega (arith, h, next-line .0, next-line .1)
+
+module _ (s : List ℕ) (mode at : ℕ) (r : Token) where
+  pub token-first : at ≡ 0 → r ≡ linesFrom s mode 0 → r ≡ tokenAt s mode at
+  unfolding tokenAt
+  token-first z e = simp (eq-eqb _ _ z) e
+
+  module _ (n : at ≡ 0 → ⊥) (t : Token) (te : t ≡ inLine s mode at) where
+    pub token-below : t .kind ≡ Kind.NEXT → r ≡ linesFrom s mode (t .end) → r ≡ tokenAt s mode at
+    unfolding tokenAt
+    token-below h e = simp (ne-eqb _ _ n, sym te, eq-eqb _ _ h) e
+
+    pub token-here : (t .kind ≡ Kind.NEXT → ⊥) → t ≡ tokenAt s mode at
+    unfolding tokenAt
+    token-here h = simp (ne-eqb _ _ n, sym te, ne-eqb _ _ h)

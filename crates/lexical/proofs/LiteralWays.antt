@@ -1,0 +1,167 @@
+-- The ways out of the functions of `literal`. Assumes nothing.
+use mathlib.Core.Path.{_≡_, refl, sym, ap, _∙_}
+use mathlib.Core.Bool.{true, false}
+use mathlib.Core.List.{List, [], _∷_}
+use Prim.Native.Nat.{ℕ, _+_, _-_, _≤_, _<_, _^_}
+use native.Mathlib.Omega.{arith}
+use native.Mathlib.Nat.{lt-of-le-of-lt}
+use mir.Syntax.{w64}
+use mir.Val.{Fits}
+use native.Mathlib.Numerals.{add-one}
+use lib.Dec.{eqb}
+use lib.ListN.{length, set, length-set}
+use lib.Seq.{sets}
+use borrow.Author.Tests.{eqb-true, eqb-false, lt-ltb, le-ltb, eq-eqb, ne-eqb}
+use Rattle.text.specs.Choice.{split}
+use Rattle.lexical.specs.declared.unit.Unit.{Unit}
+use Rattle.lexical.specs.Unit.{GIVES, CLOSES, unitAt}
+use Rattle.lexical.specs.UnitLaws.{unit-moves}
+use Rattle.lexical.specs.Literal.{units, unitsAt, given, literalEnd, decodedAt}
+use Rattle.lexical.specs.LiteralLaws.{units-more, units-last, units-end}
+use Rattle.lexical.specs.Decode.{ran, decodeInto}
+
+module _ (s : List ℕ) (i : ℕ) (u : Unit) (ue : u ≡ unitAt s i) where
+  -- the units from here, by the unit at hand
+  first-more : u .kind ≤ GIVES → unitsAt s i ≡ u ∷ unitsAt s (i + u .width)
+  first-more h = rw ue (units-more s i (rw (sym ue) h))
+
+  first-last : GIVES < u .kind → unitsAt s i ≡ u ∷ []
+  first-last h = rw ue (units-last s i (rw (sym ue) h))
+
+  module _ (h : u .kind ≤ GIVES) where
+    pub unit-on : 1 ≤ u .width
+    unit-on = rw ue (unit-moves s i (rw (sym ue) h) .0)
+
+    pub unit-within : i + u .width ≤ length s
+    unit-within = rw ue (unit-moves s i (rw (sym ue) h) .1)
+
+    pub width-fits : length s < 2 ^ 64 → Fits w64 (i + u .width)
+    width-fits l = record { fits = lt-of-le-of-lt unit-within l }
+
+    pub width-less : i < length s → length s - (i + u .width) < length s - i
+    width-less l = omega (arith, unit-on)
+
+  module _ (r : ℕ) (inv : literalEnd s i ≡ r) where
+    pub end-closes : u .kind ≡ CLOSES → i + 1 ≡ r
+    unfolding literalEnd
+    end-closes h = rw (first-last (omega (arith, h)), eq-eqb _ _ h) at inv
+
+    module _ (n : u .kind ≡ CLOSES → ⊥) where
+      pub end-spoils : GIVES < u .kind → 0 ≡ r
+      unfolding literalEnd
+      end-spoils h = rw (first-last h, ne-eqb _ _ n) at inv
+
+      pub end-more : u .kind ≤ GIVES → literalEnd s (i + u .width) ≡ r
+      unfolding literalEnd
+      end-more h = rw (first-more h, ne-eqb _ _ n) at inv
+
+pub end-end : (s : List ℕ) (i r : ℕ) → literalEnd s i ≡ r → length s ≤ i → 0 ≡ r
+unfolding literalEnd
+end-end s i r inv h = rw (units-end s i h) at inv
+
+-- what the units from here give, by the unit at hand
+module _ (s : List ℕ) (i : ℕ) (u : Unit) (ue : u ≡ unitAt s i) where
+  given-one : u .kind ≡ GIVES → given (unitsAt s i) ≡ u .byte ∷ given (unitsAt s (i + u .width))
+  given-one h = rw (first-more s i u ue (omega (arith, h)), eq-eqb _ _ h) refl
+
+  given-none : (u .kind ≡ GIVES → ⊥) → u .kind ≤ GIVES → given (unitsAt s i) ≡ given (unitsAt s (i + u .width))
+  given-none n h = rw (first-more s i u ue h, ne-eqb _ _ n) refl
+
+  given-last : GIVES < u .kind → given (unitsAt s i) ≡ []
+  given-last h = rw (first-last s i u ue h, ne-eqb (u .kind) GIVES (λ e. let no : ⊥ = omega (arith, h, e) in no)) refl
+
+  given-count : u .kind ≤ GIVES → length (given (unitsAt s i)) ≡ u .kind + length (given (unitsAt s (i + u .width)))
+  given-count h =
+      split (eqb (u .kind) GIVES)
+      (λ e. let z : u .kind ≡ 1 = eqb-true _ _ e in omega (arith, ap length (given-one z), z))
+      (λ e. let n : u .kind ≡ GIVES → ⊥ = eqb-false _ _ e in let z : u .kind ≡ 0 = omega (arith, h, n) in omega (arith, ap length (given-none n h), z))
+
+given-end : (s : List ℕ) (i : ℕ) → length s ≤ i → given (unitsAt s i) ≡ []
+given-end s i h = rw (units-end s i h) refl
+
+module _ (s : List ℕ) (start : ℕ) where
+  pub length-none : length s ≤ start → 0 ≡ length (decodedAt s start)
+  unfolding decodedAt
+  length-none h = let l : length s ≤ start + 1 = omega arith in rw (given-end s (start + 1) l) refl
+
+  pub length-start : 0 + length (given (unitsAt s (start + 1))) ≡ length (decodedAt s start)
+  unfolding decodedAt
+  length-start = omega arith
+
+module _ (s : List ℕ) (i n r : ℕ) (inv : n + length (given (unitsAt s i)) ≡ r) where
+  pub length-end : length s ≤ i → n ≡ r
+  length-end h = omega (arith, inv, ap length (given-end s i h))
+
+  module _ (u : Unit) (ue : u ≡ unitAt s i) where
+    pub length-last : GIVES < u .kind → n ≡ r
+    length-last h = omega (arith, inv, ap length (given-last s i u ue h))
+
+    module _ (h : u .kind ≤ GIVES) (k : ℕ) (ke : k ≡ u .kind) where
+      pub length-more : n + k + length (given (unitsAt s (i + u .width))) ≡ r
+      length-more = omega (arith, inv, given-count s i u ue h, ke)
+
+      pub length-low : n ≤ i → n + k ≤ i + u .width
+      length-low l = omega (arith, h, ke, l, unit-on s i u ue h)
+
+-- a turn of `write`, with the invariant that what is left to store is what was to store, and fits
+module _ (s : List ℕ) (i : ℕ) (m : List ℕ) (top : ℕ) (r : List ℕ) (inv : sets m top (given (unitsAt s i)) ≡ r) where
+  pub write-end : length s ≤ i → m ≡ r
+  write-end h = rw (given-end s i h) at inv
+
+  module _ (u : Unit) (ue : u ≡ unitAt s i) where
+    pub write-last : GIVES < u .kind → m ≡ r
+    write-last h = rw (given-last s i u ue h) at inv
+
+    module _ (m′ : List ℕ) (top′ : ℕ) where
+      pub write-none : (u .kind ≡ GIVES → ⊥) → u .kind ≤ GIVES → m′ ≡ m → top′ ≡ top → sets m′ top′ (given (unitsAt s (i + u .width))) ≡ r
+      write-none n h me te = rw (me, te) (rw (given-none s i u ue n h) at inv)
+
+      pub write-one : u .kind ≡ GIVES → m′ ≡ set m top (u .byte) → top′ ≡ top + 1 → sets m′ top′ (given (unitsAt s (i + u .width))) ≡ r
+      write-one h me te = rw (me, te, add-one top) (rw (given-one s i u ue h) at inv)
+
+module _ (s : List ℕ) (i : ℕ) (m : List ℕ) (top : ℕ) (room : top + length (given (unitsAt s i)) ≤ length m) (u : Unit) (ue : u ≡ unitAt s i) where
+  pub room-none : (m′ : List ℕ) (top′ : ℕ) → (u .kind ≡ GIVES → ⊥) → u .kind ≤ GIVES → m′ ≡ m → top′ ≡ top → top′ + length (given (unitsAt s (i + u .width))) ≤ length m′
+  room-none m′ top′ n h me te = omega (arith, room, ap length (given-none s i u ue n h), ap length me, te)
+
+  module _ (h : u .kind ≡ GIVES) where
+    pub room-here : top < length m
+    room-here = omega (arith, room, ap length (given-one s i u ue h))
+
+    pub room-fits : (m₀ : List ℕ) → length m ≡ length m₀ → length m₀ < 2 ^ 64 → Fits w64 (top + 1)
+    room-fits m₀ e l = let k : top + 1 ≤ length m₀ = omega (arith, room-here, e) in record { fits = lt-of-le-of-lt k l }
+
+    pub room-one : (m′ : List ℕ) (top′ : ℕ) → m′ ≡ set m top (u .byte) → top′ ≡ top + 1 → top′ + length (given (unitsAt s (i + u .width))) ≤ length m′
+    room-one m′ top′ me te = omega (arith, room, ap length (given-one s i u ue h), ap length me, length-set m top (u .byte), te)
+
+-- a store keeps the length
+module _ (m m₀ m′ : List ℕ) (e : length m ≡ length m₀) where
+  pub kept-none : m′ ≡ m → length m′ ≡ length m₀
+  kept-none h = ap length h ∙ e
+
+  pub kept-one : (i b : ℕ) → m′ ≡ set m i b → length m′ ≡ length m₀
+  kept-one i b h = ap length h ∙ length-set m i b ∙ e
+
+module _ (s : List ℕ) (start : ℕ) (m : List ℕ) (at n : ℕ) (ne : n ≡ length (decodedAt s start)) where
+  pub into-none : length m < at → ran false m ≡ decodeInto s start m at
+  unfolding decodeInto
+  into-none h = simp (lt-ltb _ _ h)
+
+  module _ (h : at ≤ length m) where
+    pub into-full : length m - at < n → ran false m ≡ decodeInto s start m at
+    unfolding decodeInto
+    into-full k = simp (le-ltb _ _ h, sym ne, lt-ltb _ _ k)
+
+    module _ (k : n ≤ length m - at) where
+      pub into-past : length s ≤ start → ran true m ≡ decodeInto s start m at
+      unfolding decodeInto decodedAt
+      into-past l =
+          let e : given (unitsAt s (start + 1)) ≡ [] = given-end s (start + 1) (omega (arith, l)) in
+          simp (le-ltb _ _ h, e, le-ltb (length m - at) 0 (omega arith))
+
+      pub into-room : at + length (given (unitsAt s (start + 1))) ≤ length m
+      unfolding decodedAt
+      into-room = omega (arith, ne, h, k)
+
+      pub into-all : (b : List ℕ) → b ≡ sets m at (given (unitsAt s (start + 1))) → ran true b ≡ decodeInto s start m at
+      unfolding decodeInto decodedAt
+      into-all b e = simp (le-ltb _ _ h, sym ne, le-ltb _ _ k, sym e)

@@ -1,0 +1,108 @@
+-- The ways out of the functions of `token`. Assumes nothing.
+use mathlib.Core.Path.{_≡_, refl, sym, ap, _∙_}
+use mathlib.Core.List.{List}
+use Prim.Native.Nat.{ℕ, _+_, _-_, _≤_, _<_, _^_}
+use native.Mathlib.Omega.{arith}
+use native.Mathlib.Nat.{add-zero, lt-of-le-of-lt}
+use mir.Syntax.{w64}
+use mir.Val.{Fits}
+use lib.Dec.{ltb}
+use lib.ListN.{length, getD}
+use borrow.Author.Tests.{lt-ltb, le-leb, lt-leb, eq-eqb, ne-eqb, ltb-true, ltb-false}
+use Rattle.text.specs.Choice.{split}
+use Rattle.text.specs.Scan.{past}
+use Rattle.lexical.specs.Kind
+use Rattle.lexical.specs.Class.{classOf, LETTER, DIGIT, QUOTE}
+use Rattle.lexical.specs.Run.{inRun, WORD, NUMERALS}
+use Rattle.lexical.specs.Operator.{operatorKind}
+use Rattle.lexical.specs.Literal.{literalEnd}
+use Rattle.lexical.specs.declared.token.Token.{Token}
+use Rattle.lexical.specs.Token.{token, illegalAt, widthOf, operatorAt, operatorToken, literalToken, floatEnd, numberToken, tokenFrom}
+use Rattle.lexical.specs.KindLaws.{Wide, operator-wide}
+use Rattle.lexical.proofs.LiteralWays.{end-end}
+
+-- the end of a token whose kind settles its width is a place
+pub wide-fits : (s : List ℕ) (i k w : ℕ) → Wide s i k → w ≡ widthOf k → length s < 2 ^ 64 → Fits w64 i → Fits w64 (i + w)
+unfolding widthOf
+wide-fits s i k w h e l f =
+    split (ltb Kind.BAD-LINE k)
+    (λ t. let m : i + w ≤ length s = omega (arith, e, h (ltb-true _ _ t)) in record { fits = lt-of-le-of-lt m l })
+    (λ t. let n : k < 4 = omega (arith, ltb-false Kind.BAD-LINE k t) in let z : w ≡ 0 = e ∙ simp (lt-ltb k 4 n) in rw (z, add-zero i) f)
+
+pub operator-here : (s : List ℕ) (mode i a b c d r : ℕ) → r ≡ operatorKind mode c b d → c ≡ classOf a
+    → a ≡ getD s (i + 0) 0 → b ≡ getD s (i + 1) 0 → d ≡ getD s (i + 2) 0 → r ≡ operatorAt s mode i
+unfolding operatorAt
+operator-here s mode i a b c d r e ce ae be de =
+    simp (sym (ce ∙ ap classOf (ae ∙ ap (λ (j : ℕ). getD s j 0) (add-zero i))), sym be, sym de) e
+
+module _ (s : List ℕ) (mode i k w : ℕ) (ke : k ≡ operatorAt s mode i) (we : w ≡ widthOf k) where
+  pub operator-fits : length s < 2 ^ 64 → Fits w64 i → Fits w64 (i + w)
+  operator-fits l f = wide-fits s i k w (rw ke (operator-wide s mode i)) we l f
+
+  pub operator-made : token k i (i + w) ≡ operatorToken s mode i
+  unfolding operatorToken
+  operator-made = simp (sym ke, we)
+
+module _ (s : List ℕ) (mode i : ℕ) (a : ℕ) (ae : a ≡ getD s (i + 0) 0) (c : ℕ) (ce : c ≡ classOf a) where
+  class-here : c ≡ classOf (getD s i 0)
+  class-here = ce ∙ ap classOf (ae ∙ ap (λ (j : ℕ). getD s j 0) (add-zero i))
+
+  pub from-name : (e : ℕ) → c ≡ LETTER → e ≡ past (inRun WORD) s i → token Kind.NAME i e ≡ tokenFrom s mode i
+  unfolding tokenFrom
+  from-name e h ee = simp (sym class-here, eq-eqb _ _ h, sym ee)
+
+  module _ (nl : c ≡ LETTER → ⊥) where
+    pub from-number : (r : Token) → c ≡ DIGIT → r ≡ numberToken s i → r ≡ tokenFrom s mode i
+    unfolding tokenFrom
+    from-number r h re = simp (sym class-here, ne-eqb _ _ nl, eq-eqb _ _ h) re
+
+    module _ (nd : c ≡ DIGIT → ⊥) where
+      pub from-literal : (r : Token) → c ≡ QUOTE → r ≡ literalToken s i → r ≡ tokenFrom s mode i
+      unfolding tokenFrom
+      from-literal r h re = simp (sym class-here, ne-eqb _ _ nl, ne-eqb _ _ nd, eq-eqb _ _ h) re
+
+      pub from-operator : (r : Token) → (c ≡ QUOTE → ⊥) → r ≡ operatorToken s mode i → r ≡ tokenFrom s mode i
+      unfolding tokenFrom
+      from-operator r h re = simp (sym class-here, ne-eqb _ _ nl, ne-eqb _ _ nd, ne-eqb _ _ h) re
+
+module _ (s : List ℕ) (i : ℕ) where
+  pub literal-past : length s ≤ i → illegalAt i ≡ literalToken s i
+  unfolding literalToken
+  literal-past h = let z : 0 ≡ literalEnd s (i + 1) = end-end s (i + 1) _ refl (omega (arith, h)) in simp (eq-eqb _ _ (sym z))
+
+  module _ (e : ℕ) (ee : e ≡ literalEnd s (i + 1)) where
+    pub literal-open : e ≡ 0 → illegalAt i ≡ literalToken s i
+    unfolding literalToken
+    literal-open h = simp (sym ee, eq-eqb _ _ h)
+
+    pub literal-closed : (e ≡ 0 → ⊥) → token Kind.LITERAL i e ≡ literalToken s i
+    unfolding literalToken
+    literal-closed h = simp (sym ee, ne-eqb _ _ h)
+
+  module _ (e : ℕ) (ee : e ≡ past (inRun NUMERALS) s i) (f : ℕ) (fe : f ≡ floatEnd s e) where
+    pub number-digits : f ≡ e → token Kind.DIGITS i e ≡ numberToken s i
+    unfolding numberToken
+    number-digits h = simp (sym ee, sym fe, eq-eqb _ _ h)
+
+    pub number-float : (f ≡ e → ⊥) → token Kind.FLOAT i f ≡ numberToken s i
+    unfolding numberToken
+    number-float h = simp (sym ee, sym fe, ne-eqb _ _ h)
+
+module _ (s : List ℕ) (e : ℕ) where
+  pub float-past : length s ≤ e → e ≡ floatEnd s e
+  unfolding floatEnd
+  float-past h = simp (le-leb _ _ h)
+
+  module _ (in-s : e < length s) where
+    pub float-none : (getD s e 0 ≡ 46 → ⊥) → e ≡ floatEnd s e
+    unfolding floatEnd
+    float-none n = simp (lt-leb _ _ in-s, ne-eqb _ _ n)
+
+    module _ (p : getD s e 0 ≡ 46) (f : ℕ) (fe : f ≡ past (inRun NUMERALS) s (e + 1)) where
+      pub float-bare : f ≤ e + 1 → e ≡ floatEnd s e
+      unfolding floatEnd
+      float-bare h = simp (lt-leb _ _ in-s, eq-eqb _ _ p, sym fe, le-leb _ _ h)
+
+      pub float-full : e + 1 < f → f ≡ floatEnd s e
+      unfolding floatEnd
+      float-full h = simp (lt-leb _ _ in-s, eq-eqb _ _ p, sym fe, lt-leb _ _ h)

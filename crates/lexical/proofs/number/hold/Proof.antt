@@ -1,0 +1,20 @@
+use borrow.Author.Needs.{needs}
+use Rattle.text.specs.Choice.{tests}
+use Rattle.lexical.specs.Number.{held}
+use Rattle.lexical.proofs.number.hold.Statement.{statement}
+use Rattle.lexical.proofs.number.hold.Tie as tie
+use Rattle.lexical.proofs.number.hold.Reads as reads
+use Rattle.lexical.proofs.number.hold.Lts as lts
+
+-- src/number.rt:30:9
+returns : tie.Need-returns
+unfolding held
+returns c = search (needs, tests)
+
+-- src/number.rt:26:1
+returns-2 : tie.Need-returns-2
+unfolding held
+returns-2 c = search (needs, tests)
+
+pub hold-spec : {M : Type 1} → statement M
+hold-spec = tie.close (tie.spec returns returns-2)

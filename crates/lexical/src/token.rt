@@ -1,0 +1,157 @@
+// The token that starts at a place.
+use crate::class;
+use crate::class::class_of;
+use crate::kind;
+use crate::literal::literal_end;
+use crate::operator::operator_kind;
+use crate::scan::NUMERALS;
+use crate::scan::WORD;
+use crate::scan::byte_at;
+use crate::scan::skip;
+ghost use mathlib.Core.Path.{_≡_};
+ghost use Rattle.lexical.specs.Token.{widthOf, operatorAt, operatorToken, literalToken, floatEnd, numberToken, tokenFrom};
+
+// A token of the text: its kind, its first byte, and the place behind its last byte. At the end and at a fault the two places are one.
+pub struct Token {
+    pub kind: u8,
+    pub start: usize,
+    pub end: usize,
+}
+
+// The bytes of a label with its colon or of an operator; 0 for the end and the faults.
+pub fn width(k: u8) -> usize
+    ensures { λ r. ⌜ r ≡ widthOf k ⌝ }
+{
+    if k < kind::KEYNOTE_VERSION {
+        return 0;
+    }
+    if k < kind::AUTHORIZER {
+        return 16;
+    }
+    if k == kind::AUTHORIZER {
+        return 11;
+    }
+    if k == kind::LICENSEES {
+        return 10;
+    }
+    if k == kind::CONDITIONS {
+        return 11;
+    }
+    if k == kind::COMMENT {
+        return 8;
+    }
+    if k == kind::SIGNATURE {
+        return 10;
+    }
+    if k == kind::OF {
+        return 3;
+    }
+    if k < kind::OPEN {
+        return 2;
+    }
+    1
+}
+
+// The kind of the operator that stands at i, or ILLEGAL.
+fn operator_at(s: &[u8], mode: u8, i: usize) -> u8
+    ensures { λ r. ⌜ r ≡ operatorAt (now (s .entry)) mode i ⌝ }
+{
+    let c = class_of(byte_at(s, i, 0));
+    operator_kind(mode, c, byte_at(s, i, 1), byte_at(s, i, 2))
+}
+
+fn operator_token(s: &[u8], mode: u8, i: usize) -> Token
+    ensures { λ r. ⌜ r ≡ operatorToken (now (s .entry)) mode i ⌝ }
+{
+    let k = operator_at(s, mode, i);
+    Token {
+        kind: k,
+        start: i,
+        end: i + width(k),
+    }
+}
+
+// From its opening quote to behind its closing quote.
+fn literal_token(s: &[u8], i: usize) -> Token
+    ensures { λ r. ⌜ r ≡ literalToken (now (s .entry)) i ⌝ }
+{
+    if s.len() <= i {
+        return Token {
+            kind: kind::ILLEGAL,
+            start: i,
+            end: i,
+        };
+    }
+    let e = literal_end(s, i + 1);
+    if e == 0 {
+        return Token {
+            kind: kind::ILLEGAL,
+            start: i,
+            end: i,
+        };
+    }
+    Token {
+        kind: kind::LITERAL,
+        start: i,
+        end: e,
+    }
+}
+
+// The end of "." and digits at e, or e where they do not stand.
+fn float_end(s: &[u8], e: usize) -> usize
+    ensures { λ r. ⌜ r ≡ floatEnd (now (s .entry)) e ⌝ }
+{
+    if s.len() <= e {
+        return e;
+    }
+    if s[e] != b'.' {
+        return e;
+    }
+    let f = skip(s, e + 1, NUMERALS);
+    if f <= e + 1 {
+        return e;
+    }
+    f
+}
+
+// Digits, or a float literal.
+fn number_token(s: &[u8], i: usize) -> Token
+    ensures { λ r. ⌜ r ≡ numberToken (now (s .entry)) i ⌝ }
+{
+    let e = skip(s, i, NUMERALS);
+    let f = float_end(s, e);
+    if f == e {
+        return Token {
+            kind: kind::DIGITS,
+            start: i,
+            end: e,
+        };
+    }
+    Token {
+        kind: kind::FLOAT,
+        start: i,
+        end: f,
+    }
+}
+
+// The token that starts at i, by the class of its first byte.
+pub fn token_from(s: &[u8], mode: u8, i: usize) -> Token
+    ensures { λ r. ⌜ r ≡ tokenFrom (now (s .entry)) mode i ⌝ }
+{
+    let c = class_of(byte_at(s, i, 0));
+    if c == class::LETTER {
+        let e = skip(s, i, WORD);
+        return Token {
+            kind: kind::NAME,
+            start: i,
+            end: e,
+        };
+    }
+    if c == class::DIGIT {
+        return number_token(s, i);
+    }
+    if c == class::QUOTE {
+        return literal_token(s, i);
+    }
+    operator_token(s, mode, i)
+}
