@@ -1,1 +1,6 @@
-pub mod Dummy
+pub mod Highest
+pub mod Licensees
+pub mod System
+pub mod Reach
+pub mod Rounds
+pub mod Theorems

@@ -1,0 +1,6 @@
+pub mod Highest
+pub mod Monotone
+pub mod Reach
+pub mod Settle
+pub mod Alike
+pub mod Grow
