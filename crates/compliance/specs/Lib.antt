@@ -3,4 +3,5 @@ pub mod Licensees
 pub mod System
 pub mod Reach
 pub mod Rounds
+pub mod Rulings
 pub mod Theorems
