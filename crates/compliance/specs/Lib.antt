@@ -1,7 +1,9 @@
 pub mod Highest
 pub mod Licensees
+pub mod Codes
 pub mod System
 pub mod Reach
 pub mod Rounds
 pub mod Rulings
 pub mod Theorems
+pub mod Working

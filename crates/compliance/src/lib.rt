@@ -1,1 +1,3 @@
-// compliance
+// The compliance value of a query from tables of numbers.
+mod highest;
+pub mod machine;

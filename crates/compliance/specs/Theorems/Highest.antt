@@ -7,12 +7,7 @@ use native.Mathlib.Omega.{arith}
 use lib.Dec.{leb}
 use borrow.Author.Tests.{leb-true, leb-false, le-leb}
 use Rattle.text.specs.Choice.{pick, split}
-use Rattle.compliance.specs.Highest.{highest}
-
--- how many of the list are v or more
-unfoldable pub atLeast : ℕ → List ℕ → ℕ
-atLeast v [] = 0
-atLeast v (x ∷ xs) = pick (leb v x) 1 0 + atLeast v xs
+use Rattle.compliance.specs.Highest.{highest, atLeast}
 
 -- v is at most the K-th highest exactly when at least K of them are v or more
 pub highest-count : (k v : ℕ) (xs : List ℕ) → 0 < v → v ≤ highest (suc k) xs → suc k ≤ atLeast v xs
