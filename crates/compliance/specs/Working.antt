@@ -1,2 +1,5 @@
 pub mod Highest
 pub mod Machine
+pub mod Tables
+pub mod Rounds
+pub mod RoundWays
