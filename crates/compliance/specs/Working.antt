@@ -3,3 +3,4 @@ pub mod Machine
 pub mod Tables
 pub mod Rounds
 pub mod RoundWays
+pub mod Reach

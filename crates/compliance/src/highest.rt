@@ -24,7 +24,7 @@ fn one_if(v: u8, x: u8) -> usize
 }
 
 // How many of the values are v or more.
-fn at_least(values: &[u8], v: u8) -> usize
+pub(crate) fn at_least(values: &[u8], v: u8) -> usize
     ensures { λ r. ⌜ r ≡ atLeast v (now (values .entry)) ⌝ }
 {
     let mut count: usize = 0;

@@ -25,7 +25,7 @@ pub fn k_of(k: u8, n: u8) -> u16
     K_OF + 32 * (k as u16) + (n as u16)
 }
 
-fn wide(x: u16) -> usize
+pub(crate) fn wide(x: u16) -> usize
     ensures { λ r. ⌜ r ≡ x ⌝ }
 {
     x as usize
