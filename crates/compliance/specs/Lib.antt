@@ -1,6 +1,7 @@
 pub mod Highest
 pub mod Licensees
 pub mod Codes
+pub mod Limits
 pub mod System
 pub mod Reach
 pub mod Rounds

@@ -4,3 +4,4 @@ pub mod Tables
 pub mod Rounds
 pub mod RoundWays
 pub mod Reach
+pub mod Solve

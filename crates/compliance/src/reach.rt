@@ -67,7 +67,7 @@ fn expand(ends: &[u16], code: &[u16], done: &mut [u8], reach: &mut [u8], j: usiz
 }
 
 // Expands each assertion whose authorizer is reached, once.
-pub(crate) fn spread(authors: &[u16], ends: &[u16], code: &[u16], done: &mut [u8], reach: &mut [u8])
+fn spread(authors: &[u16], ends: &[u16], code: &[u16], done: &mut [u8], reach: &mut [u8])
     ensures { λ _. ⌜ now (reach .exit) ≡ spreadFrom (now (authors .entry)) (now (ends .entry)) (now (code .entry)) (length (now (authors .entry))) (now (done .entry)) (now (reach .entry)) ⌝ }
 {
     let mut n: usize = 0;
@@ -79,4 +79,18 @@ pub(crate) fn spread(authors: &[u16], ends: &[u16], code: &[u16], done: &mut [u8
         expand(ends, code, done, reach, j);
         n += 1;
     }
+}
+
+// From a table of no flags: POLICY, and all that it reaches.
+pub(crate) fn find_reach(
+    authors: &[u16],
+    ends: &[u16],
+    code: &[u16],
+    done: &mut [u8],
+    reach: &mut [u8],
+)
+    ensures { λ _. ⌜ now (reach .exit) ≡ spreadFrom (now (authors .entry)) (now (ends .entry)) (now (code .entry)) (length (now (authors .entry))) (now (done .entry)) (marked 0 (now (reach .entry))) ⌝ }
+{
+    mark(reach, 0);
+    spread(authors, ends, code, done, reach);
 }

@@ -130,3 +130,7 @@ module _ (authors ends code : List ℕ) where
           → spreadFrom authors ends code (length authors - (n + 1)) d z ≡ a
       unfolding spreadFrom
       spread-more k d z e = rw (e .expanded, e .flags) (rw (one-less (length authors) n h, ← je, lt-ltb j (length authors) k) at inv)
+
+pub found-is : (authors ends code done reach r z : List ℕ) → r ≡ marked 0 reach → z ≡ spreadFrom authors ends code (length authors) done r
+    → z ≡ spreadFrom authors ends code (length authors) done (marked 0 reach)
+found-is authors ends code done reach r z re ze = ze ∙ rw re
