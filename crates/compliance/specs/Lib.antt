@@ -2,6 +2,7 @@ pub mod Highest
 pub mod Licensees
 pub mod Codes
 pub mod Limits
+pub mod Tables
 pub mod System
 pub mod Reach
 pub mod Rounds

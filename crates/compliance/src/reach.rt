@@ -6,7 +6,7 @@ use crate::machine::wide;
 use crate::tables::program;
 ghost use mathlib.Core.Path.{_≡_};
 ghost use lib.ListN.{length, set};
-ghost use Rattle.compliance.specs.Working.Tables.{programOf};
+ghost use Rattle.compliance.specs.Tables.{programOf};
 ghost use Rattle.compliance.specs.Working.Reach.{marked, markedAll, openAt, openFrom, Expanded, spreadFrom};
 
 // Flags the principal that the instruction names, if it names one.

@@ -2,7 +2,7 @@
 use crate::machine::index_at;
 ghost use mathlib.Core.Path.{_≡_};
 ghost use lib.ListN.{length, getD};
-ghost use Rattle.compliance.specs.Working.Tables.{startOf, programOf};
+ghost use Rattle.compliance.specs.Tables.{startOf, programOf};
 
 // Where the program of assertion j starts: where the one before it ends.
 fn start_of(ends: &[u16], j: usize) -> usize

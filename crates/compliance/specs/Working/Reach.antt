@@ -12,7 +12,7 @@ use lib.Seq.{drop-cons, set-out}
 use borrow.Author.Tests.{lt-ltb, le-ltb, eq-eqb, ne-eqb}
 use Rattle.text.specs.Choice.{pick}
 use Rattle.compliance.specs.Codes.{topCode}
-use Rattle.compliance.specs.Working.Tables.{programOf}
+use Rattle.compliance.specs.Tables.{programOf}
 
 -- the principal that an instruction names, flagged
 unfoldable pub marked : ℕ → List ℕ → List ℕ

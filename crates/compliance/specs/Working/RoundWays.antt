@@ -12,7 +12,7 @@ use lib.Seq.{drop-cons, set-out, set-at, take-suc, take-all, length-take-le, app
 use borrow.Author.Tests.{eq-eqb, ne-eqb}
 use Rattle.text.specs.Choice.{pick}
 use Rattle.compliance.specs.Working.Machine.{worth}
-use Rattle.compliance.specs.Working.Tables.{programOf}
+use Rattle.compliance.specs.Tables.{programOf}
 use Rattle.compliance.specs.Working.Rounds.{grantedOf, raised, directAt, directTable, changesOf, Advanced, Settled, settledAt, relaxedAt, relaxFrom, roundOf, settleFrom}
 
 pub granted-is : (conds ends code : List ℕ) (top depth : ℕ) (ranks : List ℕ) (j : ℕ) (prog : List ℕ) (w c r : ℕ)

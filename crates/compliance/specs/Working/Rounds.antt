@@ -6,7 +6,7 @@ use lib.Dec.{eqb}
 use lib.ListN.{length, getD, set}
 use Rattle.text.specs.Choice.{pick}
 use Rattle.compliance.specs.Working.Machine.{worth}
-use Rattle.compliance.specs.Working.Tables.{programOf}
+use Rattle.compliance.specs.Tables.{programOf}
 
 -- the rank of assertion j
 unfoldable pub grantedOf : List ℕ → List ℕ → List ℕ → ℕ → ℕ → List ℕ → ℕ → ℕ

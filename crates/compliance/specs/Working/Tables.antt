@@ -1,4 +1,4 @@
--- The program of an assertion in the tables, and the ways to it. Assumes nothing.
+-- The ways to the program of an assertion in the tables. Assumes nothing.
 use mathlib.Core.Path.{_≡_, refl, sym, ap, _∙_}
 use mathlib.Core.List.{List, [], _∷_}
 use Prim.Native.Nat.{ℕ, zero, suc, _-_, _≤_, _<_}
@@ -6,16 +6,7 @@ use lib.Dec.{eqb, ltb}
 use lib.ListN.{length, getD, take, drop}
 use borrow.Author.Tests.{lt-ltb, le-ltb, eq-eqb, ne-eqb}
 use Rattle.text.specs.Choice.{pick}
-
--- the program of assertion j starts where the one before it ends
-unfoldable pub startOf : List ℕ → ℕ → ℕ
-startOf ends j = pick (eqb j 0) 0 (getD ends (j - 1) 0)
-
--- the code from one end to the next, or nothing where they do not fit
-unfoldable pub programOf : List ℕ → List ℕ → ℕ → List ℕ
-programOf ends code j =
-    pick (ltb (getD ends j 0) (startOf ends j)) []
-    (pick (ltb (length code) (getD ends j 0)) [] (take (getD ends j 0 - startOf ends j) (drop (startOf ends j) code)))
+use Rattle.compliance.specs.Tables.{startOf, programOf}
 
 pub start-first : (ends : List ℕ) (j : ℕ) → j ≡ 0 → 0 ≡ startOf ends j
 unfolding startOf
