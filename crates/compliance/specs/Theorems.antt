@@ -4,3 +4,5 @@ pub mod Reach
 pub mod Settle
 pub mod Alike
 pub mod Grow
+pub mod Index
+pub mod Compile

@@ -55,6 +55,11 @@ pub member-mem : {p : Principal} {l : List Principal} → Mem p l → member p l
 member-mem {p} (here {x = q} {xs = l} e) = member-here p q l (rw e (same-refl q))
 member-mem {p} (there {x = q} {xs = l} m) = member-there p q l (member-mem m)
 
+-- and a member is the same as one that stands there
+pub member-find : {X : Type 0} (p : Principal) (l : List Principal) → member p l ≡ true → ((q : Principal) → Mem q l → same p q ≡ true → X) → X
+member-find p [] i f = member-none p i
+member-find p (q ∷ l) i f = ⊎-elim (λ e. f q (here refl) e) (λ k. member-find p l k (λ r m. f r (there m))) (member-cases p q l i)
+
 -- membership goes by `same`
 pub member-same : (p q : Principal) (l : List Principal) → same p q ≡ true → member p l ≡ member q l
 unfolding member

@@ -12,7 +12,7 @@ use lib.ListN.{length}
 use borrow.Author.Tests.{leb-true, leb-false, le-leb, ltb-true, ltb-false, eqb-true, eqb-false, eq-eqb}
 use Rattle.text.specs.Choice.{pick, split, clash, bool-iff}
 use Rattle.principal.specs.Principal.{Principal, same, policy, same-refl, same-sym}
-use Rattle.principal.specs.Members.{member, member-none, member-here, member-there, member-cases, member-left, member-right, member-mem, member-same}
+use Rattle.principal.specs.Members.{member, member-none, member-here, member-there, member-cases, member-left, member-right, member-mem, member-find, member-same}
 use Rattle.compliance.specs.Licensees.{Rank, licensees}
 use Rattle.compliance.specs.System.{Assertion, System, direct, delegated, equations, round, Solves, Least}
 use Rattle.compliance.specs.Reach.{reach, InReach}
@@ -66,11 +66,7 @@ module _ (s : System) (ps : List Principal) (closed : Closed s (λ p. member p p
   In p = member p ps ≡ true
 
   at-member : (n m v : ℕ) → ((p : Principal) → Mem p ps → v ≤ round s n p → v ≤ round s m p) → (p : Principal) → In p → v ≤ round s n p → v ≤ round s m p
-  at-member n m v h p i l = from ps p i (λ q k e. le-trans (h q k (le-trans l (le-of-eq (round-alike s n p q e)))) (le-of-eq (sym (round-alike s m p q e))))
-    where
-      from : (l : List Principal) (p : Principal) → member p l ≡ true → {X : Type 0} → ((q : Principal) → Mem q l → same p q ≡ true → X) → X
-      from [] p i f = member-none p i
-      from (q ∷ l) p i f = ⊎-elim (λ e. f q (here refl) e) (λ k. from l p k (λ r m. f r (there m))) (member-cases p q l i)
+  at-member n m v h p i l = member-find p ps i (λ q k e. le-trans (h q k (le-trans l (le-of-eq (round-alike s n p q e)))) (le-of-eq (sym (round-alike s m p q e))))
 
   risen : (v n : ℕ) → (n ≤ having v (round s n) ps) ⊎ Lift In v (round s (suc n)) (round s n)
   unfolding round
