@@ -6,3 +6,4 @@ pub mod Alike
 pub mod Grow
 pub mod Index
 pub mod Compile
+pub mod Flags
