@@ -7,3 +7,4 @@ pub mod Grow
 pub mod Index
 pub mod Compile
 pub mod Flags
+pub mod Represent

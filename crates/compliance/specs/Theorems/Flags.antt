@@ -213,7 +213,7 @@ module _ (names : List Principal) (authors conds ends code direct : List ℕ) (t
   mark-field (given e) l h = mark-compile e l h
 
   -- the flag of an assertion's authorizer
-  author-flag : (l : List Principal) (j : ℕ) (a : Assertion) → getElem? (s .assertions) j ≡ some a
+  pub author-flag : (l : List Principal) (j : ℕ) (a : Assertion) → getElem? (s .assertions) j ≡ some a
       → getD (map (flagged l) names) (getD authors j 0) 0 ≡ flagged l (a .authorizer)
   author-flag l j a e = let w = rep .rows j a e in rw (w .author) (place-map (flagged l) (flagged-even l) names (a .authorizer) (w .known))
 
