@@ -10,7 +10,8 @@ use machine::rank_at;
 use reach::find_reach;
 use rounds::settle;
 ghost use mathlib.Core.Path.{_≡_};
-ghost use lib.ListN.{length, replicate};
+ghost use Prim.Native.Nat.{_≤_};
+ghost use lib.ListN.{length};
 ghost use Rattle.compliance.specs.Working.Solve.{Blank, solvedBy, solutionOf};
 
 // The most assertions that the tables may have.
@@ -80,6 +81,7 @@ pub fn solve(
     top: u8,
 ) -> Solution
     ensures { λ r. ⌜ r ≡ solutionOf (now (authors .entry)) (now (conds .entry)) (now (ends .entry)) (now (code .entry)) (now (direct .entry)) top ⌝ }
+    ensures bounded { λ r. ⌜ r .rounds ≤ r .reached ⌝ }
 {
     let n = direct.len();
     if PRINCIPALS < n {

@@ -1,5 +1,5 @@
 use Rattle.compliance.specs.Limits.{assertionsMost, principalsMost}
-use Rattle.compliance.specs.Working.Solve.{solve-wide, solve-long, solve-is, part-long, part-blank}
+use Rattle.compliance.specs.Working.Solve.{solve-wide, solve-long, solve-is, solve-within, part-long, part-blank}
 use borrow.Author.Needs.{needs}
 use Rattle.compliance.proofs.solve.Statement.{statement}
 use Rattle.compliance.proofs.solve.Tie as tie
@@ -9,11 +9,11 @@ use Rattle.compliance.proofs.solve_in.Reads as solve-in-reads
 
 -- src/lib.rt:56:9
 returns : tie.Need-returns
-returns c = search solve-wide
+returns c = (search solve-wide, search needs)
 
 -- src/lib.rt:60:9
 returns-2 : tie.Need-returns-2
-returns-2 c = search solve-long
+returns-2 c = (search solve-long, search needs)
 
 -- src/lib.rt:67:55
 array-borrow-prefix-ranks : tie.Need-array-borrow-prefix-ranks
@@ -57,7 +57,7 @@ solve-in-requires c κs = part-blank principalsMost _ (search needs) assertionsM
 
 -- src/lib.rt:51:1
 returns-3 : tie.Need-returns-3
-returns-3 c = search solve-is
+returns-3 c = (search solve-is, search solve-within)
 
 pub solve-spec : {M : Type 1} → statement M
 solve-spec =

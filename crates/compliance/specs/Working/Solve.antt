@@ -1,16 +1,16 @@
 -- The answer over tables of numbers, in the code's shape, and the ways to it. Assumes nothing.
 use mathlib.Core.Path.{_≡_, refl, sym, ap, _∙_}
 use mathlib.Core.List.{List, [], _∷_}
-use Prim.Native.Nat.{ℕ, zero, suc, _≤_, _<_}
+use Prim.Native.Nat.{ℕ, zero, suc, _+_, _≤_, _<_, zero-le}
 use native.Mathlib.Omega.{arith}
-use lib.Dec.{ltb}
+use lib.Dec.{eqb, ltb}
 use lib.ListN.{length, getD, take, replicate, length-replicate}
 use borrow.Author.Tests.{lt-ltb, le-ltb}
-use Rattle.text.specs.Choice.{pick}
+use Rattle.text.specs.Choice.{pick, split}
 use Rattle.compliance.specs.Highest.{atLeast}
 use Rattle.compliance.specs.Limits.{assertionsMost, licenseesMost, principalsMost}
 use Rattle.compliance.specs.Working.Reach.{marked, spreadFrom}
-use Rattle.compliance.specs.Working.Rounds.{Settled, settledAt, settleFrom}
+use Rattle.compliance.specs.Working.Rounds.{Settled, settledAt, changesOf, roundOf, settleFrom}
 use Rattle.compliance.specs.declared.Solution.{Solution}
 
 -- n numbers, all 0
@@ -94,3 +94,39 @@ module _ (authors conds ends code direct : List ℕ) (top : ℕ) where
       let f : settleFrom authors conds ends code direct top depth found (length next) k 0 ranks ≡ settleFrom authors conds ends code direct top depth found (length direct) k 0 (blank (length direct)) =
       rw (b .nextLong, b .noRanks) in
       rw (ve, ← e, ← ke, ← f, ← ne)
+
+-- ---- the rounds are at most the principals reached, whatever the tables hold
+
+roundsIn : Settled → ℕ
+roundsIn (settledAt n ranks) = n
+
+settle-bound : (authors conds ends code direct : List ℕ) (top depth : ℕ) (reach : List ℕ) (n k m : ℕ) (ranks : List ℕ)
+    → roundsIn (settleFrom authors conds ends code direct top depth reach n k m ranks) ≤ m + k
+unfolding settleFrom roundsIn
+settle-bound authors conds ends code direct top depth reach n zero m ranks = omega arith
+settle-bound authors conds ends code direct top depth reach n (suc k) m ranks =
+    let next = roundOf authors conds ends code direct top depth reach n ranks in
+    split (eqb (changesOf ranks next) 0)
+    (λ e. rw e (omega arith))
+    (λ e. rw e (omega (arith, settle-bound authors conds ends code direct top depth reach n k (suc m) next)))
+
+answer-bound : (k : ℕ) (r : Settled) → roundsIn r ≤ k → answerOf k r .rounds ≤ answerOf k r .reached
+unfolding roundsIn
+answer-bound k (settledAt n ranks) h = h
+
+bounded : (authors conds ends code direct : List ℕ) (top : ℕ) → solutionOf authors conds ends code direct top .rounds ≤ solutionOf authors conds ends code direct top .reached
+unfolding solutionOf solvedBy
+bounded authors conds ends code direct top =
+    let found = reachOf authors ends code (length direct) in
+    split (ltb principalsMost (length direct))
+    (λ e. rw e zero-le)
+    (λ e. rw e (split (ltb assertionsMost (length authors))
+    (λ f. rw f zero-le)
+    (λ f. rw f (answer-bound (atLeast 1 found)
+    (settleFrom authors conds ends code direct top licenseesMost found (length direct) (atLeast 1 found) 0 (blank (length direct)))
+    (let h = settle-bound authors conds ends code direct top licenseesMost found (length direct) (atLeast 1 found) 0 (blank (length direct)) in omega arith)))))
+
+-- the last way again, with the bound
+pub solve-within : (authors conds ends code direct : List ℕ) (top : ℕ) → length direct ≤ principalsMost → length authors ≤ assertionsMost
+    → (r : Solution) → r ≡ solvedBy authors conds ends code direct top licenseesMost → r .rounds ≤ r .reached
+solve-within authors conds ends code direct top h k r e = rw (solve-is authors conds ends code direct top h k r e) (bounded authors conds ends code direct top)
