@@ -8,3 +8,4 @@ pub mod Index
 pub mod Compile
 pub mod Flags
 pub mod Represent
+pub mod Fill
