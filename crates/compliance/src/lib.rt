@@ -6,7 +6,7 @@ mod rounds;
 mod tables;
 
 use highest::at_least;
-use machine::rank_at;
+use machine::number_at;
 use reach::find_reach;
 use rounds::settle;
 ghost use mathlib.Core.Path.{_≡_};
@@ -60,7 +60,7 @@ fn solve_in(
         stack,
         reached,
     );
-    let rank = rank_at(ranks, 0);
+    let rank = number_at(ranks, 0);
     Solution {
         rank,
         rounds,

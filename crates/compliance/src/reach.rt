@@ -1,7 +1,7 @@
 // The reach: POLICY and, repeatedly, the licensees of assertions whose authorizer is in it. One flag for each principal.
 use crate::machine::TOP;
 use crate::machine::index_at;
-use crate::machine::rank_at;
+use crate::machine::number_at;
 use crate::machine::wide;
 use crate::tables::program;
 ghost use mathlib.Core.Path.{_≡_};
@@ -36,8 +36,8 @@ fn mark_all(code: &[u16], reach: &mut [u8])
 fn is_open(authors: &[u16], done: &[u8], reach: &[u8], j: usize) -> bool
     ensures { λ r. ⌜ r ≡ openAt (now (authors .entry)) (now (done .entry)) (now (reach .entry)) j ⌝ }
 {
-    if rank_at(done, j) == 0 {
-        return rank_at(reach, index_at(authors, j)) == 1;
+    if number_at(done, j) == 0 {
+        return number_at(reach, index_at(authors, j)) == 1;
     }
     false
 }

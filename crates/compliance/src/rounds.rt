@@ -1,7 +1,7 @@
 // Rounds: the equations applied to the ranks of the principals in the reach, until a round changes nothing.
 use crate::highest::greater;
 use crate::machine::index_at;
-use crate::machine::rank_at;
+use crate::machine::number_at;
 use crate::machine::worth_of;
 use crate::tables::program;
 ghost use mathlib.Core.Path.{_≡_};
@@ -30,7 +30,7 @@ fn granted(
     ensures { λ r. ⌜ r ≡ grantedOf (now (conds .entry)) (now (ends .entry)) (now (code .entry)) top (length (now (stack .entry))) (now (ranks .entry)) j ⌝ }
 {
     let licensed = worth_of(program(ends, code, j), ranks, top, stack);
-    lesser(rank_at(conds, j), licensed)
+    lesser(number_at(conds, j), licensed)
 }
 
 // Raises the rank at i to v. Past the end there is none.
@@ -58,7 +58,7 @@ fn relax(
     ensures { λ _. ⌜ now (next .exit) ≡ relaxedAt (now (authors .entry)) (now (conds .entry)) (now (ends .entry)) (now (code .entry)) top (length (now (stack .entry))) (now (reach .entry)) (now (ranks .entry)) j (now (next .entry)) ⌝ }
 {
     let p = index_at(authors, j);
-    if rank_at(reach, p) == 1 {
+    if number_at(reach, p) == 1 {
         let v = granted(conds, ends, code, top, ranks, stack, j);
         raise(next, p, v);
     }
@@ -100,8 +100,8 @@ fn relax_all(
 fn direct_rank(direct: &[u8], reach: &[u8], top: u8, i: usize) -> u8
     ensures { λ r. ⌜ r ≡ directAt (now (direct .entry)) (now (reach .entry)) top i ⌝ }
 {
-    if rank_at(reach, i) == 1 {
-        if rank_at(direct, i) == 1 {
+    if number_at(reach, i) == 1 {
+        if number_at(direct, i) == 1 {
             return top;
         }
         return 0;

@@ -5,7 +5,7 @@ use Rattle.compliance.proofs.solve_in.Tie as tie
 use Rattle.compliance.proofs.solve_in.Reads as reads
 use Rattle.compliance.proofs.solve_in.Lts as lts
 use Rattle.compliance.proofs.highest.at_least.Reads as at-least-reads
-use Rattle.compliance.proofs.machine.rank_at.Reads as rank-at-reads
+use Rattle.compliance.proofs.machine.number_at.Reads as number-at-reads
 use Rattle.compliance.proofs.reach.find_reach.Reads as find-reach-reads
 use Rattle.compliance.proofs.rounds.settle.Reads as settle-reads
 
@@ -22,8 +22,8 @@ settle-requires : tie.Need-settle-requires
 settle-requires c κs = search needs
 
 -- src/lib.rt:38:9
-rank-at-requires : tie.Need-rank-at-requires
-rank-at-requires c κs = search needs
+number-at-requires : tie.Need-number-at-requires
+number-at-requires c κs = search needs
 
 -- src/lib.rt:31:1
 same-length : tie.Need-same-length
@@ -47,7 +47,7 @@ same-length-5 c = search needs
 
 -- src/lib.rt:31:1
 returns : tie.Need-returns
-returns c = let r = c .before .before .before .before .before .before .before .before .before .before .before .before .before in let s = r .before .before .before .before .before .before in solved-is _ _ _ _ _ _ _ _ _ _ _ (s .before .before .before .before .before .before .before .before .before .before .before .before .before .pre) _ (s .find-reach .ensures) _ (r .at-least .ensures) _ _ (c .before .before .before .before .before .before .before .before .settle .ensures) _ (c .rank-at .ensures)
+returns c = let r = c .before .before .before .before .before .before .before .before .before .before .before .before .before in let s = r .before .before .before .before .before .before in solved-is _ _ _ _ _ _ _ _ _ _ _ (s .before .before .before .before .before .before .before .before .before .before .before .before .before .pre) _ (s .find-reach .ensures) _ (r .at-least .ensures) _ _ (c .before .before .before .before .before .before .before .before .settle .ensures) _ (c .number-at .ensures)
 
 pub solve-in-spec : {M : Type 1} → statement M
 solve-in-spec =
@@ -56,7 +56,7 @@ solve-in-spec =
     find-reach-requires
     at-least-requires
     settle-requires
-    rank-at-requires
+    number-at-requires
     same-length
     same-length-2
     same-length-3

@@ -1,10 +1,12 @@
 -- The K-th highest says what it should, and is monotone. Assumes nothing.
 use mathlib.Core.Path.{_≡_, refl}
 use mathlib.Core.Bool.{Bool, true, false}
+use mathlib.Core.Logic.{_↔_}
 use mathlib.Core.List.{List, [], _∷_, map, List·Memᴰ as Mem, List·Memᴰ·head as here, List·Memᴰ·tail as there}
 use Prim.Native.Nat.{ℕ, zero, suc, _+_, _≤_, _<_, min, max, zero-le}
 use native.Mathlib.Omega.{arith}
 use lib.Dec.{leb}
+use lib.ListN.{length}
 use borrow.Author.Tests.{leb-true, leb-false, le-leb}
 use Rattle.text.specs.Choice.{pick, split}
 use Rattle.compliance.specs.Highest.{highest, atLeast}
@@ -31,6 +33,16 @@ count-highest zero v (x ∷ xs) h = split (leb v x)
 count-highest (suc k) v (x ∷ xs) h = split (leb v x)
     (λ e. let h′ : suc (suc k) ≤ 1 + atLeast v xs = rw e at h in omega (arith, leb-true, count-highest k v xs (omega arith)))
     (λ e. let h′ : suc (suc k) ≤ 0 + atLeast v xs = rw e at h in omega (arith, count-highest (suc k) v xs (omega arith)))
+
+atLeast-zero : (xs : List ℕ) → atLeast 0 xs ≡ length xs
+unfolding atLeast
+atLeast-zero [] = refl
+atLeast-zero (x ∷ xs) = rw (le-leb 0 x zero-le) (omega (arith, atLeast-zero xs))
+
+-- both at once, of a list that has K
+pub highest-means : (k v : ℕ) (xs : List ℕ) → suc k ≤ length xs → (v ≤ highest (suc k) xs) ↔ (suc k ≤ atLeast v xs)
+highest-means k zero xs h = (λ l. omega (arith, atLeast-zero xs), count-highest k 0 xs)
+highest-means k (suc v) xs h = (highest-count k (suc v) xs (omega arith), count-highest k (suc v) xs)
 
 module _ {A : Type 0} (v : ℕ) (r r′ : A → ℕ) where
   count-lift : (ps : List A) → ((p : A) → Mem p ps → v ≤ r p → v ≤ r′ p) → atLeast v (map r ps) ≤ atLeast v (map r′ ps)

@@ -26,6 +26,7 @@ use Rattle.compliance.specs.Tables.{place, programOf, compiled, Row, Rep
 use Rattle.compliance.specs.Theorems.Monotone.{EqOn, round-alike}
 use Rattle.compliance.specs.Theorems.Reach.{reach-closed, reach-licenses, reach-root, reach-sound, reach-distinct}
 use Rattle.compliance.specs.Theorems.Settle.{settled-equal, equal-settled, rounds-rank}
+use Rattle.compliance.specs.Theorems.Alike.{AlikeIn, policy-same, rounds-same, reached-same}
 use Rattle.compliance.specs.Theorems.Index.{Even, map-same, map-at, place-lt, place-map, place-none, place-set}
 use Rattle.compliance.specs.Theorems.Compile.{Reads, worth-compiled}
 use Rattle.compliance.specs.Theorems.Flags.{flagged, flagged-even, flag-on, at-mem, mem-at, author-flag, flags-reach}
@@ -284,3 +285,10 @@ module _ (names : List Principal) (authors conds ends code direct : List ℕ) (t
     where
       nothing : (q : Principal) → held s 0 q ≡ 0
       nothing q = split (member q (reach s)) (λ i. held-in s 0 q i ∙ refl) (λ i. held-out s 0 q i)
+
+-- of two systems alike but for conditions outside the reach, the answers over their tables are equal
+pub represented-same : (names names′ : List Principal) (authors conds ends code direct authors′ conds′ ends′ code′ direct′ : List ℕ) (top top′ : ℕ) (s t : System)
+    → Represents names authors conds ends code direct top s → Represents names′ authors′ conds′ ends′ code′ direct′ top′ t → AlikeIn (InReach s) s t
+    → solutionOf authors conds ends code direct top ≡ solutionOf authors′ conds′ ends′ code′ direct′ top′
+represented-same names names′ authors conds ends code direct authors′ conds′ ends′ code′ direct′ top top′ s t r r′ k =
+    cc (represented names authors conds ends code direct top s r, represented names′ authors′ conds′ ends′ code′ direct′ top′ t r′, policy-same k, rounds-same k, reached-same k)

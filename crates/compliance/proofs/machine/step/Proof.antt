@@ -6,7 +6,7 @@ use Rattle.compliance.proofs.machine.step.Reads as reads
 use Rattle.compliance.proofs.machine.step.Lts as lts
 use Rattle.compliance.proofs.machine.combine.Reads as combine-reads
 use Rattle.compliance.proofs.machine.push.Reads as push-reads
-use Rattle.compliance.proofs.machine.rank_at.Reads as rank-at-reads
+use Rattle.compliance.proofs.machine.number_at.Reads as number-at-reads
 use Rattle.compliance.proofs.machine.wide.Reads as wide-reads
 
 -- src/machine.rt:92:47
@@ -14,8 +14,8 @@ wide-requires : tie.Need-wide-requires
 wide-requires c κs = search needs
 
 -- src/machine.rt:92:32
-rank-at-requires : tie.Need-rank-at-requires
-rank-at-requires c κs = search needs
+number-at-requires : tie.Need-number-at-requires
+number-at-requires c κs = search needs
 
 -- src/machine.rt:92:9
 push-requires : tie.Need-push-requires
@@ -66,7 +66,7 @@ step-spec =
     tie.close
     (tie.spec
     wide-requires
-    rank-at-requires
+    number-at-requires
     push-requires
     same-length
     returns

@@ -5,19 +5,19 @@ use Rattle.compliance.proofs.reach.is_open.Tie as tie
 use Rattle.compliance.proofs.reach.is_open.Reads as reads
 use Rattle.compliance.proofs.reach.is_open.Lts as lts
 use Rattle.compliance.proofs.machine.index_at.Reads as index-at-reads
-use Rattle.compliance.proofs.machine.rank_at.Reads as rank-at-reads
+use Rattle.compliance.proofs.machine.number_at.Reads as number-at-reads
 
 -- src/reach.rt:40:8
-rank-at-requires : tie.Need-rank-at-requires
-rank-at-requires c κs = search needs
+number-at-requires : tie.Need-number-at-requires
+number-at-requires c κs = search needs
 
 -- src/reach.rt:41:31
 index-at-requires : tie.Need-index-at-requires
 index-at-requires c κs = search needs
 
 -- src/reach.rt:41:16
-rank-at-requires-2 : tie.Need-rank-at-requires-2
-rank-at-requires-2 c κs = search needs
+number-at-requires-2 : tie.Need-number-at-requires-2
+number-at-requires-2 c κs = search needs
 
 -- src/reach.rt:41:9
 returns : tie.Need-returns
@@ -29,4 +29,4 @@ returns-2 c = search open-done
 
 pub is-open-spec : {M : Type 1} → statement M
 is-open-spec =
-    tie.close (tie.spec rank-at-requires index-at-requires rank-at-requires-2 returns returns-2)
+    tie.close (tie.spec number-at-requires index-at-requires number-at-requires-2 returns returns-2)

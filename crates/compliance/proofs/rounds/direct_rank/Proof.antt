@@ -4,15 +4,15 @@ use Rattle.compliance.proofs.rounds.direct_rank.Statement.{statement}
 use Rattle.compliance.proofs.rounds.direct_rank.Tie as tie
 use Rattle.compliance.proofs.rounds.direct_rank.Reads as reads
 use Rattle.compliance.proofs.rounds.direct_rank.Lts as lts
-use Rattle.compliance.proofs.machine.rank_at.Reads as rank-at-reads
+use Rattle.compliance.proofs.machine.number_at.Reads as number-at-reads
 
 -- src/rounds.rt:61:8
-rank-at-requires : tie.Need-rank-at-requires
-rank-at-requires c κs = search needs
+number-at-requires : tie.Need-number-at-requires
+number-at-requires c κs = search needs
 
 -- src/rounds.rt:62:12
-rank-at-requires-2 : tie.Need-rank-at-requires-2
-rank-at-requires-2 c κs = search needs
+number-at-requires-2 : tie.Need-number-at-requires-2
+number-at-requires-2 c κs = search needs
 
 -- src/rounds.rt:63:13
 returns : tie.Need-returns
@@ -28,4 +28,4 @@ returns-3 c = search direct-out
 
 pub direct-rank-spec : {M : Type 1} → statement M
 direct-rank-spec =
-    tie.close (tie.spec rank-at-requires rank-at-requires-2 returns returns-2 returns-3)
+    tie.close (tie.spec number-at-requires number-at-requires-2 returns returns-2 returns-3)

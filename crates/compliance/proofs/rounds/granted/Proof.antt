@@ -4,7 +4,7 @@ use Rattle.compliance.proofs.rounds.granted.Statement.{statement}
 use Rattle.compliance.proofs.rounds.granted.Tie as tie
 use Rattle.compliance.proofs.rounds.granted.Reads as reads
 use Rattle.compliance.proofs.rounds.granted.Lts as lts
-use Rattle.compliance.proofs.machine.rank_at.Reads as rank-at-reads
+use Rattle.compliance.proofs.machine.number_at.Reads as number-at-reads
 use Rattle.compliance.proofs.machine.worth_of.Reads as worth-of-reads
 use Rattle.compliance.proofs.rounds.lesser.Reads as lesser-reads
 use Rattle.compliance.proofs.tables.program.Reads as program-reads
@@ -18,8 +18,8 @@ worth-of-requires : tie.Need-worth-of-requires
 worth-of-requires c κs = search needs
 
 -- src/rounds.rt:23:12
-rank-at-requires : tie.Need-rank-at-requires
-rank-at-requires c κs = search needs
+number-at-requires : tie.Need-number-at-requires
+number-at-requires c κs = search needs
 
 -- src/rounds.rt:23:5
 lesser-requires : tie.Need-lesser-requires
@@ -39,7 +39,7 @@ granted-spec =
     (tie.spec
     program-requires
     worth-of-requires
-    rank-at-requires
+    number-at-requires
     lesser-requires
     same-length
     returns)

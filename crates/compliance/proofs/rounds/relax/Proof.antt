@@ -5,7 +5,7 @@ use Rattle.compliance.proofs.rounds.relax.Tie as tie
 use Rattle.compliance.proofs.rounds.relax.Reads as reads
 use Rattle.compliance.proofs.rounds.relax.Lts as lts
 use Rattle.compliance.proofs.machine.index_at.Reads as index-at-reads
-use Rattle.compliance.proofs.machine.rank_at.Reads as rank-at-reads
+use Rattle.compliance.proofs.machine.number_at.Reads as number-at-reads
 use Rattle.compliance.proofs.rounds.granted.Reads as granted-reads
 use Rattle.compliance.proofs.rounds.raise.Reads as raise-reads
 
@@ -14,8 +14,8 @@ index-at-requires : tie.Need-index-at-requires
 index-at-requires c κs = search needs
 
 -- src/rounds.rt:40:8
-rank-at-requires : tie.Need-rank-at-requires
-rank-at-requires c κs = search needs
+number-at-requires : tie.Need-number-at-requires
+number-at-requires c κs = search needs
 
 -- src/rounds.rt:41:13
 granted-requires : tie.Need-granted-requires
@@ -46,7 +46,7 @@ relax-spec =
     tie.close
     (tie.spec
     index-at-requires
-    rank-at-requires
+    number-at-requires
     granted-requires
     raise-requires
     same-length
