@@ -1,0 +1,58 @@
+use mathlib.Core.Path.{_≡_}
+use Prim.Native.Nat.{_-_}
+use lib.ListN.{length}
+use Rattle.compliance.specs.Working.Reach.{openFrom, open-start, open-here, open-later, open-none}
+use borrow.Author.Needs.{needs}
+use Rattle.compliance.proofs.reach.first_open.Statement.{statement}
+use Rattle.compliance.proofs.reach.first_open.Tie as tie
+use Rattle.compliance.proofs.reach.first_open.Reads as reads
+use Rattle.compliance.proofs.reach.first_open.Lts as lts
+use Rattle.compliance.proofs.reach.is_open.Reads as is-open-reads
+
+abbrev Inv-loop : tie.InvT-loop
+Inv-loop authors done reach j₀ j = openFrom authors done reach (length authors - j) j ≡ openFrom authors done reach (length authors) 0
+
+abbrev μ-loop : tie.MeasureT-loop
+μ-loop authors done reach j₀ j = length authors - j
+
+-- src/reach.rt:51:5
+loop-holds : tie.Need-loop-holds Inv-loop μ-loop
+loop-holds c = search open-start
+
+-- src/reach.rt:52:12
+is-open-requires : tie.Need-is-open-requires Inv-loop μ-loop
+is-open-requires c κs = search needs
+
+-- src/reach.rt:53:13
+returns : tie.Need-returns Inv-loop μ-loop
+returns c = search open-here
+
+-- src/reach.rt:55:9
+add-j : tie.Need-add-j Inv-loop μ-loop
+add-j c = search needs
+
+-- src/reach.rt:51:5
+loop-less : tie.Need-loop-less Inv-loop μ-loop
+loop-less c = search needs
+
+-- src/reach.rt:51:5
+loop-again : tie.Need-loop-again Inv-loop μ-loop
+loop-again c = search open-later
+
+-- src/reach.rt:47:1
+returns-2 : tie.Need-returns-2 Inv-loop μ-loop
+returns-2 c = search open-none
+
+pub first-open-spec : {M : Type 1} → statement M
+first-open-spec =
+    tie.close
+    (tie.spec
+    Inv-loop
+    μ-loop
+    loop-holds
+    is-open-requires
+    returns
+    add-j
+    loop-less
+    loop-again
+    returns-2)

@@ -1,0 +1,84 @@
+use mathlib.Core.Path.{_≡_}
+use Prim.Native.Nat.{_-_}
+use lib.ListN.{length}
+use Rattle.compliance.specs.Working.Reach.{spreadFrom, spread-start, spread-stop, spread-more, spread-end}
+use borrow.Author.Needs.{needs}
+use Rattle.compliance.proofs.reach.spread.Statement.{statement}
+use Rattle.compliance.proofs.reach.spread.Tie as tie
+use Rattle.compliance.proofs.reach.spread.Reads as reads
+use Rattle.compliance.proofs.reach.spread.Lts as lts
+use Rattle.compliance.proofs.reach.expand.Reads as expand-reads
+use Rattle.compliance.proofs.reach.first_open.Reads as first-open-reads
+
+abbrev Inv-loop : tie.InvT-loop
+Inv-loop authors ends code done₀ reach₀ n₀ done reach n = (length done ≡ length done₀) × (length reach ≡ length reach₀) × (spreadFrom authors ends code (length authors - n) done reach ≡ spreadFrom authors ends code (length authors) done₀ reach₀)
+
+abbrev μ-loop : tie.MeasureT-loop
+μ-loop authors ends code done₀ reach₀ n₀ done reach n = length authors - n
+
+-- src/reach.rt:71:5
+loop-holds : tie.Need-loop-holds Inv-loop μ-loop
+loop-holds c = (search needs, search needs, search spread-start)
+
+-- src/reach.rt:72:13
+first-open-requires : tie.Need-first-open-requires Inv-loop μ-loop
+first-open-requires c κs = search needs
+
+-- src/reach.rt:74:13
+same-length : tie.Need-same-length Inv-loop μ-loop
+same-length c = search needs
+
+-- src/reach.rt:74:13
+same-length-2 : tie.Need-same-length-2 Inv-loop μ-loop
+same-length-2 c = search needs
+
+-- src/reach.rt:74:13
+returns : tie.Need-returns Inv-loop μ-loop
+returns c = search spread-stop
+
+-- src/reach.rt:76:9
+expand-requires : tie.Need-expand-requires Inv-loop μ-loop
+expand-requires c κs = search needs
+
+-- src/reach.rt:77:9
+add-n : tie.Need-add-n Inv-loop μ-loop
+add-n c = search needs
+
+-- src/reach.rt:71:5
+loop-less : tie.Need-loop-less Inv-loop μ-loop
+loop-less c = search needs
+
+-- src/reach.rt:71:5
+loop-again : tie.Need-loop-again Inv-loop μ-loop
+loop-again c = (search needs, search needs, search spread-more)
+
+-- src/reach.rt:67:1
+same-length-3 : tie.Need-same-length-3 Inv-loop μ-loop
+same-length-3 c = search needs
+
+-- src/reach.rt:67:1
+same-length-4 : tie.Need-same-length-4 Inv-loop μ-loop
+same-length-4 c = search needs
+
+-- src/reach.rt:67:1
+returns-2 : tie.Need-returns-2 Inv-loop μ-loop
+returns-2 c = search spread-end
+
+pub spread-spec : {M : Type 1} → statement M
+spread-spec =
+    tie.close
+    (tie.spec
+    Inv-loop
+    μ-loop
+    loop-holds
+    first-open-requires
+    same-length
+    same-length-2
+    returns
+    expand-requires
+    add-n
+    loop-less
+    loop-again
+    same-length-3
+    same-length-4
+    returns-2)

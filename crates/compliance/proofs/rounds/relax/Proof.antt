@@ -1,0 +1,55 @@
+use Rattle.compliance.specs.Working.RoundWays.{relax-in, relax-out}
+use borrow.Author.Needs.{needs}
+use Rattle.compliance.proofs.rounds.relax.Statement.{statement}
+use Rattle.compliance.proofs.rounds.relax.Tie as tie
+use Rattle.compliance.proofs.rounds.relax.Reads as reads
+use Rattle.compliance.proofs.rounds.relax.Lts as lts
+use Rattle.compliance.proofs.machine.index_at.Reads as index-at-reads
+use Rattle.compliance.proofs.machine.number_at.Reads as number-at-reads
+use Rattle.compliance.proofs.rounds.granted.Reads as granted-reads
+use Rattle.compliance.proofs.rounds.raise.Reads as raise-reads
+
+-- src/rounds.rt:39:9
+index-at-requires : tie.Need-index-at-requires
+index-at-requires c κs = search needs
+
+-- src/rounds.rt:40:8
+number-at-requires : tie.Need-number-at-requires
+number-at-requires c κs = search needs
+
+-- src/rounds.rt:41:13
+granted-requires : tie.Need-granted-requires
+granted-requires c κs = search needs
+
+-- src/rounds.rt:42:9
+raise-requires : tie.Need-raise-requires
+raise-requires c κs = search needs
+
+-- src/rounds.rt:36:1
+same-length : tie.Need-same-length
+same-length c = search needs
+
+-- src/rounds.rt:36:1
+same-length-2 : tie.Need-same-length-2
+same-length-2 c = search needs
+
+-- src/rounds.rt:36:1
+returns : tie.Need-returns
+returns c = search relax-in
+
+-- src/rounds.rt:36:1
+returns-2 : tie.Need-returns-2
+returns-2 c = search relax-out
+
+pub relax-spec : {M : Type 1} → statement M
+relax-spec =
+    tie.close
+    (tie.spec
+    index-at-requires
+    number-at-requires
+    granted-requires
+    raise-requires
+    same-length
+    same-length-2
+    returns
+    returns-2)

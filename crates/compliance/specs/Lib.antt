@@ -1,0 +1,11 @@
+pub mod Highest
+pub mod Licensees
+pub mod Codes
+pub mod Limits
+pub mod Tables
+pub mod System
+pub mod Reach
+pub mod Rounds
+pub mod Rulings
+pub mod Theorems
+pub mod Working

@@ -1,0 +1,170 @@
+-- The ways of the functions that compute rounds. Assumes nothing.
+use mathlib.Core.Path.{_≡_, refl, sym, ap, _∙_}
+use mathlib.Core.Bool.{Bool, true, false}
+use mathlib.Core.List.{List, [], _∷_, _++_, append-nil}
+use Prim.Native.Nat.{ℕ, zero, suc, _+_, _-_, _≤_, _<_, min, max}
+use native.Mathlib.Omega.{arith}
+use native.Mathlib.Numerals.{add-one}
+use native.Mathlib.Nat.{sub-zero, le-refl}
+use lib.Dec.{eqb}
+use lib.ListN.{length, getD, set, take, drop, length-append, length-take, drop-of-length-le, List·getD-append}
+use lib.Seq.{drop-cons, set-out, set-at, take-suc, take-all, length-take-le, append-snoc, getD-at, take-length, drop-length}
+use borrow.Author.Tests.{eq-eqb, ne-eqb}
+use Rattle.text.specs.Choice.{pick}
+use Rattle.compliance.specs.Working.Machine.{worth}
+use Rattle.compliance.specs.Tables.{programOf}
+use Rattle.compliance.specs.Working.Rounds.{grantedOf, raised, directAt, directTable, changesOf, Advanced, Settled, settledAt, relaxedAt, relaxFrom, roundOf, settleFrom}
+
+pub granted-is : (conds ends code : List ℕ) (top depth : ℕ) (ranks : List ℕ) (j : ℕ) (prog : List ℕ) (w c r : ℕ)
+    → prog ≡ programOf ends code j → w ≡ worth ranks top depth prog → c ≡ getD conds j 0 → r ≡ min c w → r ≡ grantedOf conds ends code top depth ranks j
+unfolding grantedOf
+granted-is conds ends code top depth ranks j prog w c r pe we ce re = rw (re, ce, we, pe)
+
+pub raise-in : (next : List ℕ) (i v g : ℕ) → g ≡ max (getD next i 0) v → set next i g ≡ raised next i v
+unfolding raised
+raise-in next i v g e = rw e
+
+pub raise-out : (next : List ℕ) (i v : ℕ) → length next ≤ i → next ≡ raised next i v
+unfolding raised
+raise-out next i v h = sym (set-out next i _ h)
+
+module _ (authors conds ends code : List ℕ) (top depth : ℕ) (reach ranks : List ℕ) (j : ℕ) (next : List ℕ)
+    (p f : ℕ) (pe : p ≡ getD authors j 0) (fe : f ≡ getD reach p 0) where
+  pub relax-in : f ≡ 1 → (v : ℕ) (z : List ℕ) → v ≡ grantedOf conds ends code top depth ranks j → z ≡ raised next p v
+      → z ≡ relaxedAt authors conds ends code top depth reach ranks j next
+  unfolding relaxedAt
+  relax-in h v z ve ze = simp (ze, ve, sym pe, sym fe, eq-eqb f 1 h)
+
+  pub relax-out : (f ≡ 1 → ⊥) → next ≡ relaxedAt authors conds ends code top depth reach ranks j next
+  unfolding relaxedAt
+  relax-out n = simp (sym pe, sym fe, ne-eqb f 1 n)
+
+one-less : (n i : ℕ) → i < n → n - i ≡ suc (n - (i + 1))
+one-less n i h = omega arith
+
+module _ (authors conds ends code : List ℕ) (top depth : ℕ) (reach ranks : List ℕ) where
+  pub relax-start : (next : List ℕ) → relaxFrom authors conds ends code top depth reach ranks (length authors - 0) 0 next ≡ relaxFrom authors conds ends code top depth reach ranks (length authors) 0 next
+  relax-start next = rw sub-zero
+
+  module _ (j : ℕ) (next a : List ℕ) (inv : relaxFrom authors conds ends code top depth reach ranks (length authors - j) j next ≡ a) where
+    pub relax-more : j < length authors → (st : ℕ) → st ≡ depth → (z : List ℕ) → z ≡ relaxedAt authors conds ends code top st reach ranks j next
+        → relaxFrom authors conds ends code top depth reach ranks (length authors - (j + 1)) (j + 1) z ≡ a
+    unfolding relaxFrom
+    relax-more h st se z e = rw (e, se, add-one j) (rw (one-less (length authors) j h, add-one j) at inv)
+
+    pub relax-end : length authors ≤ j → next ≡ a
+    unfolding relaxFrom
+    relax-end h = let z : length authors - j ≡ 0 = omega arith in rw z at inv
+
+module _ (direct reach : List ℕ) (top i f : ℕ) (fe : f ≡ getD reach i 0) where
+  module _ (d : ℕ) (de : d ≡ getD direct i 0) (h : f ≡ 1) where
+    pub direct-top : d ≡ 1 → top ≡ directAt direct reach top i
+    unfolding directAt
+    direct-top k = simp (sym fe, sym de, eq-eqb f 1 h, eq-eqb d 1 k)
+
+    pub direct-none : (d ≡ 1 → ⊥) → 0 ≡ directAt direct reach top i
+    unfolding directAt
+    direct-none k = simp (sym fe, sym de, eq-eqb f 1 h, ne-eqb d 1 k)
+
+  pub direct-out : (f ≡ 1 → ⊥) → 0 ≡ directAt direct reach top i
+  unfolding directAt
+  direct-out n = simp (sym fe, ne-eqb f 1 n)
+
+pub direct-length : (direct reach : List ℕ) (top n : ℕ) → length (directTable direct reach top n) ≡ n
+unfolding directTable
+direct-length direct reach top zero = refl
+direct-length direct reach top (suc n) = rw length-append (omega (arith, direct-length direct reach top n))
+
+pub table-start : (direct reach : List ℕ) (top : ℕ) (d : List ℕ) → d ≡ directTable direct reach top 0 ++ drop 0 d
+unfolding directTable
+table-start direct reach top d = refl
+
+module _ (direct reach : List ℕ) (top i : ℕ) (d next : List ℕ) (inv : next ≡ directTable direct reach top i ++ drop i d) where
+  pub table-more : length next ≡ length d → i < length next → (v : ℕ) → v ≡ directAt direct reach top i
+      → set next i v ≡ directTable direct reach top (i + 1) ++ drop (i + 1) d
+  unfolding directTable
+  table-more l h v e = rw (inv, e, add-one i, drop-cons d i 0 (rw l at h))
+      (set-at (directTable direct reach top i) (getD d i 0) (drop (suc i) d) (directAt direct reach top i) i (direct-length direct reach top i)
+      ∙ sym (append-snoc (directTable direct reach top i) (directAt direct reach top i) (drop (suc i) d)))
+
+  pub table-end : length next ≡ length d → i ≤ length d → length next ≤ i → next ≡ directTable direct reach top (length d)
+  table-end l h k =
+      let e : i ≡ length d = omega arith in
+      inv ∙ rw (e, drop-length d) (append-nil _)
+
+pub round-is : (authors conds ends code direct : List ℕ) (top depth : ℕ) (reach ranks : List ℕ) (n : ℕ) (d z : List ℕ)
+    → d ≡ directTable direct reach top n → z ≡ relaxFrom authors conds ends code top depth reach ranks (length authors) 0 d
+    → z ≡ roundOf authors conds ends code direct top depth reach n ranks
+unfolding roundOf
+round-is authors conds ends code direct top depth reach ranks n d z de ze = ze ∙ rw de
+
+-- ---- adopt: a becomes b, and the changes are counted
+
+unfoldable pub changesFrom : List ℕ → List ℕ → ℕ → ℕ → ℕ
+changesFrom a b i count = count + changesOf (drop i a) (drop i b)
+
+unfoldable pub adopted : List ℕ → List ℕ → ℕ → List ℕ
+adopted a b i = take i b ++ drop i a
+
+pub adopt-start : (a b : List ℕ) → a ≡ adopted a b 0
+unfolding adopted
+adopt-start a b = refl
+
+pub changes-start : (a b : List ℕ) → changesFrom a b 0 0 ≡ changesOf a b
+unfolding changesFrom
+changes-start a b = omega arith
+
+module _ (a b : List ℕ) (l : length a ≡ length b) (i : ℕ) (r : List ℕ) (inv : r ≡ adopted a b i) (k : length r ≡ length a) where
+  adopt-read : i < length r → getD r i 0 ≡ getD a i 0
+  unfolding adopted
+  adopt-read h = rw (inv, drop-cons a i 0 (rw k at h)) (getD-at (take i b) (getD a i 0) (drop (suc i) a) 0 i (length-take-le i b (omega arith)))
+
+  pub adopt-more : i < length r → set r i (getD b i 0) ≡ adopted a b (i + 1)
+  unfolding adopted
+  adopt-more h = rw (inv, add-one i, drop-cons a i 0 (rw k at h))
+      (set-at (take i b) (getD a i 0) (drop (suc i) a) (getD b i 0) i (length-take-le i b (omega arith))
+      ∙ sym (rw (take-suc b i 0 (omega arith)) (append-snoc (take i b) (getD b i 0) (drop (suc i) a))))
+
+  pub changes-more : (count c : ℕ) → changesFrom a b i count ≡ c → i < length r → (o : ℕ) → (o ≡ pick (eqb (getD r i 0) (getD b i 0)) 0 1) × (o ≤ 1)
+      → changesFrom a b (i + 1) (count + o) ≡ c
+  unfolding changesFrom changesOf
+  changes-more count c e h o oe =
+      let u : count + (pick (eqb (getD a i 0) (getD b i 0)) 0 1 + changesOf (drop (suc i) a) (drop (suc i) b)) ≡ c =
+      rw (drop-cons a i 0 (rw k at h), drop-cons b i 0 (omega arith)) at e in
+      let v : o ≡ pick (eqb (getD a i 0) (getD b i 0)) 0 1 = rw (adopt-read h) at (oe .0) in
+      rw (add-one i) (omega arith)
+
+  pub adopt-end : length r ≤ i → (count : ℕ) → changesFrom a b i count ≡ changesOf a b → Advanced count r a b
+  unfolding adopted changesFrom changesOf
+  adopt-end h count e =
+      let z : drop i a ≡ [] = drop-of-length-le a (let q : length a ≤ i = omega arith in q) in
+      let u : count + 0 ≡ changesOf a b = rw z at e in
+      record { count = omega arith; ranks = inv ∙ rw (z, take-all i b (omega arith)) (append-nil b) }
+
+pub advance-is : (old new z now : List ℕ) (n : ℕ) → z ≡ new → Advanced n now old z → Advanced n now old new
+advance-is old new z now n e a = record { count = a .count ∙ ap (changesOf old) e; ranks = a .ranks ∙ e }
+
+-- ---- settle
+
+module _ (authors conds ends code direct : List ℕ) (top depth : ℕ) (reach : List ℕ) (n : ℕ) where
+  pub settle-start : (limit : ℕ) (ranks : List ℕ) → settleFrom authors conds ends code direct top depth reach n (limit - 0) 0 ranks ≡ settleFrom authors conds ends code direct top depth reach n limit 0 ranks
+  settle-start limit ranks = rw sub-zero
+
+  module _ (limit m : ℕ) (ranks : List ℕ) (a : Settled) (inv : settleFrom authors conds ends code direct top depth reach n (limit - m) m ranks ≡ a) where
+    pub settle-end : limit ≤ m → settledAt m ranks ≡ a
+    unfolding settleFrom
+    settle-end h = let z : limit - m ≡ 0 = omega arith in rw z at inv
+
+    module _ (h : m < limit) (st w : ℕ) (se : st ≡ depth) (we : w ≡ n) (c : ℕ) (y : List ℕ)
+        (adv : Advanced c y ranks (roundOf authors conds ends code direct top st reach w ranks)) where
+      pub settle-stop : c ≡ 0 → settledAt m y ≡ a
+      unfolding settleFrom
+      settle-stop q =
+          let t : eqb (changesOf ranks (roundOf authors conds ends code direct top depth reach n ranks)) 0 ≡ true = eq-eqb (changesOf ranks (roundOf authors conds ends code direct top depth reach n ranks)) 0 (rw (← se, ← we) (sym (adv .count) ∙ q)) in
+          rw (adv .ranks, se, we) (rw (one-less limit m h, t) at inv)
+
+      pub settle-more : (c ≡ 0 → ⊥) → settleFrom authors conds ends code direct top depth reach n (limit - (m + 1)) (m + 1) y ≡ a
+      unfolding settleFrom
+      settle-more q =
+          let t : eqb (changesOf ranks (roundOf authors conds ends code direct top depth reach n ranks)) 0 ≡ false = ne-eqb (changesOf ranks (roundOf authors conds ends code direct top depth reach n ranks)) 0 (λ e. q (adv .count ∙ rw (se, we) e)) in
+          rw (adv .ranks, se, we, add-one m) (rw (one-less limit m h, t, add-one m) at inv)

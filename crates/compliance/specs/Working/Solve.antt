@@ -1,0 +1,132 @@
+-- The answer over tables of numbers, in the code's shape, and the ways to it. Assumes nothing.
+use mathlib.Core.Path.{_≡_, refl, sym, ap, _∙_}
+use mathlib.Core.List.{List, [], _∷_}
+use Prim.Native.Nat.{ℕ, zero, suc, _+_, _≤_, _<_, zero-le}
+use native.Mathlib.Omega.{arith}
+use lib.Dec.{eqb, ltb}
+use lib.ListN.{length, getD, take, replicate, length-replicate}
+use borrow.Author.Tests.{lt-ltb, le-ltb}
+use Rattle.text.specs.Choice.{pick, split}
+use Rattle.compliance.specs.Highest.{atLeast}
+use Rattle.compliance.specs.Limits.{assertionsMost, licenseesMost, principalsMost}
+use Rattle.compliance.specs.Working.Reach.{marked, spreadFrom}
+use Rattle.compliance.specs.Working.Rounds.{Settled, settledAt, changesOf, roundOf, settleFrom}
+use Rattle.compliance.specs.declared.Solution.{Solution}
+
+-- n numbers, all 0
+abbrev pub blank : ℕ → List ℕ
+blank n = replicate n 0
+
+-- the flags of the reach, of n principals
+unfoldable pub reachOf : List ℕ → List ℕ → List ℕ → ℕ → List ℕ
+reachOf authors ends code n = spreadFrom authors ends code (length authors) (blank (length authors)) (marked 0 (blank n))
+
+abbrev pub answerOf : ℕ → Settled → Solution
+answerOf reached (settledAt rounds ranks) = record { rank = getD ranks 0 0; rounds = rounds; reached = reached }
+
+-- the answer, on a stack of `depth`
+unfoldable pub solvedBy : List ℕ → List ℕ → List ℕ → List ℕ → List ℕ → ℕ → ℕ → Solution
+solvedBy authors conds ends code direct top depth =
+    answerOf (atLeast 1 (reachOf authors ends code (length direct)))
+    (settleFrom authors conds ends code direct top depth (reachOf authors ends code (length direct)) (length direct)
+    (atLeast 1 (reachOf authors ends code (length direct))) 0 (blank (length direct)))
+
+-- the answer, or all 0 where the tables are too large
+unfoldable pub solutionOf : List ℕ → List ℕ → List ℕ → List ℕ → List ℕ → ℕ → Solution
+solutionOf authors conds ends code direct top =
+    pick (ltb principalsMost (length direct)) (record { rank = 0; rounds = 0; reached = 0 })
+    (pick (ltb assertionsMost (length authors)) (record { rank = 0; rounds = 0; reached = 0 })
+    (solvedBy authors conds ends code direct top licenseesMost))
+
+-- ---- the ways
+
+-- the tables lent: m flags of assertions, n numbers in the others, all 0
+pub record Blank (m n : ℕ) (ranks next reach done : List ℕ) : Type 0 where
+  pub noRanks : ranks ≡ blank n
+  pub nextLong : length next ≡ n
+  pub paired : length ranks ≡ length next
+  pub noReach : reach ≡ blank n
+  pub noneDone : done ≡ blank m
+
+take-blank : (n k : ℕ) → n ≤ k → take n (blank k) ≡ blank n
+take-blank zero k h = refl
+take-blank (suc n) zero h = absurd (omega arith)
+take-blank (suc n) (suc k) h = ap (λ (l : List ℕ). 0 ∷ l) (take-blank n k (omega arith))
+
+-- the first n numbers of a blank table of k
+module _ (k n : ℕ) (h : n ≤ k) where
+  pub part-long : n ≡ length (take n (blank k))
+  part-long = rw (take-blank n k h) (sym (length-replicate n 0))
+
+  pub part-blank : (j m : ℕ) → m ≤ j → Blank m n (take n (blank k)) (take n (blank k)) (take n (blank k)) (take m (blank j))
+  part-blank j m i = record {
+    noRanks = take-blank n k h;
+    nextLong = sym part-long;
+    paired = refl;
+    noReach = take-blank n k h;
+    noneDone = take-blank m j i;
+  }
+
+module _ (authors conds ends code direct : List ℕ) (top : ℕ) where
+  pub solve-wide : principalsMost < length direct → record { rank = 0; rounds = 0; reached = 0 } ≡ solutionOf authors conds ends code direct top
+  unfolding solutionOf
+  solve-wide h = simp (lt-ltb principalsMost (length direct) h)
+
+  module _ (fits : length direct ≤ principalsMost) where
+    pub solve-long : assertionsMost < length authors → record { rank = 0; rounds = 0; reached = 0 } ≡ solutionOf authors conds ends code direct top
+    unfolding solutionOf
+    solve-long h = simp (le-ltb principalsMost (length direct) fits, lt-ltb assertionsMost (length authors) h)
+
+    pub solve-is : length authors ≤ assertionsMost → (r : Solution) → r ≡ solvedBy authors conds ends code direct top licenseesMost
+        → r ≡ solutionOf authors conds ends code direct top
+    unfolding solutionOf
+    solve-is h r e = simp (le-ltb principalsMost (length direct) fits, le-ltb assertionsMost (length authors) h) e
+
+  -- the answer from what the calls leave
+  pub solved-is : (depth : ℕ) (ranks next reach done : List ℕ) → Blank (length authors) (length direct) ranks next reach done
+      → (found : List ℕ) → found ≡ spreadFrom authors ends code (length authors) done (marked 0 reach)
+      → (k : ℕ) → k ≡ atLeast 1 found → (n : ℕ) (z : List ℕ) → settledAt n z ≡ settleFrom authors conds ends code direct top depth found (length next) k 0 ranks
+      → (v : ℕ) → v ≡ getD z 0 0 → record { rank = v; rounds = n; reached = k } ≡ solvedBy authors conds ends code direct top depth
+  unfolding solvedBy reachOf
+  solved-is depth ranks next reach done b found fe k ke n z ne v ve =
+      let e : found ≡ spreadFrom authors ends code (length authors) (blank (length authors)) (marked 0 (blank (length direct))) =
+      fe ∙ rw (b .noneDone, b .noReach) in
+      let f : settleFrom authors conds ends code direct top depth found (length next) k 0 ranks ≡ settleFrom authors conds ends code direct top depth found (length direct) k 0 (blank (length direct)) =
+      rw (b .nextLong, b .noRanks) in
+      rw (ve, ← e, ← ke, ← f, ← ne)
+
+-- ---- the rounds are at most the principals reached, whatever the tables hold
+
+roundsIn : Settled → ℕ
+roundsIn (settledAt n ranks) = n
+
+settle-bound : (authors conds ends code direct : List ℕ) (top depth : ℕ) (reach : List ℕ) (n k m : ℕ) (ranks : List ℕ)
+    → roundsIn (settleFrom authors conds ends code direct top depth reach n k m ranks) ≤ m + k
+unfolding settleFrom roundsIn
+settle-bound authors conds ends code direct top depth reach n zero m ranks = omega arith
+settle-bound authors conds ends code direct top depth reach n (suc k) m ranks =
+    let next = roundOf authors conds ends code direct top depth reach n ranks in
+    split (eqb (changesOf ranks next) 0)
+    (λ e. rw e (omega arith))
+    (λ e. rw e (omega (arith, settle-bound authors conds ends code direct top depth reach n k (suc m) next)))
+
+answer-bound : (k : ℕ) (r : Settled) → roundsIn r ≤ k → answerOf k r .rounds ≤ answerOf k r .reached
+unfolding roundsIn
+answer-bound k (settledAt n ranks) h = h
+
+bounded : (authors conds ends code direct : List ℕ) (top : ℕ) → solutionOf authors conds ends code direct top .rounds ≤ solutionOf authors conds ends code direct top .reached
+unfolding solutionOf solvedBy
+bounded authors conds ends code direct top =
+    let found = reachOf authors ends code (length direct) in
+    split (ltb principalsMost (length direct))
+    (λ e. rw e zero-le)
+    (λ e. rw e (split (ltb assertionsMost (length authors))
+    (λ f. rw f zero-le)
+    (λ f. rw f (answer-bound (atLeast 1 found)
+    (settleFrom authors conds ends code direct top licenseesMost found (length direct) (atLeast 1 found) 0 (blank (length direct)))
+    (let h = settle-bound authors conds ends code direct top licenseesMost found (length direct) (atLeast 1 found) 0 (blank (length direct)) in omega arith)))))
+
+-- the last way again, with the bound
+pub solve-within : (authors conds ends code direct : List ℕ) (top : ℕ) → length direct ≤ principalsMost → length authors ≤ assertionsMost
+    → (r : Solution) → r ≡ solvedBy authors conds ends code direct top licenseesMost → r .rounds ≤ r .reached
+solve-within authors conds ends code direct top h k r e = rw (solve-is authors conds ends code direct top h k r e) (bounded authors conds ends code direct top)

@@ -1,0 +1,236 @@
+// Rounds: the equations applied to the ranks of the principals in the reach, until a round changes nothing.
+use crate::highest::greater;
+use crate::machine::index_at;
+use crate::machine::number_at;
+use crate::machine::worth_of;
+use crate::tables::program;
+ghost use mathlib.Core.Path.{_≡_};
+ghost use Prim.Native.Nat.{_≤_, min};
+ghost use lib.Dec.{eqb};
+ghost use lib.ListN.{length, getD};
+ghost use Rattle.text.specs.Choice.{pick};
+ghost use Rattle.compliance.specs.Working.Rounds.{grantedOf, raised, relaxedAt, relaxFrom, directAt, directTable, roundOf, Advanced, settledAt, settleFrom};
+
+fn lesser(a: u8, b: u8) -> u8
+    ensures { λ r. ⌜ r ≡ min a b ⌝ }
+{
+    if a < b { a } else { b }
+}
+
+// The rank of assertion j: the lesser of its conditions' and its licensees'.
+fn granted(
+    conds: &[u8],
+    ends: &[u16],
+    code: &[u16],
+    top: u8,
+    ranks: &[u8],
+    stack: &mut [u8],
+    j: usize,
+) -> u8
+    ensures { λ r. ⌜ r ≡ grantedOf (now (conds .entry)) (now (ends .entry)) (now (code .entry)) top (length (now (stack .entry))) (now (ranks .entry)) j ⌝ }
+{
+    let licensed = worth_of(program(ends, code, j), ranks, top, stack);
+    lesser(number_at(conds, j), licensed)
+}
+
+// Raises the rank at i to v. Past the end there is none.
+fn raise(next: &mut [u8], i: usize, v: u8)
+    ensures { λ _. ⌜ now (next .exit) ≡ raised (now (next .entry)) i v ⌝ }
+{
+    if i < next.len() {
+        next[i] = greater(next[i], v);
+    }
+}
+
+// Raises the rank of the authorizer of assertion j, if it is reached, to the assertion's.
+fn relax(
+    authors: &[u16],
+    conds: &[u8],
+    ends: &[u16],
+    code: &[u16],
+    top: u8,
+    reach: &[u8],
+    ranks: &[u8],
+    next: &mut [u8],
+    stack: &mut [u8],
+    j: usize,
+)
+    ensures { λ _. ⌜ now (next .exit) ≡ relaxedAt (now (authors .entry)) (now (conds .entry)) (now (ends .entry)) (now (code .entry)) top (length (now (stack .entry))) (now (reach .entry)) (now (ranks .entry)) j (now (next .entry)) ⌝ }
+{
+    let p = index_at(authors, j);
+    if number_at(reach, p) == 1 {
+        let v = granted(conds, ends, code, top, ranks, stack, j);
+        raise(next, p, v);
+    }
+}
+
+// Does so for each assertion.
+fn relax_all(
+    authors: &[u16],
+    conds: &[u8],
+    ends: &[u16],
+    code: &[u16],
+    top: u8,
+    reach: &[u8],
+    ranks: &[u8],
+    next: &mut [u8],
+    stack: &mut [u8],
+)
+    ensures { λ _. ⌜ now (next .exit) ≡ relaxFrom (now (authors .entry)) (now (conds .entry)) (now (ends .entry)) (now (code .entry)) top (length (now (stack .entry))) (now (reach .entry)) (now (ranks .entry)) (length (now (authors .entry))) 0 (now (next .entry)) ⌝ }
+{
+    let mut j: usize = 0;
+    while j < authors.len() {
+        relax(
+            authors,
+            conds,
+            ends,
+            code,
+            top,
+            reach,
+            ranks,
+            next,
+            stack,
+            j,
+        );
+        j += 1;
+    }
+}
+
+// The direct authorization of the principal i: top where it is a requester and reached.
+fn direct_rank(direct: &[u8], reach: &[u8], top: u8, i: usize) -> u8
+    ensures { λ r. ⌜ r ≡ directAt (now (direct .entry)) (now (reach .entry)) top i ⌝ }
+{
+    if number_at(reach, i) == 1 {
+        if number_at(direct, i) == 1 {
+            return top;
+        }
+        return 0;
+    }
+    0
+}
+
+// The direct authorization of each principal.
+fn set_direct(direct: &[u8], reach: &[u8], top: u8, next: &mut [u8])
+    ensures { λ _. ⌜ now (next .exit) ≡ directTable (now (direct .entry)) (now (reach .entry)) top (length (now (next .entry))) ⌝ }
+{
+    let mut i: usize = 0;
+    while i < next.len() {
+        next[i] = direct_rank(direct, reach, top, i);
+        i += 1;
+    }
+}
+
+// The round after `ranks`.
+fn round(
+    authors: &[u16],
+    conds: &[u8],
+    ends: &[u16],
+    code: &[u16],
+    direct: &[u8],
+    top: u8,
+    reach: &[u8],
+    ranks: &[u8],
+    next: &mut [u8],
+    stack: &mut [u8],
+)
+    ensures { λ _. ⌜ now (next .exit) ≡ roundOf (now (authors .entry)) (now (conds .entry)) (now (ends .entry)) (now (code .entry)) (now (direct .entry)) top (length (now (stack .entry))) (now (reach .entry)) (length (now (next .entry))) (now (ranks .entry)) ⌝ }
+{
+    set_direct(direct, reach, top, next);
+    relax_all(authors, conds, ends, code, top, reach, ranks, next, stack);
+}
+
+// 0 where two ranks are equal, else 1.
+fn unlike(a: u8, b: u8) -> usize
+    ensures { λ r. ⌜ (r ≡ pick (eqb a b) 0 1) × (r ≤ 1) ⌝ }
+{
+    if a == b {
+        return 0;
+    }
+    1
+}
+
+// `ranks` becomes `next`; how many ranks changed.
+fn adopt(ranks: &mut [u8], next: &[u8]) -> usize
+    requires { ⌜ length (now ranks) ≡ length (now next) ⌝ }
+    ensures { λ r. ⌜ Advanced r (now (ranks .exit)) (now (ranks .entry)) (now (next .entry)) ⌝ }
+{
+    let mut changed: usize = 0;
+    let mut i: usize = 0;
+    while i < ranks.len() {
+        changed += unlike(ranks[i], next[i]);
+        ranks[i] = next[i];
+        i += 1;
+    }
+    changed
+}
+
+// The round after `ranks` takes their place; how many ranks changed.
+fn advance(
+    authors: &[u16],
+    conds: &[u8],
+    ends: &[u16],
+    code: &[u16],
+    direct: &[u8],
+    top: u8,
+    reach: &[u8],
+    ranks: &mut [u8],
+    next: &mut [u8],
+    stack: &mut [u8],
+) -> usize
+    requires { ⌜ length (now ranks) ≡ length (now next) ⌝ }
+    ensures { λ r. ⌜ Advanced r (now (ranks .exit)) (now (ranks .entry)) (roundOf (now (authors .entry)) (now (conds .entry)) (now (ends .entry)) (now (code .entry)) (now (direct .entry)) top (length (now (stack .entry))) (now (reach .entry)) (length (now (next .entry))) (now (ranks .entry))) ⌝ }
+{
+    round(
+        authors,
+        conds,
+        ends,
+        code,
+        direct,
+        top,
+        reach,
+        ranks,
+        next,
+        stack,
+    );
+    adopt(ranks, next)
+}
+
+// Rounds until one changes nothing, at most limit; how many changed something.
+pub(crate) fn settle(
+    authors: &[u16],
+    conds: &[u8],
+    ends: &[u16],
+    code: &[u16],
+    direct: &[u8],
+    top: u8,
+    reach: &[u8],
+    ranks: &mut [u8],
+    next: &mut [u8],
+    stack: &mut [u8],
+    limit: usize,
+) -> usize
+    requires { ⌜ length (now ranks) ≡ length (now next) ⌝ }
+    ensures { λ r. ⌜ settledAt r (now (ranks .exit)) ≡ settleFrom (now (authors .entry)) (now (conds .entry)) (now (ends .entry)) (now (code .entry)) (now (direct .entry)) top (length (now (stack .entry))) (now (reach .entry)) (length (now (next .entry))) limit 0 (now (ranks .entry)) ⌝ }
+{
+    let mut n: usize = 0;
+    while n < limit {
+        if advance(
+            authors,
+            conds,
+            ends,
+            code,
+            direct,
+            top,
+            reach,
+            ranks,
+            next,
+            stack,
+        )
+            == 0
+        {
+            return n;
+        }
+        n += 1;
+    }
+    n
+}

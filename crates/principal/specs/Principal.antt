@@ -1,0 +1,53 @@
+-- Principals and their one equality. What is said of principals elsewhere goes by `same` and its laws, never by equality of bytes.
+-- Assumes nothing.
+use mathlib.Core.Path.{_≡_, refl, sym, ap, _∙_}
+use mathlib.Core.Bool.{Bool, true, false}
+use mathlib.Core.List.{List, [], _∷_}
+use Prim.Native.Nat.{ℕ}
+use lib.Dec.{eqb}
+use borrow.Author.Tests.{eqb-true, eq-eqb}
+use Rattle.text.specs.Choice.{pick, split, clash, bool-iff}
+
+-- an identifier's bytes
+abbrev pub Principal : Type 0
+Principal = List ℕ
+
+-- "Principals are equal when their bytes are."
+unfoldable pub same : Principal → Principal → Bool
+same [] [] = true
+same [] (y ∷ ys) = false
+same (x ∷ xs) [] = false
+same (x ∷ xs) (y ∷ ys) = pick (eqb x y) (same xs ys) false
+
+-- POLICY, the root of every delegation
+unfoldable pub policy : Principal
+policy = 80 ∷ 79 ∷ 76 ∷ 73 ∷ 67 ∷ 89 ∷ []
+
+pub same-refl : (p : Principal) → same p p ≡ true
+unfolding same
+same-refl [] = refl
+same-refl (x ∷ xs) = rw (eq-eqb x x refl) (same-refl xs)
+
+same-true : (p q : Principal) → same p q ≡ true → p ≡ q
+unfolding same
+same-true [] [] e = refl
+same-true [] (y ∷ ys) e = cc
+same-true (x ∷ xs) [] e = cc
+same-true (x ∷ xs) (y ∷ ys) e = split (eqb x y) (λ h. cc (eqb-true x y h, same-true xs ys (rw h at e))) (λ h. clash (rw h at e) refl)
+
+pub same-sym : (p q : Principal) → same p q ≡ true → same q p ≡ true
+same-sym p q e = rw (same-true p q e) (same-refl q)
+
+pub same-trans : (p q r : Principal) → same p q ≡ true → same q r ≡ true → same p r ≡ true
+same-trans p q r e f = rw (same-true p q e) f
+
+-- POLICY equals only itself
+pub policy-alone : (p : Principal) → same policy p ≡ true → p ≡ policy
+policy-alone p e = sym (same-true policy p e)
+
+-- one side of a comparison may be replaced by a principal equal to it
+pub same-left : (p q r : Principal) → same p q ≡ true → same p r ≡ same q r
+same-left p q r e = bool-iff _ _ (same-trans q p r (same-sym p q e)) (same-trans p q r e)
+
+pub same-right : (p q r : Principal) → same p q ≡ true → same r p ≡ same r q
+same-right p q r e = bool-iff _ _ (λ h. same-trans r p q h e) (λ h. same-trans r q p h (same-sym p q e))
