@@ -1,0 +1,3 @@
+pub mod Op
+pub mod Expr
+pub mod Code

@@ -1,0 +1,68 @@
+// The operations of a compiled Conditions field, by number. An entry of compiled code is an operation times 65,536 and a place of the text.
+pub const LITERAL: u32 = 0;
+
+pub const NAME: u32 = 1;
+
+pub const NUMBER: u32 = 2;
+
+pub const TRUE: u32 = 3;
+
+pub const FALSE: u32 = 4;
+
+pub const LOOKUP: u32 = 5;
+
+pub const CONVERT: u32 = 6;
+
+pub const NEGATE: u32 = 7;
+
+pub const OPPOSITE: u32 = 8;
+
+pub const JOIN: u32 = 9;
+
+pub const POWER: u32 = 10;
+
+pub const TIMES: u32 = 11;
+
+pub const OVER: u32 = 12;
+
+pub const REMAINDER: u32 = 13;
+
+pub const PLUS: u32 = 14;
+
+pub const MINUS: u32 = 15;
+
+pub const TEXT_EQUAL: u32 = 16;
+
+pub const TEXT_UNEQUAL: u32 = 17;
+
+pub const TEXT_LESS: u32 = 18;
+
+pub const TEXT_GREATER: u32 = 19;
+
+pub const TEXT_AT_MOST: u32 = 20;
+
+pub const TEXT_AT_LEAST: u32 = 21;
+
+pub const EQUAL: u32 = 22;
+
+pub const UNEQUAL: u32 = 23;
+
+pub const LESS: u32 = 24;
+
+pub const GREATER: u32 = 25;
+
+pub const AT_MOST: u32 = 26;
+
+pub const AT_LEAST: u32 = 27;
+
+pub const BOTH: u32 = 28;
+
+pub const EITHER: u32 = 29;
+
+pub const BEGIN: u32 = 30;
+
+pub const PLAIN: u32 = 31;
+
+pub const VALUED: u32 = 32;
+
+pub const NESTED: u32 = 33;
