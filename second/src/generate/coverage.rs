@@ -1,0 +1,63 @@
+//! What the records of a run have met.
+
+use std::collections::BTreeMap;
+use std::fmt;
+
+use crate::{limits, Outcome};
+
+#[derive(Clone, Debug, Default, PartialEq, Eq)]
+pub struct Coverage {
+    pub numbers: BTreeMap<u8, u64>,
+    pub reasons: BTreeMap<u8, u64>,
+    pub ranks: BTreeMap<u8, u64>,
+    pub rounds: BTreeMap<usize, u64>,
+    pub reached: BTreeMap<usize, u64>,
+}
+
+/// So many different rounds must occur.
+const ROUNDS: usize = 20;
+
+impl Coverage {
+    /// Counts an outcome and, where there is one, its report.
+    pub fn count(&mut self, outcome: &Outcome, report: &[u8]) {
+        *self.numbers.entry(outcome.number).or_default() += 1;
+        if outcome.number != 0 {
+            return;
+        }
+        *self.ranks.entry(outcome.rank).or_default() += 1;
+        *self.rounds.entry(outcome.rounds).or_default() += 1;
+        *self.reached.entry(outcome.reached).or_default() += 1;
+        for entry in report[limits::REPORT_HEAD..].chunks_exact(limits::REPORT_ENTRY) {
+            *self.reasons.entry(entry[0]).or_default() += 1;
+        }
+    }
+
+    /// What should have occurred and didn't.
+    pub fn missing(&self) -> Vec<String> {
+        let mut missing = Vec::new();
+        let mut need = |met: bool, what: String| {
+            if !met {
+                missing.push(what);
+            }
+        };
+        for number in 0..=9 {
+            need(self.numbers.contains_key(&number), format!("number {number}"));
+            need(self.reasons.contains_key(&number), format!("reason {number}"));
+        }
+        for rank in 0..limits::VALUES.most as u8 {
+            need(self.ranks.contains_key(&rank), format!("rank {rank}"));
+        }
+        need(self.rounds.len() >= ROUNDS, format!("{ROUNDS} different rounds"));
+        missing
+    }
+}
+
+impl fmt::Display for Coverage {
+    fn fmt(&self, formatter: &mut fmt::Formatter) -> fmt::Result {
+        writeln!(formatter, "numbers {:?}", self.numbers)?;
+        writeln!(formatter, "reasons {:?}", self.reasons)?;
+        writeln!(formatter, "ranks   {:?}", self.ranks)?;
+        writeln!(formatter, "rounds  {:?}", self.rounds)?;
+        write!(formatter, "reached {:?}", self.reached)
+    }
+}

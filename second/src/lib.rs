@@ -1,0 +1,102 @@
+//! An independent second evaluator of KeyNote (RFC 2704) queries.
+//!
+//! It is written from the rules alone, to be compared with another evaluator.
+//! Reason 2 is decided by Earley's recognizer over the grammars as data.
+
+pub mod assertion;
+pub mod bounded;
+pub mod check;
+pub mod compare;
+pub mod compliance;
+pub mod draft;
+pub mod earley;
+pub mod environment;
+pub mod eval;
+pub mod generate;
+pub mod grammar;
+pub mod integer;
+pub mod limits;
+pub mod line;
+pub mod literal;
+pub mod parse;
+pub mod principal;
+pub mod print;
+pub mod random;
+pub mod record;
+pub mod store;
+pub mod token;
+pub mod unread;
+pub mod workload;
+
+use bounded::Bounded;
+use environment::Environment;
+use line::{Fault, Listing};
+use record::Query;
+use store::{Assertion, Piece, Row, Store};
+
+/// The result of a query. A refusal has a number above 0 and gives no ranks.
+#[derive(Clone, Copy, Debug, Default, PartialEq, Eq)]
+pub struct Outcome {
+    pub number: u8,
+    pub place: usize,
+    pub rank: u8,
+    pub rounds: usize,
+    pub reached: usize,
+}
+
+impl Outcome {
+    fn refused(number: u8, place: usize) -> Self {
+        Self { number, place, ..Self::default() }
+    }
+}
+
+/// Answers the query in a record and writes the report to the front of a page.
+/// A refusal writes nothing.
+pub fn answer(record: &[u8], page: &mut [u8]) -> Outcome {
+    let query = match record::read(record) {
+        Ok(query) => query,
+        Err(refusal) => return Outcome::refused(refusal.number, refusal.place),
+    };
+    let Some(report) = page.get_mut(..query.report_bytes()) else {
+        return Outcome::refused(record::ROOM, 0);
+    };
+    let reading = read_assertions(&query);
+    write_report(&reading.faults, report);
+    let environment = Environment::new(&query, &reading.store);
+    let solution = compliance::solve(&environment, &reading.kept);
+    Outcome { number: 0, place: 0, rank: solution.rank, rounds: solution.rounds, reached: solution.reached }
+}
+
+/// The assertions of a query: those kept, and each one's fault or none.
+pub struct Reading {
+    pub store: Store,
+    pub kept: Bounded<Assertion, { limits::ASSERTIONS.most }>,
+    pub faults: Bounded<Option<Fault>, { limits::ASSERTIONS.most }>,
+}
+
+pub fn read_assertions(query: &Query) -> Reading {
+    let blank = Assertion { authorizer: Piece::EMPTY, licensees: None, conditions: None, constants: Row::default() };
+    let mut reading = Reading { store: Store::default(), kept: Bounded::new(blank), faults: Bounded::new(None) };
+    let mut listing = Listing::new();
+    for statement in query.statements.iter() {
+        match assertion::read(statement, &mut listing, &mut reading.store) {
+            Ok(assertion) => {
+                reading.kept.push(assertion);
+                reading.faults.push(None);
+            }
+            Err(fault) => reading.faults.push(Some(fault)),
+        }
+    }
+    reading
+}
+
+fn write_report(faults: &[Option<Fault>], report: &mut [u8]) {
+    let (head, entries) = report.split_at_mut(limits::REPORT_HEAD);
+    let length = (entries.len() as u16).to_be_bytes();
+    head.copy_from_slice(&[limits::REPORT_VERSION, length[0], length[1]]);
+    for (entry, fault) in entries.chunks_exact_mut(limits::REPORT_ENTRY).zip(faults) {
+        let (reason, place) = fault.map_or((0, 0), |fault| (fault.reason, fault.place as u16));
+        let place = place.to_be_bytes();
+        entry.copy_from_slice(&[reason, place[0], place[1]]);
+    }
+}

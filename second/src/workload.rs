@@ -1,0 +1,221 @@
+//! Records to measure time on.
+
+use crate::draft::Draft;
+use crate::limits;
+
+pub struct Workload {
+    pub name: String,
+    pub record: Vec<u8>,
+}
+
+fn workload(name: impl Into<String>, draft: &Draft) -> Workload {
+    Workload { name: name.into(), record: draft.record() }
+}
+
+pub fn all() -> Vec<Workload> {
+    let mut all = vec![
+        workload("first ruling", &first_ruling()),
+        workload("typical", &typical()),
+        workload("spend", &spend()),
+        workload("fullest", &fullest()),
+        workload("long literals joined", &joined()),
+        workload("lookups of long names", &lookups()),
+        workload("integers", &repeated("1+", "1 != 0;")),
+        workload("powers", &repeated("46340^2-46340^2 == 0 && ", "true;")),
+        workload("tests", &repeated("true&&", "true;")),
+        workload("clauses", &repeated("false;", "")),
+        workload("escapes", &repeated("\"\\101\"==\"\\1\"||", "true;")),
+        workload("comments", &repeated("#\n", " true;")),
+        workload("wrong at the end", &repeated("true&&", "true")),
+        workload("chain of 32", &chain(32)),
+        workload("dense web", &dense(32)),
+        workload("no path", &no_path()),
+    ];
+    for count in [1, 2, 4, 8, 16, 32] {
+        all.push(workload(format!("assertions {count}"), &assertions(count)));
+    }
+    for bytes in [256, 512, 1_024, 2_048, 4_096, 8_192] {
+        all.push(workload(format!("text of {bytes}"), &text(bytes)));
+    }
+    for rounds in [2, 4, 8, 16, 32] {
+        all.push(workload(format!("rounds {rounds}"), &rounds_of(rounds)));
+    }
+    all
+}
+
+pub fn first_ruling() -> Draft {
+    Draft::plain().local("Authorizer: \"POLICY\"\nLicensees: \"a\"")
+}
+
+/// Eight assertions, twelve attributes, twenty principals.
+pub fn typical() -> Draft {
+    let mut draft = Draft::default().value("refuse").value("hold").value("immediate").requester("RSA:key19");
+    draft = draft.attribute("app_domain", "PORT").attribute("dollars", "4500");
+    for index in 0..10 {
+        draft = draft.attribute(format!("attribute_{index}"), format!("value {index}"));
+    }
+    for index in 0..8 {
+        let authorizer = if index == 0 { "POLICY".into() } else { format!("RSA:key{index}") };
+        let licensees = [index + 1, index + 9, index + 12].map(|key| format!("\"RSA:key{key}\"")).join(" || ");
+        let text = format!(
+            "KeyNote-Version: 2
+Comment: delegation {index}
+Local-Constants: port = \"PORT\"
+Authorizer: \"{authorizer}\"
+Licensees: {licensees}
+Conditions: app_domain == port && attribute_{index} == \"value {index}\" -> {{
+    @dollars < 5000 && attribute_{} != \"\" -> _MAX_TRUST;
+    @dollars < 50000 -> \"hold\";
+  }};
+Signature: \"RSA-SHA1:00{index}\"
+",
+            index + 1
+        );
+        draft = draft.assertion(if index == 0 { 1 } else { 2 }, text);
+    }
+    draft
+}
+
+/// The RFC's spending policy, credential H corrected.
+pub fn spend() -> Draft {
+    const MANAGERS: [&str; 5] = ["RSA:abc123", "DSA:bcd987", "DSA:cde333", "DSA:def975", "DSA:978add"];
+    let list = |joint: &str| MANAGERS.map(|key| format!("\"{key}\"")).join(joint);
+    let e = "Authorizer: \"POLICY\"\nLicensees: \"RSA:dab212\" # the CFO's key
+Conditions: (app_domain==\"SPEND\") && (@dollars < 10000);\n";
+    let f = format!(
+        "KeyNote-Version: 2\nComment: This credential specifies a spending policy
+Authorizer: \"RSA:dab212\"\nLicensees: \"DSA:feed1234\" && ({})
+Conditions: (app_domain==\"SPEND\") -> {{ (@(dollars) < 2500) -> _MAX_TRUST;
+  (@(dollars) < 7500) -> \"ApproveAndLog\"; }};\nSignature: \"RSA-SHA1:9867a1\"\n",
+        list(" || ")
+    );
+    let g = format!(
+        "KeyNote-Version: 2\nAuthorizer: \"POLICY\"\nLicensees: 2-of(\"DSA:feed1234\", {})
+Conditions: (app_domain==\"SPEND\") && (@(dollars) < 1000);\n",
+        list(", ")
+    );
+    let h = format!(
+        "KeyNote-Version: 2\nAuthorizer: \"RSA:dab212\"\nLicensees: \"DSA:feed1234\" || {}
+Conditions: (app_domain==\"SPEND\") -> {{ (@(dollars) < 100) -> _MAX_TRUST;
+  (@(dollars) < 500) -> \"ApproveAndLog\"; }};\nSignature: \"RSA-SHA1:186123\"\n",
+        list(" || ")
+    );
+    let values = Draft::default().value("Reject").value("ApproveAndLog").value("Approve");
+    let asked = values.requester("DSA:feed1234").requester("DSA:cde333");
+    let asked = asked.attribute("app_domain", "SPEND").attribute("dollars", "5500");
+    asked.local(e).assertion(2, f).local(g).assertion(2, h)
+}
+
+/// 32 assertions with sixteen long licensees each, 65,535 bytes in all.
+pub fn fullest() -> Draft {
+    let mut draft = Draft::plain();
+    let share = (limits::RECORD_BYTES - draft.record().len()) / limits::ASSERTIONS.most - 3;
+    let width = (share - 108) / (limits::LICENSEES + 1);
+    let key = |number: usize| format!("\"{number:k>width$}\"");
+    for index in 0..limits::ASSERTIONS.most {
+        let authorizer = if index == 0 { "\"POLICY\"".into() } else { key(index) };
+        let listed = (0..limits::LICENSEES).map(|step| key(index * limits::LICENSEES + step + 1));
+        let licensees = listed.collect::<Vec<_>>().join("||");
+        let mut text = format!("Authorizer:{authorizer}\nLicensees:{licensees}\n#");
+        let left = limits::RECORD_BYTES - draft.record().len() - 3;
+        let length = if index + 1 == limits::ASSERTIONS.most { left } else { share };
+        text.extend(std::iter::repeat_n('x', length.saturating_sub(text.len())));
+        draft = draft.local(text);
+    }
+    draft
+}
+
+/// As many assertions of full length as fit, with the part repeated in
+/// Conditions as often as fits.
+fn repeated(part: &str, ending: &str) -> Draft {
+    let head = "Authorizer: \"POLICY\"\nLicensees: \"b\"\nConditions: ";
+    let count = (limits::TEXT_BYTES.most - head.len() - ending.len()) / part.len();
+    let text = format!("{head}{}{ending}", part.repeat(count));
+    (0..7).fold(Draft::plain(), |draft, _| draft.local(&text))
+}
+
+/// Strings of nearly 4,096 bytes, joined and compared to their ends.
+fn joined() -> Draft {
+    let draft = repeated("v.v==v.v&&", "false;");
+    let room = limits::RECORD_BYTES - draft.record().len() - 5;
+    draft.attribute("v", vec![b'v'; room.min(limits::ATTRIBUTE_BYTES.most)])
+}
+
+/// Many names that share a long beginning, looked up by "$".
+fn lookups() -> Draft {
+    let long = |index: usize| format!("{}{index:02}", "n".repeat(898));
+    let head = "Authorizer: \"POLICY\"\nConditions: ";
+    let test = "$(p.\"31\")==\"\"&&";
+    let count = (limits::TEXT_BYTES.most - head.len() - 6) / test.len();
+    let text = format!("{head}{}false;", test.repeat(count));
+    let named = (0..31).fold(Draft::plain(), |draft, index| draft.attribute(long(index), ""));
+    let named = named.attribute("p", "n".repeat(898));
+    (0..4).fold(named, |draft, _| draft.local(&text))
+}
+
+/// POLICY licenses the first of a chain whose last is the requester.
+pub fn chain(length: usize) -> Draft {
+    let name = |index: usize| match index {
+        0 => "POLICY".to_string(),
+        _ if index == length => "a".into(),
+        _ => format!("principal {index}"),
+    };
+    let link = |index| format!("Authorizer: \"{}\"\nLicensees: \"{}\"\n", name(index), name(index + 1));
+    // The last link first: rounds, not order, carry ranks along.
+    (0..length).fold(Draft::plain(), |draft, index| draft.local(link(index)))
+}
+
+/// Every principal licenses sixteen others, by thresholds.
+pub fn dense(count: usize) -> Draft {
+    let name = |index: usize| if index == 0 { "POLICY".to_string() } else { format!("principal {index}") };
+    let mut draft = Draft::default().requester(name(count - 1)).requester(name(count - 2)).requester(name(count - 3));
+    for value in 0..limits::VALUES.most {
+        draft = draft.value(format!("value {value}"));
+    }
+    for index in 0..count {
+        let listed = (1..=limits::LICENSEES).map(|step| format!("\"{}\"", name((index + step) % count)));
+        let listed = listed.collect::<Vec<_>>().join(",");
+        let value = limits::VALUES.most - 1 - index % 3;
+        let text = format!(
+            "Authorizer: \"{}\"\nLicensees: 3-of({listed})\nConditions: true -> \"value {value}\";\n",
+            name(index)
+        );
+        draft = draft.local(text);
+    }
+    draft
+}
+
+/// A web that the requester isn't in.
+pub fn no_path() -> Draft {
+    let mut draft = dense(32);
+    draft.requesters = vec![b"stranger".to_vec()];
+    draft
+}
+
+/// A short assertion many times.
+pub fn assertions(count: usize) -> Draft {
+    let text = |index| {
+        format!("Authorizer: \"POLICY\"\nLicensees: \"b{index}\" || \"a\"\nConditions: x == \"1\" && @y < 10;\n")
+    };
+    let asked = Draft::plain().attribute("x", "1").attribute("y", "9");
+    (0..count).fold(asked, |draft, index| draft.local(text(index)))
+}
+
+/// One assertion of a length.
+pub fn text(bytes: usize) -> Draft {
+    let head = "Authorizer: \"POLICY\"\nConditions: ";
+    let clause = "x == \"2\" && (@y + 3) * 2 < 10 -> \"hold\";\n ";
+    let count = (bytes - head.len() - 8) / clause.len();
+    let mut text = format!("{head}{}true;\n#", clause.repeat(count));
+    text.extend(std::iter::repeat_n('x', bytes - text.len()));
+    Draft::plain().attribute("x", "1").attribute("y", "9").local(text)
+}
+
+/// 32 assertions whose ranks settle after about so many rounds.
+pub fn rounds_of(rounds: usize) -> Draft {
+    let mut draft = chain(rounds);
+    for index in rounds..limits::ASSERTIONS.most {
+        draft = draft.local(format!("Authorizer: \"POLICY\"\nLicensees: \"other {index}\"\n"));
+    }
+    draft
+}

@@ -1,0 +1,12 @@
+//! All tests, in one program so that they are built once.
+
+mod generated;
+mod grammar;
+mod open_points;
+mod oracle;
+mod places;
+mod records;
+mod rfc;
+mod rounds;
+mod rulings;
+mod tokens;

@@ -1,0 +1,112 @@
+//! Ranks, rounds and reach of generated webs, computed again from the equations
+//! over all principals by name.
+
+use std::collections::{BTreeMap, BTreeSet};
+
+use second::environment::Environment;
+use second::eval::Evaluator;
+use second::generate::{of_sort, Sort};
+use second::print::PAGE;
+use second::random::Random;
+use second::record::{self, Query};
+use second::store::{Assertion, Licence, Store};
+use second::{answer, read_assertions};
+
+type Ranks = BTreeMap<Vec<u8>, u8>;
+
+struct Made {
+    authorizer: Vec<u8>,
+    conditions: u8,
+    licensees: Option<(Vec<Licence>, Vec<Vec<u8>>)>,
+}
+
+fn made(query: &Query, store: &Store, assertion: &Assertion, evaluator: &mut Evaluator) -> Made {
+    let show = |piece| store.show(query, piece).to_vec();
+    let licensees = assertion.licensees.map(|fields| {
+        let principals = fields.principals.of(&store.principals).iter().map(|&piece| show(piece));
+        (fields.licences.of(&store.licences).to_vec(), principals.collect())
+    });
+    Made { authorizer: show(assertion.authorizer), conditions: evaluator.conditions(assertion), licensees }
+}
+
+fn licensed(made: &Made, ranks: &Ranks, top: u8) -> u8 {
+    let Some((licences, principals)) = &made.licensees else { return top };
+    let mut waiting = principals.iter();
+    let mut stack: Vec<u8> = Vec::new();
+    for licence in licences {
+        let rank = match licence {
+            Licence::Principal => ranks[waiting.next().unwrap()],
+            Licence::And => stack.pop().unwrap().min(stack.pop().unwrap()),
+            Licence::Or => stack.pop().unwrap().max(stack.pop().unwrap()),
+            Licence::Threshold { least, listed } => {
+                let list = stack.split_off(stack.len() - usize::from(*listed));
+                // The highest rank that at least K of the list have.
+                let enough = |rank: &u8| list.iter().filter(|&other| other >= rank).count() >= usize::from(*least);
+                (0..=top).rev().find(enough).unwrap()
+            }
+        };
+        stack.push(rank);
+    }
+    stack.pop().unwrap_or(0)
+}
+
+fn round(all: &[Made], direct: &Ranks, ranks: &Ranks, top: u8) -> Ranks {
+    let mut next = direct.clone();
+    for made in all {
+        let rank = licensed(made, ranks, top).min(made.conditions);
+        let held = next.get_mut(&made.authorizer).unwrap();
+        *held = (*held).max(rank);
+    }
+    next
+}
+
+fn reach(all: &[Made]) -> BTreeSet<Vec<u8>> {
+    let mut reach = BTreeSet::from([b"POLICY".to_vec()]);
+    loop {
+        let within = all.iter().filter(|made| reach.contains(&made.authorizer));
+        let further: BTreeSet<_> =
+            within.flat_map(|made| made.licensees.iter().flat_map(|(_, list)| list.clone())).collect();
+        if further.is_subset(&reach) {
+            return reach;
+        }
+        reach.extend(further);
+    }
+}
+
+#[test]
+fn equations_by_name() {
+    let mut random = Random::new(23);
+    for _ in 0..6_000 {
+        let record = of_sort(&mut random, Sort::Web);
+        let query = record::read(&record).unwrap();
+        let reading = read_assertions(&query);
+        let environment = Environment::new(&query, &reading.store);
+        let mut evaluator = Evaluator::new(&environment);
+        let all: Vec<Made> =
+            reading.kept.iter().map(|item| made(&query, &reading.store, item, &mut evaluator)).collect();
+        let mut names = BTreeSet::from([b"POLICY".to_vec()]);
+        names.extend(query.requesters.iter().map(|name| name.to_vec()));
+        for made in &all {
+            names.insert(made.authorizer.clone());
+            names.extend(made.licensees.iter().flat_map(|(_, list)| list.clone()));
+        }
+        let top = query.top();
+        let rank = |name: &Vec<u8>| if query.requesters.contains(&name.as_slice()) { top } else { 0 };
+        let direct: Ranks = names.iter().map(|name| (name.clone(), rank(name))).collect();
+        let mut ranks: Ranks = names.iter().map(|name| (name.clone(), 0)).collect();
+        let reach = reach(&all);
+        let mut rounds = 0;
+        loop {
+            let next = round(&all, &direct, &ranks, top);
+            if reach.iter().all(|name| next[name] == ranks[name]) {
+                break;
+            }
+            ranks = next;
+            rounds += 1;
+        }
+        let outcome = answer(&record, &mut [0; PAGE]);
+        assert_eq!((outcome.number, outcome.rank), (0, ranks[&b"POLICY".to_vec()]));
+        assert_eq!((outcome.rounds, outcome.reached), (rounds, reach.len()));
+        assert!(rounds <= reach.len());
+    }
+}
