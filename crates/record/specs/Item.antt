@@ -7,7 +7,7 @@ use lib.ListN.{length, getD}
 use Rattle.text.specs.Choice.{pick}
 use Rattle.text.specs.Scan.{run}
 use Rattle.text.specs.Class.{inClass, plain}
-use Rattle.record.specs.Limits.{leastValue, mostValue, leastRequester, mostRequester, leastName, mostName, leastSetting, mostSetting, leastText, mostText, mostStanding}
+use Rattle.limits.specs.Limits.{leastValue, mostValue, leastRequester, mostRequester, leastName, mostName, leastSetting, mostSetting, leastText, mostText, mostStanding}
 use Rattle.record.specs.Query.{Attribute, Supplied}
 use Rattle.record.specs.Read.{Read, got, bad, andThen}
 use Rattle.record.specs.Field.{countAt, fieldAt, nameFront, permitted, distinct}

@@ -1,4 +1,3 @@
-pub mod Limits
 pub mod Query
 pub mod Read
 pub mod Field

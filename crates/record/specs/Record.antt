@@ -5,7 +5,7 @@ use Prim.Native.Nat.{ℕ}
 use lib.Dec.{eqb, ltb}
 use lib.ListN.{length, getD}
 use Rattle.text.specs.Choice.{pick}
-use Rattle.record.specs.Limits.{mostRecord, leastValues, mostValues, leastRequesters, mostRequesters, leastAttributes, mostAttributes, leastAssertions, mostAssertions}
+use Rattle.limits.specs.Limits.{mostRecord, leastValues, mostValues, leastRequesters, mostRequesters, leastAttributes, mostAttributes, leastAssertions, mostAssertions}
 use Rattle.record.specs.Query.{Query}
 use Rattle.record.specs.Read.{Read, got, bad, andThen, Verdict, accepted, refused}
 use Rattle.record.specs.Item.{valueAt, requesterAt, attributeAt, assertionAt, groupAt}

@@ -13,7 +13,7 @@ use Rattle.text.specs.Choice.{pick, split}
 use Rattle.text.specs.Scan.{run}
 use Rattle.text.specs.Class.{inClass, plain}
 use Rattle.text.specs.Counted.{part, pairAt}
-use Rattle.record.specs.Limits.{mostRecord, leastValues, mostValues, leastValue, mostValue, leastRequesters, mostRequesters, leastRequester, mostRequester, leastAttributes, mostAttributes, leastName, mostName, leastSetting, mostSetting, leastAssertions, mostAssertions, leastText, mostText, mostStanding}
+use Rattle.limits.specs.Limits.{mostRecord, leastValues, mostValues, leastValue, mostValue, leastRequesters, mostRequesters, leastRequester, mostRequester, leastAttributes, mostAttributes, leastName, mostName, leastSetting, mostSetting, leastAssertions, mostAssertions, leastText, mostText, mostStanding}
 use Rattle.record.specs.Query.{Query, Attribute, Supplied}
 use Rattle.record.specs.Read.{Read, got, bad, andThen, Verdict, accepted, refused}
 use Rattle.record.specs.Field.{within, countAt, lengthAt, contentAt, fieldAt, nameFront, permitted, among, distinct}

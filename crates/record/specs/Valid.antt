@@ -6,7 +6,7 @@ use Prim.Native.Nat.{ℕ, _≤_}
 use lib.ListN.{length}
 use Rattle.text.specs.Scan.{run}
 use Rattle.text.specs.Class.{inClass, plain}
-use Rattle.record.specs.Limits.{mostRecord, leastValues, mostValues, leastValue, mostValue, leastRequesters, mostRequesters, leastRequester, mostRequester, leastAttributes, mostAttributes, leastName, mostName, leastSetting, mostSetting, leastAssertions, mostAssertions, leastText, mostText, mostStanding}
+use Rattle.limits.specs.Limits.{mostRecord, leastValues, mostValues, leastValue, mostValue, leastRequesters, mostRequesters, leastRequester, mostRequester, leastAttributes, mostAttributes, leastName, mostName, leastSetting, mostSetting, leastAssertions, mostAssertions, leastText, mostText, mostStanding}
 use Rattle.record.specs.Query.{Query, Attribute, Supplied}
 use Rattle.record.specs.Field.{nameFront, among}
 use Rattle.record.specs.Encode.{encode}

@@ -1,5 +1,4 @@
 // The query record: a cursor goes over it from left to right and finds where each item lies.
-mod limits;
 
 pub use limits::MOST_ITEMS;
 use limits::*;

@@ -9,7 +9,7 @@ use lib.ListN.{length, getD, take, drop, set, replicate, length-append, length-t
 use lib.Seq.{paste, paste-suc, take-append-seam, length-take-le}
 use Rattle.text.specs.Copy.{put}
 use Rattle.text.specs.CopyLaws.{put-nil, put-length}
-use Rattle.record.specs.Limits.{mostItems}
+use Rattle.limits.specs.Limits.{mostItems}
 use Rattle.record.specs.Query.{Query}
 use Rattle.record.specs.Read.{Verdict, accepted, refused}
 use Rattle.record.specs.Record.{readRecord}

@@ -9,7 +9,7 @@ use lib.Dec.{eqb, ltb, leb}
 use lib.ListN.{length, getD, set}
 use borrow.Author.Tests.{lt-ltb, le-ltb, le-leb, lt-leb, eq-eqb, ne-eqb}
 use Rattle.text.specs.Choice.{pick}
-use Rattle.record.specs.Limits.{mostRecord, leastValues, mostValues, leastRequesters, mostRequesters, leastAttributes, mostAttributes, leastAssertions, mostAssertions}
+use Rattle.limits.specs.Limits.{mostRecord, leastValues, mostValues, leastRequesters, mostRequesters, leastAttributes, mostAttributes, leastAssertions, mostAssertions}
 use Rattle.record.specs.Reading.{Told, told}
 use Rattle.record.specs.Working.Moves.{cursor, seenOf, countMove, itemMove}
 use Rattle.record.specs.declared.Cursor.{Cursor}

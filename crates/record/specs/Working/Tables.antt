@@ -14,7 +14,7 @@ use Rattle.text.specs.Choice.{pick, split}
 use Rattle.text.specs.Copy.{put}
 use Rattle.text.specs.CopyLaws.{put-nil, put-append, put-length}
 use Rattle.text.specs.Counted.{part, counted}
-use Rattle.record.specs.Limits.{mostRecord, leastValues, mostValues, leastRequesters, mostRequesters, leastAttributes, mostAttributes, leastAssertions, mostAssertions, mostItems}
+use Rattle.limits.specs.Limits.{mostRecord, leastValues, mostValues, leastRequesters, mostRequesters, leastAttributes, mostAttributes, leastAssertions, mostAssertions, mostItems}
 use Rattle.record.specs.Query.{Query, Attribute, Supplied}
 use Rattle.record.specs.Read.{Read, got, bad, andThen, Verdict, accepted, refused}
 use Rattle.record.specs.Field.{countAt}

@@ -14,7 +14,7 @@ use Rattle.text.specs.Scan.{run}
 use Rattle.text.specs.Class.{isLetter, inClass}
 use Rattle.text.specs.Equal.{equal}
 use Rattle.text.specs.Counted.{part, pairAt, counted}
-use Rattle.record.specs.Limits.{leastValue, mostValue, leastRequester, mostRequester, leastName, mostName, leastSetting, mostSetting, leastText, mostText, mostStanding}
+use Rattle.limits.specs.Limits.{leastValue, mostValue, leastRequester, mostRequester, leastName, mostName, leastSetting, mostSetting, leastText, mostText, mostStanding}
 use Rattle.record.specs.Field.{nameFront, among}
 use Rattle.record.specs.Working.Moves.{cursor, onTo, seenOf, countMove, lengthMove, contentMove, fieldMove, plainMove, valueMove, nameMove, attributeMove, assertionMove, itemMove}
 use Rattle.record.specs.declared.Cursor.{Cursor}

@@ -1,4 +1,4 @@
--- The limits of the query record, each named once. Assumes nothing.
+-- The limits of queries and assertions, each named once. Assumes nothing.
 use Prim.Native.Nat.{ℕ, _+_}
 
 -- "At most 65,535 bytes"

@@ -1,4 +1,4 @@
-// The limits of the query record, each named once.
+// The limits of queries and assertions, each named once.
 pub const MOST_RECORD: usize = 65535;
 
 pub const LEAST_VALUES: usize = 2;
