@@ -1,11 +1,12 @@
 -- What putting a string into a buffer does: piece by piece it is the same, and the length stays. Assumes nothing.
 use mathlib.Core.Path.{_≡_, refl, sym, ap, _∙_}
 use mathlib.Core.List.{List, [], _∷_, _++_, append-assoc, append-nil}
-use Prim.Native.Nat.{ℕ, _+_, _≤_}
+use Prim.Native.Nat.{ℕ, suc, _+_, _<_, _≤_}
 use native.Mathlib.Omega.{arith}
 use native.Mathlib.Nat.{add-zero}
-use lib.ListN.{length, take, drop, length-append, length-take, length-drop, take-append-drop}
-use lib.Seq.{take-at, drop-append-add, drop-drop, length-take-le}
+use native.Mathlib.Numerals.{add-one}
+use lib.ListN.{length, getD, take, drop, set, length-append, length-take, length-drop, take-append-drop}
+use lib.Seq.{take-at, take-suc, drop-append-add, drop-drop, set-at, length-take-le, append-snoc}
 use Rattle.text.specs.Copy.{put}
 
 pub put-nil : (d : List ℕ) (at : ℕ) → put d at [] ≡ d
@@ -27,3 +28,15 @@ put-append d at a b h =
 pub put-length : (d : List ℕ) (at : ℕ) (a : List ℕ) → at + length a ≤ length d → length (put d at a) ≡ length d
 unfolding put
 put-length d at a h = simp (length-append, length-take, length-drop) (omega arith)
+
+-- one element more in front
+pub put-front : (d : List ℕ) (at v : ℕ) (x : List ℕ) → at < length d → set (put d (at + 1) x) at v ≡ put d at (v ∷ x)
+unfolding put
+put-front d at v x h =
+    let e : take (at + 1) d ≡ take at d ++ (getD d at 0 ∷ []) = rw (add-one at) (take-suc d at 0 h) in
+    let l : length (take at d) ≡ at = length-take-le at d (omega arith) in
+    let k : at + 1 + length x ≡ at + suc (length x) = omega arith in
+    rw (e, k, append-snoc (take at d) (getD d at 0) x)
+    (ap (λ (y : List ℕ). set y at v) (append-assoc (take at d) (getD d at 0 ∷ x) (drop (at + suc (length x)) d))
+    ∙ set-at (take at d) (getD d at 0) (x ++ drop (at + suc (length x)) d) v at l
+    ∙ sym (append-assoc (take at d) (v ∷ x) (drop (at + suc (length x)) d)))

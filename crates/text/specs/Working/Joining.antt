@@ -12,7 +12,7 @@ use lib.Seq.{drop-cons, take-suc, take-at, drop-append-add, drop-drop, set-at, l
 use borrow.Author.Tests.{lt-ltb, le-ltb, le-leb, lt-leb, eq-eqb, ne-eqb, leb-true, leb-false}
 use Rattle.text.specs.Choice.{pick, split, clash}
 use Rattle.text.specs.Copy.{Copied, copied, put, copyAt}
-use Rattle.text.specs.CopyLaws.{put-nil, put-append, put-length}
+use Rattle.text.specs.CopyLaws.{put-nil, put-append, put-front, put-length}
 use Rattle.text.specs.Counted.{counted}
 use Rattle.text.specs.Join.{followed, joined}
 
@@ -56,17 +56,6 @@ unfolding leftOf
 left-nil s ps i h = rw (drop-of-length-le ps h) (behind-nil i)
 
 -- the ways out of `copy_item`
-put-comma : (d : List ℕ) (at : ℕ) (x : List ℕ) → at < length d → set (put d (at + 1) x) at 44 ≡ put d at (44 ∷ x)
-unfolding put
-put-comma d at x h =
-    let e : take (at + 1) d ≡ take at d ++ (getD d at 0 ∷ []) = rw (add-one at) (take-suc d at 0 h) in
-    let l : length (take at d) ≡ at = length-take-le at d (omega arith) in
-    let k : at + 1 + length x ≡ at + suc (length x) = omega arith in
-    rw (e, k, append-snoc (take at d) (getD d at 0) x)
-    (ap (λ (y : List ℕ). set y at 44) (append-assoc (take at d) (getD d at 0 ∷ x) (drop (at + suc (length x)) d))
-    ∙ set-at (take at d) (getD d at 0) (x ++ drop (at + suc (length x)) d) 44 at l
-    ∙ sym (append-assoc (take at d) (44 ∷ x) (drop (at + suc (length x)) d)))
-
 comma-is : (i : ℕ) → (i ≡ 0 → ⊥) → comma i ≡ 44 ∷ []
 unfolding comma
 comma-is zero nz = absurd (nz refl)
@@ -92,7 +81,7 @@ module _ (d : List ℕ) (at i : ℕ) (x : List ℕ) where
           split (leb (at + suc (length x)) (length d))
           (λ h. let q : copied t e ≡ copied true (put d (at + 1) x) = rw (fits-is, h) at is in
           let ee : e ≡ put d (at + 1) x = cc in
-          rw (comma-is i nz, h, ee, put-comma d at x in-d))
+          rw (comma-is i nz, h, ee, put-front d at 44 x in-d))
           (λ h. let q : copied t e ≡ copied false d = rw (fits-is, h) at is in
           let no : t ≡ false = cc in clash tt′ no)
 
