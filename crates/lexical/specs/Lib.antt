@@ -22,3 +22,4 @@ pub mod Reason
 pub mod Between
 pub mod Tokens
 pub mod TokensLaws
+pub mod Examples
