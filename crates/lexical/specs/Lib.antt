@@ -23,3 +23,4 @@ pub mod Between
 pub mod Tokens
 pub mod TokensLaws
 pub mod Examples
+pub mod TokenExamples
