@@ -22,3 +22,5 @@ pub mod Reason
 pub mod Between
 pub mod Tokens
 pub mod TokensLaws
+pub mod Examples
+pub mod TokenExamples

@@ -21,6 +21,12 @@ pub struct Unit {
     pub byte: u8,
 }
 
+const SPOILED: Unit = Unit {
+    kind: SPOILS,
+    width: 0,
+    byte: 0,
+};
+
 fn is_octal(b: u8) -> bool
     ensures { λ r. ⌜ r ≡ octal b ⌝ }
 {
@@ -61,11 +67,7 @@ fn coded_unit(v: u64, w: usize, b: u8) -> Unit
         };
     }
     if 255 < v {
-        return Unit {
-            kind: SPOILS,
-            width: 0,
-            byte: 0,
-        };
+        return SPOILED;
     }
     Unit {
         kind: GIVES,
@@ -103,11 +105,7 @@ fn escape_unit(b: u8, c: u8, d: u8) -> Unit
     ensures { λ r. ⌜ r ≡ escapeUnit b c d ⌝ }
 {
     if b == 0 {
-        return Unit {
-            kind: SPOILS,
-            width: 0,
-            byte: 0,
-        };
+        return SPOILED;
     }
     let k = control_of(b);
     if k != 0 {
@@ -145,11 +143,7 @@ pub fn unit_at(s: &[u8], i: usize) -> Unit
     ensures { λ r. ⌜ r ≡ unitAt (now (s .entry)) i ⌝ }
 {
     if s.len() <= i {
-        return Unit {
-            kind: SPOILS,
-            width: 0,
-            byte: 0,
-        };
+        return SPOILED;
     }
     let a = s[i];
     if a == b'"' {
@@ -174,11 +168,7 @@ pub fn unit_at(s: &[u8], i: usize) -> Unit
         return escape_unit(b, c, d);
     }
     if is_barred(a) {
-        return Unit {
-            kind: SPOILS,
-            width: 0,
-            byte: 0,
-        };
+        return SPOILED;
     }
     Unit {
         kind: GIVES,

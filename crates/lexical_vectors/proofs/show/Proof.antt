@@ -6,7 +6,7 @@ use Rattle.lexical_vectors.proofs.show.Tie as tie
 use Rattle.lexical_vectors.proofs.show.Reads as reads
 use Rattle.lexical_vectors.proofs.show.Lts as lts
 use Rattle.lexical.proofs.line.token_at.Reads as token-at-reads
-use Rattle.lexical_vectors.proofs.mode_after.Reads as mode-after-reads
+use Rattle.lexical.proofs.kind.mode_after.Reads as mode-after-reads
 use Rattle.lexical_vectors.proofs.put.Reads as put-reads
 use Rattle.lexical_vectors.proofs.put_token.Reads as put-token-reads
 
