@@ -17,7 +17,7 @@ use Rattle.principal.specs.Members.{member, member-none, member-here, member-th
 use Rattle.compliance.specs.Licensees.{Rank, Expression, name, and, or, kOf, Licensees, missing, empty, given, named, licensees}
 use Rattle.compliance.specs.System.{Assertion, System}
 use Rattle.compliance.specs.Reach.{reach, InReach, Reachable, root, licensee}
-use Rattle.compliance.specs.Codes.{topCode, kOfCode, andCode, orCode, zeroCode}
+use Rattle.compliance.specs.Codes.{topCode, kOfBase, span, kOfCode, andCode, orCode, zeroCode}
 use Rattle.compliance.specs.Tables.{place, compile, compiled, programOf, Row, Represents}
 use Rattle.compliance.specs.Theorems.Reach.{reach-sound, reach-complete, reach-root}
 use Rattle.compliance.specs.Theorems.Index.{Even, map-same, place-lt, place-map, place-none, place-set}
@@ -65,7 +65,7 @@ flagged-same l m names f g = map-same _ _ names (λ q k. rw (bool-iff (member q 
 
 marked-none : (op : ℕ) (f : List ℕ) → topCode ≤ op → marked op f ≡ f
 unfolding marked
-marked-none op f h = rw (le-ltb op 32768 h)
+marked-none op f h = rw (le-ltb op topCode h)
 
 marked-append : (a b f : List ℕ) → markedAll (a ++ b) f ≡ markedAll b (markedAll a f)
 unfolding markedAll
@@ -148,8 +148,8 @@ module _ (names : List Principal) (authors conds ends code direct : List ℕ) (t
   mark-name : (p : Principal) (l : List Principal) → member p names ≡ true → marked (place names p) (map (flagged l) names) ≡ map (flagged (p ∷ l)) names
   unfolding marked flagged
   mark-name p l i =
-      let below : place names p < 32768 = omega (arith, place-lt names p i, rep .fewNames) in
-      rw (lt-ltb (place names p) 32768 below)
+      let below : place names p < topCode = omega (arith, place-lt names p i, rep .fewNames) in
+      rw (lt-ltb (place names p) topCode below)
       (place-set (rep .distinct) (flagged l) p 1 i
       ∙ map-same _ _ names (λ q m. split (same p q)
       (λ e. rw (e, member-here q p l (same-sym p q e)))

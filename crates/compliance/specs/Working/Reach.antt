@@ -48,17 +48,17 @@ pub record Expanded (done reach done′ reach′ : List ℕ) : Type 0 where
 -- ---- the ways
 
 module _ (reach : List ℕ) (op : ℕ) where
-  pub mark-in : op < 32768 → (i : ℕ) → i ≡ op → set reach i 1 ≡ marked op reach
+  pub mark-in : op < topCode → (i : ℕ) → i ≡ op → set reach i 1 ≡ marked op reach
   unfolding marked
-  mark-in h i e = rw (lt-ltb op 32768 h, e)
+  mark-in h i e = rw (lt-ltb op topCode h, e)
 
-  pub mark-far : op < 32768 → (i : ℕ) → i ≡ op → length reach ≤ i → reach ≡ marked op reach
+  pub mark-far : op < topCode → (i : ℕ) → i ≡ op → length reach ≤ i → reach ≡ marked op reach
   unfolding marked
-  mark-far h i e k = rw (lt-ltb op 32768 h, ← e) (sym (set-out reach i 1 k))
+  mark-far h i e k = rw (lt-ltb op topCode h, ← e) (sym (set-out reach i 1 k))
 
-  pub mark-none : 32768 ≤ op → reach ≡ marked op reach
+  pub mark-none : topCode ≤ op → reach ≡ marked op reach
   unfolding marked
-  mark-none h = rw (le-ltb op 32768 h)
+  mark-none h = rw (le-ltb op topCode h)
 
 unfoldable pub markFrom : List ℕ → ℕ → List ℕ → List ℕ
 markFrom code i reach = markedAll (drop i code) reach
