@@ -13,6 +13,7 @@ use Rattle.compliance.specs.Highest.{highest}
 use Rattle.compliance.specs.Licensees.{Rank, Expression, name, and, or, kOf, Licensees, missing, empty, given, value, licensed, named, licensees}
 use Rattle.compliance.specs.Codes.{topCode, kOfBase, span, kOfCode, andCode, orCode, zeroCode}
 use Rattle.compliance.specs.Tables.{place, compile, compiled, Formed, f-name, f-and, f-or, f-kOf}
+use Rattle.compliance.specs.Working.Highest.{two-or, two-and}
 use Rattle.compliance.specs.Working.Machine.{pushed, combined, stepped, exec, lastOf, worth}
 
 named-some : {e : Expression} → Formed e → 0 < length (named e)
@@ -22,17 +23,9 @@ named-some (f-and {a = a} {b = b} f g) = rw length-append (omega (arith, named-s
 named-some (f-or {a = a} {b = b} f g) = rw length-append (omega (arith, named-some f))
 named-some (f-kOf k ps h) = h
 
-highest-and : (a b : ℕ) → highest 2 (a ∷ b ∷ []) ≡ min a b
-unfolding highest
-highest-and a b = omega arith
-
 highest-none : highest 1 [] ≡ 0
 unfolding highest
 highest-none = refl
-
-highest-or : (a b : ℕ) → highest 1 (a ∷ b ∷ []) ≡ max a b
-unfolding highest
-highest-or a b = omega arith
 
 code-k : (k n : ℕ) → n < span → (kOfCode k n - kOfBase) / span ≡ k
 code-k k n h = omega arith
@@ -104,14 +97,14 @@ module _ (ranks : List ℕ) (top depth : ℕ) where
         (run-compile f live (λ p m. h p (Memᴰ·append-left (named b) m)) (omega arith))
         (run-compile g (live ++ (value r a ∷ [])) (λ p m. h p (Memᴰ·append-right (named a) m)) (rw length-append (omega (arith, named-some f))))
         (omega (arith, named-some f))
-        ∙ ap (λ (v : ℕ). live ++ (v ∷ [])) (highest-and (value r a) (value r b))
+        ∙ ap (λ (v : ℕ). live ++ (v ∷ [])) (sym (two-and (value r a) (value r b) 2 (min (value r a) (value r b)) refl refl))
     run-compile (f-or {a = a} {b = b} f g) live h l =
         let l′ : length live + (length (named a) + length (named b)) ≤ depth = rw length-append at l in
         run-both 1 orCode (compile names a) (compile names b) (value r a) (value r b) live refl
         (run-compile f live (λ p m. h p (Memᴰ·append-left (named b) m)) (omega arith))
         (run-compile g (live ++ (value r a ∷ [])) (λ p m. h p (Memᴰ·append-right (named a) m)) (rw length-append (omega (arith, named-some f))))
         (omega (arith, named-some f))
-        ∙ ap (λ (v : ℕ). live ++ (v ∷ [])) (highest-or (value r a) (value r b))
+        ∙ ap (λ (v : ℕ). live ++ (v ∷ [])) (sym (two-or (value r a) (value r b) 1 (max (value r a) (value r b)) refl refl))
     run-compile (f-kOf k ps s) live h l =
         exec-append (map (place names) ps) (kOfCode k (length ps) ∷ []) live
         ∙ ap (exec ranks top depth (kOfCode k (length ps) ∷ [])) (run-names ps live h l)
