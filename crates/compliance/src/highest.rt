@@ -1,6 +1,5 @@
 // The K-th highest of a list of ranks.
 ghost use mathlib.Core.Path.{_≡_};
-ghost use mathlib.Core.Bool.{Bool};
 ghost use mathlib.Core.List.{[], _∷_};
 ghost use Prim.Native.Nat.{_≤_, min, max};
 ghost use lib.Dec.{leb};

@@ -8,7 +8,7 @@ use crate::tables::program;
 ghost use mathlib.Core.Path.{_≡_};
 ghost use Prim.Native.Nat.{_≤_};
 ghost use lib.Dec.{eqb};
-ghost use lib.ListN.{length, getD};
+ghost use lib.ListN.{length};
 ghost use Rattle.text.specs.Choice.{pick};
 ghost use Rattle.compliance.specs.Working.Rounds.{grantedOf, raised, relaxedAt, relaxFrom, directAt, directTable, roundOf, Advanced, settledAt, settleFrom};
 

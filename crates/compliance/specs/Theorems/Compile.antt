@@ -1,17 +1,15 @@
 -- Compiled licensees leave their value on the stack. Assumes nothing.
 use mathlib.Core.Path.{_≡_, refl, sym, ap, _∙_}
-use mathlib.Core.Bool.{Bool, true, false}
 use mathlib.Core.List.{List, [], _∷_, _++_, map, append-assoc, append-nil, List·Memᴰ as Mem, List·Memᴰ·head as here, List·Memᴰ·tail as there, Memᴰ·append-left, Memᴰ·append-right}
-use Prim.Native.Nat.{ℕ, zero, suc, _+_, _-_, _*_, _/_, _%_, _≤_, _<_, min, max}
+use Prim.Native.Nat.{ℕ, _+_, _-_, _/_, _%_, _≤_, _<_, min, max}
 use native.Mathlib.Omega.{arith}
-use lib.ListN.{length, getD, take, drop, length-append, length-map}
+use lib.ListN.{length, getD, length-append, length-map}
 use lib.Seq.{take-append-seam, drop-append-seam, getD-append-seam}
 use borrow.Author.Tests.{lt-ltb, le-ltb, ne-eqb}
-use Rattle.text.specs.Choice.{pick}
 use Rattle.principal.specs.Principal.{Principal}
 use Rattle.compliance.specs.Highest.{highest}
-use Rattle.compliance.specs.Licensees.{Rank, Expression, name, and, or, kOf, Licensees, missing, empty, given, value, licensed, named, licensees}
-use Rattle.compliance.specs.Codes.{topCode, kOfBase, span, kOfCode, andCode, orCode, zeroCode}
+use Rattle.compliance.specs.Licensees.{Rank, Expression, Licensees, missing, empty, given, value, licensed, named, licensees}
+use Rattle.compliance.specs.Codes.{topCode, kOfBase, span, kOfCode, andCode, orCode}
 use Rattle.compliance.specs.Tables.{place, compile, compiled, Formed, f-name, f-and, f-or, f-kOf}
 use Rattle.compliance.specs.Working.Highest.{two-or, two-and}
 use Rattle.compliance.specs.Working.Machine.{pushed, combined, stepped, exec, lastOf, worth}

@@ -1,21 +1,20 @@
 -- How tables are filled from left to right: what was entered stays as principals, rows and code are added. Assumes nothing.
 use mathlib.Core.Path.{_≡_, refl, sym, ap, ap₂, _∙_}
-use mathlib.Core.Bool.{Bool, true, false}
-use mathlib.Core.Logic.{_⊎_, ⊎-elim}
+use mathlib.Core.Bool.{true, false}
+use mathlib.Core.Logic.{⊎-elim}
 use mathlib.Core.List.{List, [], _∷_, _++_, map, List·Memᴰ as Mem, List·Memᴰ·head as here, List·Memᴰ·tail as there, Memᴰ·append-left, Memᴰ·append-right}
-use Prim.Native.Nat.{ℕ, zero, suc, _+_, _-_, _≤_, _<_}
+use Prim.Native.Nat.{ℕ, suc, _+_, _-_, _≤_, _<_}
 use native.Mathlib.Omega.{arith}
 use native.Mathlib.Nat.{le-refl}
 use lib.Dec.{eqb, ltb}
-use lib.ListN.{length, getD, take, drop, length-append, length-drop, List·getD-append}
+use lib.ListN.{length, getD, drop, length-append, length-drop, List·getD-append}
 use lib.Seq.{take-append-le, drop-append-le, getD-append-seam, drop-append-seam, take-length}
-use borrow.Author.Tests.{ltb-true, ltb-false, lt-ltb, le-ltb, eqb-false}
-use Rattle.text.specs.Choice.{pick, split, clash}
+use borrow.Author.Tests.{ltb-false, le-ltb}
+use Rattle.text.specs.Choice.{split, clash}
 use Rattle.principal.specs.Principal.{Principal, same, same-refl, same-sym}
 use Rattle.principal.specs.Members.{member, Distinct, d[], d∷, member-none, member-here, member-there, member-cases, member-left, member-either}
 use Rattle.compliance.specs.Licensees.{Expression, name, and, or, kOf, Licensees, missing, empty, given, named, licensees}
 use Rattle.compliance.specs.System.{Assertion}
-use Rattle.compliance.specs.Codes.{kOfCode, andCode, orCode}
 use Rattle.compliance.specs.Tables.{place, compile, compiled, startOf, programOf, Row}
 
 -- a principal that is not in the list has the next free index, and gets it when it is added

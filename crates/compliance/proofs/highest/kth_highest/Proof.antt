@@ -7,27 +7,21 @@ use Rattle.compliance.proofs.highest.kth_highest.Lts as lts
 use Rattle.compliance.proofs.highest.kth_of_many.Reads as kth-of-many-reads
 use Rattle.compliance.proofs.highest.kth_of_two.Reads as kth-of-two-reads
 
--- src/highest.rt:90:27
 shared-slice-read-kth-of-two : tie.Need-shared-slice-read-kth-of-two
 shared-slice-read-kth-of-two c = search needs
 
--- src/highest.rt:90:38
 shared-slice-read-kth-of-two-2 : tie.Need-shared-slice-read-kth-of-two-2
 shared-slice-read-kth-of-two-2 c = search needs
 
--- src/highest.rt:90:9
 kth-of-two-requires : tie.Need-kth-of-two-requires
 kth-of-two-requires c κs = search needs
 
--- src/highest.rt:90:9
 returns : tie.Need-returns
 returns c = search two-values
 
--- src/highest.rt:92:5
 kth-of-many-requires : tie.Need-kth-of-many-requires
 kth-of-many-requires c κs = search needs
 
--- src/highest.rt:86:1
 returns-2 : tie.Need-returns-2
 returns-2 c = search needs
 

@@ -17,39 +17,30 @@ Inv-loop values k best₀ i₀ best i = bestFrom k values i best ≡ highest k v
 abbrev μ-loop : tie.MeasureT-loop
 μ-loop values k best₀ i₀ best i = length values - i
 
--- src/highest.rt:54:9
 returns : tie.Need-returns Inv-loop μ-loop
 returns c = search best-none
 
--- src/highest.rt:58:5
 loop-holds : tie.Need-loop-holds Inv-loop μ-loop
 loop-holds c = search best-begin
 
--- src/highest.rt:59:51
 shared-slice-read-candidate : tie.Need-shared-slice-read-candidate Inv-loop μ-loop
 shared-slice-read-candidate c = search needs
 
--- src/highest.rt:59:30
 candidate-requires : tie.Need-candidate-requires Inv-loop μ-loop
 candidate-requires c κs = search needs
 
--- src/highest.rt:59:9
 greater-requires : tie.Need-greater-requires Inv-loop μ-loop
 greater-requires c κs = search needs
 
--- src/highest.rt:60:9
 add-i : tie.Need-add-i Inv-loop μ-loop
 add-i c = search needs
 
--- src/highest.rt:58:5
 loop-less : tie.Need-loop-less Inv-loop μ-loop
 loop-less c = search needs
 
--- src/highest.rt:58:5
 loop-again : tie.Need-loop-again Inv-loop μ-loop
 loop-again c = search best-more
 
--- src/highest.rt:50:1
 returns-2 : tie.Need-returns-2 Inv-loop μ-loop
 returns-2 c = search best-end
 

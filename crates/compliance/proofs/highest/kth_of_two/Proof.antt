@@ -7,23 +7,18 @@ use Rattle.compliance.proofs.highest.kth_of_two.Lts as lts
 use Rattle.compliance.proofs.highest.greater.Reads as greater-reads
 use Rattle.compliance.proofs.highest.lesser.Reads as lesser-reads
 
--- src/highest.rt:61:9
 greater-requires : tie.Need-greater-requires
 greater-requires c κs = search needs
 
--- src/highest.rt:61:9
 returns : tie.Need-returns
 returns c = search two-or
 
--- src/highest.rt:64:9
 lesser-requires : tie.Need-lesser-requires
 lesser-requires c κs = search needs
 
--- src/highest.rt:64:9
 returns-2 : tie.Need-returns-2
 returns-2 c = search two-and
 
--- src/highest.rt:57:1
 returns-3 : tie.Need-returns-3
 returns-3 c = search two-none
 

@@ -9,59 +9,45 @@ use Rattle.compliance.proofs.machine.number_at.Reads as number-at-reads
 use Rattle.compliance.proofs.machine.push.Reads as push-reads
 use Rattle.compliance.proofs.machine.wide.Reads as wide-reads
 
--- src/machine.rt:93:49
 wide-requires : tie.Need-wide-requires
 wide-requires c κs = search needs
 
--- src/machine.rt:93:32
 number-at-requires : tie.Need-number-at-requires
 number-at-requires c κs = search needs
 
--- src/machine.rt:93:9
 push-requires : tie.Need-push-requires
 push-requires c κs = search needs
 
--- src/machine.rt:93:9
 same-length : tie.Need-same-length
 same-length c = search needs
 
--- src/machine.rt:93:9
 returns : tie.Need-returns
 returns c = search step-rank
 
--- src/machine.rt:96:9
 push-requires-2 : tie.Need-push-requires-2
 push-requires-2 c κs = search needs
 
--- src/machine.rt:96:9
 same-length-2 : tie.Need-same-length-2
 same-length-2 c = search needs
 
--- src/machine.rt:96:9
 returns-2 : tie.Need-returns-2
 returns-2 c = search step-top
 
--- src/machine.rt:98:13
 sub-x : tie.Need-sub-x
 sub-x c = search needs
 
--- src/machine.rt:99:24
 wide-requires-2 : tie.Need-wide-requires-2
 wide-requires-2 c κs = search needs
 
--- src/machine.rt:99:40
 wide-requires-3 : tie.Need-wide-requires-3
 wide-requires-3 c κs = search needs
 
--- src/machine.rt:99:5
 combine-requires : tie.Need-combine-requires
 combine-requires c κs = search needs
 
--- src/machine.rt:88:1
 same-length-3 : tie.Need-same-length-3
 same-length-3 c = search needs
 
--- src/machine.rt:88:1
 returns-3 : tie.Need-returns-3
 returns-3 c = search step-combine
 
