@@ -88,15 +88,15 @@ program-stays ends code ends′ code′ j h k =
     rw (t, le-ltb (length (code ++ code′)) (getD ends j 0) l, drop-append-le (startOf ends j) code code′ (omega arith))
     (take-append-le (getD ends j 0 - startOf ends j) (drop (startOf ends j) code) code′ (rw length-drop (omega arith)))))
 
--- a row stays
+-- a row stays, as principals are added and tables keep what they say of it
 pub row-stays : (names more : List Principal) (authors authors′ conds conds′ ends ends′ code code′ : List ℕ) (j : ℕ) (a : Assertion)
-    → j < length authors → j < length conds → j < length ends → getD ends j 0 ≤ length code → Row names authors conds ends code j a
-    → Row (names ++ more) (authors ++ authors′) (conds ++ conds′) (ends ++ ends′) (code ++ code′) j a
-row-stays names more authors authors′ conds conds′ ends ends′ code code′ j a ha hc he hk w = record {
-  author = List·getD-append authors authors′ 0 j ha ∙ w .author ∙ sym (place-stays names more (a .authorizer) (w .known));
+    → getD authors′ j 0 ≡ getD authors j 0 → getD conds′ j 0 ≡ getD conds j 0 → programOf ends′ code′ j ≡ programOf ends code j
+    → Row names authors conds ends code j a → Row (names ++ more) authors′ conds′ ends′ code′ j a
+row-stays names more authors authors′ conds conds′ ends ends′ code code′ j a ha hc hp w = record {
+  author = ha ∙ w .author ∙ sym (place-stays names more (a .authorizer) (w .known));
   known = member-left (a .authorizer) names more (w .known);
-  condition = List·getD-append conds conds′ 0 j hc ∙ w .condition;
-  program = program-stays ends code ends′ code′ j he hk ∙ w .program ∙ sym (compiled-stays names more (a .field) (w .listed));
+  condition = hc ∙ w .condition;
+  program = hp ∙ w .program ∙ sym (compiled-stays names more (a .field) (w .listed));
   listed = λ q m. member-left q names more (w .listed q m);
   formed = w .formed;
   few = w .few;
