@@ -115,6 +115,11 @@ rank-solves s p =
     (λ e. sym (settles s (mentioned (s .assertions)) (mentioned-closed s) (suc n) (omega arith) p e))
     (λ e. alone s (round s (suc n)) p e ∙ sym (alone s (round s n) p e))
 
+-- from then on every round is the same
+pub rounds-end : (s : System) (n : ℕ) → suc (length (mentioned (s .assertions))) ≤ n → (p : Principal) → round s n p ≡ rank s p
+unfolding rank round
+rounds-end s n h p = sym (stays s All (all-closed s) (suc (length (mentioned (s .assertions)))) (λ q u. sym (rank-solves s q)) n h p tt)
+
 -- at the least solution
 pub rank-least : (s : System) → Least s (rank s)
 unfolding rank
