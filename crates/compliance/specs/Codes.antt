@@ -5,16 +5,23 @@ use Prim.Native.Nat.{ℕ, _+_, _*_}
 abbrev pub topCode : ℕ
 topCode = 32768
 
+-- the first number of a K-of, and how many lengths of a list there are for each K
+abbrev pub kOfBase : ℕ
+kOfBase = 32769
+
+abbrev pub span : ℕ
+span = 32
+
 -- take n numbers off the stack and push their k-th highest
 abbrev pub kOfCode : ℕ → ℕ → ℕ
-kOfCode k n = 32769 + 32 * k + n
+kOfCode k n = kOfBase + span * k + n
 
 -- &&, ||, and a field that is empty: 2-of two, 1-of two, 1-of none
 abbrev pub andCode : ℕ
-andCode = 32835
+andCode = kOfCode 2 2
 
 abbrev pub orCode : ℕ
-orCode = 32803
+orCode = kOfCode 1 2
 
 abbrev pub zeroCode : ℕ
-zeroCode = 32801
+zeroCode = kOfCode 1 0

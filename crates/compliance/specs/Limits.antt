@@ -9,6 +9,10 @@ assertionsMost = 32
 abbrev pub licenseesMost : ℕ
 licenseesMost = 16
 
--- an authorizer and its licensees for each assertion, and POLICY
+-- "requesters, 1 to 8"
+abbrev pub requestersMost : ℕ
+requestersMost = 8
+
+-- POLICY, the requesters, and an authorizer and its licensees for each assertion
 abbrev pub principalsMost : ℕ
-principalsMost = assertionsMost * licenseesMost + assertionsMost + 1
+principalsMost = 1 + requestersMost + assertionsMost + assertionsMost * licenseesMost

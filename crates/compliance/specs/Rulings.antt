@@ -5,7 +5,7 @@ use Prim.Native.Nat.{ℕ}
 use Rattle.principal.specs.Principal.{Principal, same, policy}
 use Rattle.principal.specs.Members.{member}
 use Rattle.compliance.specs.Highest.{highest}
-use Rattle.compliance.specs.Licensees.{Expression, name, kOf, Licensees, given, value, licensed, named, licensees}
+use Rattle.compliance.specs.Licensees.{Expression, name, kOf, given, value, licensed, named, licensees}
 use Rattle.compliance.specs.System.{Assertion, System, direct, asserted, delegated, equations, round}
 use Rattle.compliance.specs.Reach.{licenseesOf, reachFrom, namings, reach}
 use Rattle.compliance.specs.Rounds.{equalOn, settled, reached, firstSettled, rounds, mentioned, rank}

@@ -9,3 +9,4 @@ pub mod Compile
 pub mod Flags
 pub mod Represent
 pub mod Fill
+pub mod Filling

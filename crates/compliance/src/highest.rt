@@ -1,7 +1,7 @@
 // The K-th highest of a list of ranks.
 ghost use mathlib.Core.Path.{_≡_};
-ghost use mathlib.Core.Bool.{Bool};
-ghost use Prim.Native.Nat.{_≤_, max};
+ghost use mathlib.Core.List.{[], _∷_};
+ghost use Prim.Native.Nat.{_≤_, min, max};
 ghost use lib.Dec.{leb};
 ghost use Rattle.text.specs.Choice.{pick};
 ghost use Rattle.compliance.specs.Highest.{highest, atLeast};
@@ -11,6 +11,12 @@ pub(crate) fn greater(a: u8, b: u8) -> u8
     ensures { λ r. ⌜ r ≡ max a b ⌝ }
 {
     if a < b { b } else { a }
+}
+
+pub(crate) fn lesser(a: u8, b: u8) -> u8
+    ensures { λ r. ⌜ r ≡ min a b ⌝ }
+{
+    if a < b { a } else { b }
 }
 
 // 1 where x is v or more.
@@ -46,8 +52,21 @@ fn candidate(values: &[u8], k: usize, x: u8) -> u8
     0
 }
 
+// The K-th highest of two.
+fn kth_of_two(a: u8, b: u8, k: usize) -> u8
+    ensures { λ r. ⌜ r ≡ highest k (a ∷ b ∷ []) ⌝ }
+{
+    if k == 1 {
+        return greater(a, b);
+    }
+    if k == 2 {
+        return lesser(a, b);
+    }
+    0
+}
+
 // The K-th highest of the values, with multiplicity: the highest of which at least k are as high.
-pub(crate) fn kth_highest(values: &[u8], k: usize) -> u8
+fn kth_of_many(values: &[u8], k: usize) -> u8
     ensures { λ r. ⌜ r ≡ highest k (now (values .entry)) ⌝ }
 {
     if k == 0 {
@@ -60,4 +79,14 @@ pub(crate) fn kth_highest(values: &[u8], k: usize) -> u8
         i += 1;
     }
     best
+}
+
+// The K-th highest of the values. Two are the commonest, for && and ||.
+pub(crate) fn kth_highest(values: &[u8], k: usize) -> u8
+    ensures { λ r. ⌜ r ≡ highest k (now (values .entry)) ⌝ }
+{
+    if values.len() == 2 {
+        return kth_of_two(values[0], values[1], k);
+    }
+    kth_of_many(values, k)
 }

@@ -18,8 +18,10 @@ ghost use Rattle.compliance.specs.Working.Solve.{Blank, solvedBy, soluti
 pub const ASSERTIONS: usize = 32;
 // The most licensees that an assertion may have.
 pub const LICENSEES: usize = 16;
-// The most principals: an authorizer and its licensees for each assertion, and POLICY.
-pub const PRINCIPALS: usize = ASSERTIONS * LICENSEES + ASSERTIONS + 1;
+// The most requesters.
+pub const REQUESTERS: usize = 8;
+// The most principals: POLICY, the requesters, and an authorizer and its licensees for each assertion.
+pub const PRINCIPALS: usize = 1 + REQUESTERS + ASSERTIONS + ASSERTIONS * LICENSEES;
 
 // The rank of POLICY, the rounds that changed a rank in the reach, and how many principals are in it.
 pub struct Solution {

@@ -6,23 +6,25 @@ ghost use lib.ListN.{length, getD, take};
 ghost use Rattle.compliance.specs.Codes.{kOfCode};
 ghost use Rattle.compliance.specs.Working.Machine.{Live, pushed, combined, stepped, worth, lastOf};
 
-// Instructions: below TOP the rank of the principal with that index is pushed.
-// The highest rank is pushed: for a Licensees field that is missing.
+// An instruction below TOP pushes the rank of the principal with that index.
+// TOP pushes the highest rank: for a Licensees field that is missing.
 pub const TOP: u16 = 32768;
-// K_OF + 32 * k + n takes n numbers off the stack and pushes their k-th highest.
-pub const K_OF: u16 = 32769;
+// K_OF + SPAN * k + n takes n numbers off the stack and pushes their k-th highest.
+const K_OF: u16 = TOP + 1;
+
+const SPAN: u16 = 32;
 // The lesser of two, which is 2-of two.
-pub const AND: u16 = 32835;
+pub const AND: u16 = K_OF + SPAN * 2 + 2;
 // The greater of two, which is 1-of two.
-pub const OR: u16 = 32803;
+pub const OR: u16 = K_OF + SPAN * 1 + 2;
 // 0, which is 1-of none: for a Licensees field that is empty.
-pub const ZERO: u16 = 32801;
+pub const ZERO: u16 = K_OF + SPAN * 1;
 
 // The instruction for K-of a list of n.
 pub fn k_of(k: u8, n: u8) -> u16
     ensures { λ r. ⌜ r ≡ kOfCode k n ⌝ }
 {
-    K_OF + 32 * (k as u16) + (n as u16)
+    K_OF + SPAN * (k as u16) + (n as u16)
 }
 
 pub(crate) fn wide(x: u16) -> usize
@@ -94,8 +96,8 @@ fn step(op: u16, ranks: &[u8], top: u8, stack: &mut [u8], sp: usize) -> usize
     if op == TOP {
         return push(stack, sp, top);
     }
-    let x = wide(op) - 32769;
-    combine(stack, sp, x / 32, x % 32)
+    let x = op - K_OF;
+    combine(stack, sp, wide(x / SPAN), wide(x % SPAN))
 }
 
 // The topmost of sp numbers, and 0 where there is none.

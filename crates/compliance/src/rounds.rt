@@ -1,21 +1,16 @@
 // Rounds: the equations applied to the ranks of the principals in the reach, until a round changes nothing.
 use crate::highest::greater;
+use crate::highest::lesser;
 use crate::machine::index_at;
 use crate::machine::number_at;
 use crate::machine::worth_of;
 use crate::tables::program;
 ghost use mathlib.Core.Path.{_≡_};
-ghost use Prim.Native.Nat.{_≤_, min};
+ghost use Prim.Native.Nat.{_≤_};
 ghost use lib.Dec.{eqb};
-ghost use lib.ListN.{length, getD};
+ghost use lib.ListN.{length};
 ghost use Rattle.text.specs.Choice.{pick};
 ghost use Rattle.compliance.specs.Working.Rounds.{grantedOf, raised, relaxedAt, relaxFrom, directAt, directTable, roundOf, Advanced, settledAt, settleFrom};
-
-fn lesser(a: u8, b: u8) -> u8
-    ensures { λ r. ⌜ r ≡ min a b ⌝ }
-{
-    if a < b { a } else { b }
-}
 
 // The rank of assertion j: the lesser of its conditions' and its licensees'.
 fn granted(

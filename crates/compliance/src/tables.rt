@@ -1,7 +1,6 @@
 // What the tables say of an assertion.
 use crate::machine::index_at;
 ghost use mathlib.Core.Path.{_≡_};
-ghost use lib.ListN.{length, getD};
 ghost use Rattle.compliance.specs.Tables.{startOf, programOf};
 
 // Where the program of assertion j starts: where the one before it ends.

@@ -7,55 +7,42 @@ use Rattle.compliance.proofs.solve.Reads as reads
 use Rattle.compliance.proofs.solve.Lts as lts
 use Rattle.compliance.proofs.solve_in.Reads as solve-in-reads
 
--- src/lib.rt:56:9
 returns : tie.Need-returns
 returns c = (search solve-wide, search needs)
 
--- src/lib.rt:60:9
 returns-2 : tie.Need-returns-2
 returns-2 c = (search solve-long, search needs)
 
--- src/lib.rt:67:55
 array-borrow-prefix-ranks : tie.Need-array-borrow-prefix-ranks
 array-borrow-prefix-ranks c = search needs
 
--- src/lib.rt:67:55
 slice-aggregate-solve-in : tie.Need-slice-aggregate-solve-in
 slice-aggregate-solve-in c = part-long principalsMost _ (search needs)
 
--- src/lib.rt:67:72
 array-borrow-prefix-next : tie.Need-array-borrow-prefix-next
 array-borrow-prefix-next c = search needs
 
--- src/lib.rt:67:72
 slice-aggregate-solve-in-2 : tie.Need-slice-aggregate-solve-in-2
 slice-aggregate-solve-in-2 c = part-long principalsMost _ (search needs)
 
--- src/lib.rt:67:88
 array-borrow-prefix-reach : tie.Need-array-borrow-prefix-reach
 array-borrow-prefix-reach c = search needs
 
--- src/lib.rt:67:88
 slice-aggregate-solve-in-3 : tie.Need-slice-aggregate-solve-in-3
 slice-aggregate-solve-in-3 c = part-long principalsMost _ (search needs)
 
--- src/lib.rt:67:105
 array-borrow-prefix-done : tie.Need-array-borrow-prefix-done
 array-borrow-prefix-done c = search needs
 
--- src/lib.rt:67:105
 slice-aggregate-solve-in-4 : tie.Need-slice-aggregate-solve-in-4
 slice-aggregate-solve-in-4 c = part-long assertionsMost _ (search needs)
 
--- src/lib.rt:67:121
 slice-aggregate-solve-in-5 : tie.Need-slice-aggregate-solve-in-5
 slice-aggregate-solve-in-5 c = search needs
 
--- src/lib.rt:67:5
 solve-in-requires : tie.Need-solve-in-requires
 solve-in-requires c κs = part-blank principalsMost _ (search needs) assertionsMost _ (search needs)
 
--- src/lib.rt:51:1
 returns-3 : tie.Need-returns-3
 returns-3 c = (search solve-is, search solve-within)
 

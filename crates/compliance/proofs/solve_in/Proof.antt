@@ -9,43 +9,33 @@ use Rattle.compliance.proofs.machine.number_at.Reads as number-at-reads
 use Rattle.compliance.proofs.reach.find_reach.Reads as find-reach-reads
 use Rattle.compliance.proofs.rounds.settle.Reads as settle-reads
 
--- src/lib.rt:35:5
 find-reach-requires : tie.Need-find-reach-requires
 find-reach-requires c κs = search needs
 
--- src/lib.rt:36:9
 at-least-requires : tie.Need-at-least-requires
 at-least-requires c κs = search needs
 
--- src/lib.rt:37:9
 settle-requires : tie.Need-settle-requires
 settle-requires c κs = search needs
 
--- src/lib.rt:38:9
 number-at-requires : tie.Need-number-at-requires
 number-at-requires c κs = search needs
 
--- src/lib.rt:31:1
 same-length : tie.Need-same-length
 same-length c = search needs
 
--- src/lib.rt:31:1
 same-length-2 : tie.Need-same-length-2
 same-length-2 c = search needs
 
--- src/lib.rt:31:1
 same-length-3 : tie.Need-same-length-3
 same-length-3 c = search needs
 
--- src/lib.rt:31:1
 same-length-4 : tie.Need-same-length-4
 same-length-4 c = search needs
 
--- src/lib.rt:31:1
 same-length-5 : tie.Need-same-length-5
 same-length-5 c = search needs
 
--- src/lib.rt:31:1
 returns : tie.Need-returns
 returns c = let r = c .before .before .before .before .before .before .before .before .before .before .before .before .before in let s = r .before .before .before .before .before .before in solved-is _ _ _ _ _ _ _ _ _ _ _ (s .before .before .before .before .before .before .before .before .before .before .before .before .before .pre) _ (s .find-reach .ensures) _ (r .at-least .ensures) _ _ (c .before .before .before .before .before .before .before .before .settle .ensures) _ (c .number-at .ensures)
 

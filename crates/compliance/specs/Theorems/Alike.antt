@@ -1,19 +1,18 @@
 -- What the conditions of assertions outside the reach say has no effect. Assumes nothing.
 use mathlib.Core.Path.{_≡_, refl, sym, ap, _∙_}
-use mathlib.Core.Bool.{Bool, true, false}
+use mathlib.Core.Bool.{true}
 use mathlib.Core.List.{List, [], _∷_, _++_, List·Memᴰ as Mem, List·Memᴰ·head as here, List·Memᴰ·tail as there}
-use Prim.Native.Nat.{ℕ, zero, suc, _+_, _<_, _≤_, max, min}
+use Prim.Native.Nat.{ℕ, zero, suc}
 use native.Mathlib.Nat.{le-trans, le-antisymm, le-of-eq, le-refl}
-use native.Mathlib.Omega.{arith}
 use lib.ListN.{length}
-use Rattle.text.specs.Choice.{pick, split, bool-iff}
+use Rattle.text.specs.Choice.{split, bool-iff}
 use Rattle.principal.specs.Principal.{Principal, same, policy, same-sym}
 use Rattle.principal.specs.Members.{member}
 use Rattle.compliance.specs.Licensees.{Rank, licensees}
 use Rattle.compliance.specs.System.{Assertion, System, direct, asserted, delegated, equations, round}
 use Rattle.compliance.specs.Reach.{licenseesOf, reachFrom, namings, reach, InReach}
 use Rattle.compliance.specs.Rounds.{settled, reached, rounds, rank}
-use Rattle.compliance.specs.Theorems.Monotone.{Closed, EqOn, asserted-lift, delegated-from, delegated-by}
+use Rattle.compliance.specs.Theorems.Monotone.{EqOn, asserted-lift}
 use Rattle.compliance.specs.Theorems.Reach.{reach-closed, reach-root}
 use Rattle.compliance.specs.Theorems.Settle.{settled-equal, equal-settled, rounds-settled, rounds-first, rounds-unique, rounds-rank}
 

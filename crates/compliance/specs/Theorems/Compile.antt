@@ -1,18 +1,17 @@
 -- Compiled licensees leave their value on the stack. Assumes nothing.
 use mathlib.Core.Path.{_≡_, refl, sym, ap, _∙_}
-use mathlib.Core.Bool.{Bool, true, false}
 use mathlib.Core.List.{List, [], _∷_, _++_, map, append-assoc, append-nil, List·Memᴰ as Mem, List·Memᴰ·head as here, List·Memᴰ·tail as there, Memᴰ·append-left, Memᴰ·append-right}
-use Prim.Native.Nat.{ℕ, zero, suc, _+_, _-_, _*_, _/_, _%_, _≤_, _<_, min, max}
+use Prim.Native.Nat.{ℕ, _+_, _-_, _/_, _%_, _≤_, _<_, min, max}
 use native.Mathlib.Omega.{arith}
-use lib.ListN.{length, getD, take, drop, length-append, length-map}
+use lib.ListN.{length, getD, length-append, length-map}
 use lib.Seq.{take-append-seam, drop-append-seam, getD-append-seam}
 use borrow.Author.Tests.{lt-ltb, le-ltb, ne-eqb}
-use Rattle.text.specs.Choice.{pick}
 use Rattle.principal.specs.Principal.{Principal}
 use Rattle.compliance.specs.Highest.{highest}
-use Rattle.compliance.specs.Licensees.{Rank, Expression, name, and, or, kOf, Licensees, missing, empty, given, value, licensed, named, licensees}
-use Rattle.compliance.specs.Codes.{topCode, kOfCode, andCode, orCode, zeroCode}
+use Rattle.compliance.specs.Licensees.{Rank, Expression, Licensees, missing, empty, given, value, licensed, named, licensees}
+use Rattle.compliance.specs.Codes.{topCode, kOfBase, span, kOfCode, andCode, orCode}
 use Rattle.compliance.specs.Tables.{place, compile, compiled, Formed, f-name, f-and, f-or, f-kOf}
+use Rattle.compliance.specs.Working.Highest.{two-or, two-and}
 use Rattle.compliance.specs.Working.Machine.{pushed, combined, stepped, exec, lastOf, worth}
 
 named-some : {e : Expression} → Formed e → 0 < length (named e)
@@ -22,22 +21,14 @@ named-some (f-and {a = a} {b = b} f g) = rw length-append (omega (arith, named-s
 named-some (f-or {a = a} {b = b} f g) = rw length-append (omega (arith, named-some f))
 named-some (f-kOf k ps h) = h
 
-highest-and : (a b : ℕ) → highest 2 (a ∷ b ∷ []) ≡ min a b
-unfolding highest
-highest-and a b = omega arith
-
 highest-none : highest 1 [] ≡ 0
 unfolding highest
 highest-none = refl
 
-highest-or : (a b : ℕ) → highest 1 (a ∷ b ∷ []) ≡ max a b
-unfolding highest
-highest-or a b = omega arith
-
-code-k : (k n : ℕ) → n < 32 → (32769 + 32 * k + n - 32769) / 32 ≡ k
+code-k : (k n : ℕ) → n < span → (kOfCode k n - kOfBase) / span ≡ k
 code-k k n h = omega arith
 
-code-n : (k n : ℕ) → n < 32 → (32769 + 32 * k + n - 32769) % 32 ≡ n
+code-n : (k n : ℕ) → n < span → (kOfCode k n - kOfBase) % span ≡ n
 code-n k n h = omega arith
 
 module _ (ranks : List ℕ) (top depth : ℕ) where
@@ -56,22 +47,22 @@ module _ (ranks : List ℕ) (top depth : ℕ) where
       let l : length (live ++ vs) - n ≡ length live = rw length-append (omega arith) in
       rw (l, take-append-seam live vs, drop-append-seam live vs) (push-room live (highest k vs) h)
 
-  run-kOf : (k n : ℕ) (live vs : List ℕ) → length vs ≡ n → n < 32 → length live < depth
+  run-kOf : (k n : ℕ) (live vs : List ℕ) → length vs ≡ n → n < span → length live < depth
       → exec ranks top depth (kOfCode k n ∷ []) (live ++ vs) ≡ live ++ (highest k vs ∷ [])
   unfolding exec stepped
   run-kOf k n live vs e s h =
-      let up : 32768 ≤ 32769 + 32 * k + n = omega arith in
-      let no : 32769 + 32 * k + n ≡ 32768 → ⊥ = λ z. omega arith in
-      rw (le-ltb (32769 + 32 * k + n) 32768 up, ne-eqb (32769 + 32 * k + n) 32768 no, code-k k n s, code-n k n s) (combine-top k n live vs e h)
+      let up : topCode ≤ kOfCode k n = omega arith in
+      let no : kOfCode k n ≡ topCode → ⊥ = λ z. omega arith in
+      rw (le-ltb (kOfCode k n) topCode up, ne-eqb (kOfCode k n) topCode no, code-k k n s, code-n k n s) (combine-top k n live vs e h)
 
-  module _ (names : List Principal) (r : Rank) (small : depth < 32) where
+  module _ (names : List Principal) (r : Rank) (small : depth < span) where
     -- the table has the rank of p at p's place, which is no instruction's number
     abbrev pub Reads : Principal → Type 0
     Reads p = (place names p < topCode) × (getD ranks (place names p) 0 ≡ r p)
 
     run-name : (p : Principal) (live : List ℕ) → Reads p → length live < depth → exec ranks top depth (place names p ∷ []) live ≡ live ++ (r p ∷ [])
     unfolding exec stepped
-    run-name p live h l = rw (lt-ltb (place names p) 32768 (h .0), h .1) (push-room live (r p) l)
+    run-name p live h l = rw (lt-ltb (place names p) topCode (h .0), h .1) (push-room live (r p) l)
 
     run-names : (ps : List Principal) (live : List ℕ) → ((p : Principal) → Mem p ps → Reads p) → length live + length ps ≤ depth
         → exec ranks top depth (map (place names) ps) live ≡ live ++ map r ps
@@ -104,14 +95,14 @@ module _ (ranks : List ℕ) (top depth : ℕ) where
         (run-compile f live (λ p m. h p (Memᴰ·append-left (named b) m)) (omega arith))
         (run-compile g (live ++ (value r a ∷ [])) (λ p m. h p (Memᴰ·append-right (named a) m)) (rw length-append (omega (arith, named-some f))))
         (omega (arith, named-some f))
-        ∙ ap (λ (v : ℕ). live ++ (v ∷ [])) (highest-and (value r a) (value r b))
+        ∙ ap (λ (v : ℕ). live ++ (v ∷ [])) (sym (two-and (value r a) (value r b) 2 (min (value r a) (value r b)) refl refl))
     run-compile (f-or {a = a} {b = b} f g) live h l =
         let l′ : length live + (length (named a) + length (named b)) ≤ depth = rw length-append at l in
         run-both 1 orCode (compile names a) (compile names b) (value r a) (value r b) live refl
         (run-compile f live (λ p m. h p (Memᴰ·append-left (named b) m)) (omega arith))
         (run-compile g (live ++ (value r a ∷ [])) (λ p m. h p (Memᴰ·append-right (named a) m)) (rw length-append (omega (arith, named-some f))))
         (omega (arith, named-some f))
-        ∙ ap (λ (v : ℕ). live ++ (v ∷ [])) (highest-or (value r a) (value r b))
+        ∙ ap (λ (v : ℕ). live ++ (v ∷ [])) (sym (two-or (value r a) (value r b) 1 (max (value r a) (value r b)) refl refl))
     run-compile (f-kOf k ps s) live h l =
         exec-append (map (place names) ps) (kOfCode k (length ps) ∷ []) live
         ∙ ap (exec ranks top depth (kOfCode k (length ps) ∷ [])) (run-names ps live h l)

@@ -1,21 +1,20 @@
 -- How tables are filled from left to right: what was entered stays as principals, rows and code are added. Assumes nothing.
 use mathlib.Core.Path.{_≡_, refl, sym, ap, ap₂, _∙_}
-use mathlib.Core.Bool.{Bool, true, false}
-use mathlib.Core.Logic.{_⊎_, ⊎-elim}
+use mathlib.Core.Bool.{true, false}
+use mathlib.Core.Logic.{⊎-elim}
 use mathlib.Core.List.{List, [], _∷_, _++_, map, List·Memᴰ as Mem, List·Memᴰ·head as here, List·Memᴰ·tail as there, Memᴰ·append-left, Memᴰ·append-right}
-use Prim.Native.Nat.{ℕ, zero, suc, _+_, _-_, _≤_, _<_}
+use Prim.Native.Nat.{ℕ, suc, _+_, _-_, _≤_, _<_}
 use native.Mathlib.Omega.{arith}
 use native.Mathlib.Nat.{le-refl}
 use lib.Dec.{eqb, ltb}
-use lib.ListN.{length, getD, take, drop, length-append, length-drop, List·getD-append}
+use lib.ListN.{length, getD, drop, length-append, length-drop, List·getD-append}
 use lib.Seq.{take-append-le, drop-append-le, getD-append-seam, drop-append-seam, take-length}
-use borrow.Author.Tests.{ltb-true, ltb-false, lt-ltb, le-ltb, eqb-false}
-use Rattle.text.specs.Choice.{pick, split, clash}
+use borrow.Author.Tests.{ltb-false, le-ltb}
+use Rattle.text.specs.Choice.{split, clash}
 use Rattle.principal.specs.Principal.{Principal, same, same-refl, same-sym}
 use Rattle.principal.specs.Members.{member, Distinct, d[], d∷, member-none, member-here, member-there, member-cases, member-left, member-either}
 use Rattle.compliance.specs.Licensees.{Expression, name, and, or, kOf, Licensees, missing, empty, given, named, licensees}
 use Rattle.compliance.specs.System.{Assertion}
-use Rattle.compliance.specs.Codes.{kOfCode, andCode, orCode}
 use Rattle.compliance.specs.Tables.{place, compile, compiled, startOf, programOf, Row}
 
 -- a principal that is not in the list has the next free index, and gets it when it is added
@@ -89,15 +88,15 @@ program-stays ends code ends′ code′ j h k =
     rw (t, le-ltb (length (code ++ code′)) (getD ends j 0) l, drop-append-le (startOf ends j) code code′ (omega arith))
     (take-append-le (getD ends j 0 - startOf ends j) (drop (startOf ends j) code) code′ (rw length-drop (omega arith)))))
 
--- a row stays
+-- a row stays, as principals are added and tables keep what they say of it
 pub row-stays : (names more : List Principal) (authors authors′ conds conds′ ends ends′ code code′ : List ℕ) (j : ℕ) (a : Assertion)
-    → j < length authors → j < length conds → j < length ends → getD ends j 0 ≤ length code → Row names authors conds ends code j a
-    → Row (names ++ more) (authors ++ authors′) (conds ++ conds′) (ends ++ ends′) (code ++ code′) j a
-row-stays names more authors authors′ conds conds′ ends ends′ code code′ j a ha hc he hk w = record {
-  author = List·getD-append authors authors′ 0 j ha ∙ w .author ∙ sym (place-stays names more (a .authorizer) (w .known));
+    → getD authors′ j 0 ≡ getD authors j 0 → getD conds′ j 0 ≡ getD conds j 0 → programOf ends′ code′ j ≡ programOf ends code j
+    → Row names authors conds ends code j a → Row (names ++ more) authors′ conds′ ends′ code′ j a
+row-stays names more authors authors′ conds conds′ ends ends′ code code′ j a ha hc hp w = record {
+  author = ha ∙ w .author ∙ sym (place-stays names more (a .authorizer) (w .known));
   known = member-left (a .authorizer) names more (w .known);
-  condition = List·getD-append conds conds′ 0 j hc ∙ w .condition;
-  program = program-stays ends code ends′ code′ j he hk ∙ w .program ∙ sym (compiled-stays names more (a .field) (w .listed));
+  condition = hc ∙ w .condition;
+  program = hp ∙ w .program ∙ sym (compiled-stays names more (a .field) (w .listed));
   listed = λ q m. member-left q names more (w .listed q m);
   formed = w .formed;
   few = w .few;

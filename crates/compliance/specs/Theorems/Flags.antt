@@ -1,25 +1,24 @@
 -- Tables that represent a system: their flags are the reach. Assumes nothing.
 use mathlib.Core.Path.{_≡_, refl, sym, ap, _∙_}
-use mathlib.Core.Bool.{Bool, true, false}
-use mathlib.Core.Logic.{_⊎_, inl, inr, ⊎-elim}
-use mathlib.Core.Option.{Option, none, some}
+use mathlib.Core.Bool.{true, false}
+use mathlib.Core.Logic.{⊎-elim}
+use mathlib.Core.Option.{some}
 use mathlib.Core.List.{List, [], _∷_, _++_, map, List·Memᴰ as Mem, List·Memᴰ·head as here, List·Memᴰ·tail as there, Memᴰ·append-left, Memᴰ·append-right}
 use Prim.Native.Nat.{ℕ, zero, suc, _+_, _≤_, _<_}
-use native.Mathlib.Nat.{le-refl}
 use native.Mathlib.Omega.{arith}
 use lib.Dec.{eqb, ltb}
-use lib.ListN.{length, getD, getElem?, set, replicate, length-map, length-set}
-use lib.Seq.{getD-set-same, getD-set-other}
+use lib.ListN.{length, getD, getElem?, set, length-map, length-set}
+use lib.Seq.{getD-set-other}
 use borrow.Author.Tests.{eqb-true, eqb-false, eq-eqb, ltb-true, ltb-false, lt-ltb, le-ltb}
 use Rattle.text.specs.Choice.{pick, split, clash, bool-iff}
 use Rattle.principal.specs.Principal.{Principal, same, policy, same-refl, same-sym}
-use Rattle.principal.specs.Members.{member, member-none, member-here, member-there, member-cases, member-left, member-right, member-either, member-mem, member-find, member-same}
+use Rattle.principal.specs.Members.{member, member-none, member-here, member-there, member-cases, member-left, member-right, member-either, member-same}
 use Rattle.compliance.specs.Licensees.{Rank, Expression, name, and, or, kOf, Licensees, missing, empty, given, named, licensees}
 use Rattle.compliance.specs.System.{Assertion, System}
-use Rattle.compliance.specs.Reach.{reach, InReach, Reachable, root, licensee}
+use Rattle.compliance.specs.Reach.{reach, Reachable, root, licensee}
 use Rattle.compliance.specs.Codes.{topCode, kOfCode, andCode, orCode, zeroCode}
-use Rattle.compliance.specs.Tables.{place, compile, compiled, programOf, Row, Represents}
-use Rattle.compliance.specs.Theorems.Reach.{reach-sound, reach-complete, reach-root}
+use Rattle.compliance.specs.Tables.{place, compile, compiled, programOf, Represents}
+use Rattle.compliance.specs.Theorems.Reach.{reach-sound, reach-complete}
 use Rattle.compliance.specs.Theorems.Index.{Even, map-same, place-lt, place-map, place-none, place-set}
 use Rattle.compliance.specs.Working.Reach.{marked, markedAll, openAt, openFrom, spreadFrom}
 use Rattle.compliance.specs.Working.Solve.{blank, reachOf}
@@ -65,7 +64,7 @@ flagged-same l m names f g = map-same _ _ names (λ q k. rw (bool-iff (member q 
 
 marked-none : (op : ℕ) (f : List ℕ) → topCode ≤ op → marked op f ≡ f
 unfolding marked
-marked-none op f h = rw (le-ltb op 32768 h)
+marked-none op f h = rw (le-ltb op topCode h)
 
 marked-append : (a b f : List ℕ) → markedAll (a ++ b) f ≡ markedAll b (markedAll a f)
 unfolding markedAll
@@ -148,8 +147,8 @@ module _ (names : List Principal) (authors conds ends code direct : List ℕ) (t
   mark-name : (p : Principal) (l : List Principal) → member p names ≡ true → marked (place names p) (map (flagged l) names) ≡ map (flagged (p ∷ l)) names
   unfolding marked flagged
   mark-name p l i =
-      let below : place names p < 32768 = omega (arith, place-lt names p i, rep .fewNames) in
-      rw (lt-ltb (place names p) 32768 below)
+      let below : place names p < topCode = omega (arith, place-lt names p i, rep .fewNames) in
+      rw (lt-ltb (place names p) topCode below)
       (place-set (rep .distinct) (flagged l) p 1 i
       ∙ map-same _ _ names (λ q m. split (same p q)
       (λ e. rw (e, member-here q p l (same-sym p q e)))

@@ -1,19 +1,19 @@
 -- More assertions never lower a rank, and their order does not matter, for every principal. Assumes nothing.
 use mathlib.Core.Path.{_≡_, refl, sym, ap, _∙_}
-use mathlib.Core.Logic.{_⊎_, inl, inr, ⊎-elim}
-use mathlib.Core.List.{List, [], _∷_, List·Memᴰ as Mem, List·Memᴰ·head as here, List·Memᴰ·tail as there, List·Memᴰ·cases-cons as mem-∷, List·Permᴰ as Perm, List·Permᴰ·nil as p[], List·Permᴰ·cons as p∷, List·Permᴰ·swap as pswap, List·Permᴰ·trans as ptrans, Permᴰ·symm}
-use Prim.Native.Nat.{ℕ, zero, suc, _≤_, max, zero-le}
+use mathlib.Core.Logic.{⊎-elim}
+use mathlib.Core.List.{List, _∷_, List·Memᴰ as Mem, List·Memᴰ·head as here, List·Memᴰ·tail as there, List·Memᴰ·cases-cons as mem-∷, List·Permᴰ as Perm, List·Permᴰ·nil as p[], List·Permᴰ·cons as p∷, List·Permᴰ·swap as pswap, List·Permᴰ·trans as ptrans, Permᴰ·symm}
+use Prim.Native.Nat.{ℕ, zero, suc, _≤_, zero-le}
 use native.Mathlib.Nat.{le-trans, le-antisymm, le-refl, le-of-eq}
 use native.Mathlib.Omega.{arith}
 use lib.ListN.{length}
 use Rattle.text.specs.Choice.{bool-iff}
-use Rattle.principal.specs.Principal.{Principal, same}
+use Rattle.principal.specs.Principal.{Principal}
 use Rattle.principal.specs.Members.{distinct-le}
 use Rattle.compliance.specs.Licensees.{Rank}
-use Rattle.compliance.specs.System.{Assertion, System, direct, asserted, delegated, equations, round}
+use Rattle.compliance.specs.System.{Assertion, System, direct, delegated, equations, round}
 use Rattle.compliance.specs.Reach.{reach, InReach, Reachable, root, licensee}
 use Rattle.compliance.specs.Rounds.{settled, reached, rounds, rank, mentioned}
-use Rattle.compliance.specs.Theorems.Monotone.{asserted-lift, delegated-from, delegated-by, least-on, All, all-closed, rounds-below}
+use Rattle.compliance.specs.Theorems.Monotone.{asserted-lift, delegated-from, delegated-by, rounds-below}
 use Rattle.compliance.specs.Theorems.Reach.{reach-sound, reach-complete, reach-distinct}
 use Rattle.compliance.specs.Theorems.Settle.{settled-equal, equal-settled, rounds-settled, rounds-first, rounds-unique, rank-solves}
 

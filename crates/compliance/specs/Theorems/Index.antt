@@ -1,14 +1,14 @@
 -- Tables that hold one number for each principal of a list. Assumes nothing.
 use mathlib.Core.Path.{_≡_, refl, sym, ap, ap₂, _∙_}
-use mathlib.Core.Bool.{Bool, true, false}
-use mathlib.Core.Logic.{_⊎_, ⊎-elim}
+use mathlib.Core.Bool.{true}
+use mathlib.Core.Logic.{⊎-elim}
 use mathlib.Core.List.{List, [], _∷_, map, List·Memᴰ as Mem, List·Memᴰ·head as here, List·Memᴰ·tail as there}
-use Prim.Native.Nat.{ℕ, zero, suc, _≤_, _<_, max}
+use Prim.Native.Nat.{ℕ, zero, suc, _<_}
 use native.Mathlib.Omega.{arith}
 use lib.ListN.{length, getD, set, replicate}
 use Rattle.text.specs.Choice.{pick, split, clash}
-use Rattle.principal.specs.Principal.{Principal, same, same-refl, same-sym, same-trans, same-left}
-use Rattle.principal.specs.Members.{member, Distinct, d[], d∷, member-none, member-cases, member-here, member-mem, member-same}
+use Rattle.principal.specs.Principal.{Principal, same, same-sym, same-trans}
+use Rattle.principal.specs.Members.{member, Distinct, d[], d∷, member-none, member-cases, member-mem, member-same}
 use Rattle.compliance.specs.Licensees.{Rank}
 use Rattle.compliance.specs.Tables.{place}
 

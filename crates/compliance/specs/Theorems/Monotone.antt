@@ -1,15 +1,15 @@
 -- The equations are monotone, at each threshold by itself; the rounds rise; they stay below every solution. Assumes nothing.
-use mathlib.Core.Path.{_≡_, refl, sym, ap, _∙_}
-use mathlib.Core.Bool.{Bool, true, false}
-use mathlib.Core.List.{List, [], _∷_, _++_, map, List·Memᴰ as Mem, List·Memᴰ·head as here, List·Memᴰ·tail as there, Memᴰ·append-left, Memᴰ·append-right}
-use Prim.Native.Nat.{ℕ, zero, suc, _≤_, min, max, zero-le}
+use mathlib.Core.Path.{_≡_, refl, sym, _∙_}
+use mathlib.Core.Bool.{true}
+use mathlib.Core.List.{List, [], _∷_, List·Memᴰ as Mem, List·Memᴰ·head as here, List·Memᴰ·tail as there, Memᴰ·append-left, Memᴰ·append-right}
+use Prim.Native.Nat.{ℕ, zero, suc, _≤_, max, zero-le}
 use native.Mathlib.Nat.{le-trans, le-refl, le-antisymm, le-of-eq}
 use native.Mathlib.Decide.{le-ind}
 use native.Mathlib.Omega.{arith}
 use lib.Dec.{leb}
 use borrow.Author.Tests.{leb-true, leb-false}
-use Rattle.text.specs.Choice.{pick, split, clash}
-use Rattle.principal.specs.Principal.{Principal, same, same-refl, same-sym, same-trans}
+use Rattle.text.specs.Choice.{split}
+use Rattle.principal.specs.Principal.{Principal, same, same-sym, same-trans}
 use Rattle.principal.specs.Members.{member, member-same}
 use Rattle.compliance.specs.Licensees.{Rank, Expression, name, and, or, kOf, Licensees, missing, empty, given, value, licensed, named, licensees}
 use Rattle.compliance.specs.System.{Assertion, System, direct, asserted, delegated, equations, round, Solves}

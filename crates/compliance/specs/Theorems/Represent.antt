@@ -1,18 +1,18 @@
 -- Tables that represent a system: the answer over them is the system's. Assumes nothing.
 use mathlib.Core.Path.{_≡_, refl, sym, ap, _∙_}
 use mathlib.Core.Bool.{Bool, true, false}
-use mathlib.Core.Logic.{_⊎_, inl, inr, ⊎-elim}
-use mathlib.Core.Option.{Option, none, some}
-use mathlib.Core.List.{List, [], _∷_, _++_, map, List·Memᴰ as Mem, List·Memᴰ·head as here, List·Memᴰ·tail as there, List·Memᴰ·cases-cons as mem-∷}
-use Prim.Native.Nat.{ℕ, zero, suc, _+_, _≤_, _<_, min, max, zero-le}
+use mathlib.Core.Logic.{⊎-elim}
+use mathlib.Core.Option.{some}
+use mathlib.Core.List.{List, [], _∷_, map, List·Memᴰ as Mem, List·Memᴰ·head as here, List·Memᴰ·tail as there, List·Memᴰ·cases-cons as mem-∷}
+use Prim.Native.Nat.{ℕ, zero, suc, _+_, _≤_, _<_, max}
 use native.Mathlib.Nat.{le-antisymm, add-zero}
 use native.Mathlib.Omega.{arith}
-use lib.Dec.{eqb, leb, ltb}
-use lib.ListN.{length, getD, getElem?, set, length-map, length-append, List·getD-append}
+use lib.Dec.{eqb}
+use lib.ListN.{length, getD, getElem?, set, length-map, List·getD-append}
 use lib.Seq.{ext-getD, getD-append-seam}
-use borrow.Author.Tests.{eqb-true, eqb-false, eq-eqb, ne-eqb, le-ltb}
+use borrow.Author.Tests.{eqb-true, eqb-false, eq-eqb, le-ltb}
 use Rattle.text.specs.Choice.{pick, split, clash, bool-iff}
-use Rattle.principal.specs.Principal.{Principal, same, policy, same-refl, same-sym, same-right}
+use Rattle.principal.specs.Principal.{Principal, same, policy, same-right}
 use Rattle.principal.specs.Members.{member, Distinct, d[], d∷, distinct-le, member-none, member-here, member-there, member-cases, member-mem, member-find, member-same}
 use Rattle.compliance.specs.Highest.{atLeast}
 use Rattle.compliance.specs.Licensees.{Rank, licensed, licensees}
@@ -20,21 +20,19 @@ use Rattle.compliance.specs.System.{Assertion, System, asserted, delegat
 use Rattle.compliance.specs.System as system
 use Rattle.compliance.specs.Reach.{reach, InReach, Reachable, root, licensee}
 use Rattle.compliance.specs.Rounds.{settled, reached, firstSettled, rounds, rank}
-use Rattle.compliance.specs.Codes.{topCode}
 use Rattle.compliance.specs.Limits.{assertionsMost, licenseesMost, principalsMost}
-use Rattle.compliance.specs.Tables.{place, programOf, compiled, Row, Represents}
-use Rattle.compliance.specs.Theorems.Monotone.{EqOn, round-alike}
-use Rattle.compliance.specs.Theorems.Reach.{reach-closed, reach-licenses, reach-root, reach-sound, reach-distinct}
+use Rattle.compliance.specs.Tables.{place, compiled, Row, Represents}
+use Rattle.compliance.specs.Theorems.Monotone.{round-alike}
+use Rattle.compliance.specs.Theorems.Reach.{reach-licenses, reach-root, reach-sound, reach-distinct}
 use Rattle.compliance.specs.Theorems.Settle.{settled-equal, equal-settled, rounds-rank}
 use Rattle.compliance.specs.Theorems.Alike.{AlikeIn, policy-same, rounds-same, reached-same}
 use Rattle.compliance.specs.Theorems.Index.{Even, map-same, map-at, place-lt, place-map, place-none, place-set}
 use Rattle.compliance.specs.Theorems.Compile.{Reads, worth-compiled}
-use Rattle.compliance.specs.Theorems.Flags.{flagged, flagged-even, flag-on, at-mem, mem-at, author-flag, flags-reach}
+use Rattle.compliance.specs.Theorems.Flags.{flagged, flag-on, at-mem, mem-at, author-flag, flags-reach}
 use Rattle.compliance.specs.Working.Machine.{worth}
-use Rattle.compliance.specs.Working.Rounds.{grantedOf, raised, directAt, directTable, changesOf, Settled, settledAt, relaxedAt, relaxFrom, roundOf, settleFrom}
+use Rattle.compliance.specs.Working.Rounds.{grantedOf, raised, directAt, directTable, changesOf, settledAt, relaxedAt, relaxFrom, roundOf, settleFrom}
 use Rattle.compliance.specs.Working.RoundWays.{direct-length}
-use Rattle.compliance.specs.Working.Solve.{blank, reachOf, answerOf, solvedBy, solutionOf}
-use Rattle.compliance.specs.declared.Solution.{Solution}
+use Rattle.compliance.specs.Working.Solve.{blank, reachOf, solvedBy, solutionOf}
 
 -- ---- tables of numbers
 

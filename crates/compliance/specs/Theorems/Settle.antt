@@ -1,24 +1,24 @@
 -- The rounds end at the least solution, for every principal; on the reach they do so at round `rounds`, which is at most `reached`.
 -- Assumes nothing.
-use mathlib.Core.Path.{_≡_, refl, sym, ap, _∙_}
-use mathlib.Core.Bool.{Bool, true, false}
+use mathlib.Core.Path.{_≡_, refl, sym, _∙_}
+use mathlib.Core.Bool.{true, false}
 use mathlib.Core.Logic.{_⊎_, inl, inr, ⊎-elim}
-use mathlib.Core.List.{List, [], _∷_, _++_, List·Memᴰ as Mem, List·Memᴰ·head as here, List·Memᴰ·tail as there, List·Memᴰ·cases-cons as mem-∷}
-use Prim.Native.Nat.{ℕ, zero, suc, _+_, _*_, _≤_, _<_, max, zero-le}
+use mathlib.Core.List.{List, [], _∷_, List·Memᴰ as Mem, List·Memᴰ·head as here, List·Memᴰ·tail as there, List·Memᴰ·cases-cons as mem-∷}
+use Prim.Native.Nat.{ℕ, zero, suc, _+_, _*_, _≤_, _<_, zero-le}
 use native.Mathlib.Nat.{le-trans, le-refl, le-antisymm, le-of-eq}
 use native.Mathlib.Omega.{arith}
 use lib.Dec.{eqb, leb, ltb}
 use lib.ListN.{length}
 use borrow.Author.Tests.{leb-true, leb-false, le-leb, ltb-true, ltb-false, eqb-true, eqb-false, eq-eqb}
-use Rattle.text.specs.Choice.{pick, split, clash, bool-iff}
-use Rattle.principal.specs.Principal.{Principal, same, policy, same-refl, same-sym}
-use Rattle.principal.specs.Members.{member, member-none, member-here, member-there, member-cases, member-left, member-right, member-mem, member-find, member-same}
+use Rattle.text.specs.Choice.{pick, split, clash}
+use Rattle.principal.specs.Principal.{Principal, same-sym}
+use Rattle.principal.specs.Members.{member, member-here, member-there, member-left, member-right, member-mem, member-find, member-same}
 use Rattle.compliance.specs.Licensees.{Rank, licensees}
 use Rattle.compliance.specs.System.{Assertion, System, direct, delegated, equations, round, Solves, Least}
 use Rattle.compliance.specs.Reach.{reach, InReach}
 use Rattle.compliance.specs.Rounds.{equalOn, settled, reached, firstSettled, rounds, mentioned, rank}
-use Rattle.compliance.specs.Theorems.Monotone.{Closed, Lift, EqOn, LeOn, All, all-closed, equations-lift, stays, rising, rounds-below, round-alike, round-le, delegated-from}
-use Rattle.compliance.specs.Theorems.Reach.{reach-closed, reach-root}
+use Rattle.compliance.specs.Theorems.Monotone.{Closed, Lift, EqOn, All, all-closed, equations-lift, stays, rising, rounds-below, round-alike, round-le, delegated-from}
+use Rattle.compliance.specs.Theorems.Reach.{reach-closed}
 
 -- how many of the list have v or more
 unfoldable having : ℕ → Rank → List Principal → ℕ
@@ -114,6 +114,11 @@ rank-solves s p =
     split (member p (mentioned (s .assertions)))
     (λ e. sym (settles s (mentioned (s .assertions)) (mentioned-closed s) (suc n) (omega arith) p e))
     (λ e. alone s (round s (suc n)) p e ∙ sym (alone s (round s n) p e))
+
+-- from then on every round is the same
+pub rounds-end : (s : System) (n : ℕ) → suc (length (mentioned (s .assertions))) ≤ n → (p : Principal) → round s n p ≡ rank s p
+unfolding rank round
+rounds-end s n h p = sym (stays s All (all-closed s) (suc (length (mentioned (s .assertions)))) (λ q u. sym (rank-solves s q)) n h p tt)
 
 -- at the least solution
 pub rank-least : (s : System) → Least s (rank s)

@@ -1,13 +1,11 @@
 -- The K-th highest as the code finds it, and that it is the K-th highest. Assumes nothing.
-use mathlib.Core.Path.{_≡_, refl, sym, ap, _∙_}
-use mathlib.Core.Bool.{Bool, true, false}
+use mathlib.Core.Path.{_≡_, refl, sym}
 use mathlib.Core.Logic.{_⊎_, inl, inr, ⊎-elim}
 use mathlib.Core.List.{List, [], _∷_, List·Memᴰ as Mem, List·Memᴰ·head as here, List·Memᴰ·tail as there}
 use Prim.Native.Nat.{ℕ, zero, suc, _+_, _≤_, _<_, min, max, zero-le}
 use native.Mathlib.Nat.{le-trans, le-refl, le-antisymm}
 use native.Mathlib.Omega.{arith}
 use native.Mathlib.Numerals.{add-one}
-use native.Mathlib.Nat.{add-zero}
 use lib.Dec.{leb}
 use lib.ListN.{length, getD, drop, drop-of-length-le}
 use lib.Seq.{drop-cons}
@@ -126,3 +124,26 @@ module _ (k : ℕ) (all : List ℕ) (i best r : ℕ) (inv : bestFrom k all i bes
   pub best-end : length all ≤ i → best ≡ r
   unfolding bestFrom bestOf
   best-end h = rw (drop-of-length-le all h) at inv
+
+-- ---- two values
+
+pub two-or : (a b k r : ℕ) → k ≡ 1 → r ≡ max a b → r ≡ highest k (a ∷ b ∷ [])
+unfolding highest
+two-or a b k r e h = rw e (omega arith)
+
+pub two-and : (a b k r : ℕ) → k ≡ 2 → r ≡ min a b → r ≡ highest k (a ∷ b ∷ [])
+unfolding highest
+two-and a b k r e h = rw e (omega arith)
+
+pub two-none : (a b k : ℕ) → (k ≡ 1 → ⊥) → (k ≡ 2 → ⊥) → 0 ≡ highest k (a ∷ b ∷ [])
+unfolding highest
+two-none a b zero n m = refl
+two-none a b (suc zero) n m = absurd (n refl)
+two-none a b (suc (suc zero)) n m = absurd (m refl)
+two-none a b (suc (suc (suc k))) n m = omega arith
+
+pub two-values : (xs : List ℕ) (k r : ℕ) → length xs ≡ 2 → r ≡ highest k (getD xs 0 0 ∷ getD xs 1 0 ∷ []) → r ≡ highest k xs
+two-values [] k r e h = absurd (omega arith)
+two-values (x ∷ []) k r e h = absurd (omega arith)
+two-values (x ∷ y ∷ []) k r e h = h
+two-values (x ∷ y ∷ z ∷ xs) k r e h = absurd (omega arith)

@@ -1,17 +1,16 @@
 -- The stack machine that runs compiled licensees, in the code's shape, and the ways of its functions. Assumes nothing.
 use mathlib.Core.Path.{_≡_, refl, sym, ap, _∙_}
-use mathlib.Core.Bool.{Bool, true, false}
 use mathlib.Core.List.{List, [], _∷_, _++_}
-use Prim.Native.Nat.{ℕ, zero, suc, _+_, _-_, _*_, _/_, _%_, _≤_, _<_, min}
+use Prim.Native.Nat.{ℕ, zero, suc, _+_, _-_, _/_, _%_, _≤_, _<_}
 use native.Mathlib.Omega.{arith}
 use native.Mathlib.Numerals.{add-one}
 use lib.Dec.{eqb, ltb}
-use lib.ListN.{length, getD, set, take, drop, length-take, length-set, drop-of-length-le, List·getD-eq-default}
+use lib.ListN.{length, getD, set, take, drop, length-set, drop-of-length-le, List·getD-eq-default}
 use lib.Seq.{drop-cons, take-suc-set, length-take-le, getD-take, take-take}
 use borrow.Author.Tests.{lt-ltb, le-ltb, eq-eqb, ne-eqb}
 use Rattle.text.specs.Choice.{pick}
 use Rattle.compliance.specs.Highest.{highest}
-use Rattle.compliance.specs.Codes.{topCode}
+use Rattle.compliance.specs.Codes.{topCode, kOfBase, span}
 
 -- the first sp numbers of the stack are the list
 pub record Live (stack : List ℕ) (sp : ℕ) (live : List ℕ) : Type 0 where
@@ -30,7 +29,7 @@ combined depth k n live = pushed depth (take (length live - n) live) (highest k 
 unfoldable pub stepped : List ℕ → ℕ → ℕ → ℕ → List ℕ → List ℕ
 stepped ranks top depth op live =
     pick (ltb op topCode) (pushed depth live (getD ranks op 0))
-    (pick (eqb op topCode) (pushed depth live top) (combined depth ((op - 32769) / 32) ((op - 32769) % 32) live))
+    (pick (eqb op topCode) (pushed depth live top) (combined depth ((op - kOfBase) / span) ((op - kOfBase) % span) live))
 
 -- a program
 unfoldable pub exec : List ℕ → ℕ → ℕ → List ℕ → List ℕ → List ℕ
@@ -80,18 +79,18 @@ module _ (st : List ℕ) (sp k n : ℕ) (w : sp ≤ length st) (b : ℕ) (be : b
       record { within = l .within; holds = l .holds ∙ rw (e, ← be, take-take b sp st (omega arith), drop-take b sp st, ← ve) }
 
 module _ (ranks : List ℕ) (top depth op : ℕ) (live : List ℕ) (st : List ℕ) (r : ℕ) where
-  pub step-rank : op < 32768 → (i v : ℕ) → i ≡ op → v ≡ getD ranks i 0 → Live st r (pushed depth live v) → Live st r (stepped ranks top depth op live)
+  pub step-rank : op < topCode → (i v : ℕ) → i ≡ op → v ≡ getD ranks i 0 → Live st r (pushed depth live v) → Live st r (stepped ranks top depth op live)
   unfolding stepped
-  step-rank h i v ie ve l = rw (lt-ltb op 32768 h) (rw (ve, ie) at l)
+  step-rank h i v ie ve l = rw (lt-ltb op topCode h) (rw (ve, ie) at l)
 
-  pub step-top : 32768 ≤ op → op ≡ 32768 → Live st r (pushed depth live top) → Live st r (stepped ranks top depth op live)
+  pub step-top : topCode ≤ op → op ≡ topCode → Live st r (pushed depth live top) → Live st r (stepped ranks top depth op live)
   unfolding stepped
-  step-top h e l = rw (le-ltb op 32768 h, eq-eqb op 32768 e) l
+  step-top h e l = rw (le-ltb op topCode h, eq-eqb op topCode e) l
 
-  pub step-combine : 32768 ≤ op → (op ≡ 32768 → ⊥) → (x : ℕ) → x ≡ op
-      → Live st r (combined depth ((x - 32769) / 32) ((x - 32769) % 32) live) → Live st r (stepped ranks top depth op live)
+  pub step-combine : topCode ≤ op → (op ≡ topCode → ⊥) → (k n : ℕ) → k ≡ (op - kOfBase) / span → n ≡ (op - kOfBase) % span
+      → Live st r (combined depth k n live) → Live st r (stepped ranks top depth op live)
   unfolding stepped
-  step-combine h n x xe l = rw (le-ltb op 32768 h, ne-eqb op 32768 n) (rw xe at l)
+  step-combine h e k n ke ne l = rw (le-ltb op topCode h, ne-eqb op topCode e, ← ke, ← ne) l
 
 -- what is left of a program from i on
 unfoldable pub execFrom : List ℕ → ℕ → ℕ → List ℕ → ℕ → List ℕ → List ℕ

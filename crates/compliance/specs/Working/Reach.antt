@@ -1,5 +1,5 @@
 -- The reach as flags, one for each principal, in the code's shape, and the ways of its functions. Assumes nothing.
-use mathlib.Core.Path.{_≡_, refl, sym, ap, _∙_}
+use mathlib.Core.Path.{_≡_, refl, sym, _∙_}
 use mathlib.Core.Bool.{Bool, true, false}
 use mathlib.Core.List.{List, [], _∷_}
 use Prim.Native.Nat.{ℕ, zero, suc, _+_, _-_, _≤_, _<_}
@@ -13,6 +13,7 @@ use borrow.Author.Tests.{lt-ltb, le-ltb, eq-eqb, ne-eqb}
 use Rattle.text.specs.Choice.{pick}
 use Rattle.compliance.specs.Codes.{topCode}
 use Rattle.compliance.specs.Tables.{programOf}
+use Rattle.compliance.specs.Working.Tables.{one-less}
 
 -- the principal that an instruction names, flagged
 unfoldable pub marked : ℕ → List ℕ → List ℕ
@@ -48,17 +49,17 @@ pub record Expanded (done reach done′ reach′ : List ℕ) : Type 0 where
 -- ---- the ways
 
 module _ (reach : List ℕ) (op : ℕ) where
-  pub mark-in : op < 32768 → (i : ℕ) → i ≡ op → set reach i 1 ≡ marked op reach
+  pub mark-in : op < topCode → (i : ℕ) → i ≡ op → set reach i 1 ≡ marked op reach
   unfolding marked
-  mark-in h i e = rw (lt-ltb op 32768 h, e)
+  mark-in h i e = rw (lt-ltb op topCode h, e)
 
-  pub mark-far : op < 32768 → (i : ℕ) → i ≡ op → length reach ≤ i → reach ≡ marked op reach
+  pub mark-far : op < topCode → (i : ℕ) → i ≡ op → length reach ≤ i → reach ≡ marked op reach
   unfolding marked
-  mark-far h i e k = rw (lt-ltb op 32768 h, ← e) (sym (set-out reach i 1 k))
+  mark-far h i e k = rw (lt-ltb op topCode h, ← e) (sym (set-out reach i 1 k))
 
-  pub mark-none : 32768 ≤ op → reach ≡ marked op reach
+  pub mark-none : topCode ≤ op → reach ≡ marked op reach
   unfolding marked
-  mark-none h = rw (le-ltb op 32768 h)
+  mark-none h = rw (le-ltb op topCode h)
 
 unfoldable pub markFrom : List ℕ → ℕ → List ℕ → List ℕ
 markFrom code i reach = markedAll (drop i code) reach
@@ -84,9 +85,6 @@ module _ (authors done reach : List ℕ) (j d : ℕ) (de : d ≡ getD done j 0) 
   pub open-done : (d ≡ 0 → ⊥) → false ≡ openAt authors done reach j
   unfolding openAt
   open-done n = simp (sym de, ne-eqb d 0 n)
-
-one-less : (n i : ℕ) → i < n → n - i ≡ suc (n - (i + 1))
-one-less n i h = omega arith
 
 pub open-start : (authors done reach : List ℕ) → openFrom authors done reach (length authors - 0) 0 ≡ openFrom authors done reach (length authors) 0
 open-start authors done reach = rw sub-zero

@@ -1,18 +1,19 @@
 -- The ways of the functions that compute rounds. Assumes nothing.
 use mathlib.Core.Path.{_≡_, refl, sym, ap, _∙_}
-use mathlib.Core.Bool.{Bool, true, false}
-use mathlib.Core.List.{List, [], _∷_, _++_, append-nil}
+use mathlib.Core.Bool.{true, false}
+use mathlib.Core.List.{List, [], _++_, append-nil}
 use Prim.Native.Nat.{ℕ, zero, suc, _+_, _-_, _≤_, _<_, min, max}
 use native.Mathlib.Omega.{arith}
 use native.Mathlib.Numerals.{add-one}
-use native.Mathlib.Nat.{sub-zero, le-refl}
+use native.Mathlib.Nat.{sub-zero}
 use lib.Dec.{eqb}
-use lib.ListN.{length, getD, set, take, drop, length-append, length-take, drop-of-length-le, List·getD-append}
-use lib.Seq.{drop-cons, set-out, set-at, take-suc, take-all, length-take-le, append-snoc, getD-at, take-length, drop-length}
+use lib.ListN.{length, getD, set, take, drop, length-append, drop-of-length-le}
+use lib.Seq.{drop-cons, set-out, set-at, take-suc, take-all, length-take-le, append-snoc, getD-at, drop-length}
 use borrow.Author.Tests.{eq-eqb, ne-eqb}
 use Rattle.text.specs.Choice.{pick}
 use Rattle.compliance.specs.Working.Machine.{worth}
 use Rattle.compliance.specs.Tables.{programOf}
+use Rattle.compliance.specs.Working.Tables.{one-less}
 use Rattle.compliance.specs.Working.Rounds.{grantedOf, raised, directAt, directTable, changesOf, Advanced, Settled, settledAt, relaxedAt, relaxFrom, roundOf, settleFrom}
 
 pub granted-is : (conds ends code : List ℕ) (top depth : ℕ) (ranks : List ℕ) (j : ℕ) (prog : List ℕ) (w c r : ℕ)
@@ -38,9 +39,6 @@ module _ (authors conds ends code : List ℕ) (top depth : ℕ) (reach ranks : L
   pub relax-out : (f ≡ 1 → ⊥) → next ≡ relaxedAt authors conds ends code top depth reach ranks j next
   unfolding relaxedAt
   relax-out n = simp (sym pe, sym fe, ne-eqb f 1 n)
-
-one-less : (n i : ℕ) → i < n → n - i ≡ suc (n - (i + 1))
-one-less n i h = omega arith
 
 module _ (authors conds ends code : List ℕ) (top depth : ℕ) (reach ranks : List ℕ) where
   pub relax-start : (next : List ℕ) → relaxFrom authors conds ends code top depth reach ranks (length authors - 0) 0 next ≡ relaxFrom authors conds ends code top depth reach ranks (length authors) 0 next

@@ -1,11 +1,10 @@
--- The ways to the program of an assertion in the tables. Assumes nothing.
-use mathlib.Core.Path.{_≡_, refl, sym, ap, _∙_}
-use mathlib.Core.List.{List, [], _∷_}
-use Prim.Native.Nat.{ℕ, zero, suc, _-_, _≤_, _<_}
-use lib.Dec.{eqb, ltb}
+-- The ways to the program of an assertion in the tables, and a law of loops over them. Assumes nothing.
+use mathlib.Core.Path.{_≡_, sym}
+use mathlib.Core.List.{List}
+use Prim.Native.Nat.{ℕ, suc, _+_, _-_, _≤_, _<_}
+use native.Mathlib.Omega.{arith}
 use lib.ListN.{length, getD, take, drop}
 use borrow.Author.Tests.{lt-ltb, le-ltb, eq-eqb, ne-eqb}
-use Rattle.text.specs.Choice.{pick}
 use Rattle.compliance.specs.Tables.{startOf, programOf}
 
 pub start-first : (ends : List ℕ) (j : ℕ) → j ≡ 0 → 0 ≡ startOf ends j
@@ -29,3 +28,7 @@ module _ (ends code : List ℕ) (j from to : ℕ) (fe : from ≡ startOf ends j)
     pub program-is : to ≤ length code → take (to - from) (drop from code) ≡ programOf ends code j
     unfolding programOf
     program-is h = simp (sym fe, sym te, le-ltb _ _ up, le-ltb _ _ h)
+
+-- a loop over n that stands at i has one turn more than at i + 1
+pub one-less : (n i : ℕ) → i < n → n - i ≡ suc (n - (i + 1))
+one-less n i h = omega arith

@@ -15,43 +15,33 @@ Inv-loop a b i₀ i = sameFrom a b i ≡ same a b
 abbrev μ-loop : tie.MeasureT-loop
 μ-loop a b i₀ i = length a - i
 
--- src/lib.rt:10:5
 loop-holds : tie.Need-loop-holds Inv-loop μ-loop
 loop-holds c = search same-start
 
--- src/lib.rt:12:13
 returns : tie.Need-returns Inv-loop μ-loop
 returns c = search same-short
 
--- src/lib.rt:14:12
 shared-slice-read-if2 : tie.Need-shared-slice-read-if2 Inv-loop μ-loop
 shared-slice-read-if2 c = search needs
 
--- src/lib.rt:14:20
 shared-slice-read-if2-2 : tie.Need-shared-slice-read-if2-2 Inv-loop μ-loop
 shared-slice-read-if2-2 c = search needs
 
--- src/lib.rt:15:13
 returns-2 : tie.Need-returns-2 Inv-loop μ-loop
 returns-2 c = search same-not
 
--- src/lib.rt:17:9
 add-i : tie.Need-add-i Inv-loop μ-loop
 add-i c = search needs
 
--- src/lib.rt:10:5
 loop-less : tie.Need-loop-less Inv-loop μ-loop
 loop-less c = search needs
 
--- src/lib.rt:10:5
 loop-again : tie.Need-loop-again Inv-loop μ-loop
 loop-again c = search same-more
 
--- src/lib.rt:20:9
 returns-3 : tie.Need-returns-3 Inv-loop μ-loop
 returns-3 c = search same-end
 
--- src/lib.rt:6:1
 returns-4 : tie.Need-returns-4 Inv-loop μ-loop
 returns-4 c = search same-long
 

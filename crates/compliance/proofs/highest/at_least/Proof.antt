@@ -16,35 +16,27 @@ Inv-loop values v count₀ i₀ count i = (count ≤ i) × (countFrom v values i
 abbrev μ-loop : tie.MeasureT-loop
 μ-loop values v count₀ i₀ count i = length values - i
 
--- src/highest.rt:32:5
 loop-holds : tie.Need-loop-holds Inv-loop μ-loop
 loop-holds c = (search needs, search count-start)
 
--- src/highest.rt:33:28
 shared-slice-read-one-if : tie.Need-shared-slice-read-one-if Inv-loop μ-loop
 shared-slice-read-one-if c = search needs
 
--- src/highest.rt:33:18
 one-if-requires : tie.Need-one-if-requires Inv-loop μ-loop
 one-if-requires c κs = search needs
 
--- src/highest.rt:33:9
 add-count : tie.Need-add-count Inv-loop μ-loop
 add-count c = search needs
 
--- src/highest.rt:34:9
 add-i : tie.Need-add-i Inv-loop μ-loop
 add-i c = search needs
 
--- src/highest.rt:32:5
 loop-less : tie.Need-loop-less Inv-loop μ-loop
 loop-less c = search needs
 
--- src/highest.rt:32:5
 loop-again : tie.Need-loop-again Inv-loop μ-loop
 loop-again c = (search needs, search count-more)
 
--- src/highest.rt:27:1
 returns : tie.Need-returns Inv-loop μ-loop
 returns c = search count-end
 

@@ -1,70 +1,37 @@
-use mathlib.Core.Path.{_≡_}
-use Prim.Native.Nat.{_-_}
-use lib.ListN.{length}
-use Rattle.compliance.specs.Highest.{highest}
-use Rattle.compliance.specs.Working.Highest.{bestFrom, best-none, best-begin, best-more, best-end}
+use Rattle.compliance.specs.Working.Highest.{two-values}
 use borrow.Author.Needs.{needs}
 use Rattle.compliance.proofs.highest.kth_highest.Statement.{statement}
 use Rattle.compliance.proofs.highest.kth_highest.Tie as tie
 use Rattle.compliance.proofs.highest.kth_highest.Reads as reads
 use Rattle.compliance.proofs.highest.kth_highest.Lts as lts
-use Rattle.compliance.proofs.highest.candidate.Reads as candidate-reads
-use Rattle.compliance.proofs.highest.greater.Reads as greater-reads
+use Rattle.compliance.proofs.highest.kth_of_many.Reads as kth-of-many-reads
+use Rattle.compliance.proofs.highest.kth_of_two.Reads as kth-of-two-reads
 
-abbrev Inv-loop : tie.InvT-loop
-Inv-loop values k best₀ i₀ best i = bestFrom k values i best ≡ highest k values
+shared-slice-read-kth-of-two : tie.Need-shared-slice-read-kth-of-two
+shared-slice-read-kth-of-two c = search needs
 
-abbrev μ-loop : tie.MeasureT-loop
-μ-loop values k best₀ i₀ best i = length values - i
+shared-slice-read-kth-of-two-2 : tie.Need-shared-slice-read-kth-of-two-2
+shared-slice-read-kth-of-two-2 c = search needs
 
--- src/highest.rt:54:9
-returns : tie.Need-returns Inv-loop μ-loop
-returns c = search best-none
+kth-of-two-requires : tie.Need-kth-of-two-requires
+kth-of-two-requires c κs = search needs
 
--- src/highest.rt:58:5
-loop-holds : tie.Need-loop-holds Inv-loop μ-loop
-loop-holds c = search best-begin
+returns : tie.Need-returns
+returns c = search two-values
 
--- src/highest.rt:59:51
-shared-slice-read-candidate : tie.Need-shared-slice-read-candidate Inv-loop μ-loop
-shared-slice-read-candidate c = search needs
+kth-of-many-requires : tie.Need-kth-of-many-requires
+kth-of-many-requires c κs = search needs
 
--- src/highest.rt:59:30
-candidate-requires : tie.Need-candidate-requires Inv-loop μ-loop
-candidate-requires c κs = search needs
-
--- src/highest.rt:59:9
-greater-requires : tie.Need-greater-requires Inv-loop μ-loop
-greater-requires c κs = search needs
-
--- src/highest.rt:60:9
-add-i : tie.Need-add-i Inv-loop μ-loop
-add-i c = search needs
-
--- src/highest.rt:58:5
-loop-less : tie.Need-loop-less Inv-loop μ-loop
-loop-less c = search needs
-
--- src/highest.rt:58:5
-loop-again : tie.Need-loop-again Inv-loop μ-loop
-loop-again c = search best-more
-
--- src/highest.rt:50:1
-returns-2 : tie.Need-returns-2 Inv-loop μ-loop
-returns-2 c = search best-end
+returns-2 : tie.Need-returns-2
+returns-2 c = search needs
 
 pub kth-highest-spec : {M : Type 1} → statement M
 kth-highest-spec =
     tie.close
     (tie.spec
-    Inv-loop
-    μ-loop
+    shared-slice-read-kth-of-two
+    shared-slice-read-kth-of-two-2
+    kth-of-two-requires
     returns
-    loop-holds
-    shared-slice-read-candidate
-    candidate-requires
-    greater-requires
-    add-i
-    loop-less
-    loop-again
+    kth-of-many-requires
     returns-2)

@@ -5,11 +5,9 @@ use Rattle.compliance.proofs.highest.one_if.Tie as tie
 use Rattle.compliance.proofs.highest.one_if.Reads as reads
 use Rattle.compliance.proofs.highest.one_if.Lts as lts
 
--- src/highest.rt:21:9
 returns : tie.Need-returns
 returns c = search (needs, tests)
 
--- src/highest.rt:17:1
 returns-2 : tie.Need-returns-2
 returns-2 c = search (needs, tests)
 

@@ -6,23 +6,18 @@ use Rattle.compliance.proofs.machine.index_at.Reads as reads
 use Rattle.compliance.proofs.machine.index_at.Lts as lts
 use Rattle.compliance.proofs.machine.wide.Reads as wide-reads
 
--- src/machine.rt:49:21
 mul-wide : tie.Need-mul-wide
 mul-wide c = search needs
 
--- src/machine.rt:49:21
 shared-slice-read-wide : tie.Need-shared-slice-read-wide
 shared-slice-read-wide c = search needs
 
--- src/machine.rt:49:9
 wide-requires : tie.Need-wide-requires
 wide-requires c κs = search needs
 
--- src/machine.rt:49:9
 returns : tie.Need-returns
 returns c = search needs
 
--- src/machine.rt:45:1
 returns-2 : tie.Need-returns-2
 returns-2 c = search past-end
 

@@ -5,19 +5,15 @@ use Rattle.compliance.proofs.machine.last.Tie as tie
 use Rattle.compliance.proofs.machine.last.Reads as reads
 use Rattle.compliance.proofs.machine.last.Lts as lts
 
--- src/machine.rt:107:9
 returns : tie.Need-returns
 returns c = search last-none
 
--- src/machine.rt:109:11
 sub-result : tie.Need-sub-result
 sub-result c = search needs
 
--- src/machine.rt:109:5
 shared-slice-read-result : tie.Need-shared-slice-read-result
 shared-slice-read-result c = search needs
 
--- src/machine.rt:102:1
 returns-2 : tie.Need-returns-2
 returns-2 c = search last-some
 

@@ -5,15 +5,12 @@ use Rattle.compliance.proofs.machine.number_at.Tie as tie
 use Rattle.compliance.proofs.machine.number_at.Reads as reads
 use Rattle.compliance.proofs.machine.number_at.Lts as lts
 
--- src/machine.rt:39:16
 shared-slice-read-result : tie.Need-shared-slice-read-result
 shared-slice-read-result c = search needs
 
--- src/machine.rt:39:9
 returns : tie.Need-returns
 returns c = search needs
 
--- src/machine.rt:35:1
 returns-2 : tie.Need-returns-2
 returns-2 c = search past-end
 

@@ -5,23 +5,18 @@ use Rattle.compliance.proofs.machine.push.Tie as tie
 use Rattle.compliance.proofs.machine.push.Reads as reads
 use Rattle.compliance.proofs.machine.push.Lts as lts
 
--- src/machine.rt:70:9
 slice-write-stack : tie.Need-slice-write-stack
 slice-write-stack c = search needs
 
--- src/machine.rt:71:16
 add-result : tie.Need-add-result
 add-result c = search needs
 
--- src/machine.rt:71:9
 same-length : tie.Need-same-length
 same-length c = search needs
 
--- src/machine.rt:71:9
 returns : tie.Need-returns
 returns c = search push-in
 
--- src/machine.rt:65:1
 returns-2 : tie.Need-returns-2
 returns-2 c = search push-full
 

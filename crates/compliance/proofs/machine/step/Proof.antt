@@ -5,59 +5,49 @@ use Rattle.compliance.proofs.machine.step.Tie as tie
 use Rattle.compliance.proofs.machine.step.Reads as reads
 use Rattle.compliance.proofs.machine.step.Lts as lts
 use Rattle.compliance.proofs.machine.combine.Reads as combine-reads
-use Rattle.compliance.proofs.machine.push.Reads as push-reads
 use Rattle.compliance.proofs.machine.number_at.Reads as number-at-reads
+use Rattle.compliance.proofs.machine.push.Reads as push-reads
 use Rattle.compliance.proofs.machine.wide.Reads as wide-reads
 
--- src/machine.rt:92:47
 wide-requires : tie.Need-wide-requires
 wide-requires c κs = search needs
 
--- src/machine.rt:92:32
 number-at-requires : tie.Need-number-at-requires
 number-at-requires c κs = search needs
 
--- src/machine.rt:92:9
 push-requires : tie.Need-push-requires
 push-requires c κs = search needs
 
--- src/machine.rt:92:9
 same-length : tie.Need-same-length
 same-length c = search needs
 
--- src/machine.rt:92:9
 returns : tie.Need-returns
 returns c = search step-rank
 
--- src/machine.rt:95:9
 push-requires-2 : tie.Need-push-requires-2
 push-requires-2 c κs = search needs
 
--- src/machine.rt:95:9
 same-length-2 : tie.Need-same-length-2
 same-length-2 c = search needs
 
--- src/machine.rt:95:9
 returns-2 : tie.Need-returns-2
 returns-2 c = search step-top
 
--- src/machine.rt:97:13
-wide-requires-2 : tie.Need-wide-requires-2
-wide-requires-2 c κs = search needs
-
--- src/machine.rt:97:13
 sub-x : tie.Need-sub-x
 sub-x c = search needs
 
--- src/machine.rt:98:5
+wide-requires-2 : tie.Need-wide-requires-2
+wide-requires-2 c κs = search needs
+
+wide-requires-3 : tie.Need-wide-requires-3
+wide-requires-3 c κs = search needs
+
 combine-requires : tie.Need-combine-requires
 combine-requires c κs = search needs
 
--- src/machine.rt:87:1
 same-length-3 : tie.Need-same-length-3
 same-length-3 c = search needs
 
--- src/machine.rt:87:1
 returns-3 : tie.Need-returns-3
 returns-3 c = search step-combine
 
@@ -73,8 +63,9 @@ step-spec =
     push-requires-2
     same-length-2
     returns-2
-    wide-requires-2
     sub-x
+    wide-requires-2
+    wide-requires-3
     combine-requires
     same-length-3
     returns-3)

@@ -17,43 +17,33 @@ Inv-loop code ranks top stack₀ sp₀ i₀ stack sp i = (sp ≤ length stack) �
 abbrev μ-loop : tie.MeasureT-loop
 μ-loop code ranks top stack₀ sp₀ i₀ stack sp i = length code - i
 
--- src/machine.rt:118:5
 loop-holds : tie.Need-loop-holds Inv-loop μ-loop
 loop-holds c = (search needs, search needs, search exec-start)
 
--- src/machine.rt:119:19
 mul-step : tie.Need-mul-step Inv-loop μ-loop
 mul-step c = search needs
 
--- src/machine.rt:119:19
 shared-slice-read-step : tie.Need-shared-slice-read-step Inv-loop μ-loop
 shared-slice-read-step c = search needs
 
--- src/machine.rt:119:9
 step-requires : tie.Need-step-requires Inv-loop μ-loop
 step-requires c κs = search needs
 
--- src/machine.rt:120:9
 add-i : tie.Need-add-i Inv-loop μ-loop
 add-i c = search needs
 
--- src/machine.rt:118:5
 loop-less : tie.Need-loop-less Inv-loop μ-loop
 loop-less c = search needs
 
--- src/machine.rt:118:5
 loop-again : tie.Need-loop-again Inv-loop μ-loop
 loop-again c = (search needs, search needs, search exec-more)
 
--- src/machine.rt:122:5
 last-requires : tie.Need-last-requires Inv-loop μ-loop
 last-requires c κs = search needs
 
--- src/machine.rt:113:1
 same-length : tie.Need-same-length Inv-loop μ-loop
 same-length c = search needs
 
--- src/machine.rt:113:1
 returns : tie.Need-returns Inv-loop μ-loop
 returns c = search worth-is
 

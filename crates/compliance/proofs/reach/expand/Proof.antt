@@ -7,35 +7,27 @@ use Rattle.compliance.proofs.reach.expand.Lts as lts
 use Rattle.compliance.proofs.reach.mark_all.Reads as mark-all-reads
 use Rattle.compliance.proofs.tables.program.Reads as program-reads
 
--- src/reach.rt:60:14
 program-requires : tie.Need-program-requires
 program-requires c κs = search needs
 
--- src/reach.rt:60:5
 mark-all-requires : tie.Need-mark-all-requires
 mark-all-requires c κs = search needs
 
--- src/reach.rt:62:9
 slice-write-done : tie.Need-slice-write-done
 slice-write-done c = search needs
 
--- src/reach.rt:57:1
 same-length : tie.Need-same-length
 same-length c = search needs
 
--- src/reach.rt:57:1
 same-length-2 : tie.Need-same-length-2
 same-length-2 c = search needs
 
--- src/reach.rt:57:1
 returns : tie.Need-returns
 returns c = search expand-in
 
--- src/reach.rt:57:1
 same-length-3 : tie.Need-same-length-3
 same-length-3 c = search needs
 
--- src/reach.rt:57:1
 returns-2 : tie.Need-returns-2
 returns-2 c = search expand-out
 

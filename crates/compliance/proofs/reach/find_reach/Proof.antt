@@ -7,23 +7,18 @@ use Rattle.compliance.proofs.reach.find_reach.Lts as lts
 use Rattle.compliance.proofs.reach.mark.Reads as mark-reads
 use Rattle.compliance.proofs.reach.spread.Reads as spread-reads
 
--- src/reach.rt:88:5
 mark-requires : tie.Need-mark-requires
 mark-requires c κs = search needs
 
--- src/reach.rt:89:5
 spread-requires : tie.Need-spread-requires
 spread-requires c κs = search needs
 
--- src/reach.rt:85:1
 same-length : tie.Need-same-length
 same-length c = search needs
 
--- src/reach.rt:85:1
 same-length-2 : tie.Need-same-length-2
 same-length-2 c = search needs
 
--- src/reach.rt:85:1
 returns : tie.Need-returns
 returns c = search found-is
 

@@ -15,31 +15,24 @@ Inv-loop authors done reach j₀ j = openFrom authors done reach (length authors
 abbrev μ-loop : tie.MeasureT-loop
 μ-loop authors done reach j₀ j = length authors - j
 
--- src/reach.rt:51:5
 loop-holds : tie.Need-loop-holds Inv-loop μ-loop
 loop-holds c = search open-start
 
--- src/reach.rt:52:12
 is-open-requires : tie.Need-is-open-requires Inv-loop μ-loop
 is-open-requires c κs = search needs
 
--- src/reach.rt:53:13
 returns : tie.Need-returns Inv-loop μ-loop
 returns c = search open-here
 
--- src/reach.rt:55:9
 add-j : tie.Need-add-j Inv-loop μ-loop
 add-j c = search needs
 
--- src/reach.rt:51:5
 loop-less : tie.Need-loop-less Inv-loop μ-loop
 loop-less c = search needs
 
--- src/reach.rt:51:5
 loop-again : tie.Need-loop-again Inv-loop μ-loop
 loop-again c = search open-later
 
--- src/reach.rt:47:1
 returns-2 : tie.Need-returns-2 Inv-loop μ-loop
 returns-2 c = search open-none
 

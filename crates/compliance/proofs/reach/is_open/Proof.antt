@@ -7,23 +7,18 @@ use Rattle.compliance.proofs.reach.is_open.Lts as lts
 use Rattle.compliance.proofs.machine.index_at.Reads as index-at-reads
 use Rattle.compliance.proofs.machine.number_at.Reads as number-at-reads
 
--- src/reach.rt:40:8
 number-at-requires : tie.Need-number-at-requires
 number-at-requires c κs = search needs
 
--- src/reach.rt:41:31
 index-at-requires : tie.Need-index-at-requires
 index-at-requires c κs = search needs
 
--- src/reach.rt:41:16
 number-at-requires-2 : tie.Need-number-at-requires-2
 number-at-requires-2 c κs = search needs
 
--- src/reach.rt:41:9
 returns : tie.Need-returns
 returns c = search open-flag
 
--- src/reach.rt:37:1
 returns-2 : tie.Need-returns-2
 returns-2 c = search open-done
 

@@ -15,39 +15,30 @@ Inv-loop code reach₀ i₀ reach i = (length reach ≡ length reach₀) × (mar
 abbrev μ-loop : tie.MeasureT-loop
 μ-loop code reach₀ i₀ reach i = length code - i
 
--- src/reach.rt:30:5
 loop-holds : tie.Need-loop-holds Inv-loop μ-loop
 loop-holds c = (search needs, search mark-start)
 
--- src/reach.rt:31:21
 mul-mark : tie.Need-mul-mark Inv-loop μ-loop
 mul-mark c = search needs
 
--- src/reach.rt:31:21
 shared-slice-read-mark : tie.Need-shared-slice-read-mark Inv-loop μ-loop
 shared-slice-read-mark c = search needs
 
--- src/reach.rt:31:9
 mark-requires : tie.Need-mark-requires Inv-loop μ-loop
 mark-requires c κs = search needs
 
--- src/reach.rt:32:9
 add-i : tie.Need-add-i Inv-loop μ-loop
 add-i c = search needs
 
--- src/reach.rt:30:5
 loop-less : tie.Need-loop-less Inv-loop μ-loop
 loop-less c = search needs
 
--- src/reach.rt:30:5
 loop-again : tie.Need-loop-again Inv-loop μ-loop
 loop-again c = (search needs, search mark-more)
 
--- src/reach.rt:26:1
 same-length : tie.Need-same-length Inv-loop μ-loop
 same-length c = search needs
 
--- src/reach.rt:26:1
 returns : tie.Need-returns Inv-loop μ-loop
 returns c = search mark-end
 

@@ -16,51 +16,39 @@ Inv-loop authors ends code done₀ reach₀ n₀ done reach n = (length done ≡
 abbrev μ-loop : tie.MeasureT-loop
 μ-loop authors ends code done₀ reach₀ n₀ done reach n = length authors - n
 
--- src/reach.rt:71:5
 loop-holds : tie.Need-loop-holds Inv-loop μ-loop
 loop-holds c = (search needs, search needs, search spread-start)
 
--- src/reach.rt:72:13
 first-open-requires : tie.Need-first-open-requires Inv-loop μ-loop
 first-open-requires c κs = search needs
 
--- src/reach.rt:74:13
 same-length : tie.Need-same-length Inv-loop μ-loop
 same-length c = search needs
 
--- src/reach.rt:74:13
 same-length-2 : tie.Need-same-length-2 Inv-loop μ-loop
 same-length-2 c = search needs
 
--- src/reach.rt:74:13
 returns : tie.Need-returns Inv-loop μ-loop
 returns c = search spread-stop
 
--- src/reach.rt:76:9
 expand-requires : tie.Need-expand-requires Inv-loop μ-loop
 expand-requires c κs = search needs
 
--- src/reach.rt:77:9
 add-n : tie.Need-add-n Inv-loop μ-loop
 add-n c = search needs
 
--- src/reach.rt:71:5
 loop-less : tie.Need-loop-less Inv-loop μ-loop
 loop-less c = search needs
 
--- src/reach.rt:71:5
 loop-again : tie.Need-loop-again Inv-loop μ-loop
 loop-again c = (search needs, search needs, search spread-more)
 
--- src/reach.rt:67:1
 same-length-3 : tie.Need-same-length-3 Inv-loop μ-loop
 same-length-3 c = search needs
 
--- src/reach.rt:67:1
 same-length-4 : tie.Need-same-length-4 Inv-loop μ-loop
 same-length-4 c = search needs
 
--- src/reach.rt:67:1
 returns-2 : tie.Need-returns-2 Inv-loop μ-loop
 returns-2 c = search spread-end
 

@@ -16,51 +16,39 @@ Inv-loop ranks₀ next changed₀ i₀ ranks changed i = (changed ≤ i) × (len
 abbrev μ-loop : tie.MeasureT-loop
 μ-loop ranks₀ next changed₀ i₀ ranks changed i = length ranks₀ - i
 
--- src/rounds.rt:106:5
 loop-holds : tie.Need-loop-holds Inv-loop μ-loop
 loop-holds c = (search needs, search needs, search adopt-start, search changes-start)
 
--- src/rounds.rt:107:27
 slice-read-unlike : tie.Need-slice-read-unlike Inv-loop μ-loop
 slice-read-unlike c = search needs
 
--- src/rounds.rt:107:37
 shared-slice-read-unlike : tie.Need-shared-slice-read-unlike Inv-loop μ-loop
 shared-slice-read-unlike c = search needs
 
--- src/rounds.rt:107:20
 unlike-requires : tie.Need-unlike-requires Inv-loop μ-loop
 unlike-requires c κs = search needs
 
--- src/rounds.rt:107:9
 add-changed : tie.Need-add-changed Inv-loop μ-loop
 add-changed c = search needs
 
--- src/rounds.rt:108:20
 shared-slice-read-ranks : tie.Need-shared-slice-read-ranks Inv-loop μ-loop
 shared-slice-read-ranks c = search needs
 
--- src/rounds.rt:108:9
 slice-write-ranks : tie.Need-slice-write-ranks Inv-loop μ-loop
 slice-write-ranks c = search needs
 
--- src/rounds.rt:109:9
 add-i : tie.Need-add-i Inv-loop μ-loop
 add-i c = search needs
 
--- src/rounds.rt:106:5
 loop-less : tie.Need-loop-less Inv-loop μ-loop
 loop-less c = search needs
 
--- src/rounds.rt:106:5
 loop-again : tie.Need-loop-again Inv-loop μ-loop
 loop-again c = (search needs, search needs, search adopt-more, search changes-more)
 
--- src/rounds.rt:100:1
 same-length : tie.Need-same-length Inv-loop μ-loop
 same-length c = search needs
 
--- src/rounds.rt:100:1
 returns : tie.Need-returns Inv-loop μ-loop
 returns c = search adopt-end
 

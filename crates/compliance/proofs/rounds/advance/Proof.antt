@@ -7,27 +7,21 @@ use Rattle.compliance.proofs.rounds.advance.Lts as lts
 use Rattle.compliance.proofs.rounds.adopt.Reads as adopt-reads
 use Rattle.compliance.proofs.rounds.round.Reads as round-reads
 
--- src/rounds.rt:119:5
 round-requires : tie.Need-round-requires
 round-requires c κs = search needs
 
--- src/rounds.rt:120:5
 adopt-requires : tie.Need-adopt-requires
 adopt-requires c κs = search needs
 
--- src/rounds.rt:115:1
 same-length : tie.Need-same-length
 same-length c = search needs
 
--- src/rounds.rt:115:1
 same-length-2 : tie.Need-same-length-2
 same-length-2 c = search needs
 
--- src/rounds.rt:115:1
 same-length-3 : tie.Need-same-length-3
 same-length-3 c = search needs
 
--- src/rounds.rt:115:1
 returns : tie.Need-returns
 returns c = search advance-is
 

@@ -6,23 +6,18 @@ use Rattle.compliance.proofs.rounds.direct_rank.Reads as reads
 use Rattle.compliance.proofs.rounds.direct_rank.Lts as lts
 use Rattle.compliance.proofs.machine.number_at.Reads as number-at-reads
 
--- src/rounds.rt:61:8
 number-at-requires : tie.Need-number-at-requires
 number-at-requires c κs = search needs
 
--- src/rounds.rt:62:12
 number-at-requires-2 : tie.Need-number-at-requires-2
 number-at-requires-2 c κs = search needs
 
--- src/rounds.rt:63:13
 returns : tie.Need-returns
 returns c = search direct-top
 
--- src/rounds.rt:65:9
 returns-2 : tie.Need-returns-2
 returns-2 c = search direct-none
 
--- src/rounds.rt:58:1
 returns-3 : tie.Need-returns-3
 returns-3 c = search direct-out
 

@@ -6,30 +6,24 @@ use Rattle.compliance.proofs.rounds.granted.Reads as reads
 use Rattle.compliance.proofs.rounds.granted.Lts as lts
 use Rattle.compliance.proofs.machine.number_at.Reads as number-at-reads
 use Rattle.compliance.proofs.machine.worth_of.Reads as worth-of-reads
-use Rattle.compliance.proofs.rounds.lesser.Reads as lesser-reads
+use Rattle.compliance.proofs.highest.lesser.Reads as lesser-reads
 use Rattle.compliance.proofs.tables.program.Reads as program-reads
 
--- src/rounds.rt:22:29
 program-requires : tie.Need-program-requires
 program-requires c κs = search needs
 
--- src/rounds.rt:22:9
 worth-of-requires : tie.Need-worth-of-requires
 worth-of-requires c κs = search needs
 
--- src/rounds.rt:23:12
 number-at-requires : tie.Need-number-at-requires
 number-at-requires c κs = search needs
 
--- src/rounds.rt:23:5
 lesser-requires : tie.Need-lesser-requires
 lesser-requires c κs = search needs
 
--- src/rounds.rt:19:1
 same-length : tie.Need-same-length
 same-length c = search needs
 
--- src/rounds.rt:19:1
 returns : tie.Need-returns
 returns c = search granted-is
 

@@ -6,27 +6,21 @@ use Rattle.compliance.proofs.rounds.raise.Reads as reads
 use Rattle.compliance.proofs.rounds.raise.Lts as lts
 use Rattle.compliance.proofs.highest.greater.Reads as greater-reads
 
--- src/rounds.rt:31:27
 slice-read-greater : tie.Need-slice-read-greater
 slice-read-greater c = search needs
 
--- src/rounds.rt:31:19
 greater-requires : tie.Need-greater-requires
 greater-requires c κs = search needs
 
--- src/rounds.rt:31:9
 slice-write-next : tie.Need-slice-write-next
 slice-write-next c = search needs
 
--- src/rounds.rt:27:1
 same-length : tie.Need-same-length
 same-length c = search needs
 
--- src/rounds.rt:27:1
 returns : tie.Need-returns
 returns c = search raise-in
 
--- src/rounds.rt:27:1
 returns-2 : tie.Need-returns-2
 returns-2 c = search raise-out
 

@@ -9,35 +9,27 @@ use Rattle.compliance.proofs.machine.number_at.Reads as number-at-reads
 use Rattle.compliance.proofs.rounds.granted.Reads as granted-reads
 use Rattle.compliance.proofs.rounds.raise.Reads as raise-reads
 
--- src/rounds.rt:39:9
 index-at-requires : tie.Need-index-at-requires
 index-at-requires c κs = search needs
 
--- src/rounds.rt:40:8
 number-at-requires : tie.Need-number-at-requires
 number-at-requires c κs = search needs
 
--- src/rounds.rt:41:13
 granted-requires : tie.Need-granted-requires
 granted-requires c κs = search needs
 
--- src/rounds.rt:42:9
 raise-requires : tie.Need-raise-requires
 raise-requires c κs = search needs
 
--- src/rounds.rt:36:1
 same-length : tie.Need-same-length
 same-length c = search needs
 
--- src/rounds.rt:36:1
 same-length-2 : tie.Need-same-length-2
 same-length-2 c = search needs
 
--- src/rounds.rt:36:1
 returns : tie.Need-returns
 returns c = search relax-in
 
--- src/rounds.rt:36:1
 returns-2 : tie.Need-returns-2
 returns-2 c = search relax-out
 

@@ -16,35 +16,27 @@ Inv-loop authors conds ends code top reach ranks next₀ stack₀ j₀ next stac
 abbrev μ-loop : tie.MeasureT-loop
 μ-loop authors conds ends code top reach ranks next₀ stack₀ j₀ next stack j = length authors - j
 
--- src/rounds.rt:51:5
 loop-holds : tie.Need-loop-holds Inv-loop μ-loop
 loop-holds c = (search needs, search needs, search relax-start)
 
--- src/rounds.rt:52:9
 relax-requires : tie.Need-relax-requires Inv-loop μ-loop
 relax-requires c κs = search needs
 
--- src/rounds.rt:53:9
 add-j : tie.Need-add-j Inv-loop μ-loop
 add-j c = search needs
 
--- src/rounds.rt:51:5
 loop-less : tie.Need-loop-less Inv-loop μ-loop
 loop-less c = search needs
 
--- src/rounds.rt:51:5
 loop-again : tie.Need-loop-again Inv-loop μ-loop
 loop-again c = (search needs, search needs, search relax-more)
 
--- src/rounds.rt:47:1
 same-length : tie.Need-same-length Inv-loop μ-loop
 same-length c = search needs
 
--- src/rounds.rt:47:1
 same-length-2 : tie.Need-same-length-2 Inv-loop μ-loop
 same-length-2 c = search needs
 
--- src/rounds.rt:47:1
 returns : tie.Need-returns Inv-loop μ-loop
 returns c = search relax-end
 

@@ -7,23 +7,18 @@ use Rattle.compliance.proofs.rounds.round.Lts as lts
 use Rattle.compliance.proofs.rounds.relax_all.Reads as relax-all-reads
 use Rattle.compliance.proofs.rounds.set_direct.Reads as set-direct-reads
 
--- src/rounds.rt:85:5
 set-direct-requires : tie.Need-set-direct-requires
 set-direct-requires c κs = search needs
 
--- src/rounds.rt:86:5
 relax-all-requires : tie.Need-relax-all-requires
 relax-all-requires c κs = search needs
 
--- src/rounds.rt:82:1
 same-length : tie.Need-same-length
 same-length c = search needs
 
--- src/rounds.rt:82:1
 same-length-2 : tie.Need-same-length-2
 same-length-2 c = search needs
 
--- src/rounds.rt:82:1
 returns : tie.Need-returns
 returns c = search round-is
 

@@ -17,35 +17,27 @@ Inv-loop direct reach top next₀ i₀ next i = (i ≤ length next₀) × (lengt
 abbrev μ-loop : tie.MeasureT-loop
 μ-loop direct reach top next₀ i₀ next i = length next₀ - i
 
--- src/rounds.rt:75:5
 loop-holds : tie.Need-loop-holds Inv-loop μ-loop
 loop-holds c = (search needs, search needs, search table-start)
 
--- src/rounds.rt:76:19
 direct-rank-requires : tie.Need-direct-rank-requires Inv-loop μ-loop
 direct-rank-requires c κs = search needs
 
--- src/rounds.rt:76:9
 slice-write-next : tie.Need-slice-write-next Inv-loop μ-loop
 slice-write-next c = search needs
 
--- src/rounds.rt:77:9
 add-i : tie.Need-add-i Inv-loop μ-loop
 add-i c = search needs
 
--- src/rounds.rt:75:5
 loop-less : tie.Need-loop-less Inv-loop μ-loop
 loop-less c = search needs
 
--- src/rounds.rt:75:5
 loop-again : tie.Need-loop-again Inv-loop μ-loop
 loop-again c = (search needs, search needs, search table-more)
 
--- src/rounds.rt:71:1
 same-length : tie.Need-same-length Inv-loop μ-loop
 same-length c = search needs
 
--- src/rounds.rt:71:1
 returns : tie.Need-returns Inv-loop μ-loop
 returns c = search table-end
 

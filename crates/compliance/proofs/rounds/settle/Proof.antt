@@ -16,55 +16,42 @@ Inv-loop authors conds ends code direct top reach ranks₀ next₀ stack₀ limi
 abbrev μ-loop : tie.MeasureT-loop
 μ-loop authors conds ends code direct top reach ranks₀ next₀ stack₀ limit n₀ ranks next stack n = limit - n
 
--- src/rounds.rt:129:5
 loop-holds : tie.Need-loop-holds Inv-loop μ-loop
 loop-holds c = (search needs, search needs, search needs, search settle-start)
 
--- src/rounds.rt:130:12
 advance-requires : tie.Need-advance-requires Inv-loop μ-loop
 advance-requires c κs = search needs
 
--- src/rounds.rt:131:13
 same-length : tie.Need-same-length Inv-loop μ-loop
 same-length c = search needs
 
--- src/rounds.rt:131:13
 same-length-2 : tie.Need-same-length-2 Inv-loop μ-loop
 same-length-2 c = search needs
 
--- src/rounds.rt:131:13
 same-length-3 : tie.Need-same-length-3 Inv-loop μ-loop
 same-length-3 c = search needs
 
--- src/rounds.rt:131:13
 returns : tie.Need-returns Inv-loop μ-loop
 returns c = let l = c .before .before .before .before .before .before .before .before .before .before .before .before .loop in settle-stop _ _ _ _ _ _ _ _ _ _ _ _ _ (l .inv .3) (c .before .before .before .before .before .before .before .before .before .before .before .loop-test .taken) _ _ (l .inv .2) (l .inv .1) _ _ (c .before .before .before .before .before .before .before .advance .ensures) (c .if1 .taken)
 
--- src/rounds.rt:133:9
 add-n : tie.Need-add-n Inv-loop μ-loop
 add-n c = search needs
 
--- src/rounds.rt:129:5
 loop-less : tie.Need-loop-less Inv-loop μ-loop
 loop-less c = search needs
 
--- src/rounds.rt:129:5
 loop-again : tie.Need-loop-again Inv-loop μ-loop
 loop-again c = let l = c .before .before .before .before .before .before .before .before .before .before .before .before .loop in (search needs, search needs, search needs, settle-more _ _ _ _ _ _ _ _ _ _ _ _ _ (l .inv .3) (c .before .before .before .before .before .before .before .before .before .before .before .loop-test .taken) _ _ (l .inv .2) (l .inv .1) _ _ (c .before .before .before .before .before .before .before .advance .ensures) (c .if1 .left))
 
--- src/rounds.rt:124:1
 same-length-4 : tie.Need-same-length-4 Inv-loop μ-loop
 same-length-4 c = search needs
 
--- src/rounds.rt:124:1
 same-length-5 : tie.Need-same-length-5 Inv-loop μ-loop
 same-length-5 c = search needs
 
--- src/rounds.rt:124:1
 same-length-6 : tie.Need-same-length-6 Inv-loop μ-loop
 same-length-6 c = search needs
 
--- src/rounds.rt:124:1
 returns-2 : tie.Need-returns-2 Inv-loop μ-loop
 returns-2 c = search settle-end
 

@@ -5,11 +5,9 @@ use Rattle.compliance.proofs.rounds.unlike.Tie as tie
 use Rattle.compliance.proofs.rounds.unlike.Reads as reads
 use Rattle.compliance.proofs.rounds.unlike.Lts as lts
 
--- src/rounds.rt:94:9
 returns : tie.Need-returns
 returns c = search (needs, tests)
 
--- src/rounds.rt:90:1
 returns-2 : tie.Need-returns-2
 returns-2 c = search (needs, tests)
 

@@ -6,19 +6,15 @@ use Rattle.compliance.proofs.tables.start_of.Reads as reads
 use Rattle.compliance.proofs.tables.start_of.Lts as lts
 use Rattle.compliance.proofs.machine.index_at.Reads as index-at-reads
 
--- src/tables.rt:12:9
 returns : tie.Need-returns
 returns c = search start-first
 
--- src/tables.rt:14:20
 sub-index-at : tie.Need-sub-index-at
 sub-index-at c = search needs
 
--- src/tables.rt:14:5
 index-at-requires : tie.Need-index-at-requires
 index-at-requires c κs = search needs
 
--- src/tables.rt:8:1
 returns-2 : tie.Need-returns-2
 returns-2 c = search start-next
 

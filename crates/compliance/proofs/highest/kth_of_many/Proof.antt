@@ -1,0 +1,61 @@
+use mathlib.Core.Path.{_≡_}
+use Prim.Native.Nat.{_-_}
+use lib.ListN.{length}
+use Rattle.compliance.specs.Highest.{highest}
+use Rattle.compliance.specs.Working.Highest.{bestFrom, best-none, best-begin, best-more, best-end}
+use borrow.Author.Needs.{needs}
+use Rattle.compliance.proofs.highest.kth_of_many.Statement.{statement}
+use Rattle.compliance.proofs.highest.kth_of_many.Tie as tie
+use Rattle.compliance.proofs.highest.kth_of_many.Reads as reads
+use Rattle.compliance.proofs.highest.kth_of_many.Lts as lts
+use Rattle.compliance.proofs.highest.candidate.Reads as candidate-reads
+use Rattle.compliance.proofs.highest.greater.Reads as greater-reads
+
+abbrev Inv-loop : tie.InvT-loop
+Inv-loop values k best₀ i₀ best i = bestFrom k values i best ≡ highest k values
+
+abbrev μ-loop : tie.MeasureT-loop
+μ-loop values k best₀ i₀ best i = length values - i
+
+returns : tie.Need-returns Inv-loop μ-loop
+returns c = search best-none
+
+loop-holds : tie.Need-loop-holds Inv-loop μ-loop
+loop-holds c = search best-begin
+
+shared-slice-read-candidate : tie.Need-shared-slice-read-candidate Inv-loop μ-loop
+shared-slice-read-candidate c = search needs
+
+candidate-requires : tie.Need-candidate-requires Inv-loop μ-loop
+candidate-requires c κs = search needs
+
+greater-requires : tie.Need-greater-requires Inv-loop μ-loop
+greater-requires c κs = search needs
+
+add-i : tie.Need-add-i Inv-loop μ-loop
+add-i c = search needs
+
+loop-less : tie.Need-loop-less Inv-loop μ-loop
+loop-less c = search needs
+
+loop-again : tie.Need-loop-again Inv-loop μ-loop
+loop-again c = search best-more
+
+returns-2 : tie.Need-returns-2 Inv-loop μ-loop
+returns-2 c = search best-end
+
+pub kth-of-many-spec : {M : Type 1} → statement M
+kth-of-many-spec =
+    tie.close
+    (tie.spec
+    Inv-loop
+    μ-loop
+    returns
+    loop-holds
+    shared-slice-read-candidate
+    candidate-requires
+    greater-requires
+    add-i
+    loop-less
+    loop-again
+    returns-2)
