@@ -12,7 +12,8 @@ use Rattle.principal.specs.Members.{member, Distinct}
 use Rattle.compliance.specs.Licensees.{Expression, name, and, or, kOf, Licensees, missing, empty, given, licensees}
 use Rattle.compliance.specs.System.{Assertion, System}
 use Rattle.compliance.specs.Codes.{topCode, kOfCode, andCode, orCode, zeroCode}
-use Rattle.compliance.specs.Limits.{assertionsMost, licenseesMost, principalsMost}
+use Rattle.limits.specs.Limits.{mostAssertions, mostLicensees}
+use Rattle.compliance.specs.Limits.{principalsMost}
 
 -- the index of p: the first place whose principal is the same
 unfoldable pub place : List Principal → Principal → ℕ
@@ -57,7 +58,7 @@ pub record Row (names : List Principal) (authors conds ends code : List ℕ) (j 
   pub program : programOf ends code j ≡ compiled names (a .field)
   pub listed : (q : Principal) → Mem q (licensees (a .field)) → member q names ≡ true
   pub formed : (e : Expression) → a .field ≡ given e → Formed e
-  pub few : length (licensees (a .field)) ≤ licenseesMost
+  pub few : length (licensees (a .field)) ≤ mostLicensees
 
 -- the tables represent the system: each principal has one index, POLICY's is 0, and each assertion one row
 pub record Represents (names : List Principal) (authors conds ends code direct : List ℕ) (top : ℕ) (s : System) : Type 0 where
@@ -69,4 +70,4 @@ pub record Represents (names : List Principal) (authors conds ends code direct :
   pub asked : direct ≡ map (λ (q : Principal). pick (member q (s .requesters)) 1 0) names
   pub topped : top ≡ s .top
   pub fewNames : length names ≤ principalsMost
-  pub fewRows : length authors ≤ assertionsMost
+  pub fewRows : length authors ≤ mostAssertions

@@ -9,19 +9,14 @@ use highest::at_least;
 use machine::number_at;
 use reach::find_reach;
 use rounds::settle;
+use limits::{MOST_ASSERTIONS, MOST_LICENSEES, MOST_REQUESTERS};
 ghost use mathlib.Core.Path.{_≡_};
 ghost use Prim.Native.Nat.{_≤_};
 ghost use lib.ListN.{length};
 ghost use Rattle.compliance.specs.Working.Solve.{Blank, solvedBy, solutionOf};
 
-// The most assertions that the tables may have.
-pub const ASSERTIONS: usize = 32;
-// The most licensees that an assertion may have.
-pub const LICENSEES: usize = 16;
-// The most requesters.
-pub const REQUESTERS: usize = 8;
 // The most principals: POLICY, the requesters, and an authorizer and its licensees for each assertion.
-pub const PRINCIPALS: usize = 1 + REQUESTERS + ASSERTIONS + ASSERTIONS * LICENSEES;
+pub const PRINCIPALS: usize = 1 + MOST_REQUESTERS + MOST_ASSERTIONS + MOST_ASSERTIONS * MOST_LICENSEES;
 
 // The rank of POLICY, the rounds that changed a rank in the reach, and how many principals are in it.
 pub struct Solution {
@@ -94,7 +89,7 @@ pub fn solve(
         };
     }
     let m = authors.len();
-    if ASSERTIONS < m {
+    if MOST_ASSERTIONS < m {
         return Solution {
             rank: 0,
             rounds: 0,
@@ -104,8 +99,8 @@ pub fn solve(
     let mut ranks = [0u8; PRINCIPALS];
     let mut next = [0u8; PRINCIPALS];
     let mut reach = [0u8; PRINCIPALS];
-    let mut done = [0u8; ASSERTIONS];
-    let mut stack = [0u8; LICENSEES];
+    let mut done = [0u8; MOST_ASSERTIONS];
+    let mut stack = [0u8; MOST_LICENSEES];
     solve_in(
         authors,
         conds,

@@ -70,3 +70,7 @@ mostStanding = 2
 -- items of all four groups together
 abbrev pub mostItems : ℕ
 mostItems = mostValues + mostRequesters + mostAttributes + mostAssertions
+
+-- "16 licensee occurrences"
+abbrev pub mostLicensees : ℕ
+mostLicensees = 16

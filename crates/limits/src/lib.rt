@@ -40,3 +40,5 @@ pub const MOST_TEXT: usize = 8192;
 pub const MOST_STANDING: u8 = 2;
 // Items of all four groups together.
 pub const MOST_ITEMS: usize = MOST_VALUES + MOST_REQUESTERS + MOST_ATTRIBUTES + MOST_ASSERTIONS;
+
+pub const MOST_LICENSEES: usize = 16;

@@ -1,4 +1,5 @@
-use Rattle.compliance.specs.Limits.{assertionsMost, principalsMost}
+use Rattle.limits.specs.Limits.{mostAssertions}
+use Rattle.compliance.specs.Limits.{principalsMost}
 use Rattle.compliance.specs.Working.Solve.{solve-wide, solve-long, solve-is, solve-within, part-long, part-blank}
 use borrow.Author.Needs.{needs}
 use Rattle.compliance.proofs.solve.Statement.{statement}
@@ -35,13 +36,13 @@ array-borrow-prefix-done : tie.Need-array-borrow-prefix-done
 array-borrow-prefix-done c = search needs
 
 slice-aggregate-solve-in-4 : tie.Need-slice-aggregate-solve-in-4
-slice-aggregate-solve-in-4 c = part-long assertionsMost _ (search needs)
+slice-aggregate-solve-in-4 c = part-long mostAssertions _ (search needs)
 
 slice-aggregate-solve-in-5 : tie.Need-slice-aggregate-solve-in-5
 slice-aggregate-solve-in-5 c = search needs
 
 solve-in-requires : tie.Need-solve-in-requires
-solve-in-requires c κs = part-blank principalsMost _ (search needs) assertionsMost _ (search needs)
+solve-in-requires c κs = part-blank principalsMost _ (search needs) mostAssertions _ (search needs)
 
 returns-3 : tie.Need-returns-3
 returns-3 c = (search solve-is, search solve-within)

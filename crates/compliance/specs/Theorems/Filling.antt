@@ -16,7 +16,8 @@ use Rattle.principal.specs.Principal.{Principal, policy, same-refl}
 use Rattle.principal.specs.Members.{member, d[], d∷, member-here, member-left}
 use Rattle.compliance.specs.Licensees.{Expression, given, licensees}
 use Rattle.compliance.specs.System.{Assertion, System}
-use Rattle.compliance.specs.Limits.{assertionsMost, licenseesMost, principalsMost}
+use Rattle.limits.specs.Limits.{mostAssertions, mostLicensees}
+use Rattle.compliance.specs.Limits.{principalsMost}
 use Rattle.compliance.specs.Tables.{place, compiled, startOf, programOf, Formed, Row, Represents}
 use Rattle.compliance.specs.Theorems.Fill.{place-stays, distinct-added, program-stays, program-added, row-stays}
 
@@ -110,7 +111,7 @@ module _ (names : List Principal) (authors conds ends code direct : List ℕ) (l
 
   -- an assertion whose principals have their indices gets the next row
   module _ (a : Assertion) (known : member (a .authorizer) names ≡ true) (listed : (q : Principal) → Mem q (licensees (a .field)) → member q names ≡ true)
-      (formed : (e : Expression) → a .field ≡ given e → Formed e) (few : length (licensees (a .field)) ≤ licenseesMost) where
+      (formed : (e : Expression) → a .field ≡ given e → Formed e) (few : length (licensees (a .field)) ≤ mostLicensees) where
     prog : List ℕ
     prog = compiled names (a .field)
 
@@ -159,7 +160,7 @@ module _ (names : List Principal) (authors conds ends code direct : List ℕ) (l
         rw (ne-eqb (length (ends ++ (end ∷ []))) 0 no, i, List·getD-append (ends ++ (end ∷ [])) (e ∷ []) 0 (length ends) (omega arith), getD-append-seam ends end [] 0)
         (sym (length-append code prog))
 
-    pub fill-row : length authors < assertionsMost
+    pub fill-row : length authors < mostAssertions
         → Filling names (authors ++ (place names (a .authorizer) ∷ [])) (conds ++ (a .conditions ∷ [])) (ends ++ ((length code + length (compiled names (a .field))) ∷ []))
         (code ++ compiled names (a .field)) direct (l ++ (a ∷ [])) requesters top
     unfolding end prog

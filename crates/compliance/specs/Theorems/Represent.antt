@@ -20,7 +20,8 @@ use Rattle.compliance.specs.System.{Assertion, System, asserted, delegat
 use Rattle.compliance.specs.System as system
 use Rattle.compliance.specs.Reach.{reach, InReach, Reachable, root, licensee}
 use Rattle.compliance.specs.Rounds.{settled, reached, firstSettled, rounds, rank}
-use Rattle.compliance.specs.Limits.{assertionsMost, licenseesMost, principalsMost}
+use Rattle.limits.specs.Limits.{mostAssertions, mostLicensees}
+use Rattle.compliance.specs.Limits.{principalsMost}
 use Rattle.compliance.specs.Tables.{place, compiled, Row, Represents}
 use Rattle.compliance.specs.Theorems.Monotone.{round-alike}
 use Rattle.compliance.specs.Theorems.Reach.{reach-licenses, reach-root, reach-sound, reach-distinct}
@@ -180,22 +181,22 @@ module _ (names : List Principal) (authors conds ends code direct : List ℕ) (t
   module _ (n : ℕ) where
     -- the rank of an assertion whose authorizer is reached
     granted-row : (j : ℕ) (a : Assertion) → Mem a (s .assertions) → Row names authors conds ends code j a → InReach s (a .authorizer)
-        → grantedOf conds ends code top licenseesMost (map (held s n) names) j ≡ asserted (s .top) (round s n) a
+        → grantedOf conds ends code top mostLicensees (map (held s n) names) j ≡ asserted (s .top) (round s n) a
     unfolding grantedOf asserted
     granted-row j a m w i =
-        let reads : (p : Principal) → Mem p (licensees (a .field)) → Reads (map (held s n) names) top licenseesMost names (round s n) (omega arith) p =
+        let reads : (p : Principal) → Mem p (licensees (a .field)) → Reads (map (held s n) names) top mostLicensees names (round s n) (omega arith) p =
         λ p k. (
           omega (arith, place-lt names p (w .listed p k), rep .fewNames),
           place-map (held s n) (held-even s n) names p (w .listed p k) ∙ held-in s n p (reach-licenses s a m i p (member-mem k)),
         ) in
-        let l : worth (map (held s n) names) top licenseesMost (compiled names (a .field)) ≡ licensed top (round s n) (a .field) =
-        worth-compiled (map (held s n) names) top licenseesMost names (round s n) (omega arith) (a .field) (w .formed) reads (w .few) (omega arith) in
+        let l : worth (map (held s n) names) top mostLicensees (compiled names (a .field)) ≡ licensed top (round s n) (a .field) =
+        worth-compiled (map (held s n) names) top mostLicensees names (round s n) (omega arith) (a .field) (w .formed) reads (w .few) (omega arith) in
         let f : licensed top (round s n) (a .field) ≡ licensed (s .top) (round s n) (a .field) = ap (λ (t : ℕ). licensed t (round s n) (a .field)) (rep .topped) in
         cc (w .condition, w .program, l, f)
 
     -- an assertion raises its authorizer's rank in the table, if that is reached
     relaxed-row : (j : ℕ) (a : Assertion) → getElem? (s .assertions) j ≡ some a → (g : Rank) → Even g
-        → relaxedAt authors conds ends code top licenseesMost flags (map (held s n) names) j (map g names)
+        → relaxedAt authors conds ends code top mostLicensees flags (map (held s n) names) j (map g names)
         ≡ map (λ (q : Principal). max (g q) (pick (member q (reach s)) (pick (same (a .authorizer) q) (asserted (s .top) (round s n) a) 0) 0)) names
     unfolding relaxedAt flags
     relaxed-row j a at g h =
@@ -218,24 +219,24 @@ module _ (names : List Principal) (authors conds ends code direct : List ℕ) (t
     relaxed-even g h p v q r e = rw (h q r e, member-same q r (reach s) e, same-right q r p e)
 
     relax-rows : (l : List Assertion) (j : ℕ) → ((i : ℕ) (a : Assertion) → getElem? l i ≡ some a → getElem? (s .assertions) (j + i) ≡ some a) → (g : Rank) → Even g
-        → relaxFrom authors conds ends code top licenseesMost flags (map (held s n) names) (length l) j (map g names)
+        → relaxFrom authors conds ends code top mostLicensees flags (map (held s n) names) (length l) j (map g names)
         ≡ map (λ (q : Principal). max (g q) (pick (member q (reach s)) (delegated (s .top) l (round s n) q) 0)) names
     unfolding relaxFrom delegated
     relax-rows [] j h g ev = map-same _ _ names (λ q m. split (member q (reach s)) (λ y. rw y (omega arith)) (λ y. rw y (omega arith)))
     relax-rows (a ∷ l) j h g ev =
         let v = asserted (s .top) (round s n) a in
         let at : getElem? (s .assertions) j ≡ some a = rw add-zero at (h 0 a refl) in
-        ap (relaxFrom authors conds ends code top licenseesMost flags (map (held s n) names) (length l) (suc j)) (relaxed-row j a at g ev)
+        ap (relaxFrom authors conds ends code top mostLicensees flags (map (held s n) names) (length l) (suc j)) (relaxed-row j a at g ev)
         ∙ relax-rows l (suc j) (λ i b e. let z : suc j + i ≡ j + suc i = omega arith in rw z (h (suc i) b e)) _ (relaxed-even g ev (a .authorizer) v)
         ∙ map-same _ _ names (λ q m. split (member q (reach s)) (λ y. rw y (omega arith)) (λ y. rw y (omega arith)))
 
     -- a round over the tables is the next round on the reach
-    round-table : roundOf authors conds ends code direct top licenseesMost flags (length direct) (map (held s n) names) ≡ map (held s (suc n)) names
+    round-table : roundOf authors conds ends code direct top mostLicensees flags (length direct) (map (held s n) names) ≡ map (held s (suc n)) names
     unfolding roundOf held round equations start
     round-table =
         let ranks = map (held s n) names in
-        ap (relaxFrom authors conds ends code top licenseesMost flags ranks (length authors) 0) start-table
-        ∙ ap (λ (k : ℕ). relaxFrom authors conds ends code top licenseesMost flags ranks k 0 (map start names)) (rep .counted)
+        ap (relaxFrom authors conds ends code top mostLicensees flags ranks (length authors) 0) start-table
+        ∙ ap (λ (k : ℕ). relaxFrom authors conds ends code top mostLicensees flags ranks k 0 (map start names)) (rep .counted)
         ∙ relax-rows (s .assertions) 0 (λ i a e. let z : 0 + i ≡ i = omega arith in rw z e) start start-even
         ∙ map-same _ _ names (λ q m. split (member q (reach s)) (λ y. rw y) (λ y. rw y (omega arith)))
 
@@ -253,7 +254,7 @@ module _ (names : List Principal) (authors conds ends code direct : List ℕ) (t
             (λ i. held-out s n q i ∙ sym (held-out s (suc n) q i))
 
   -- the rounds over the tables stop where the definition's do
-  settle-table : (k m : ℕ) → settleFrom authors conds ends code direct top licenseesMost flags (length direct) k m (map (held s m) names)
+  settle-table : (k m : ℕ) → settleFrom authors conds ends code direct top mostLicensees flags (length direct) k m (map (held s m) names)
       ≡ settledAt (firstSettled s k m) (map (held s (firstSettled s k m)) names)
   unfolding settleFrom firstSettled
   settle-table zero m = refl
@@ -279,7 +280,7 @@ module _ (names : List Principal) (authors conds ends code direct : List ℕ) (t
       let n = firstSettled s (reached s) 0 in
       let p : getD (map (held s n) names) 0 0 ≡ rank s policy = policy-rank n ∙ rounds-rank s policy (reach-root s) in
       let a : length direct ≤ principalsMost = omega (arith, direct-long, rep .fewNames) in
-      rw (le-ltb principalsMost (length direct) a, le-ltb assertionsMost (length authors) (rep .fewRows), f, k, z, settle-table (reached s) 0, p)
+      rw (le-ltb principalsMost (length direct) a, le-ltb mostAssertions (length authors) (rep .fewRows), f, k, z, settle-table (reached s) 0, p)
     where
       nothing : (q : Principal) → held s 0 q ≡ 0
       nothing q = split (member q (reach s)) (λ i. held-in s 0 q i ∙ refl) (λ i. held-out s 0 q i)

@@ -8,7 +8,8 @@ use lib.ListN.{length, getD, take, replicate, length-replicate}
 use borrow.Author.Tests.{lt-ltb, le-ltb}
 use Rattle.text.specs.Choice.{pick, split}
 use Rattle.compliance.specs.Highest.{atLeast}
-use Rattle.compliance.specs.Limits.{assertionsMost, licenseesMost, principalsMost}
+use Rattle.limits.specs.Limits.{mostAssertions, mostLicensees}
+use Rattle.compliance.specs.Limits.{principalsMost}
 use Rattle.compliance.specs.Working.Reach.{marked, spreadFrom}
 use Rattle.compliance.specs.Working.Rounds.{Settled, settledAt, changesOf, roundOf, settleFrom}
 use Rattle.compliance.specs.declared.Solution.{Solution}
@@ -35,8 +36,8 @@ solvedBy authors conds ends code direct top depth =
 unfoldable pub solutionOf : List ℕ → List ℕ → List ℕ → List ℕ → List ℕ → ℕ → Solution
 solutionOf authors conds ends code direct top =
     pick (ltb principalsMost (length direct)) (record { rank = 0; rounds = 0; reached = 0 })
-    (pick (ltb assertionsMost (length authors)) (record { rank = 0; rounds = 0; reached = 0 })
-    (solvedBy authors conds ends code direct top licenseesMost))
+    (pick (ltb mostAssertions (length authors)) (record { rank = 0; rounds = 0; reached = 0 })
+    (solvedBy authors conds ends code direct top mostLicensees))
 
 -- ---- the ways
 
@@ -73,14 +74,14 @@ module _ (authors conds ends code direct : List ℕ) (top : ℕ) where
   solve-wide h = simp (lt-ltb principalsMost (length direct) h)
 
   module _ (fits : length direct ≤ principalsMost) where
-    pub solve-long : assertionsMost < length authors → record { rank = 0; rounds = 0; reached = 0 } ≡ solutionOf authors conds ends code direct top
+    pub solve-long : mostAssertions < length authors → record { rank = 0; rounds = 0; reached = 0 } ≡ solutionOf authors conds ends code direct top
     unfolding solutionOf
-    solve-long h = simp (le-ltb principalsMost (length direct) fits, lt-ltb assertionsMost (length authors) h)
+    solve-long h = simp (le-ltb principalsMost (length direct) fits, lt-ltb mostAssertions (length authors) h)
 
-    pub solve-is : length authors ≤ assertionsMost → (r : Solution) → r ≡ solvedBy authors conds ends code direct top licenseesMost
+    pub solve-is : length authors ≤ mostAssertions → (r : Solution) → r ≡ solvedBy authors conds ends code direct top mostLicensees
         → r ≡ solutionOf authors conds ends code direct top
     unfolding solutionOf
-    solve-is h r e = simp (le-ltb principalsMost (length direct) fits, le-ltb assertionsMost (length authors) h) e
+    solve-is h r e = simp (le-ltb principalsMost (length direct) fits, le-ltb mostAssertions (length authors) h) e
 
   -- the answer from what the calls leave
   pub solved-is : (depth : ℕ) (ranks next reach done : List ℕ) → Blank (length authors) (length direct) ranks next reach done
@@ -120,13 +121,13 @@ bounded authors conds ends code direct top =
     let found = reachOf authors ends code (length direct) in
     split (ltb principalsMost (length direct))
     (λ e. rw e zero-le)
-    (λ e. rw e (split (ltb assertionsMost (length authors))
+    (λ e. rw e (split (ltb mostAssertions (length authors))
     (λ f. rw f zero-le)
     (λ f. rw f (answer-bound (atLeast 1 found)
-    (settleFrom authors conds ends code direct top licenseesMost found (length direct) (atLeast 1 found) 0 (blank (length direct)))
-    (let h = settle-bound authors conds ends code direct top licenseesMost found (length direct) (atLeast 1 found) 0 (blank (length direct)) in omega arith)))))
+    (settleFrom authors conds ends code direct top mostLicensees found (length direct) (atLeast 1 found) 0 (blank (length direct)))
+    (let h = settle-bound authors conds ends code direct top mostLicensees found (length direct) (atLeast 1 found) 0 (blank (length direct)) in omega arith)))))
 
 -- the last way again, with the bound
-pub solve-within : (authors conds ends code direct : List ℕ) (top : ℕ) → length direct ≤ principalsMost → length authors ≤ assertionsMost
-    → (r : Solution) → r ≡ solvedBy authors conds ends code direct top licenseesMost → r .rounds ≤ r .reached
+pub solve-within : (authors conds ends code direct : List ℕ) (top : ℕ) → length direct ≤ principalsMost → length authors ≤ mostAssertions
+    → (r : Solution) → r ≡ solvedBy authors conds ends code direct top mostLicensees → r .rounds ≤ r .reached
 solve-within authors conds ends code direct top h k r e = rw (solve-is authors conds ends code direct top h k r e) (bounded authors conds ends code direct top)
