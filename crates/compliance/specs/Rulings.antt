@@ -2,6 +2,7 @@
 use mathlib.Core.Path.{_≡_, refl}
 use mathlib.Core.List.{List, [], _∷_}
 use Prim.Native.Nat.{ℕ}
+use Rattle.text.specs.Equal.{equal}
 use Rattle.principal.specs.Principal.{Principal, same, policy}
 use Rattle.principal.specs.Members.{member}
 use Rattle.compliance.specs.Highest.{highest}
@@ -56,5 +57,5 @@ pub rulings : table ≡
     ∷ (1 ∷ [])
     ∷ (2 ∷ [])
     ∷ []
-unfolding answered policy same member highest value licensed named licensees direct asserted delegated equations round licenseesOf reachFrom namings reach equalOn settled reached firstSettled rounds mentioned rank
+unfolding answered policy same equal member highest value licensed named licensees direct asserted delegated equations round licenseesOf reachFrom namings reach equalOn settled reached firstSettled rounds mentioned rank
 rulings = refl

@@ -6,17 +6,22 @@ mod rounds;
 mod tables;
 
 use highest::at_least;
+use limits::MOST_ASSERTIONS;
+use limits::MOST_LICENSEES;
+use limits::MOST_REQUESTERS;
 use machine::number_at;
 use reach::find_reach;
 use rounds::settle;
-use limits::{MOST_ASSERTIONS, MOST_LICENSEES, MOST_REQUESTERS};
 ghost use mathlib.Core.Path.{_≡_};
 ghost use Prim.Native.Nat.{_≤_};
 ghost use lib.ListN.{length};
 ghost use Rattle.compliance.specs.Working.Solve.{Blank, solvedBy, solutionOf};
 
 // The most principals: POLICY, the requesters, and an authorizer and its licensees for each assertion.
-pub const PRINCIPALS: usize = 1 + MOST_REQUESTERS + MOST_ASSERTIONS + MOST_ASSERTIONS * MOST_LICENSEES;
+pub const PRINCIPALS: usize = 1
+    + MOST_REQUESTERS
+    + MOST_ASSERTIONS
+    + MOST_ASSERTIONS * MOST_LICENSEES;
 
 // The rank of POLICY, the rounds that changed a rank in the reach, and how many principals are in it.
 pub struct Solution {

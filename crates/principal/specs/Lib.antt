@@ -1,3 +1,2 @@
 pub mod Principal
 pub mod Members
-pub mod Ways

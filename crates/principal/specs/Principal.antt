@@ -1,12 +1,11 @@
 -- Principals and their one equality. What is said of principals elsewhere goes by `same` and its laws, never by equality of bytes.
 -- Assumes nothing.
 use mathlib.Core.Path.{_≡_, refl, sym}
-use mathlib.Core.Bool.{Bool, true, false}
+use mathlib.Core.Bool.{Bool, true}
 use mathlib.Core.List.{List, [], _∷_}
 use Prim.Native.Nat.{ℕ}
-use lib.Dec.{eqb}
-use borrow.Author.Tests.{eqb-true, eq-eqb}
-use Rattle.text.specs.Choice.{pick, split, clash, bool-iff}
+use Rattle.text.specs.Choice.{bool-iff}
+use Rattle.text.specs.Equal.{equal, equal-refl, equal-true}
 
 -- an identifier's bytes
 abbrev pub Principal : Type 0
@@ -14,10 +13,7 @@ Principal = List ℕ
 
 -- "Principals are equal when their bytes are."
 unfoldable pub same : Principal → Principal → Bool
-same [] [] = true
-same [] (y ∷ ys) = false
-same (x ∷ xs) [] = false
-same (x ∷ xs) (y ∷ ys) = pick (eqb x y) (same xs ys) false
+same p q = equal p q
 
 -- POLICY, the root of every delegation
 unfoldable pub policy : Principal
@@ -25,15 +21,11 @@ policy = 80 ∷ 79 ∷ 76 ∷ 73 ∷ 67 ∷ 89 ∷ []
 
 pub same-refl : (p : Principal) → same p p ≡ true
 unfolding same
-same-refl [] = refl
-same-refl (x ∷ xs) = rw (eq-eqb x x refl) (same-refl xs)
+same-refl p = equal-refl p
 
 same-true : (p q : Principal) → same p q ≡ true → p ≡ q
 unfolding same
-same-true [] [] e = refl
-same-true [] (y ∷ ys) e = cc
-same-true (x ∷ xs) [] e = cc
-same-true (x ∷ xs) (y ∷ ys) e = split (eqb x y) (λ h. cc (eqb-true x y h, same-true xs ys (rw h at e))) (λ h. clash (rw h at e) refl)
+same-true p q e = equal-true p q e
 
 pub same-sym : (p q : Principal) → same p q ≡ true → same q p ≡ true
 same-sym p q e = rw (same-true p q e) (same-refl q)

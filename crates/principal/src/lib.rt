@@ -6,18 +6,5 @@ ghost use Rattle.principal.specs.Principal.{same};
 pub fn same_principal(a: &[u8], b: &[u8]) -> bool
     ensures { λ r. ⌜ r ≡ same (now (a .entry)) (now (b .entry)) ⌝ }
 {
-    let mut i: usize = 0;
-    while i < a.len() {
-        if b.len() <= i {
-            return false;
-        }
-        if a[i] != b[i] {
-            return false;
-        }
-        i += 1;
-    }
-    if b.len() <= i {
-        return true;
-    }
-    false
+    text::same_bytes(a, b)
 }
