@@ -21,7 +21,7 @@ use Rattle.record.specs.Item.{plainAt, valueAt, requesterAt, nameAt, att
 use Rattle.record.specs.Record.{queryAt, ended, readRecord}
 use Rattle.record.specs.Encode.{stringBytes, attributeBytes, assertionBytes, itemsBytes, groupBytes, encode}
 use Rattle.record.specs.Valid.{Between, PlainOk, ValueOk, RequesterOk, NameOk, AttributeOk, SuppliedOk, Each, each[], each∷, GroupOk, Valid}
-use Rattle.record.specs.Stands.{Stands, stands-nothing, stands-join, stands-left, stands-right, stands-byte, byte-at, stands-part, part-at, stands-all, all-of}
+use Rattle.record.specs.Stands.{Stands, stands-nothing, stands-join, stands-left, stands-right, stands-byte, byte-at, pair-at, stands-part, part-at, stands-all, all-of}
 
 -- ---- taking a reading apart
 
@@ -75,13 +75,6 @@ module _ (s : List ℕ) (at : ℕ) where
       let z : at + 1 + 1 ≡ at + 2 = omega arith in
       let st : Stands s at (getD s at 0 ∷ getD s (at + 1) 0 ∷ []) (at + 1 + 1) = stands-join (stands-byte s at (omega arith)) (stands-byte s (at + 1) (omega arith)) in
       rw z at st
-
-  pair-is : (n p : ℕ) → Stands s at (n / 256 ∷ n % 256 ∷ []) p → pairAt s at ≡ n
-  unfolding pairAt
-  pair-is n p st =
-      let a : getD s at 0 ≡ n / 256 = byte-at (stands-left (n / 256 ∷ []) (n % 256 ∷ []) st) in
-      let b : getD s (at + 1) 0 ≡ n % 256 = byte-at (stands-right (n / 256 ∷ []) (n % 256 ∷ []) st) in
-      rw (a, b) (omega arith)
 
 record Long (s : List ℕ) (least most at n p : ℕ) : Type 0 where
   fits : at + 2 ≤ length s
@@ -137,7 +130,7 @@ module _ (s : List ℕ) (least most : ℕ) where
   field-takes at b p st ok =
       let st₁ : Stands s at (length b / 256 ∷ length b % 256 ∷ []) (at + 2) = stands-left (length b / 256 ∷ length b % 256 ∷ []) b st in
       let st₂ : Stands s (at + 2) b p = stands-right (length b / 256 ∷ length b % 256 ∷ []) b st in
-      let n : pairAt s at ≡ length b = pair-is s at (length b) (at + 2) st₁ in
+      let n : pairAt s at ≡ length b = pair-at (length b) st₁ in
       let pe : p ≡ at + 2 + length b = st₂ .behind in
       rw (
         le-ltb (length s) (at + 2) (st₁ .inside),

@@ -1,10 +1,15 @@
 -- That bytes stand in a record at a place. Assumes nothing.
 use mathlib.Core.Path.{_≡_, refl, sym, ap, _∙_}
 use mathlib.Core.List.{List, [], _∷_, _++_, append-assoc, append-nil}
-use Prim.Native.Nat.{ℕ, zero, suc, _+_, _-_, _<_, _≤_}
+use Prim.Native.Nat.{ℕ, zero, suc, _+_, _-_, _/_, _%_, _<_, _≤_}
 use native.Mathlib.Omega.{arith}
 use native.Mathlib.Numerals.{add-one}
 use native.Mathlib.Nat.{add-zero}
+use lib.Dec.{ltb}
+use borrow.Author.Tests.{le-ltb}
+use Rattle.text.specs.Choice.{pick}
+use Rattle.text.specs.Counted.{part, pairAt, counted}
+use Rattle.record.specs.Encode.{stringBytes}
 use lib.ListN.{length, getD, take, drop, length-append, length-drop, take-append-drop}
 use lib.Seq.{drop-drop, length-take-le, drop-append-seam, take-append-seam, getD-drop, drop-cons, take-all, drop-length, drop-append-add}
 
@@ -73,3 +78,22 @@ all-of {s} {e} {p} st h =
     let z : p ≡ length s = omega (arith, st .inside) in
     let d : drop p s ≡ [] = rw z (drop-length s) in
     sym (append-nil e) ∙ ap (λ (r : List ℕ). e ++ r) (sym d) ∙ sym (st .here)
+
+-- two bytes that write a number, and a string behind its length
+pub pair-at : {s : List ℕ} {at p : ℕ} (n : ℕ) → Stands s at (n / 256 ∷ n % 256 ∷ []) p → pairAt s at ≡ n
+unfolding pairAt
+pair-at {s} {at} n st =
+    let a : getD s at 0 ≡ n / 256 = byte-at (stands-left (n / 256 ∷ []) (n % 256 ∷ []) st) in
+    let b : getD s (at + 1) 0 ≡ n % 256 = byte-at (stands-right (n / 256 ∷ []) (n % 256 ∷ []) st) in
+    rw (a, b) (omega arith)
+
+pub counted-at : {s : List ℕ} {at p : ℕ} (b : List ℕ) → Stands s at (stringBytes b) p → counted s (at + 2) ≡ b
+unfolding counted part stringBytes
+counted-at {s} {at} {p} b st =
+    let front : List ℕ = length b / 256 ∷ length b % 256 ∷ [] in
+    let st₁ : Stands s at front (at + 2) = stands-left front b st in
+    let st₂ : Stands s (at + 2) b p = stands-right front b st in
+    let n : pairAt s at ≡ length b = pair-at (length b) st₁ in
+    let z : at + 2 - 2 ≡ at = omega arith in
+    rw
+    (le-ltb (at + 2) 2 (omega arith), le-ltb (length s) (at + 2) (st₁ .inside), z, n, le-ltb (length s - (at + 2)) (length b) (omega (arith, st₂ .behind, st₂ .inside)), part-at st₂)
