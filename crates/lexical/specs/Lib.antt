@@ -24,3 +24,4 @@ pub mod Tokens
 pub mod TokensLaws
 pub mod Examples
 pub mod TokenExamples
+pub mod DecodeLaws

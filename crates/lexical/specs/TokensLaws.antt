@@ -58,3 +58,17 @@ module _ (s : List ℕ) (mode at : ℕ) where
     token-shorter =
         let e : literalEnd s (tokenAt s mode at .start + 1) ≡ tokenAt s mode at .end = token-literal s mode at h in
         omega (arith, e, decoded-shorter s (tokenAt s mode at .start) (λ z. let no : ⊥ = omega (arith, z, e, real .1) in no))
+
+-- The same of a token at hand: a reader that steps from token to token moves on, and ends.
+module _ (s : List ℕ) (mode at : ℕ) (t : Token) (te : t ≡ tokenAt s mode at) (h : BAD-LINE < t .kind) where
+  at-hand : (at ≤ t .start) × (t .start < t .end) × (t .end ≤ length s)
+  at-hand = rw te (token-real s mode at (rw (sym te) h))
+
+  pub token-on : at < t .end
+  token-on = omega (arith, at-hand .0, at-hand .1)
+
+  pub token-within : t .end ≤ length s
+  token-within = at-hand .2
+
+  pub token-less : length s - t .end < length s - at
+  token-less = omega (arith, token-on, token-within)
