@@ -60,6 +60,8 @@ hexed('ruling-18', '', refused(2, 0))
 hexed('ruling-19', HEAD + ' 01 00 02 78 e9 00 00 00', refused(6, 16))
 hexed('ruling-20', HEAD + ' 01 00 02 5a 39 00 00 00', 'accepted')
 hexed('ruling-21', '00 02 00 01 68 00 01 69 01 00 01 61 00 00', refused(2, 0))
+policy = b'Authorizer:"POLICY"\nLicensees:"b"||"c"\nConditions:'
+vector('ruling-22', record([b'h', b'i'], [b'a'], (), [(1, policy)]), 'accepted')
 first = b'Authorizer: "POLICY"\nLicensees: "a"'
 vector('first-ruling', record([b'hold', b'immediate'], [b'a'], (), [(1, first)]), 'accepted')
 
@@ -143,6 +145,37 @@ vector('record-65536', whole + b'x', refused(1, 0))
 vector('record-65536-version', b'\2' + whole, refused(1, 0))
 vector('left-over-last', record(assertions=[(1, b't' * 8192)] * 7) + b'x' * room, refused(3, 65535 - room))
 vector('left-over-one', record() + b'x', refused(3, 14))
+
+# The last place that each number can stand at: attributes or texts fill the record up to it.
+def filled(end):
+    """The start of a record with up to 32 attributes whose last one ends at `end`, and how many attributes there are."""
+    items, at = [], 13
+    while end - at > 4000:
+        items.append((b'f%d' % len(items) + b'x' * 1000 if items else b'f', b'v' * 2048))
+        at += 4 + len(items[-1][0]) + 2048
+    left = end - at
+    for size in (left // 2, left - left // 2):
+        items.append((b'g%d' % len(items), b'v' * (size - 4 - len('g%d' % len(items)))))
+    out = record(attributes=items)[:-1]
+    assert len(out) == end
+    return out, len(items)
+
+
+def with_count(start, n):
+    return start[:12] + bytes([n]) + start[13:]
+
+
+start, n = filled(65534)
+vector('last-count', start + b'\x21', refused(4, 65534))
+start, n = filled(65531)
+vector('last-length', start + bytes([1, 1, 0, 0]), refused(5, 65533))
+start, n = filled(65533)
+vector('last-standing', start + bytes([1, 3]), refused(8, 65534))
+start, n = filled(65532)
+vector('last-name', with_count(start, n + 1) + b'\0\1_', refused(6, 65534))
+vector('last-repeated', with_count(start, n + 1) + b'\0\1f', refused(7, 65534))
+start, n = filled(65535)
+vector('last-missing', start, refused(3, 65535))
 
 # The fronts of a record with every group full.
 full = record([b'v%02d' % i for i in range(16)], [b'requester %d' % i for i in range(8)],

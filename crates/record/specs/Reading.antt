@@ -29,11 +29,11 @@ leaves (refused n p) t = told (Refused n p) t
 unfoldable pub readInto : List ℕ → List ℕ → Told
 readInto s t = leaves (readRecord s) t
 
--- the table's number and place of each case: 0 and 0 when accepted
-unfoldable pub numberOf : Reading → ℕ
-numberOf (Accepted v r a c) = 0
-numberOf (Refused n p) = n
+-- the number and the place of each case, as in the table of refusals: 0 and 0 when accepted
+unfoldable pub tabled : Reading → ℕ × ℕ
+tabled (Accepted v r a c) = (0, 0)
+tabled (Refused n p) = (n, p)
 
-unfoldable pub placeOf : Reading → ℕ
-placeOf (Accepted v r a c) = 0
-placeOf (Refused n p) = p
+unfoldable pub tabledVerdict : Verdict → ℕ × ℕ
+tabledVerdict (accepted q) = (0, 0)
+tabledVerdict (refused n p) = (n, p)

@@ -9,7 +9,8 @@ ghost use Rattle.text.specs.Copy.{put};
 ghost use Rattle.text.specs.Counted.{counted};
 ghost use Rattle.record.specs.Field.{nameFront, among};
 ghost use Rattle.record.specs.Working.Groups.{ran, byGroup, itemsInto, groupInto, both, groupsInto, restInto, tableInto};
-ghost use Rattle.record.specs.Reading.{told, readInto};
+ghost use Rattle.record.specs.Reading.{told, readInto, tabled, tabledVerdict};
+ghost use Rattle.record.specs.Record.{readRecord};
 ghost use Rattle.record.specs.Working.Moves.{countMove, lengthMove, contentMove, fieldMove, plainMove, nameMove, valueMove, attributeMove, assertionMove, itemMove, seenOf};
 
 // A place in the record.
@@ -440,6 +441,7 @@ fn copy_entries(dst: &mut [usize], src: &[usize], n: usize)
 // Reads a record: the table's first entries become the places of all items. A refusal leaves the table as it was.
 pub fn read(s: &[u8], table: &mut [usize; MOST_ITEMS]) -> Reading
     ensures { λ r. ⌜ told r (now (table .exit)) ≡ readInto (now (s .entry)) (now (table .entry)) ⌝ }
+    ensures { λ r. ⌜ tabled r ≡ tabledVerdict (readRecord (now (s .entry))) ⌝ }
 {
     let mut found = [0usize; MOST_ITEMS];
     match record_at(s, &mut found) {

@@ -14,7 +14,7 @@ use Rattle.record.specs.Query.{Query}
 use Rattle.record.specs.Read.{Verdict, accepted, refused}
 use Rattle.record.specs.Record.{readRecord}
 use Rattle.record.specs.Places.{placesFrom, stringSize, attributeSize, assertionSize, requestersStart, attributesStart, assertionsStart, places}
-use Rattle.record.specs.Reading.{Told, told, groupEnds, leaves, readInto}
+use Rattle.record.specs.Reading.{Told, told, groupEnds, leaves, readInto, tabled, tabledVerdict}
 use Rattle.record.specs.Working.Groups.{tableInto}
 use Rattle.record.specs.Working.Tables.{Whole, whole-to, whole-no, places-length, table-tie}
 use Rattle.record.specs.declared.Reading.{Reading}
@@ -100,6 +100,10 @@ module _ (s table : List ℕ) (m : Reading) (u : List ℕ) (me : told m u ≡ ta
   unfolding readInto leaves
   read-refused k p e = rw (refused-of (table-tie s empty room) m u from-empty k p e)
 
+  pub tabled-refused : (k p : ℕ) → m ≡ Refused k p → tabled (Refused k p) ≡ tabledVerdict (readRecord s)
+  unfolding tabled tabledVerdict
+  tabled-refused k p e = rw (refused-of (table-tie s empty room) m u from-empty k p e)
+
   module _ (v r a c : ℕ) (e : m ≡ Accepted v r a c) where
     took : Took empty (readRecord s) u v r a c
     took = accepted-of (table-tie s empty room) m u from-empty v r a c e
@@ -128,3 +132,7 @@ module _ (s table : List ℕ) (m : Reading) (u : List ℕ) (me : told m u ≡ ta
     pub read-accepted : (x : List ℕ) → x ≡ put table 0 (take c u) → told (Accepted v r a c) x ≡ readInto s table
     unfolding readInto leaves
     read-accepted x xe = rw (took .is, ← took .ends, xe, front-is)
+
+    pub tabled-accepted : tabled (Accepted v r a c) ≡ tabledVerdict (readRecord s)
+    unfolding tabled tabledVerdict
+    tabled-accepted = rw (took .is)
