@@ -1,0 +1,3 @@
+// The evaluation layer: integers, names and the machine that runs compiled Conditions.
+pub mod integer;
+pub mod value;
