@@ -3,6 +3,7 @@ pub mod Integers
 pub mod Names
 pub mod Operations
 pub mod Conditions
+pub mod Tables
 pub mod Reads
 pub mod Theorems
 pub mod Rulings

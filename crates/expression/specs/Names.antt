@@ -15,19 +15,19 @@ pub record Environment : Type 0 where
   pub attributes : List Attribute
 
 -- "_MIN_TRUST"
-unfoldable pub minTrust : List ℕ
+abbrev pub minTrust : List ℕ
 minTrust = 95 ∷ 77 ∷ 73 ∷ 78 ∷ 95 ∷ 84 ∷ 82 ∷ 85 ∷ 83 ∷ 84 ∷ []
 
 -- "_MAX_TRUST"
-unfoldable pub maxTrust : List ℕ
+abbrev pub maxTrust : List ℕ
 maxTrust = 95 ∷ 77 ∷ 65 ∷ 88 ∷ 95 ∷ 84 ∷ 82 ∷ 85 ∷ 83 ∷ 84 ∷ []
 
 -- "_VALUES"
-unfoldable pub allValues : List ℕ
+abbrev pub allValues : List ℕ
 allValues = 95 ∷ 86 ∷ 65 ∷ 76 ∷ 85 ∷ 69 ∷ 83 ∷ []
 
 -- "_ACTION_AUTHORIZERS"
-unfoldable pub authorizers : List ℕ
+abbrev pub authorizers : List ℕ
 authorizers = 95 ∷ 65 ∷ 67 ∷ 84 ∷ 73 ∷ 79 ∷ 78 ∷ 95 ∷ 65 ∷ 85 ∷ 84 ∷ 72 ∷ 79 ∷ 82 ∷ 73 ∷ 90 ∷ 69 ∷ 82 ∷ 83 ∷ []
 
 -- the value of the first with that name, else another
