@@ -1,8 +1,10 @@
 pub mod Value
+pub mod Operands
 pub mod Integers
 pub mod Names
 pub mod Operations
 pub mod Conditions
+pub mod Clauses
 pub mod Tables
 pub mod Reads
 pub mod Theorems

@@ -10,7 +10,7 @@ use Rattle.syntax.specs.Op.{CONVERT, NEGATE, OPPOSITE, POWER, OVER, EQUAL, EITH
 use Rattle.syntax.specs.Expr.{Expr, literal, number, truth, unary, binary, Program, none, also, plain}
 use Rattle.expression.specs.Integers.{ranged, apart, plus, negated, differ, times, over, raisedTo, odd, signOfPower, power, sizes, compared}
 use Rattle.expression.specs.Names.{Environment}
-use Rattle.expression.specs.Operations.{held, relates, arithmetic, textual, logical, isTextual, binaryOf, unaryOf}
+use Rattle.expression.specs.Operations.{held, relates, arithmetic, textual, logical, isTextual, ofTexts, ofIntegers, ofTests, binaryOf, converted as convert, negative, opposite, unaryOf}
 use Rattle.expression.specs.Conditions.{evaluate, top, conditions}
 
 -- "hold" and "immediate", weakest first
@@ -54,5 +54,5 @@ table =
     ∷ []
 
 pub rulings : table ≡ 0 ∷ 0 ∷ 1 ∷ 1 ∷ 1 ∷ 1 ∷ 1 ∷ 1 ∷ 1 ∷ []
-unfolding isDigit inClass value valueFrom inRange roundedDown withFraction unsigned decimal ranged apart plus negated differ times over raisedTo odd signOfPower power sizes compared held relates arithmetic textual logical isTextual binaryOf unaryOf evaluate top conditions
+unfolding isDigit inClass value valueFrom inRange roundedDown withFraction unsigned decimal ranged apart plus negated differ times over raisedTo odd signOfPower power sizes compared held relates arithmetic textual logical isTextual ofTexts ofIntegers ofTests binaryOf convert negative opposite unaryOf evaluate top conditions
 rulings = refl

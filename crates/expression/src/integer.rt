@@ -11,7 +11,7 @@ ghost use Rattle.expression.specs.Integers.{differ, odd, signOfPower, ra
 // The size of the least integer.
 const LEAST: u64 = 2147483648;
 
-fn opposite(negative: bool) -> bool
+pub(crate) fn opposite(negative: bool) -> bool
     ensures { λ r. ⌜ r ≡ not negative ⌝ }
 {
     if negative {
