@@ -1,0 +1,100 @@
+use Rattle.expression.specs.Working.Operating.{does-power, does-times, does-over, does-rest, does-plus, does-minus, does-compare}
+use borrow.Author.Needs.{needs}
+use Rattle.expression.proofs.operator.of_integers.Statement.{statement}
+use Rattle.expression.proofs.operator.of_integers.Tie as tie
+use Rattle.expression.proofs.operator.of_integers.Reads as reads
+use Rattle.expression.proofs.operator.of_integers.Lts as lts
+use Rattle.expression.proofs.integer.add.Reads as add-reads
+use Rattle.expression.proofs.integer.divide.Reads as divide-reads
+use Rattle.expression.proofs.integer.multiply.Reads as multiply-reads
+use Rattle.expression.proofs.integer.order_of.Reads as order-of-reads
+use Rattle.expression.proofs.integer.raise_to.Reads as raise-to-reads
+use Rattle.expression.proofs.integer.rest.Reads as rest-reads
+use Rattle.expression.proofs.integer.subtract.Reads as subtract-reads
+use Rattle.expression.proofs.operator.minus.Reads as minus-reads
+use Rattle.expression.proofs.operator.relation.Reads as relation-reads
+
+-- src/operator.rt:105:9
+raise-to-requires : tie.Need-raise-to-requires
+raise-to-requires c κs = search needs
+
+-- src/operator.rt:105:9
+returns : tie.Need-returns
+returns c = search does-power
+
+-- src/operator.rt:108:9
+multiply-requires : tie.Need-multiply-requires
+multiply-requires c κs = search needs
+
+-- src/operator.rt:108:9
+returns-2 : tie.Need-returns-2
+returns-2 c = search does-times
+
+-- src/operator.rt:111:9
+divide-requires : tie.Need-divide-requires
+divide-requires c κs = search needs
+
+-- src/operator.rt:111:9
+returns-3 : tie.Need-returns-3
+returns-3 c = search does-over
+
+-- src/operator.rt:114:9
+rest-requires : tie.Need-rest-requires
+rest-requires c κs = search needs
+
+-- src/operator.rt:114:9
+returns-4 : tie.Need-returns-4
+returns-4 c = search does-rest
+
+-- src/operator.rt:117:9
+add-requires : tie.Need-add-requires
+add-requires c κs = search needs
+
+-- src/operator.rt:117:9
+returns-5 : tie.Need-returns-5
+returns-5 c = search does-plus
+
+-- src/operator.rt:120:9
+subtract-requires : tie.Need-subtract-requires
+subtract-requires c κs = search needs
+
+-- src/operator.rt:120:9
+returns-6 : tie.Need-returns-6
+returns-6 c = search does-minus
+
+-- src/operator.rt:122:9
+order-of-requires : tie.Need-order-of-requires
+order-of-requires c κs = search needs
+
+-- src/operator.rt:123:9
+minus-requires : tie.Need-minus-requires
+minus-requires c κs = search needs
+
+-- src/operator.rt:125:16
+relation-requires : tie.Need-relation-requires
+relation-requires c κs = search needs
+
+-- src/operator.rt:101:1
+returns-7 : tie.Need-returns-7
+returns-7 c = search does-compare
+
+pub of-integers-spec : {M : Type 1} → statement M
+of-integers-spec =
+    tie.close
+    (tie.spec
+    raise-to-requires
+    returns
+    multiply-requires
+    returns-2
+    divide-requires
+    returns-3
+    rest-requires
+    returns-4
+    add-requires
+    returns-5
+    subtract-requires
+    returns-6
+    order-of-requires
+    minus-requires
+    relation-requires
+    returns-7)

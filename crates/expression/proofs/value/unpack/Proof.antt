@@ -1,0 +1,46 @@
+use Rattle.expression.specs.Operands.{unpacked}
+use borrow.Author.Needs.{needs}
+use Rattle.text.specs.Choice.{tests}
+use Rattle.expression.proofs.value.unpack.Statement.{statement}
+use Rattle.expression.proofs.value.unpack.Tie as tie
+use Rattle.expression.proofs.value.unpack.Reads as reads
+use Rattle.expression.proofs.value.unpack.Lts as lts
+
+-- src/value.rt:54:9
+returns : tie.Need-returns
+unfolding unpacked
+returns c = search (needs, tests)
+
+-- src/value.rt:59:9
+returns-2 : tie.Need-returns-2
+unfolding unpacked
+returns-2 c = search (needs, tests)
+
+-- src/value.rt:65:9
+returns-3 : tie.Need-returns-3
+unfolding unpacked
+returns-3 c = search (needs, tests)
+
+-- src/value.rt:71:9
+returns-4 : tie.Need-returns-4
+unfolding unpacked
+returns-4 c = search (needs, tests)
+
+-- src/value.rt:74:9
+returns-5 : tie.Need-returns-5
+unfolding unpacked
+returns-5 c = search (needs, tests)
+
+-- src/value.rt:77:9
+returns-6 : tie.Need-returns-6
+unfolding unpacked
+returns-6 c = search (needs, tests)
+
+-- src/value.rt:50:1
+returns-7 : tie.Need-returns-7
+unfolding unpacked
+returns-7 c = search (needs, tests)
+
+pub unpack-spec : {M : Type 1} → statement M
+unpack-spec =
+    tie.close (tie.spec returns returns-2 returns-3 returns-4 returns-5 returns-6 returns-7)

@@ -1,0 +1,12 @@
+pub mod Value
+pub mod Operands
+pub mod Integers
+pub mod Names
+pub mod Operations
+pub mod Conditions
+pub mod Clauses
+pub mod Tables
+pub mod Reads
+pub mod Theorems
+pub mod Rulings
+pub mod Working

@@ -1,0 +1,3 @@
+pub mod Arithmetic
+pub mod Searching
+pub mod Operating

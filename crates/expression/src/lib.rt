@@ -1,0 +1,5 @@
+// The evaluation layer: integers, names and the machine that runs compiled Conditions.
+pub mod integer;
+pub mod name;
+pub mod operator;
+pub mod value;

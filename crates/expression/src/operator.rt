@@ -1,0 +1,356 @@
+// The operators: each takes operands, a string with its bytes, and gives an operand.
+use crate::integer::add;
+use crate::integer::divide;
+use crate::integer::multiply;
+use crate::integer::negate;
+use crate::integer::opposite;
+use crate::integer::order_of;
+use crate::integer::raise_to;
+use crate::integer::rest;
+use crate::integer::subtract;
+use crate::name::rank_of;
+use crate::value::Operand;
+use crate::value::holds_in;
+use crate::value::integer_in;
+use crate::value::is_number;
+use crate::value::is_test;
+use crate::value::is_text;
+use crate::value::rank_in;
+use text::Integer;
+use text::Order;
+ghost use mathlib.Core.Path.{_≡_};
+ghost use mathlib.Core.List.{map, _++_};
+ghost use Prim.Native.Nat.{_-_, max};
+ghost use lib.ListN.{length};
+ghost use Rattle.text.specs.Choice.{pick};
+ghost use Rattle.text.specs.Counted.{counted};
+ghost use Rattle.expression.specs.Value.{operand, rank};
+ghost use Rattle.expression.specs.Operands.{valueOf, holdsIn, testIn};
+ghost use Rattle.expression.specs.Operations.{isLess, isEqual, isGreater, relates, held, arithmetic, textual, logical, ofTexts, ofIntegers, ofTests, isTextual, binaryOf, converted, negative, opposite as not-of};
+ghost use Rattle.expression.specs.Conditions.{rankOf};
+ghost use Rattle.expression.specs.Clauses.{applied, combined};
+
+// "string over 4,096 bytes" is a fault.
+pub const LONGEST: usize = 4096;
+// The higher of two ranks.
+pub const RAISE: u32 = 34;
+
+fn is_less(o: Order) -> bool
+    ensures { λ r. ⌜ r ≡ isLess o ⌝ }
+{
+    match o {
+        Order::Less => true,
+        Order::Equal => false,
+        Order::Greater => false,
+    }
+}
+
+fn is_equal(o: Order) -> bool
+    ensures { λ r. ⌜ r ≡ isEqual o ⌝ }
+{
+    match o {
+        Order::Less => false,
+        Order::Equal => true,
+        Order::Greater => false,
+    }
+}
+
+fn is_greater(o: Order) -> bool
+    ensures { λ r. ⌜ r ≡ isGreater o ⌝ }
+{
+    match o {
+        Order::Less => false,
+        Order::Equal => false,
+        Order::Greater => true,
+    }
+}
+
+// Does the comparison k hold of sides that stand so?
+fn relation(k: u32, o: Order) -> bool
+    ensures { λ r. ⌜ r ≡ relates k o ⌝ }
+{
+    if k == 0 {
+        return is_equal(o);
+    }
+    if k == 1 {
+        return opposite(is_equal(o));
+    }
+    if k == 2 {
+        return is_less(o);
+    }
+    if k == 3 {
+        return is_greater(o);
+    }
+    if k == 4 {
+        return opposite(is_greater(o));
+    }
+    opposite(is_less(o))
+}
+
+// op less k, and 0 where k is more.
+fn minus(op: u32, k: u32) -> u32
+    ensures { λ r. ⌜ r ≡ op - k ⌝ }
+{
+    if k < op {
+        return op - k;
+    }
+    0
+}
+
+// Two integers.
+fn of_integers(op: u32, a: Integer, b: Integer) -> Operand
+    ensures { λ r. ⌜ r ≡ operand (arithmetic op a b) ⌝ }
+{
+    if op == syntax::POWER {
+        return raise_to(a, b);
+    }
+    if op == syntax::TIMES {
+        return multiply(a, b);
+    }
+    if op == syntax::OVER {
+        return divide(a, b);
+    }
+    if op == syntax::REMAINDER {
+        return rest(a, b);
+    }
+    if op == syntax::PLUS {
+        return add(a, b);
+    }
+    if op == syntax::MINUS {
+        return subtract(a, b);
+    }
+    let o = order_of(a, b);
+    let k = minus(op, syntax::EQUAL);
+    Operand::Test {
+        holds: relation(k, o),
+    }
+}
+
+// A string made of two.
+fn join(a: &[u8], b: &[u8]) -> Operand
+    ensures { λ r. ⌜ r ≡ operand (held (now (a .entry) ++ now (b .entry))) ⌝ }
+{
+    if LONGEST < a.len() {
+        return Operand::Fault;
+    }
+    if LONGEST < b.len() {
+        return Operand::Fault;
+    }
+    let n = a.len() + b.len();
+    if LONGEST < n {
+        return Operand::Fault;
+    }
+    Operand::Text { length: n }
+}
+
+// Two strings.
+fn of_strings(op: u32, a: &[u8], b: &[u8]) -> Operand
+    ensures { λ r. ⌜ r ≡ operand (textual op (now (a .entry)) (now (b .entry))) ⌝ }
+{
+    if op == syntax::JOIN {
+        return join(a, b);
+    }
+    let o = text::compare(a, b);
+    let k = minus(op, syntax::TEXT_EQUAL);
+    Operand::Test {
+        holds: relation(k, o),
+    }
+}
+
+fn texts(op: u32, x: Operand, y: Operand, a: &[u8], b: &[u8]) -> Operand
+    ensures { λ r. ⌜ r ≡ operand (ofTexts op (valueOf x (now (a .entry))) (valueOf y (now (b .entry)))) ⌝ }
+{
+    if is_text(x) {
+        if is_text(y) {
+            return of_strings(op, a, b);
+        }
+        return Operand::Fault;
+    }
+    Operand::Fault
+}
+
+fn integers(op: u32, x: Operand, y: Operand, a: &[u8], b: &[u8]) -> Operand
+    ensures { λ r. ⌜ r ≡ operand (ofIntegers op (valueOf x (now (a .entry))) (valueOf y (now (b .entry)))) ⌝ }
+{
+    if is_number(x) {
+        if is_number(y) {
+            return of_integers(op, integer_in(x), integer_in(y));
+        }
+        return Operand::Fault;
+    }
+    Operand::Fault
+}
+
+// The test that an operand is; a fault where it is none.
+fn as_test(x: Operand) -> Operand
+    ensures { λ r. ⌜ r ≡ testIn x ⌝ }
+{
+    if is_test(x) {
+        return x;
+    }
+    Operand::Fault
+}
+
+// "&& and || go left to right and stop once decided."
+fn tests(op: u32, x: Operand, y: Operand, a: &[u8], b: &[u8]) -> Operand
+    ensures { λ r. ⌜ r ≡ operand (ofTests op (valueOf x (now (a .entry))) (valueOf y (now (b .entry)))) ⌝ }
+{
+    if is_test(x) {
+        if op == syntax::BOTH {
+            if holds_in(x) {
+                return as_test(y);
+            }
+            return Operand::Test { holds: false };
+        }
+        if holds_in(x) {
+            return Operand::Test { holds: true };
+        }
+        return as_test(y);
+    }
+    Operand::Fault
+}
+
+fn is_textual(op: u32) -> bool
+    ensures { λ r. ⌜ r ≡ isTextual op ⌝ }
+{
+    if op == syntax::JOIN {
+        return true;
+    }
+    if op <= syntax::MINUS {
+        return false;
+    }
+    op <= syntax::TEXT_AT_LEAST
+}
+
+// An operator of expressions on two operands.
+fn binary(op: u32, x: Operand, y: Operand, a: &[u8], b: &[u8]) -> Operand
+    ensures { λ r. ⌜ r ≡ operand (binaryOf op (valueOf x (now (a .entry))) (valueOf y (now (b .entry)))) ⌝ }
+{
+    if is_textual(op) {
+        return texts(op, x, y, a, b);
+    }
+    if op <= syntax::AT_LEAST {
+        return integers(op, x, y, a, b);
+    }
+    if op <= syntax::EITHER {
+        return tests(op, x, y, a, b);
+    }
+    Operand::Fault
+}
+
+// The rank where the test holds, else 0.
+fn gated(x: Operand, n: usize) -> usize
+    ensures { λ r. ⌜ r ≡ pick (holdsIn x) n 0 ⌝ }
+{
+    if holds_in(x) {
+        return n;
+    }
+    0
+}
+
+// The rank of a clause's string, 0 where it is none of the compliance values.
+fn rank_of_text(y: Operand, b: &[u8], query: &[u8], values: &[usize]) -> usize
+    ensures { λ r. ⌜ r ≡ rankOf (map (counted (now (query .entry))) (now (values .entry))) (valueOf y (now (b .entry))) ⌝ }
+{
+    if is_text(y) {
+        return rank_of(query, values, b);
+    }
+    0
+}
+
+fn higher(m: usize, n: usize) -> usize
+    ensures { λ r. ⌜ r ≡ max m n ⌝ }
+{
+    if m < n {
+        return n;
+    }
+    m
+}
+
+// An operation on two operands.
+pub fn combine(
+    op: u32,
+    x: Operand,
+    y: Operand,
+    a: &[u8],
+    b: &[u8],
+    query: &[u8],
+    values: &[usize],
+) -> Operand
+    ensures { λ r. ⌜ r ≡ operand (combined (map (counted (now (query .entry))) (now (values .entry))) op (valueOf x (now (a .entry))) (valueOf y (now (b .entry)))) ⌝ }
+{
+    if op <= syntax::EITHER {
+        return binary(op, x, y, a, b);
+    }
+    if op == syntax::VALUED {
+        let n = rank_of_text(y, b, query, values);
+        return Operand::Rank { rank: gated(x, n) };
+    }
+    if op == syntax::NESTED {
+        let n = rank_in(y);
+        return Operand::Rank { rank: gated(x, n) };
+    }
+    let m = rank_in(x);
+    let n = rank_in(y);
+    Operand::Rank { rank: higher(m, n) }
+}
+
+fn convert(x: Operand, a: &[u8]) -> Operand
+    ensures { λ r. ⌜ r ≡ operand (converted (valueOf x (now (a .entry)))) ⌝ }
+{
+    if is_text(x) {
+        let i = text::to_integer(a);
+        return Operand::Number {
+            negative: i.negative,
+            size: i.size,
+        };
+    }
+    Operand::Fault
+}
+
+fn negate_operand(x: Operand, a: &[u8]) -> Operand
+    ensures { λ r. ⌜ r ≡ operand (negative (valueOf x (now (a .entry)))) ⌝ }
+{
+    if is_number(x) {
+        return negate(integer_in(x));
+    }
+    Operand::Fault
+}
+
+fn oppose(x: Operand, a: &[u8]) -> Operand
+    ensures { λ r. ⌜ r ≡ operand (not-of (valueOf x (now (a .entry)))) ⌝ }
+{
+    if is_test(x) {
+        return Operand::Test {
+            holds: opposite(holds_in(x)),
+        };
+    }
+    Operand::Fault
+}
+
+// The highest rank.
+fn top_rank(values: &[usize]) -> usize
+    ensures { λ r. ⌜ r ≡ length (now (values .entry)) - 1 ⌝ }
+{
+    if values.len() == 0 {
+        return 0;
+    }
+    values.len() - 1
+}
+
+// An operation on one operand.
+pub fn apply(op: u32, x: Operand, a: &[u8], query: &[u8], values: &[usize]) -> Operand
+    ensures { λ r. ⌜ r ≡ operand (applied (map (counted (now (query .entry))) (now (values .entry))) op (valueOf x (now (a .entry)))) ⌝ }
+{
+    if op == syntax::CONVERT {
+        return convert(x, a);
+    }
+    if op == syntax::NEGATE {
+        return negate_operand(x, a);
+    }
+    if op == syntax::OPPOSITE {
+        return oppose(x, a);
+    }
+    let n = top_rank(values);
+    Operand::Rank { rank: gated(x, n) }
+}

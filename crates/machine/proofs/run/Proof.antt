@@ -1,0 +1,114 @@
+use mathlib.Core.Path.{_≡_}
+use mathlib.Core.List.{[], map}
+use Prim.Native.Nat.{_-_, _≤_}
+use lib.ListN.{length, take}
+use Rattle.text.specs.Counted.{counted}
+use Rattle.expression.specs.Tables.{lookupIn}
+use Rattle.machine.specs.Machine.{exec, on}
+use Rattle.machine.specs.Working.Running.{execFrom, exec-start, exec-end, exec-fault, exec-more, numbers-within, bytes-within}
+use borrow.Author.Needs.{needs}
+use Rattle.machine.proofs.run.Statement.{statement}
+use Rattle.machine.proofs.run.Tie as tie
+use Rattle.machine.proofs.run.Reads as reads
+use Rattle.machine.proofs.run.Lts as lts
+use Rattle.machine.proofs.step.Reads as step-reads
+use Rattle.machine.proofs.top.Reads as top-reads
+use Rattle.machine.proofs.wide.Reads as wide-reads
+
+abbrev Inv-loop : tie.InvT-loop
+Inv-loop code s query consts values names constants stack₀ bytes₀ n₀ t₀ i₀ stack bytes n t i = (length stack ≡ length stack₀) × ((length bytes ≡ length bytes₀) × ((n ≤ length stack) × ((t ≤ length bytes) × (execFrom (length stack₀) (length bytes₀) s (lookupIn query consts values names constants) (map (counted query) values) code i (take n stack) (take t bytes) ≡ exec (length stack₀) (length bytes₀) s (lookupIn query consts values names constants) (map (counted query) values) code (on [] [])))))
+
+abbrev μ-loop : tie.MeasureT-loop
+μ-loop code s query consts values names constants stack₀ bytes₀ n₀ t₀ i₀ stack bytes n t i = length code - i
+
+-- src/lib.rt:327:5
+loop-holds : tie.Need-loop-holds Inv-loop μ-loop
+loop-holds c = (search needs, (search needs, (search needs, (search needs, search exec-start))))
+
+-- src/lib.rt:328:17
+mul-e : tie.Need-mul-e Inv-loop μ-loop
+mul-e c = search needs
+
+-- src/lib.rt:328:17
+shared-slice-read-e : tie.Need-shared-slice-read-e Inv-loop μ-loop
+shared-slice-read-e c = search needs
+
+-- src/lib.rt:329:31
+wide-requires : tie.Need-wide-requires Inv-loop μ-loop
+wide-requires c κs = search needs
+
+-- src/lib.rt:329:15
+step-requires : tie.Need-step-requires Inv-loop μ-loop
+step-requires c κs = search needs
+
+-- src/lib.rt:331:17
+enum-told : tie.Need-enum-told Inv-loop μ-loop
+enum-told c = search needs
+
+-- src/lib.rt:331:17
+same-length : tie.Need-same-length Inv-loop μ-loop
+same-length c = search needs
+
+-- src/lib.rt:331:17
+same-length-2 : tie.Need-same-length-2 Inv-loop μ-loop
+same-length-2 c = search needs
+
+-- src/lib.rt:331:17
+returns : tie.Need-returns Inv-loop μ-loop
+returns c = search exec-fault
+
+-- src/lib.rt:333:24
+enum-known-numbers : tie.Need-enum-known-numbers Inv-loop μ-loop
+enum-known-numbers c = search needs
+
+-- src/lib.rt:336:17
+add-i : tie.Need-add-i Inv-loop μ-loop
+add-i c = search needs
+
+-- src/lib.rt:327:5
+loop-less : tie.Need-loop-less Inv-loop μ-loop
+loop-less c = search needs
+
+-- src/lib.rt:327:5
+loop-again : tie.Need-loop-again Inv-loop μ-loop
+loop-again c = (search needs, (search needs, (search numbers-within, (search bytes-within, search exec-more))))
+
+-- src/lib.rt:340:5
+top-requires : tie.Need-top-requires Inv-loop μ-loop
+top-requires c κs = search needs
+
+-- src/lib.rt:311:1
+same-length-3 : tie.Need-same-length-3 Inv-loop μ-loop
+same-length-3 c = search needs
+
+-- src/lib.rt:311:1
+same-length-4 : tie.Need-same-length-4 Inv-loop μ-loop
+same-length-4 c = search needs
+
+-- src/lib.rt:311:1
+returns-2 : tie.Need-returns-2 Inv-loop μ-loop
+returns-2 c = search exec-end
+
+pub run-spec : {M : Type 1} → statement M
+run-spec =
+    tie.close
+    (tie.spec
+    Inv-loop
+    μ-loop
+    loop-holds
+    mul-e
+    shared-slice-read-e
+    wide-requires
+    step-requires
+    enum-told
+    same-length
+    same-length-2
+    returns
+    enum-known-numbers
+    add-i
+    loop-less
+    loop-again
+    top-requires
+    same-length-3
+    same-length-4
+    returns-2)

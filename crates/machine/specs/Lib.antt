@@ -1,0 +1,6 @@
+pub mod Machine
+pub mod Live
+pub mod Need
+pub mod Proper
+pub mod Working
+pub mod Theorems

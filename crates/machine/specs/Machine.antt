@@ -1,0 +1,117 @@
+-- The machine, over lists: the numbers of its operands, two each, and the bytes of its strings; the last one is on top. Assumes nothing.
+use mathlib.Core.Bool.{Bool, true, false}
+use mathlib.Core.List.{List, [], _∷_, _++_}
+use Prim.Native.Nat.{ℕ, _+_, _-_, _/_, _%_, min}
+use lib.Dec.{eqb, leb, ltb}
+use lib.ListN.{length, getD, take, drop}
+use Rattle.text.specs.Choice.{pick}
+use Rattle.text.specs.Scan.{run}
+use Rattle.text.specs.Class.{inClass, digit, word}
+use Rattle.text.specs.Digits.{value, limit}
+use Rattle.lexical.specs.Literal.{decodedAt}
+use Rattle.syntax.specs.Op.{LITERAL, NAME, NUMBER, TRUE, FALSE, LOOKUP, OPPOSITE, EITHER, BEGIN, PLAIN}
+use Rattle.expression.specs.Value.{Value, operand}
+use Rattle.expression.specs.Operands.{kindOf, sizeOf, unpacked, width, valueOf, isText}
+use Rattle.expression.specs.Integers.{ranged}
+use Rattle.expression.specs.Clauses.{RAISE, applied, combined}
+use Rattle.expression.specs.declared.value.Operand.{Operand}
+use Rattle.expression.specs.declared.value.Operand.the-variants.{Text, Number, Test, Rank, Fault}
+
+-- the two stacks; or that the machine can't go on
+pub data State : Type 0 where
+  on : List ℕ → List ℕ → State
+  stuck : State
+
+-- an operand put on top, where there is room
+unfoldable pub placed : ℕ → List ℕ → List ℕ → Operand → State
+placed depth vs bs v = pick (ltb (depth - length vs) 2) stuck (on (vs ++ (kindOf v ∷ sizeOf v ∷ [])) bs)
+
+-- a string put on top, where there is room; "string over 4,096 bytes" is a fault
+unfoldable pub textStep : ℕ → ℕ → List ℕ → List ℕ → List ℕ → State
+textStep depth room b vs bs =
+    pick (ltb 4096 (length b)) (placed depth vs bs Fault) (pick (leb (length bs + length b) room) (placed depth vs (bs ++ b) (Text (length b))) stuck)
+
+-- the operand on top, and what lies below it
+unfoldable pub topOf : List ℕ → Operand
+topOf vs = pick (ltb (length vs) 2) Fault (unpacked (getD vs (length vs - 2) 0) (getD vs (length vs - 1) 0))
+
+unfoldable pub below : List ℕ → List ℕ
+below vs = take (length vs - 2) vs
+
+-- an operation on the topmost operand
+unfoldable pub unaryOn : ℕ → List (List ℕ) → ℕ → Operand → List ℕ → List ℕ → State
+unaryOn depth vals op x vs bs =
+    pick (ltb (length bs) (width x)) stuck
+    (placed depth vs (take (length bs - width x) bs) (operand (applied vals op (valueOf x (drop (length bs - width x) bs)))))
+
+unfoldable pub unaryStep : ℕ → List (List ℕ) → ℕ → List ℕ → List ℕ → State
+unaryStep depth vals op vs bs = pick (ltb (length vs) 2) stuck (unaryOn depth vals op (topOf vs) (below vs) bs)
+
+-- "$" on the topmost operand
+unfoldable pub lookupOn : ℕ → ℕ → (List ℕ → List ℕ) → Operand → List ℕ → List ℕ → State
+lookupOn depth room look x vs bs =
+    pick (ltb (length bs) (width x)) stuck
+    (pick (isText x) (textStep depth room (look (drop (length bs - width x) bs)) vs (take (length bs - width x) bs))
+    (placed depth vs (take (length bs - width x) bs) Fault))
+
+unfoldable pub lookupStep : ℕ → ℕ → (List ℕ → List ℕ) → List ℕ → List ℕ → State
+lookupStep depth room look vs bs = pick (ltb (length vs) 2) stuck (lookupOn depth room look (topOf vs) (below vs) bs)
+
+-- an operation on two operands: a string that it gives is made of theirs and lies where they lay
+unfoldable pub settledOn : ℕ → List ℕ → List ℕ → ℕ → Operand → State
+settledOn depth vs bs base v = pick (ltb (length bs - base) (width v)) stuck (placed depth vs (take (base + width v) bs) v)
+
+unfoldable pub binaryOn : ℕ → List (List ℕ) → ℕ → Operand → Operand → List ℕ → List ℕ → State
+binaryOn depth vals op x y vs bs =
+    pick (ltb (length bs) (width y)) stuck
+    (pick (ltb (length bs - width y) (width x)) stuck
+    (settledOn depth vs bs (length bs - width y - width x)
+    (operand (combined vals op (valueOf x (drop (length bs - width y - width x) (take (length bs - width y) bs))) (valueOf y (drop (length bs - width y) bs))))))
+
+unfoldable pub binaryStep : ℕ → List (List ℕ) → ℕ → List ℕ → List ℕ → State
+binaryStep depth vals op vs bs = pick (ltb (length vs) 4) stuck (binaryOn depth vals op (topOf (below vs)) (topOf vs) (below (below vs)) bs)
+
+-- the rank on top is brought to the one below it
+unfoldable pub raised : ℕ → List (List ℕ) → State → State
+raised depth vals (on vs bs) = binaryStep depth vals RAISE vs bs
+raised depth vals stuck = stuck
+
+-- the longest part from a place on whose bytes are of a class
+unfoldable pub runAt : ℕ → List ℕ → ℕ → List ℕ
+runAt k s at = take (run (inClass k) (drop at s)) (drop at s)
+
+-- a literal, a name, a number, a test
+unfoldable pub pushStep : ℕ → ℕ → List ℕ → (List ℕ → List ℕ) → ℕ → ℕ → List ℕ → List ℕ → State
+pushStep depth room s look op at vs bs =
+    pick (eqb op LITERAL) (textStep depth room (decodedAt s at) vs bs)
+    (pick (eqb op NAME) (textStep depth room (look (runAt word s at)) vs bs)
+    (pick (eqb op NUMBER) (placed depth vs bs (operand (ranged false (min (value (runAt digit s at)) limit))))
+    (placed depth vs bs (Test (eqb op TRUE)))))
+
+-- a clause is brought to a rank, and that to its program's
+unfoldable pub clauseStep : ℕ → List (List ℕ) → ℕ → List ℕ → List ℕ → State
+clauseStep depth vals op vs bs =
+    pick (eqb op BEGIN) (placed depth vs bs (Rank 0))
+    (pick (eqb op PLAIN) (raised depth vals (unaryStep depth vals op vs bs)) (raised depth vals (binaryStep depth vals op vs bs)))
+
+-- one entry: an operation and a place
+unfoldable pub stepOf : ℕ → ℕ → List ℕ → (List ℕ → List ℕ) → List (List ℕ) → ℕ → ℕ → List ℕ → List ℕ → State
+stepOf depth room s look vals op at vs bs =
+    pick (leb op FALSE) (pushStep depth room s look op at vs bs)
+    (pick (eqb op LOOKUP) (lookupStep depth room look vs bs)
+    (pick (leb op OPPOSITE) (unaryStep depth vals op vs bs)
+    (pick (leb op EITHER) (binaryStep depth vals op vs bs) (clauseStep depth vals op vs bs))))
+
+unfoldable pub stepped : ℕ → ℕ → List ℕ → (List ℕ → List ℕ) → List (List ℕ) → ℕ → List ℕ → List ℕ → State
+stepped depth room s look vals e vs bs = stepOf depth room s look vals (e / 65536) (e % 65536) vs bs
+
+-- all entries
+unfoldable pub exec : ℕ → ℕ → List ℕ → (List ℕ → List ℕ) → List (List ℕ) → List ℕ → State → State
+exec depth room s look vals [] st = st
+exec depth room s look vals (e ∷ es) (on vs bs) = exec depth room s look vals es (stepped depth room s look vals e vs bs)
+exec depth room s look vals (e ∷ es) stuck = stuck
+
+-- the operand left
+unfoldable pub resultOf : State → Operand
+resultOf (on vs bs) = topOf vs
+resultOf stuck = Fault

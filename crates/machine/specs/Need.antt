@@ -1,0 +1,54 @@
+-- How much room Conditions need to run: operands at once, and bytes of strings. Assumes nothing.
+use mathlib.Core.Bool.{Bool, true, false}
+use Prim.Native.Nat.{ℕ, _+_, max}
+use lib.Dec.{eqb}
+use Rattle.text.specs.Choice.{pick}
+use Rattle.syntax.specs.Op.{LOOKUP, JOIN}
+use Rattle.syntax.specs.Expr.{Expr, literal, name, number, truth, unary, binary, Program, none, also, Clause, plain, valued, nested}
+
+-- operands that are on the stack at once
+unfoldable pub need : Expr → ℕ
+need (literal b) = 1
+need (name n) = 1
+need (number n) = 1
+need (truth t) = 1
+need (unary op e) = need e
+need (binary op e f) = max (need e) (1 + need f)
+
+unfoldable mutual
+  pub programNeed : Program → ℕ
+  programNeed none = 1
+  programNeed (also p q) = max (programNeed p) (1 + clauseNeed q)
+
+  pub clauseNeed : Clause → ℕ
+  clauseNeed (plain e) = need e
+  clauseNeed (valued e f) = max (need e) (1 + need f)
+  clauseNeed (nested e p) = max (need e) (1 + programNeed p)
+
+-- the bytes that an expression's value may have
+unfoldable pub span : Expr → ℕ
+span (literal b) = 4096
+span (name n) = 4096
+span (number n) = 0
+span (truth t) = 0
+span (unary op e) = pick (eqb op LOOKUP) 4096 0
+span (binary op e f) = pick (eqb op JOIN) 4096 0
+
+-- the bytes that lie on the string stack at once
+unfoldable pub room : Expr → ℕ
+room (literal b) = 4096
+room (name n) = 4096
+room (number n) = 0
+room (truth t) = 0
+room (unary op e) = max (room e) (pick (eqb op LOOKUP) 4096 0)
+room (binary op e f) = max (room e) (span e + room f)
+
+unfoldable mutual
+  pub programRoom : Program → ℕ
+  programRoom none = 0
+  programRoom (also p q) = max (programRoom p) (clauseRoom q)
+
+  pub clauseRoom : Clause → ℕ
+  clauseRoom (plain e) = room e
+  clauseRoom (valued e f) = max (room e) (span e + room f)
+  clauseRoom (nested e p) = max (room e) (span e + programRoom p)

@@ -1,0 +1,244 @@
+-- Compiled Conditions leave their rank on the stack. Assumes nothing.
+use mathlib.Core.Path.{_≡_, refl, sym, ap, _∙_}
+use mathlib.Core.Bool.{Bool, true, false}
+use mathlib.Core.List.{List, [], _∷_, _++_, map, append-assoc, append-nil}
+use Prim.Native.Nat.{ℕ, zero, suc, _+_, _-_, _*_, _/_, _%_, _<_, _≤_, min, max}
+use native.Mathlib.Omega.{arith}
+use lib.Dec.{eqb, leb}
+use lib.ListN.{length, length-append}
+use borrow.Author.Tests.{le-leb, lt-leb, eq-eqb, ne-eqb, eqb-true, eqb-false}
+use Rattle.text.specs.Choice.{pick, split}
+use Rattle.text.specs.Counted.{counted}
+use Rattle.text.specs.Digits.{value, limit}
+use Rattle.lexical.specs.Literal.{decodedAt}
+use Rattle.syntax.specs.Expr.{Expr, literal, name, number, truth, unary, binary, Program, none, also, Clause, plain, valued, nested}
+use Rattle.syntax.specs.Code.{entry, nameAt, numberAt, Codes, code-literal, code-name, code-number, code-true, code-false, code-unary, code-binary, ProgramCodes, code-none, code-also, ClauseCodes, code-plain, code-valued, code-nested}
+use Rattle.expression.specs.Value.{Value, rank, test, operand, bytesOf}
+use Rattle.expression.specs.Operands.{rankIn}
+use Rattle.expression.specs.Integers.{ranged}
+use Rattle.expression.specs.Names.{Environment, lookup}
+use Rattle.expression.specs.Operations.{held, unaryOf, binaryOf}
+use Rattle.expression.specs.Conditions.{evaluate, conditions, clause, gate, top, rankOf}
+use Rattle.expression.specs.Clauses.{applied, combined}
+use Rattle.expression.specs.Tables.{lookupIn, Shows}
+use Rattle.expression.specs.Theorems.Shown.{values-are, lookup-is as shown-is}
+use Rattle.expression.specs.declared.value.Operand.the-variants.{Rank}
+use Rattle.machine.specs.Machine.{State, on, stuck, unaryStep, lookupStep, binaryStep, raised, runAt, pushStep, clauseStep, stepOf, stepped, exec, resultOf}
+use Rattle.machine.specs.Need.{need, programNeed, clauseNeed, span, room, programRoom, clauseRoom}
+use Rattle.machine.specs.Proper.{Proper, ProgramProper, ClauseProper}
+use Rattle.machine.specs.Working.Widths.{plain-rank, plain-ranged, within-span}
+use Rattle.machine.specs.Working.Stacking.{pair, topped, count-is, top-is, place-is, text-is, unary-is, lookup-is, binary-is}
+
+need-some : (e : Expr) → 1 ≤ need e
+unfolding need
+need-some (literal b) = omega arith
+need-some (name n) = omega arith
+need-some (number n) = omega arith
+need-some (truth t) = omega arith
+need-some (unary op e) = need-some e
+need-some (binary op e f) = omega arith
+
+-- an operator on one operand is the machine's operation, but for "$"
+applied-is : (vals : List (List ℕ)) (look : List ℕ → List ℕ) (op : ℕ) (v : Value) → 5 ≤ op → op ≤ 8 → eqb op 5 ≡ false → applied vals op v ≡ unaryOf look op v
+unfolding applied unaryOf
+applied-is vals look op v l h f =
+    split (eqb op 6) (λ a. rw (f, a))
+    (λ a. split (eqb op 7) (λ b. rw (f, a, b))
+    (λ b. let n5 : op ≡ 5 → ⊥ = eqb-false op 5 f in
+    let n6 : op ≡ 6 → ⊥ = eqb-false op 6 a in
+    let n7 : op ≡ 7 → ⊥ = eqb-false op 7 b in
+    let e : op ≡ 8 = omega arith in
+    rw (f, a, b, eq-eqb op 8 e)))
+
+combined-is : (vals : List (List ℕ)) (op : ℕ) (v w : Value) → op ≤ 29 → combined vals op v w ≡ binaryOf op v w
+unfolding combined
+combined-is vals op v w h = rw (le-leb op 29 h)
+
+-- what the machine makes of a clause
+module _ (vals : List (List ℕ)) where
+  raise-is : (r m : ℕ) → combined vals 34 (rank r) (rank m) ≡ rank (max r m)
+  unfolding combined rankIn operand
+  raise-is r m = refl
+
+  plain-is : (v : Value) → applied vals 31 v ≡ rank (gate v (top vals))
+  unfolding applied
+  plain-is v = refl
+
+  valued-is : (v w : Value) → combined vals 32 v w ≡ rank (gate v (rankOf vals w))
+  unfolding combined
+  valued-is v w = refl
+
+  nested-is : (v : Value) (n : ℕ) → combined vals 33 v (rank n) ≡ rank (gate v n)
+  unfolding combined rankIn operand
+  nested-is v n = refl
+
+module _ (depth space : ℕ) (s : List ℕ) (look : List ℕ → List ℕ) (env : Environment) (same : (n : List ℕ) → look n ≡ lookup env n) where
+  abbrev run : List ℕ → State → State
+  run c st = exec depth space s look (env .values) c st
+
+  step-entry : (op at : ℕ) → at < 65536 → (rest vs bs : List ℕ) → run (entry op at ∷ rest) (on vs bs) ≡ run rest (stepOf depth space s look (env .values) op at vs bs)
+  unfolding exec stepped entry
+  step-entry op at h rest vs bs =
+      let a : (op * 65536 + at) / 65536 ≡ op = omega arith in
+      let b : (op * 65536 + at) % 65536 ≡ at = omega arith in
+      rw (a, b)
+
+  -- an entry whose step is known
+  enter : (op at : ℕ) → at < 65536 → (rest vs bs : List ℕ) (st : State) → stepOf depth space s look (env .values) op at vs bs ≡ st → run (entry op at ∷ rest) (on vs bs) ≡ run rest st
+  enter op at h rest vs bs st e = step-entry op at h rest vs bs ∙ ap (run rest) e
+
+  module _ (vs bs : List ℕ) (h : length vs + 2 ≤ depth) where
+    literal-step : (at : ℕ) → length bs + 4096 ≤ space → stepOf depth space s look (env .values) 0 at vs bs ≡ topped vs bs (held (decodedAt s at))
+    unfolding stepOf pushStep
+    literal-step at k = text-is depth vs h space bs (decodedAt s at) k
+
+    name-step : (at : ℕ) → length bs + 4096 ≤ space → stepOf depth space s look (env .values) 1 at vs bs ≡ topped vs bs (held (lookup env (nameAt s at)))
+    unfolding stepOf pushStep runAt nameAt
+    name-step at k = text-is depth vs h space bs _ k ∙ ap (λ (b : List ℕ). topped vs bs (held b)) (same _)
+
+    number-step : (at : ℕ) → stepOf depth space s look (env .values) 2 at vs bs ≡ topped vs bs (ranged false (numberAt s at))
+    unfolding stepOf pushStep runAt numberAt
+    number-step at = place-is depth vs h bs (ranged false _) (plain-ranged false _ .none)
+
+    true-step : stepOf depth space s look (env .values) 3 0 vs bs ≡ topped vs bs (test true)
+    unfolding stepOf pushStep operand bytesOf
+    true-step = place-is depth vs h bs (test true) refl
+
+    false-step : stepOf depth space s look (env .values) 4 0 vs bs ≡ topped vs bs (test false)
+    unfolding stepOf pushStep operand bytesOf
+    false-step = place-is depth vs h bs (test false) refl
+
+    begin-step : stepOf depth space s look (env .values) 30 0 vs bs ≡ topped vs bs (rank 0)
+    unfolding stepOf clauseStep operand bytesOf
+    begin-step = place-is depth vs h bs (rank 0) refl
+
+    unary-step : (op : ℕ) (v : Value) → 5 ≤ op → op ≤ 8 → (op ≡ 5 → length bs + 4096 ≤ space)
+        → stepOf depth space s look (env .values) op 0 (vs ++ pair v) (bs ++ bytesOf v) ≡ topped vs bs (unaryOf (lookup env) op v)
+    unfolding stepOf
+    unary-step op v l u k =
+        split (eqb op 5)
+        (λ f. let o : op ≡ 5 = eqb-true op 5 f in rw (lt-leb op 4 (omega arith), f) (lookup-is depth vs h space look (lookup env) same op bs v o (k o)))
+        (λ f. rw (lt-leb op 4 (omega arith), f, le-leb op 8 u)
+        (unary-is depth vs h (env .values) op bs v ∙ ap (topped vs bs) (applied-is (env .values) (lookup env) op v l u f)))
+
+    binary-step : (op : ℕ) (v w : Value) → 9 ≤ op → op ≤ 29
+        → stepOf depth space s look (env .values) op 0 ((vs ++ pair v) ++ pair w) ((bs ++ bytesOf v) ++ bytesOf w) ≡ topped vs bs (binaryOf op v w)
+    unfolding stepOf
+    binary-step op v w l u =
+        rw (lt-leb op 4 (omega arith), ne-eqb op 5 (λ z. omega arith), lt-leb op 8 (omega arith), le-leb op 29 u)
+        (binary-is depth vs h (env .values) op bs v w ∙ ap (topped vs bs) (combined-is (env .values) op v w u))
+
+    -- a clause's rank is brought to its program's
+    raise-step : (r m : ℕ) → raised depth (env .values) (topped (vs ++ pair (rank r)) (bs ++ bytesOf (rank r)) (rank m)) ≡ topped vs bs (rank (max r m))
+    unfolding raised topped
+    raise-step r m = binary-is depth vs h (env .values) 34 bs (rank r) (rank m) ∙ ap (topped vs bs) (raise-is (env .values) r m)
+
+  -- an expression's code leaves its value on top
+  pub run-expression : {e : Expr} {c : List ℕ} (k : Codes s e c) → Proper k → (rest vs bs : List ℕ) → length vs + 2 * need e ≤ depth → length bs + room e ≤ space
+      → run (c ++ rest) (on vs bs) ≡ run rest (topped vs bs (evaluate env e))
+  unfolding Proper evaluate need room topped
+  run-expression (code-literal at) p rest vs bs h k = enter 0 at p rest vs bs _ (literal-step vs bs (omega arith) at k)
+  run-expression (code-name at) p rest vs bs h k = enter 1 at p rest vs bs _ (name-step vs bs (omega arith) at k)
+  run-expression (code-number at) p rest vs bs h k = enter 2 at p rest vs bs _ (number-step vs bs (omega arith) at)
+  run-expression code-true p rest vs bs h k = enter 3 0 (omega arith) rest vs bs _ (true-step vs bs (omega arith))
+  run-expression code-false p rest vs bs h k = enter 4 0 (omega arith) rest vs bs _ (false-step vs bs (omega arith))
+  run-expression (code-unary {op = op} {e = e} {c = c} k) p rest vs bs h m =
+      let v : Value = evaluate env e in
+      let q : op ≡ 5 → length bs + 4096 ≤ space = λ o. (let m′ : length bs + max (room e) 4096 ≤ space = rw (eq-eqb op 5 o) at m in omega arith) in
+      ap (λ (l : List ℕ). run l (on vs bs)) (append-assoc c (entry op 0 ∷ []) rest)
+      ∙ run-expression k (p .1 .1) (entry op 0 ∷ rest) vs bs h (omega arith)
+      ∙ enter op 0 (omega arith) rest (vs ++ pair v) (bs ++ bytesOf v) _ (unary-step vs bs (omega (arith, need-some e)) op v (p .0) (p .1 .0) q)
+  run-expression (code-binary {op = op} {e = e} {f = f} {c = c} {d = d} k l) p rest vs bs h m =
+      let v : Value = evaluate env e in
+      let w : Value = evaluate env f in
+      ap (λ (l : List ℕ). run l (on vs bs)) (append-assoc (c ++ d) (entry op 0 ∷ []) rest ∙ append-assoc c d (entry op 0 ∷ rest))
+      ∙ run-expression k (p .1 .1 .0) (d ++ (entry op 0 ∷ rest)) vs bs (omega arith) (omega arith)
+      ∙ run-expression l (p .1 .1 .1) (entry op 0 ∷ rest) (vs ++ pair v) (bs ++ bytesOf v) (rw (count-is vs v) (omega arith))
+      (rw (length-append bs (bytesOf v)) (omega (arith, within-span env e)))
+      ∙ enter op 0 (omega arith) rest ((vs ++ pair v) ++ pair w) ((bs ++ bytesOf v) ++ bytesOf w) _ (binary-step vs bs (omega (arith, need-some e)) op v w (p .0) (p .1 .0))
+
+  -- the entries that end a clause, above the rank r of the program so far
+  module _ (vs bs : List ℕ) (h : length vs + 4 ≤ depth) (r : ℕ) where
+    abbrev vs′ : List ℕ
+    vs′ = vs ++ pair (rank r)
+
+    abbrev bs′ : List ℕ
+    bs′ = bs ++ bytesOf (rank r)
+
+    high : length vs′ + 2 ≤ depth
+    high = rw (count-is vs (rank r)) (omega arith)
+
+    plain-step : (v : Value) → stepOf depth space s look (env .values) 31 0 (vs′ ++ pair v) (bs′ ++ bytesOf v) ≡ topped vs bs (rank (max r (gate v (top (env .values)))))
+    unfolding stepOf clauseStep
+    plain-step v =
+        ap (raised depth (env .values)) (unary-is depth vs′ high (env .values) 31 bs′ v ∙ ap (topped vs′ bs′) (plain-is (env .values) v))
+        ∙ raise-step vs bs (omega arith) r (gate v (top (env .values)))
+
+    valued-step : (v w : Value)
+        → stepOf depth space s look (env .values) 32 0 ((vs′ ++ pair v) ++ pair w) ((bs′ ++ bytesOf v) ++ bytesOf w) ≡ topped vs bs (rank (max r (gate v (rankOf (env .values) w))))
+    unfolding stepOf clauseStep
+    valued-step v w =
+        ap (raised depth (env .values)) (binary-is depth vs′ high (env .values) 32 bs′ v w ∙ ap (topped vs′ bs′) (valued-is (env .values) v w))
+        ∙ raise-step vs bs (omega arith) r (gate v (rankOf (env .values) w))
+
+    nested-step : (v : Value) (n : ℕ)
+        → stepOf depth space s look (env .values) 33 0 ((vs′ ++ pair v) ++ pair (rank n)) ((bs′ ++ bytesOf v) ++ bytesOf (rank n)) ≡ topped vs bs (rank (max r (gate v n)))
+    unfolding stepOf clauseStep
+    nested-step v n =
+        ap (raised depth (env .values)) (binary-is depth vs′ high (env .values) 33 bs′ v (rank n) ∙ ap (topped vs′ bs′) (nested-is (env .values) v n))
+        ∙ raise-step vs bs (omega arith) r (gate v n)
+
+  flat : (bs : List ℕ) (r : ℕ) → length (bs ++ bytesOf (rank r)) ≡ length bs
+  flat bs r = rw (plain-rank r .none, append-nil bs)
+
+  mutual
+    unfolding ProgramProper ClauseProper conditions clause programNeed clauseNeed programRoom clauseRoom topped
+
+    -- a program's code leaves its rank on top
+    pub run-program : (p : Program) {c : List ℕ} (k : ProgramCodes s p c) → ProgramProper p k → (rest vs bs : List ℕ)
+        → length vs + 2 * programNeed p ≤ depth → length bs + programRoom p ≤ space → run (c ++ rest) (on vs bs) ≡ run rest (topped vs bs (rank (conditions env p)))
+    run-program none code-none q rest vs bs h m = enter 30 0 (omega arith) rest vs bs _ (begin-step vs bs (omega arith))
+    run-program (also p q) (code-also {c = c} {d = d} k l) pr rest vs bs h m =
+        ap (λ (x : List ℕ). run x (on vs bs)) (append-assoc c d rest)
+        ∙ run-program p k (pr .0) (d ++ rest) vs bs (omega arith) (omega arith)
+        ∙ run-clause q l (pr .1) rest vs bs (conditions env p) (omega arith) (omega arith)
+
+    run-clause : (q : Clause) {c : List ℕ} (k : ClauseCodes s q c) → ClauseProper q k → (rest vs bs : List ℕ) (r : ℕ)
+        → length vs + 2 * (1 + clauseNeed q) ≤ depth → length bs + clauseRoom q ≤ space
+        → run (c ++ rest) (topped vs bs (rank r)) ≡ run rest (topped vs bs (rank (max r (clause env q))))
+    run-clause (plain e) (code-plain {c = c} k) pr rest vs bs r h m =
+        let v : Value = evaluate env e in
+        ap (λ (x : List ℕ). run x (topped vs bs (rank r))) (append-assoc c (entry 31 0 ∷ []) rest)
+        ∙ run-expression k pr (entry 31 0 ∷ rest) (vs ++ pair (rank r)) (bs ++ bytesOf (rank r)) (rw (count-is vs (rank r)) (omega arith)) (rw (flat bs r) m)
+        ∙ enter 31 0 (omega arith) rest ((vs ++ pair (rank r)) ++ pair v) ((bs ++ bytesOf (rank r)) ++ bytesOf v) _ (plain-step vs bs (omega (arith, need-some e)) r v)
+    run-clause (valued e f) (code-valued {c = c} {d = d} k l) pr rest vs bs r h m =
+        let v : Value = evaluate env e in
+        let w : Value = evaluate env f in
+        let vs1 : List ℕ = vs ++ pair (rank r) in
+        let bs1 : List ℕ = bs ++ bytesOf (rank r) in
+        ap (λ (x : List ℕ). run x (topped vs bs (rank r))) (append-assoc (c ++ d) (entry 32 0 ∷ []) rest ∙ append-assoc c d (entry 32 0 ∷ rest))
+        ∙ run-expression k (pr .0) (d ++ (entry 32 0 ∷ rest)) vs1 bs1 (rw (count-is vs (rank r)) (omega arith)) (rw (flat bs r) (omega arith))
+        ∙ run-expression l (pr .1) (entry 32 0 ∷ rest) (vs1 ++ pair v) (bs1 ++ bytesOf v) (rw (count-is vs1 v, count-is vs (rank r)) (omega arith))
+        (rw (length-append bs1 (bytesOf v), flat bs r) (omega (arith, within-span env e)))
+        ∙ enter 32 0 (omega arith) rest ((vs1 ++ pair v) ++ pair w) ((bs1 ++ bytesOf v) ++ bytesOf w) _ (valued-step vs bs (omega (arith, need-some e)) r v w)
+    run-clause (nested e p) (code-nested {c = c} {d = d} k l) pr rest vs bs r h m =
+        let v : Value = evaluate env e in
+        let n : ℕ = conditions env p in
+        let vs1 : List ℕ = vs ++ pair (rank r) in
+        let bs1 : List ℕ = bs ++ bytesOf (rank r) in
+        ap (λ (x : List ℕ). run x (topped vs bs (rank r))) (append-assoc (c ++ d) (entry 33 0 ∷ []) rest ∙ append-assoc c d (entry 33 0 ∷ rest))
+        ∙ run-expression k (pr .0) (d ++ (entry 33 0 ∷ rest)) vs1 bs1 (rw (count-is vs (rank r)) (omega arith)) (rw (flat bs r) (omega arith))
+        ∙ run-program p l (pr .1) (entry 33 0 ∷ rest) (vs1 ++ pair v) (bs1 ++ bytesOf v) (rw (count-is vs1 v, count-is vs (rank r)) (omega arith))
+        (rw (length-append bs1 (bytesOf v), flat bs r) (omega (arith, within-span env e)))
+        ∙ enter 33 0 (omega arith) rest ((vs1 ++ pair v) ++ pair (rank n)) ((bs1 ++ bytesOf v) ++ bytesOf (rank n)) _ (nested-step vs bs (omega (arith, need-some e)) r v n)
+
+-- "Conditions": in buffers large enough the machine's result is the program's rank
+module _ {rec consts values names constants : List ℕ} {env : Environment} (shows : Shows rec consts values names constants env) (depth space : ℕ) where
+  pub run-conditions : (s : List ℕ) (p : Program) (code : List ℕ) (k : ProgramCodes s p code) → ProgramProper p k → 2 * programNeed p ≤ depth → programRoom p ≤ space
+      → resultOf (exec depth space s (lookupIn rec consts values names constants) (map (counted rec) values) code (on [] [])) ≡ Rank (conditions env p)
+  unfolding resultOf exec topped operand
+  run-conditions s p code k pr h m =
+      rw (values-are shows)
+      (ap (λ (c : List ℕ). resultOf (exec depth space s (lookupIn rec consts values names constants) (env .values) c (on [] []))) (sym (append-nil code))
+      ∙ ap resultOf (run-program depth space s (lookupIn rec consts values names constants) env (shown-is shows) p k pr [] [] [] (omega arith) (omega arith))
+      ∙ top-is [] (rank (conditions env p)))

@@ -1,0 +1,152 @@
+-- Working laws: the ways out of the functions that choose a step, and of the loop over the code. Assumes nothing.
+use mathlib.Core.Path.{_≡_, refl, sym, ap, _∙_}
+use mathlib.Core.Bool.{Bool, true, false}
+use mathlib.Core.List.{List, [], _∷_}
+use Prim.Native.Nat.{ℕ, suc, _+_, _-_, _/_, _%_, _<_, _≤_, min}
+use native.Mathlib.Omega.{arith}
+use native.Mathlib.Numerals.{add-one}
+use lib.Dec.{eqb, leb}
+use lib.ListN.{length, getD, take, drop, drop-of-length-le}
+use lib.Seq.{drop-cons}
+use borrow.Author.Tests.{le-leb, lt-leb, eq-eqb, ne-eqb}
+use Rattle.text.specs.Choice.{pick}
+use Rattle.text.specs.Digits.{value, limit}
+use Rattle.lexical.specs.Literal.{decodedAt}
+use Rattle.expression.specs.Value.{operand}
+use Rattle.expression.specs.Integers.{ranged}
+use Rattle.expression.specs.declared.value.Operand.{Operand}
+use Rattle.expression.specs.declared.value.Operand.the-variants.{Text, Number, Test, Rank, Fault}
+use Rattle.machine.specs.Machine.{State, on, stuck, placed, textStep, topOf, unaryStep, lookupStep, binaryStep, raised, runAt, pushStep, clauseStep, stepOf, stepped, exec, resultOf}
+use Rattle.machine.specs.Live.{shown, Live, landed, putAt}
+use Rattle.machine.specs.Working.Stepping.{put-live}
+use Rattle.machine.specs.declared.Tops.{Tops}
+use Rattle.machine.specs.declared.Tops.the-variants.{At, Stuck}
+
+pub live-in : (r : Tops) (st m : List ℕ) (x : State) (n t : ℕ) → r ≡ At n t → Live r st m x → (n ≤ length st) × ((t ≤ length m) × (x ≡ on (take n st) (take t m)))
+live-in r st m x n t re l =
+    let l′ : Live (At n t) st m x = rw re at l in
+    (l′ .within .0, (l′ .within .1, sym (l′ .holds)))
+
+live-out : (r : Tops) (st m : List ℕ) (x : State) → r ≡ Stuck → Live r st m x → x ≡ stuck
+live-out r st m x re l = let l′ : Live Stuck st m x = rw re at l in sym (l′ .holds)
+
+-- the ways out of `push_step`
+module _ (s : List ℕ) (look : List ℕ → List ℕ) (op at : ℕ) where
+  module _ (depth room : ℕ) (vs bs : List ℕ) (r : Tops) (st m : List ℕ) where
+    pub push-literal : op ≡ 0 → Live r st m (textStep depth room (decodedAt s at) vs bs) → Live r st m (pushStep depth room s look op at vs bs)
+    unfolding pushStep
+    push-literal h l = rw (eq-eqb op 0 h) l
+
+    module _ (n0 : op ≡ 0 → ⊥) where
+      pub push-name : op ≡ 1 → (a : List ℕ) → a ≡ runAt 2 s at → (b : List ℕ) → b ≡ look a → Live r st m (textStep depth room b vs bs) → Live r st m (pushStep depth room s look op at vs bs)
+      unfolding pushStep
+      push-name h a ae b be l = let q : b ≡ look (runAt 2 s at) = be ∙ ap look ae in rw (ne-eqb op 0 n0, eq-eqb op 1 h, ← q) l
+
+  module _ (n0 : op ≡ 0 → ⊥) (n1 : op ≡ 1 → ⊥) (room : ℕ) (st m : List ℕ) (n t : ℕ) (hn : n ≤ length st) (ht : t ≤ length m) (r : Tops) (st′ : List ℕ) where
+    pub push-number : op ≡ 2 → (a : List ℕ) → a ≡ runAt 1 s at → (k : ℕ) → k ≡ min (value a) 4294967295 → (v : Operand) → v ≡ operand (ranged false k)
+        → landed r st′ ≡ putAt st n t v → Live r st′ m (pushStep (length st) room s look op at (take n st) (take t m))
+    unfolding pushStep
+    push-number h a ae k ke v ve is =
+        let q : v ≡ operand (ranged false (min (value (runAt 1 s at)) limit)) = ve ∙ ap (λ (j : ℕ). operand (ranged false j)) (ke ∙ ap (λ (x : List ℕ). min (value x) limit) ae) in
+        rw (ne-eqb op 0 n0, ne-eqb op 1 n1, eq-eqb op 2 h, ← q) (put-live st m n t v hn ht r st′ is)
+
+    pub push-test : (op ≡ 2 → ⊥) → (b : Bool) → b ≡ eqb op 3 → landed r st′ ≡ putAt st n t (Test b) → Live r st′ m (pushStep (length st) room s look op at (take n st) (take t m))
+    unfolding pushStep
+    push-test n2 b be is = rw (ne-eqb op 0 n0, ne-eqb op 1 n1, ne-eqb op 2 n2, ← be) (put-live st m n t (Test b) hn ht r st′ is)
+
+-- the ways out of `clause_step`
+module _ (vals : List (List ℕ)) (op : ℕ) where
+  pub clause-begin : op ≡ 30 → (st m : List ℕ) (n t : ℕ) → n ≤ length st → t ≤ length m → (r : Tops) (st′ : List ℕ) → landed r st′ ≡ putAt st n t (Rank 0)
+      → Live r st′ m (clauseStep (length st) vals op (take n st) (take t m))
+  unfolding clauseStep
+  clause-begin h st m n t hn ht r st′ is = rw (eq-eqb op 30 h) (put-live st m n t (Rank 0) hn ht r st′ is)
+
+  module _ (n30 : op ≡ 30 → ⊥) (depth : ℕ) (vs bs m : List ℕ) (r : Tops) (st′ : List ℕ) where
+    module _ (h : op ≡ 31) (l : Live r st′ m (unaryStep depth vals op vs bs)) where
+      pub plain-stuck : r ≡ Stuck → Live Stuck st′ m (clauseStep depth vals op vs bs)
+      unfolding clauseStep raised
+      plain-stuck re = rw (ne-eqb op 30 n30, eq-eqb op 31 h, live-out r st′ m _ re l) (record { within = tt; holds = refl })
+
+      pub plain-raised : (n t : ℕ) → r ≡ At n t → length st′ ≡ depth → (r′ : Tops) (st″ : List ℕ) → Live r′ st″ m (binaryStep (length st′) vals 34 (take n st′) (take t m))
+          → Live r′ st″ m (clauseStep depth vals op vs bs)
+      unfolding clauseStep raised
+      plain-raised n t re de r′ st″ l′ = rw (ne-eqb op 30 n30, eq-eqb op 31 h, live-in r st′ m _ n t re l .1 .1, ← de) l′
+
+    module _ (n31 : op ≡ 31 → ⊥) (l : Live r st′ m (binaryStep depth vals op vs bs)) where
+      pub clause-stuck : r ≡ Stuck → Live Stuck st′ m (clauseStep depth vals op vs bs)
+      unfolding clauseStep raised
+      clause-stuck re = rw (ne-eqb op 30 n30, ne-eqb op 31 n31, live-out r st′ m _ re l) (record { within = tt; holds = refl })
+
+      pub clause-raised : (n t : ℕ) → r ≡ At n t → length st′ ≡ depth → (r′ : Tops) (st″ : List ℕ) → Live r′ st″ m (binaryStep (length st′) vals 34 (take n st′) (take t m))
+          → Live r′ st″ m (clauseStep depth vals op vs bs)
+      unfolding clauseStep raised
+      clause-raised n t re de r′ st″ l′ = rw (ne-eqb op 30 n30, ne-eqb op 31 n31, live-in r st′ m _ n t re l .1 .1, ← de) l′
+
+-- the ways out of `step`
+module _ (depth room : ℕ) (s : List ℕ) (look : List ℕ → List ℕ) (vals : List (List ℕ)) (op at : ℕ) (vs bs : List ℕ) (r : Tops) (st m : List ℕ) where
+  pub step-push : op ≤ 4 → Live r st m (pushStep depth room s look op at vs bs) → Live r st m (stepOf depth room s look vals op at vs bs)
+  unfolding stepOf
+  step-push h l = rw (le-leb op 4 h) l
+
+  module _ (n4 : 4 < op) where
+    pub step-lookup : op ≡ 5 → Live r st m (lookupStep depth room look vs bs) → Live r st m (stepOf depth room s look vals op at vs bs)
+    unfolding stepOf
+    step-lookup h l = rw (lt-leb op 4 n4, eq-eqb op 5 h) l
+
+    module _ (n5 : op ≡ 5 → ⊥) where
+      pub step-unary : op ≤ 8 → Live r st m (unaryStep depth vals op vs bs) → Live r st m (stepOf depth room s look vals op at vs bs)
+      unfolding stepOf
+      step-unary h l = rw (lt-leb op 4 n4, ne-eqb op 5 n5, le-leb op 8 h) l
+
+      module _ (n8 : 8 < op) where
+        pub step-binary : op ≤ 29 → Live r st m (binaryStep depth vals op vs bs) → Live r st m (stepOf depth room s look vals op at vs bs)
+        unfolding stepOf
+        step-binary h l = rw (lt-leb op 4 n4, ne-eqb op 5 n5, lt-leb op 8 n8, le-leb op 29 h) l
+
+        pub step-clause : 29 < op → Live r st m (clauseStep depth vals op vs bs) → Live r st m (stepOf depth room s look vals op at vs bs)
+        unfolding stepOf
+        step-clause h l = rw (lt-leb op 4 n4, ne-eqb op 5 n5, lt-leb op 8 n8, lt-leb op 29 h) l
+
+-- what is left of the code from i on
+unfoldable pub execFrom : ℕ → ℕ → List ℕ → (List ℕ → List ℕ) → List (List ℕ) → List ℕ → ℕ → List ℕ → List ℕ → State
+execFrom depth room s look vals code i vs bs = exec depth room s look vals (drop i code) (on vs bs)
+
+pub exec-start : (depth room : ℕ) (s : List ℕ) (look : List ℕ → List ℕ) (vals : List (List ℕ)) (code st m : List ℕ)
+    → execFrom depth room s look vals code 0 (take 0 st) (take 0 m) ≡ exec depth room s look vals code (on [] [])
+unfolding execFrom
+exec-start depth room s look vals code st m = refl
+
+exec-stuck : (depth room : ℕ) (s : List ℕ) (look : List ℕ → List ℕ) (vals : List (List ℕ)) (code : List ℕ) → exec depth room s look vals code stuck ≡ stuck
+unfolding exec
+exec-stuck depth room s look vals [] = refl
+exec-stuck depth room s look vals (e ∷ es) = refl
+
+module _ (depth room : ℕ) (s : List ℕ) (look : List ℕ → List ℕ) (vals : List (List ℕ)) (code : List ℕ) (i : ℕ) (st m : List ℕ) (n t : ℕ) (a : State)
+    (inv : execFrom depth room s look vals code i (take n st) (take t m) ≡ a) where
+  pub exec-end : length code ≤ i → (v : Operand) → v ≡ topOf (take n st) → v ≡ resultOf a
+  unfolding execFrom exec resultOf
+  exec-end h v ve = let q : on (take n st) (take t m) ≡ a = rw (drop-of-length-le code h) at inv in ve ∙ ap resultOf q
+
+  module _ (h : i < length code) (e : ℕ) (ee : e ≡ getD code i 0) (p : ℕ) (pe : p ≡ e % 65536) (de : length st ≡ depth) (me : length m ≡ room)
+      (r : Tops) (st′ m′ : List ℕ) (l : Live r st′ m′ (stepOf (length st) (length m) s look vals (e / 65536) p (take n st) (take t m))) where
+    step-is : exec depth room s look vals (drop (suc i) code) (stepOf (length st) (length m) s look vals (e / 65536) p (take n st) (take t m)) ≡ a
+    unfolding execFrom exec stepped
+    step-is = rw (de, me, pe, ee) (rw (drop-cons code i 0 h) at inv)
+
+    pub exec-fault : r ≡ Stuck → Fault ≡ resultOf a
+    unfolding resultOf
+    exec-fault re =
+        let q : stepOf (length st) (length m) s look vals (e / 65536) p (take n st) (take t m) ≡ stuck = live-out r st′ m′ _ re l in
+        let z : stuck ≡ a = sym (exec-stuck depth room s look vals (drop (suc i) code)) ∙ (rw q at step-is) in
+        ap resultOf z
+
+    pub exec-more : (n′ t′ : ℕ) → r ≡ At n′ t′ → execFrom depth room s look vals code (i + 1) (take n′ st′) (take t′ m′) ≡ a
+    unfolding execFrom
+    exec-more n′ t′ re = rw (add-one i) (rw (live-in r st′ m′ _ n′ t′ re l .1 .1) at step-is)
+
+-- the tops stay within the buffers
+pub numbers-within : (r : Tops) (st m : List ℕ) (x : State) (n t : ℕ) → r ≡ At n t → Live r st m x → n ≤ length st
+numbers-within r st m x n t re l = live-in r st m x n t re l .0
+
+pub bytes-within : (r : Tops) (st m : List ℕ) (x : State) (n t : ℕ) → r ≡ At n t → Live r st m x → t ≤ length m
+bytes-within r st m x n t re l = live-in r st m x n t re l .1 .0

@@ -1,0 +1,421 @@
+// The machine that runs compiled Conditions: a stack of operands, two numbers each, and the bytes of their strings one after the other.
+use expression::integer::in_range;
+use expression::name::lookup;
+use expression::operator::LONGEST;
+use expression::operator::RAISE;
+use expression::operator::apply;
+use expression::operator::combine;
+use expression::value::Operand;
+use expression::value::is_text;
+use expression::value::kind_of;
+use expression::value::size_of;
+use expression::value::unpack;
+use expression::value::width_of;
+use lexical::literal::decode_into;
+use lexical::literal::literal_length;
+ghost use mathlib.Core.Path.{_≡_};
+ghost use mathlib.Core.List.{[], map};
+ghost use Prim.Native.Nat.{_≤_};
+ghost use lib.Dec.{eqb};
+ghost use lib.ListN.{length, take, drop};
+ghost use Rattle.text.specs.Counted.{counted};
+ghost use Rattle.lexical.specs.Literal.{decodedAt};
+ghost use Rattle.expression.specs.Tables.{lookupIn};
+ghost use Rattle.machine.specs.Machine.{runAt, textStep, topOf, unaryStep, lookupStep, binaryOn, binaryStep, clauseStep, pushStep, stepOf, exec, resultOf, on};
+ghost use Rattle.machine.specs.Live.{Live, landed, putAt, settled};
+
+// How many numbers and bytes the stacks hold; or that the machine can't go on, the code being none or a buffer too small.
+pub enum Tops {
+    At { numbers: usize, bytes: usize },
+    Stuck,
+}
+
+fn wide(x: u32) -> usize
+    ensures { λ r. ⌜ r ≡ x ⌝ }
+{
+    x as usize
+}
+
+// The longest part from a place on whose bytes are of the class.
+fn run_at(s: &[u8], at: usize, class: u8) -> &[u8]
+    ensures { λ r. ⌜ now r ≡ runAt class (now (s .entry)) at ⌝ }
+{
+    if s.len() <= at {
+        return &s[..0];
+    }
+    let k = text::front(&s[at..], class);
+    if s.len() - at < k {
+        return &s[..0];
+    }
+    &s[at..at + k]
+}
+
+// Puts an operand on a stack of n numbers; t is where its string ends.
+fn put(stack: &mut [u64], n: usize, t: usize, v: Operand) -> Tops
+    ensures { λ r. ⌜ landed r (now (stack .exit)) ≡ putAt (now (stack .entry)) n t v ⌝ }
+{
+    if stack.len() < n {
+        return Tops::Stuck;
+    }
+    if stack.len() - n < 2 {
+        return Tops::Stuck;
+    }
+    let k = kind_of(v);
+    let m = size_of(v);
+    stack[n] = k;
+    stack[n + 1] = m;
+    Tops::At {
+        numbers: n + 2,
+        bytes: t,
+    }
+}
+
+// Puts a string on the stacks.
+fn push_text(stack: &mut [u64], n: usize, bytes: &mut [u8], t: usize, b: &[u8]) -> Tops
+    requires { ⌜ (n ≤ length (now stack)) × (t ≤ length (now bytes)) ⌝ }
+    ensures { λ r. ⌜ Live r (now (stack .exit)) (now (bytes .exit)) (textStep (length (now (stack .entry))) (length (now (bytes .entry))) (now (b .entry)) (take n (now (stack .entry))) (take t (now (bytes .entry)))) ⌝ }
+{
+    let k = b.len();
+    if LONGEST < k {
+        return put(stack, n, t, Operand::Fault);
+    }
+    if text::copy_at(bytes, t, b) {
+        return put(stack, n, t + k, Operand::Text { length: k });
+    }
+    Tops::Stuck
+}
+
+// Puts what a literal gives on the stacks.
+fn push_literal(
+    s: &[u8],
+    at: usize,
+    stack: &mut [u64],
+    n: usize,
+    bytes: &mut [u8],
+    t: usize,
+) -> Tops
+    requires { ⌜ (n ≤ length (now stack)) × (t ≤ length (now bytes)) ⌝ }
+    ensures { λ r. ⌜ Live r (now (stack .exit)) (now (bytes .exit)) (textStep (length (now (stack .entry))) (length (now (bytes .entry))) (decodedAt (now (s .entry)) at) (take n (now (stack .entry))) (take t (now (bytes .entry)))) ⌝ }
+{
+    let k = literal_length(s, at);
+    if LONGEST < k {
+        return put(stack, n, t, Operand::Fault);
+    }
+    if decode_into(s, at, bytes, t) {
+        return put(stack, n, t + k, Operand::Text { length: k });
+    }
+    Tops::Stuck
+}
+
+// The operand on top of n numbers.
+fn top(stack: &[u64], n: usize) -> Operand
+    requires { ⌜ n ≤ length (now stack) ⌝ }
+    ensures { λ r. ⌜ r ≡ topOf (take n (now (stack .entry))) ⌝ }
+{
+    if n < 2 {
+        return Operand::Fault;
+    }
+    unpack(stack[n - 2], stack[n - 1])
+}
+
+// The topmost operand gives way to what an operation makes of it.
+fn unary_step(
+    op: u32,
+    query: &[u8],
+    values: &[usize],
+    stack: &mut [u64],
+    n: usize,
+    bytes: &[u8],
+    t: usize,
+) -> Tops
+    requires { ⌜ (n ≤ length (now stack)) × (t ≤ length (now bytes)) ⌝ }
+    ensures { λ r. ⌜ Live r (now (stack .exit)) (now (bytes .entry)) (unaryStep (length (now (stack .entry))) (map (counted (now (query .entry))) (now (values .entry))) op (take n (now (stack .entry))) (take t (now (bytes .entry)))) ⌝ }
+{
+    if n < 2 {
+        return Tops::Stuck;
+    }
+    let x = top(stack, n);
+    let w = width_of(x);
+    if t < w {
+        return Tops::Stuck;
+    }
+    let v = apply(op, x, &bytes[t - w..t], query, values);
+    put(stack, n - 2, t - w, v)
+}
+
+// The topmost string gives way to the value of the name that it is.
+fn lookup_step<'a>(
+    query: &'a [u8],
+    consts: &'a [u8],
+    values: &[usize],
+    names: &[usize],
+    constants: &[usize],
+    stack: &mut [u64],
+    n: usize,
+    bytes: &mut [u8],
+    t: usize,
+) -> Tops
+    requires { ⌜ (n ≤ length (now stack)) × (t ≤ length (now bytes)) ⌝ }
+    ensures { λ r. ⌜ Live r (now (stack .exit)) (now (bytes .exit)) (lookupStep (length (now (stack .entry))) (length (now (bytes .entry))) (lookupIn (now (query .entry)) (now (consts .entry)) (now (values .entry)) (now (names .entry)) (now (constants .entry))) (take n (now (stack .entry))) (take t (now (bytes .entry)))) ⌝ }
+{
+    if n < 2 {
+        return Tops::Stuck;
+    }
+    let x = top(stack, n);
+    let w = width_of(x);
+    if t < w {
+        return Tops::Stuck;
+    }
+    if is_text(x) {
+        let b = lookup(query, consts, values, names, constants, &bytes[t - w..t]);
+        return push_text(stack, n - 2, bytes, t - w, b);
+    }
+    put(stack, n - 2, t - w, Operand::Fault)
+}
+
+// Puts an operand whose string starts at `base`, below the top t.
+fn settle(stack: &mut [u64], n: usize, t: usize, base: usize, v: Operand) -> Tops
+    ensures { λ r. ⌜ landed r (now (stack .exit)) ≡ settled (now (stack .entry)) n t base v ⌝ }
+{
+    let w = width_of(v);
+    if t < base {
+        return Tops::Stuck;
+    }
+    if t - base < w {
+        return Tops::Stuck;
+    }
+    put(stack, n, base + w, v)
+}
+
+// Two operands that stood on top give way to what an operation makes of them.
+fn binary_on(
+    op: u32,
+    x: Operand,
+    y: Operand,
+    query: &[u8],
+    values: &[usize],
+    stack: &mut [u64],
+    n: usize,
+    bytes: &[u8],
+    t: usize,
+) -> Tops
+    requires { ⌜ (n ≤ length (now stack)) × (t ≤ length (now bytes)) ⌝ }
+    ensures { λ r. ⌜ Live r (now (stack .exit)) (now (bytes .entry)) (binaryOn (length (now (stack .entry))) (map (counted (now (query .entry))) (now (values .entry))) op x y (take n (now (stack .entry))) (take t (now (bytes .entry)))) ⌝ }
+{
+    let wy = width_of(y);
+    let wx = width_of(x);
+    if t < wy {
+        return Tops::Stuck;
+    }
+    let mid = t - wy;
+    if mid < wx {
+        return Tops::Stuck;
+    }
+    let base = mid - wx;
+    let v = combine(op, x, y, &bytes[base..mid], &bytes[mid..t], query, values);
+    settle(stack, n, t, base, v)
+}
+
+// The two topmost operands give way to what an operation makes of them.
+fn binary_step(
+    op: u32,
+    query: &[u8],
+    values: &[usize],
+    stack: &mut [u64],
+    n: usize,
+    bytes: &[u8],
+    t: usize,
+) -> Tops
+    requires { ⌜ (n ≤ length (now stack)) × (t ≤ length (now bytes)) ⌝ }
+    ensures { λ r. ⌜ Live r (now (stack .exit)) (now (bytes .entry)) (binaryStep (length (now (stack .entry))) (map (counted (now (query .entry))) (now (values .entry))) op (take n (now (stack .entry))) (take t (now (bytes .entry)))) ⌝ }
+{
+    if n < 4 {
+        return Tops::Stuck;
+    }
+    let y = top(stack, n);
+    let x = top(stack, n - 2);
+    binary_on(op, x, y, query, values, stack, n - 4, bytes, t)
+}
+
+fn is_true(op: u32) -> bool
+    ensures { λ r. ⌜ r ≡ eqb op 3 ⌝ }
+{
+    op == syntax::TRUE
+}
+
+// Puts a literal, a name's value, a number or a test on the stacks.
+fn push_step<'a>(
+    op: u32,
+    at: usize,
+    s: &[u8],
+    query: &'a [u8],
+    consts: &'a [u8],
+    values: &[usize],
+    names: &[usize],
+    constants: &[usize],
+    stack: &mut [u64],
+    n: usize,
+    bytes: &mut [u8],
+    t: usize,
+) -> Tops
+    requires { ⌜ (n ≤ length (now stack)) × (t ≤ length (now bytes)) ⌝ }
+    ensures { λ r. ⌜ Live r (now (stack .exit)) (now (bytes .exit)) (pushStep (length (now (stack .entry))) (length (now (bytes .entry))) (now (s .entry)) (lookupIn (now (query .entry)) (now (consts .entry)) (now (values .entry)) (now (names .entry)) (now (constants .entry))) op at (take n (now (stack .entry))) (take t (now (bytes .entry)))) ⌝ }
+{
+    if op == syntax::LITERAL {
+        return push_literal(s, at, stack, n, bytes, t);
+    }
+    if op == syntax::NAME {
+        let b = lookup(
+            query,
+            consts,
+            values,
+            names,
+            constants,
+            run_at(s, at, text::WORD),
+        );
+        return push_text(stack, n, bytes, t, b);
+    }
+    if op == syntax::NUMBER {
+        let m = text::number(run_at(s, at, text::DIGIT));
+        return put(stack, n, t, in_range(false, m));
+    }
+    let h = is_true(op);
+    put(stack, n, t, Operand::Test { holds: h })
+}
+
+// Brings the clause on top to a rank, and that to its program's; or a program begins.
+fn clause_step(
+    op: u32,
+    query: &[u8],
+    values: &[usize],
+    stack: &mut [u64],
+    n: usize,
+    bytes: &[u8],
+    t: usize,
+) -> Tops
+    requires { ⌜ (n ≤ length (now stack)) × (t ≤ length (now bytes)) ⌝ }
+    ensures { λ r. ⌜ Live r (now (stack .exit)) (now (bytes .entry)) (clauseStep (length (now (stack .entry))) (map (counted (now (query .entry))) (now (values .entry))) op (take n (now (stack .entry))) (take t (now (bytes .entry)))) ⌝ }
+{
+    if op == syntax::BEGIN {
+        return put(stack, n, t, Operand::Rank { rank: 0 });
+    }
+    if op == syntax::PLAIN {
+        return match unary_step(op, query, values, stack, n, bytes, t) {
+            Tops::Stuck => Tops::Stuck,
+            Tops::At { numbers, bytes: b } => binary_step(
+                RAISE,
+                query,
+                values,
+                stack,
+                numbers,
+                bytes,
+                b,
+            ),
+        };
+    }
+    match binary_step(op, query, values, stack, n, bytes, t) {
+        Tops::Stuck => Tops::Stuck,
+        Tops::At { numbers, bytes: b } => binary_step(
+            RAISE,
+            query,
+            values,
+            stack,
+            numbers,
+            bytes,
+            b,
+        ),
+    }
+}
+
+// One entry: an operation and a place of the text.
+fn step<'a>(
+    op: u32,
+    at: usize,
+    s: &[u8],
+    query: &'a [u8],
+    consts: &'a [u8],
+    values: &[usize],
+    names: &[usize],
+    constants: &[usize],
+    stack: &mut [u64],
+    n: usize,
+    bytes: &mut [u8],
+    t: usize,
+) -> Tops
+    requires { ⌜ (n ≤ length (now stack)) × (t ≤ length (now bytes)) ⌝ }
+    ensures { λ r. ⌜ Live r (now (stack .exit)) (now (bytes .exit)) (stepOf (length (now (stack .entry))) (length (now (bytes .entry))) (now (s .entry)) (lookupIn (now (query .entry)) (now (consts .entry)) (now (values .entry)) (now (names .entry)) (now (constants .entry))) (map (counted (now (query .entry))) (now (values .entry))) op at (take n (now (stack .entry))) (take t (now (bytes .entry)))) ⌝ }
+{
+    if op <= syntax::FALSE {
+        return push_step(
+            op,
+            at,
+            s,
+            query,
+            consts,
+            values,
+            names,
+            constants,
+            stack,
+            n,
+            bytes,
+            t,
+        );
+    }
+    if op == syntax::LOOKUP {
+        return lookup_step(query, consts, values, names, constants, stack, n, bytes, t);
+    }
+    if op <= syntax::OPPOSITE {
+        return unary_step(op, query, values, stack, n, bytes, t);
+    }
+    if op <= syntax::EITHER {
+        return binary_step(op, query, values, stack, n, bytes, t);
+    }
+    clause_step(op, query, values, stack, n, bytes, t)
+}
+
+// Runs compiled Conditions over the assertion's text: the operand left on top, for a program its rank. Where the code is none or
+// a buffer is too small, a fault.
+pub fn run<'a>(
+    code: &[u32],
+    s: &[u8],
+    query: &'a [u8],
+    consts: &'a [u8],
+    values: &[usize],
+    names: &[usize],
+    constants: &[usize],
+    stack: &mut [u64],
+    bytes: &mut [u8],
+) -> Operand
+    ensures { λ r. ⌜ r ≡ resultOf (exec (length (now (stack .entry))) (length (now (bytes .entry))) (now (s .entry)) (lookupIn (now (query .entry)) (now (consts .entry)) (now (values .entry)) (now (names .entry)) (now (constants .entry))) (map (counted (now (query .entry))) (now (values .entry))) (now (code .entry)) (on [] [])) ⌝ }
+{
+    let mut n: usize = 0;
+    let mut t: usize = 0;
+    let mut i: usize = 0;
+    while i < code.len() {
+        let e = code[i];
+        match step(
+            e / 65536,
+            wide(e % 65536),
+            s,
+            query,
+            consts,
+            values,
+            names,
+            constants,
+            stack,
+            n,
+            bytes,
+            t,
+        ) {
+            Tops::Stuck => {
+                return Operand::Fault;
+            }
+            Tops::At { numbers, bytes: b } => {
+                n = numbers;
+                t = b;
+                i += 1;
+            }
+        }
+    }
+    top(stack, n)
+}
