@@ -1,1 +1,3 @@
 pub mod TableWays
+pub mod EmitWays
+pub mod LeafWays

@@ -1,1 +1,4 @@
+// The reader of a Conditions field: what may stand where, and the code that says what was read.
+pub mod emit;
+pub mod leaf;
 pub mod table;

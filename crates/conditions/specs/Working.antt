@@ -1,0 +1,3 @@
+-- The working definitions, which write code as the program does.
+pub mod Emit
+pub mod Leaf
