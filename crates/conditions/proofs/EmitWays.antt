@@ -74,16 +74,19 @@ module _ (m : List ℕ) (top wanted sort place : ℕ) where
       unfolding settled
       settle-false w t e = simp (le-ltb _ _ h, ne-eqb _ _ w, ne-eqb _ _ t) e
 
+pub settle-needed : (m : List ℕ) (top op sort place w : ℕ) (b : List ℕ) → w ≡ operandOf op → b ≡ settled m top w sort place → b ≡ settled m top (operandOf op) sort place
+settle-needed m top op sort place w b we be = be ∙ ap (λ (y : ℕ). settled m top y sort place) we
+
 pub unexpected-made : (t : Token) (r : ℕ) → r ≡ refusal (t .kind) → Aside r (t .start) ≡ refused t
 unfolding refused
 unexpected-made t r e = simp e
 
 module _ (m : List ℕ) (top op sort place : ℕ) (next : Token) (w : ℕ) (we : w ≡ operandOf op) (f : Bool) (fe : f ≡ fits w sort) where
-  pub finish-made : f ≡ true → (u : ℕ) (b : List ℕ) → u ≡ settledTop m top sort → b ≡ settled m top w sort place
+  pub finish-made : f ≡ true → (u : ℕ) (b : List ℕ) → u ≡ settledTop m top sort → b ≡ settled m top (operandOf op) sort place
       → (v x : ℕ) (c : List ℕ) → v ≡ above b u → c ≡ put b u op 0 → x ≡ resultOf op
       → ran (Found x 0 v next) c ≡ finishAt m top op sort place next
   unfolding finishAt
-  finish-made h u b ue be v x c ve ce xe = simp (sym we, sym fe, h, sym ue, sym be, sym ve, sym ce, sym xe)
+  finish-made h u b ue be v x c ve ce xe = simp (ap (λ (y : ℕ). fits y sort) (sym we), sym fe, h, sym ue, sym be, sym ve, sym ce, sym xe)
 
   pub finish-not : f ≡ false → (r : Out) → r ≡ refused next → ran r m ≡ finishAt m top op sort place next
   unfolding finishAt

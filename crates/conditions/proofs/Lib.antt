@@ -1,3 +1,4 @@
 pub mod TableWays
 pub mod EmitWays
 pub mod LeafWays
+pub mod ExpressionWays

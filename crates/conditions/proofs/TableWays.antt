@@ -1,9 +1,9 @@
 -- The ways out of the functions of `table` that go by a called function. Assumes nothing.
 use mathlib.Core.Path.{_≡_, sym, _∙_, ap}
 use mathlib.Core.Bool.{Bool, true, false}
-use Prim.Native.Nat.{ℕ, _+_}
+use Prim.Native.Nat.{ℕ, _+_, _<_, _≤_}
 use lib.Dec.{eqb}
-use borrow.Author.Tests.{eq-eqb, ne-eqb}
+use borrow.Author.Tests.{lt-ltb, le-ltb, eq-eqb, ne-eqb}
 use Rattle.text.specs.Choice.{pick}
 use Rattle.lexical.specs.Kind
 use Rattle.conditions.specs.Table
@@ -69,3 +69,21 @@ module _ (op x : ℕ) (xe : x ≡ Table.operandOf op) where
     pub right-number : (x ≡ Table.TEXT → ⊥) → Table.INTEGER ≡ Table.rightWant op
     unfolding Table.rightWant
     right-number h = simp (sym xe, ne-eqb _ _ n, ne-eqb _ _ h)
+
+module _ (op l : ℕ) (le : l ≡ Table.levelOf op) where
+  pub right-made : l + 1 ≡ Table.rightLevel op
+  unfolding Table.rightLevel
+  right-made = simp (sym le)
+
+  module _ (level : ℕ) (n : op ≡ Table.NONE → ⊥) where
+    pub bound-not : l < level → false ≡ Table.binds level op
+    unfolding Table.binds
+    bound-not h = simp (ne-eqb _ _ n, sym le, lt-ltb _ _ h)
+
+    pub bound-made : level ≤ l → true ≡ Table.binds level op
+    unfolding Table.binds
+    bound-made h = simp (ne-eqb _ _ n, sym le, le-ltb _ _ h)
+
+pub bound-none : (level op : ℕ) → op ≡ Table.NONE → false ≡ Table.binds level op
+unfolding Table.binds
+bound-none level op h = simp (eq-eqb _ _ h)

@@ -157,6 +157,14 @@ wantOf sort = pick (eqb sort TEST) ANY (pick (eqb sort TEXT) TEXT INTEGER)
 unfoldable pub rightWant : ℕ → ℕ
 rightWant op = wantOf (operandOf op)
 
+-- "left to right in a class": the right operand reaches to the next operator of the same level
+unfoldable pub rightLevel : ℕ → ℕ
+rightLevel op = levelOf op + 1
+
+-- does the operator belong to this level or one above?
+unfoldable pub binds : ℕ → ℕ → Bool
+binds level op = pick (eqb op NONE) false (pick (ltb (levelOf op) level) false true)
+
 -- brackets hold a whole test, or a whole string or integer
 unfoldable pub insideLevel : ℕ → ℕ
 insideLevel want = pick (eqb want ANY) 0 3

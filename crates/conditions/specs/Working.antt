@@ -1,3 +1,4 @@
 -- The working definitions, which write code as the program does.
 pub mod Emit
 pub mod Leaf
+pub mod Expression

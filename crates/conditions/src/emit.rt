@@ -12,6 +12,7 @@ use lexical::token::Token;
 use syntax;
 ghost use mathlib.Core.Path.{_≡_};
 ghost use Prim.Native.Nat.{_<_};
+ghost use Rattle.conditions.specs.Table.{operandOf};
 ghost use Rattle.conditions.specs.Working.Emit.{slotOf, above, put, settledTop, settled, ran, refused, finishAt, endedAt, valuedAt, closedAt};
 
 // What was read: its sort, the place of a bare word that is not settled yet, the end of the code, and the token behind it. Or the
@@ -79,6 +80,15 @@ pub fn settle(code: &mut [u32], top: usize, wanted: u8, sort: u8, place: usize) 
     push(code, top, syntax::FALSE, 0)
 }
 
+// Writes a bare word as what the operator takes.
+pub fn settle_for(code: &mut [u32], top: usize, op: u32, sort: u8, place: usize) -> usize
+    ensures { λ r. ⌜ r ≡ settledTop (now (code .entry)) top sort ⌝ }
+    ensures { λ _. ⌜ now (code .exit) ≡ settled (now (code .entry)) top (operandOf op) sort place ⌝ }
+{
+    let w = operand_of(op);
+    settle(code, top, w, sort, place)
+}
+
 // A token that may not stand where it stands.
 pub fn unexpected(t: Token) -> Out
     ensures { λ r. ⌜ r ≡ refused t ⌝ }
@@ -95,7 +105,7 @@ pub fn finish(code: &mut [u32], top: usize, op: u32, sort: u8, place: usize, nex
 {
     let w = operand_of(op);
     if is_fit(w, sort) {
-        let u = settle(code, top, w, sort, place);
+        let u = settle_for(code, top, op, sort, place);
         let v = push(code, u, op, 0);
         return Out::Found {
             sort: result_of(op),

@@ -3,7 +3,7 @@ use lexical::kind;
 use syntax;
 ghost use mathlib.Core.Path.{_≡_};
 ghost use Prim.Native.Nat.{_<_};
-ghost use Rattle.conditions.specs.Table.{beginsString, beginsNumber, beginsFloat, allows, refusal, comparison, numberOperator, textOperator, testOperator, operator, prefixOperator, levelOf, operandOf, resultOf, operandLevel, operandWant, rightWant, insideLevel, fits, stops};
+ghost use Rattle.conditions.specs.Table.{beginsString, beginsNumber, beginsFloat, allows, refusal, comparison, numberOperator, textOperator, testOperator, operator, prefixOperator, levelOf, operandOf, resultOf, operandLevel, operandWant, rightWant, rightLevel, binds, insideLevel, fits, stops};
 
 pub const ANY: u8 = 0;
 
@@ -328,6 +328,27 @@ pub fn right_want(op: u32) -> u8
         return TEXT;
     }
     INTEGER
+}
+
+// How far the right operand of an operator reaches.
+pub fn right_level(op: u32) -> u8
+    ensures { λ r. ⌜ r ≡ rightLevel op ⌝ }
+{
+    level_of(op) + 1
+}
+
+// Does the operator belong to this level or one above?
+pub fn is_bound(level: u8, op: u32) -> bool
+    ensures { λ r. ⌜ r ≡ binds level op ⌝ }
+{
+    if op == NONE {
+        return false;
+    }
+    let l = level_of(op);
+    if l < level {
+        return false;
+    }
+    true
 }
 
 // How far what stands in brackets reaches.
