@@ -2,3 +2,4 @@ pub mod TableWays
 pub mod EmitWays
 pub mod LeafWays
 pub mod ExpressionWays
+pub mod ProgramWays

@@ -2,3 +2,4 @@
 pub mod Emit
 pub mod Leaf
 pub mod Expression
+pub mod Program

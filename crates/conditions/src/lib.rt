@@ -2,4 +2,5 @@
 pub mod emit;
 pub mod expression;
 pub mod leaf;
+pub mod program;
 pub mod table;
