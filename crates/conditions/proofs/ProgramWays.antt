@@ -14,7 +14,8 @@ use Rattle.conditions.specs.Table.{ANY, TEST, TEXT, fits, stops}
 use Rattle.conditions.specs.Word.{nextAt}
 use Rattle.conditions.specs.Working.Emit.{Ran, ran, above, put, settledTop, settled, refused, endedAt, valuedAt}
 use Rattle.conditions.specs.Working.Expression.{exprAt}
-use Rattle.conditions.specs.Working.Program.{DEPTH, clauseAt, testedAt, valueAt, nestedAt, programAt, clauseBody, testedBody, valueBody, nestedBody, programBody, clausesAt, clausesLoop, clausesRest, lastAt, conditionsAt}
+use Rattle.conditions.specs.Program.{DEPTH}
+use Rattle.conditions.specs.Working.Program.{clauseAt, testedAt, valueAt, nestedAt, programAt, clauseBody, testedBody, valueBody, nestedBody, programBody, clausesAt, clausesLoop, clausesRest, lastAt, conditionsAt}
 use Rattle.conditions.specs.declared.emit.Out.{Out}
 use Rattle.conditions.specs.declared.emit.Out.the-variants.{Found, Aside}
 

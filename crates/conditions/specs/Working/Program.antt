@@ -10,14 +10,11 @@ use Rattle.lexical.specs.declared.token.Token.{Token}
 use Rattle.syntax.specs.Op
 use Rattle.conditions.specs.Table.{ANY, TEST, TEXT, fits, stops}
 use Rattle.conditions.specs.Word.{nextAt}
+use Rattle.conditions.specs.Program.{DEPTH}
 use Rattle.conditions.specs.Working.Emit.{Ran, ran, onFound, above, put, settledTop, settled, refused, endedAt, valuedAt}
 use Rattle.conditions.specs.Working.Expression.{exprAt}
 use Rattle.conditions.specs.declared.emit.Out.{Out}
 use Rattle.conditions.specs.declared.emit.Out.the-variants.{Found, Aside}
-
--- a depth that no text exhausts
-abbrev pub DEPTH : ℕ
-DEPTH = 2200
 
 -- code, its end, brackets, token
 abbrev pub Reader : Type 0
