@@ -3,3 +3,7 @@ pub mod Emit
 pub mod Leaf
 pub mod Expression
 pub mod Program
+pub mod Written
+pub mod Same
+pub mod TieOperand
+pub mod TieExpression
