@@ -7,3 +7,4 @@ pub mod Written
 pub mod Same
 pub mod TieOperand
 pub mod TieExpression
+pub mod TieProgram
