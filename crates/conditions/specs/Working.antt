@@ -8,3 +8,5 @@ pub mod Same
 pub mod TieOperand
 pub mod TieExpression
 pub mod TieProgram
+pub mod Pace
+pub mod Reach
