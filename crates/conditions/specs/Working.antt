@@ -10,3 +10,4 @@ pub mod TieExpression
 pub mod TieProgram
 pub mod Pace
 pub mod Reach
+pub mod PaceExpression

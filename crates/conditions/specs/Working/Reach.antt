@@ -195,3 +195,51 @@ right-wanted op b nz nm h =
     (λ e. split (eqb op Op.EITHER) (λ f. rw f (omega arith))
     (λ f. rw (below-both op (ltb-true 27 op e) high (eqb-false op Op.EITHER f)) (omega arith)))
     (λ e. absurd (takes-test op (λ z. omega (arith, z, low)) (ltb-false 27 op e) (wants-test (Table.operandOf op) h)))
+
+-- an operator is a token: where there is one, the kind is no fault's and not the end's
+abbrev Apart : ℕ → ℕ → Type 0
+Apart k o = (o ≡ 0 → ⊥) → Kind.BAD-LINE < k
+
+comparison-token : (k : ℕ) → Apart k (Table.comparison k)
+unfolding Table.comparison
+comparison-token k =
+    (chosen (Apart k) (eqb k Kind.EQUAL) _ _ (λ e n. omega (arith, eqb-true k Kind.EQUAL e))
+    (λ e. (chosen (Apart k) (eqb k Kind.UNEQUAL) _ _ (λ e n. omega (arith, eqb-true k Kind.UNEQUAL e))
+    (λ e. (chosen (Apart k) (eqb k Kind.LESS) _ _ (λ e n. omega (arith, eqb-true k Kind.LESS e))
+    (λ e. (chosen (Apart k) (eqb k Kind.GREATER) _ _ (λ e n. omega (arith, eqb-true k Kind.GREATER e))
+    (λ e. (chosen (Apart k) (eqb k Kind.AT-MOST) _ _ (λ e n. omega (arith, eqb-true k Kind.AT-MOST e))
+    (λ e. (chosen (Apart k) (eqb k Kind.AT-LEAST) _ _ (λ e n. omega (arith, eqb-true k Kind.AT-LEAST e))
+    (λ e. λ n. absurd (n refl)))))))))))))
+
+text-token : (k : ℕ) → Apart k (Table.textOperator k)
+unfolding Table.textOperator
+text-token k =
+    (chosen (Apart k) (eqb k Kind.DOT) _ _ (λ e n. omega (arith, eqb-true k Kind.DOT e))
+    (λ e. (chosen (Apart k) (eqb k Kind.MATCHES) _ _ (λ e n. omega (arith, eqb-true k Kind.MATCHES e))
+    (λ e. comparison-token k))))
+
+test-token : (k : ℕ) → Apart k (Table.testOperator k)
+unfolding Table.testOperator
+test-token k =
+    (chosen (Apart k) (eqb k Kind.AND) _ _ (λ e n. omega (arith, eqb-true k Kind.AND e))
+    (λ e. (chosen (Apart k) (eqb k Kind.OR) _ _ (λ e n. omega (arith, eqb-true k Kind.OR e))
+    (λ e. λ n. absurd (n refl)))))
+
+number-token : (k : ℕ) → Apart k (Table.numberOperator k)
+unfolding Table.numberOperator
+number-token k =
+    (chosen (Apart k) (eqb k Kind.POWER) _ _ (λ e n. omega (arith, eqb-true k Kind.POWER e))
+    (λ e. (chosen (Apart k) (eqb k Kind.TIMES) _ _ (λ e n. omega (arith, eqb-true k Kind.TIMES e))
+    (λ e. (chosen (Apart k) (eqb k Kind.DIVIDE) _ _ (λ e n. omega (arith, eqb-true k Kind.DIVIDE e))
+    (λ e. (chosen (Apart k) (eqb k Kind.REMAINDER) _ _ (λ e n. omega (arith, eqb-true k Kind.REMAINDER e))
+    (λ e. (chosen (Apart k) (eqb k Kind.PLUS) _ _ (λ e n. omega (arith, eqb-true k Kind.PLUS e))
+    (λ e. (chosen (Apart k) (eqb k Kind.MINUS) _ _ (λ e n. omega (arith, eqb-true k Kind.MINUS e))
+    (λ e. chosen (Apart k) (eqb (Table.comparison k) Table.NONE) _ _ (λ f n. absurd (n refl)) (λ f n. comparison-token k (eqb-false (Table.comparison k) Table.NONE f))))))))))))))
+
+pub operator-token : (sort k : ℕ) → (Table.operator sort k ≡ 0 → ⊥) → Kind.BAD-LINE < k
+unfolding Table.operator
+operator-token sort k =
+    chosen (Apart k) (eqb sort Table.NUMBER) _ _ (λ e. number-token k)
+    (λ e. chosen (Apart k) (eqb sort Table.TEXT) _ _ (λ f. text-token k)
+    (λ f. chosen (Apart k) (eqb (Table.testOperator k) Table.NONE) _ _
+    (λ g. chosen (Apart k) (eqb sort Table.TEST) _ _ (λ h n. absurd (n refl)) (λ h. text-token k)) (λ g. test-token k)))
