@@ -5,3 +5,4 @@ pub mod Operand
 pub mod Expression
 pub mod Program
 pub mod Working
+pub mod Compiled

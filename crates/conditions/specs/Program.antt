@@ -90,7 +90,7 @@ unfoldable mutual
 
 -- a depth that no text exhausts
 abbrev pub DEPTH : ℕ
-DEPTH = 6100
+DEPTH = 6076
 
 -- a Conditions field, from the token behind its label on
 unfoldable pub readProgram : List ℕ → Token → Parsed Program

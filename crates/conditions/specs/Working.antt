@@ -11,3 +11,4 @@ pub mod TieProgram
 pub mod Pace
 pub mod Reach
 pub mod PaceExpression
+pub mod PaceProgram

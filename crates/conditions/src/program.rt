@@ -21,7 +21,7 @@ ghost use Rattle.conditions.specs.Working.Emit.{ran};
 ghost use Rattle.conditions.specs.Working.Program.{clauseAt, testedAt, valueAt, nestedAt, programAt, clausesAt, lastAt, conditionsAt};
 
 // A depth that no text exhausts.
-pub const DEPTH: usize = 6100;
+pub const DEPTH: usize = 6076;
 
 // A clause.
 fn clause(s: &[u8], code: &mut [u32], top: usize, nest: usize, t: Token, d: usize) -> Out
