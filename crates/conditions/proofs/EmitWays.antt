@@ -1,0 +1,122 @@
+-- The ways out of the functions of `emit`. Assumes nothing.
+use mathlib.Core.Path.{_≡_, refl, sym, _∙_, ap}
+use mathlib.Core.Bool.{Bool, true, false}
+use mathlib.Core.List.{List}
+use Prim.Native.Nat.{ℕ, _+_, _*_, _<_, _≤_}
+use lib.ListN.{length, set}
+use borrow.Author.Tests.{lt-ltb, le-ltb, le-leb, lt-leb, eq-eqb, ne-eqb}
+use Rattle.lexical.specs.Kind
+use Rattle.lexical.specs.Line.{tokenAt}
+use Rattle.lexical.specs.declared.token.Token.{Token}
+use Rattle.syntax.specs.Op
+use Rattle.syntax.specs.Code.{entry}
+use Rattle.conditions.specs.Table.{TEST, TEXT, TRUE, refusal, fits, operandOf, resultOf}
+use Rattle.conditions.specs.Word.{nextAt}
+use Rattle.conditions.specs.Working.Emit.{slotOf, above, put, settledTop, settled, Ran, ran, refused, finishAt, endedAt, valuedAt, closedAt}
+use Rattle.conditions.specs.declared.emit.Out.{Out}
+use Rattle.conditions.specs.declared.emit.Out.the-variants.{Found, Aside}
+
+module _ (op at : ℕ) where
+  pub slot-far : 65536 ≤ at → 0 ≡ slotOf op at
+  unfolding slotOf
+  slot-far h = simp (le-leb _ _ h)
+
+  module _ (h : at < 65536) where
+    pub slot-no : 64 ≤ op → 0 ≡ slotOf op at
+    unfolding slotOf
+    slot-no k = simp (lt-leb _ _ h, le-leb _ _ k)
+
+    pub slot-made : (a : ℕ) → op < 64 → a ≡ at → op * 65536 + a ≡ slotOf op at
+    unfolding slotOf entry
+    slot-made a k e = simp (lt-leb _ _ h, lt-leb _ _ k, e)
+
+module _ (m : List ℕ) (top op at : ℕ) where
+  pub push-full : length m ≤ top → top ≡ above m top
+  unfolding above
+  push-full h = simp (le-leb _ _ h)
+
+  pub push-kept : length m ≤ top → m ≡ put m top op at
+  unfolding put
+  push-kept h = simp (le-leb _ _ h)
+
+  pub push-top : top < length m → top + 1 ≡ above m top
+  unfolding above
+  push-top h = simp (lt-leb _ _ h)
+
+  pub push-set : (x : ℕ) → top < length m → x ≡ slotOf op at → set m top x ≡ put m top op at
+  unfolding put
+  push-set x h e = simp (lt-leb _ _ h, e)
+
+module _ (m : List ℕ) (top wanted sort place : ℕ) where
+  pub settle-top : sort < TRUE → top ≡ settledTop m top sort
+  unfolding settledTop
+  settle-top h = simp (lt-ltb _ _ h)
+
+  pub settle-kept : sort < TRUE → m ≡ settled m top wanted sort place
+  unfolding settled
+  settle-kept h = simp (lt-ltb _ _ h)
+
+  module _ (h : TRUE ≤ sort) where
+    pub settle-above : (r : ℕ) → r ≡ above m top → r ≡ settledTop m top sort
+    unfolding settledTop
+    settle-above r e = simp (le-ltb _ _ h) e
+
+    module _ (b : List ℕ) where
+      pub settle-name : wanted ≡ TEXT → b ≡ put m top Op.NAME place → b ≡ settled m top wanted sort place
+      unfolding settled
+      settle-name w e = simp (le-ltb _ _ h, eq-eqb _ _ w) e
+
+      pub settle-true : (wanted ≡ TEXT → ⊥) → sort ≡ TRUE → b ≡ put m top Op.TRUE 0 → b ≡ settled m top wanted sort place
+      unfolding settled
+      settle-true w t e = simp (le-ltb _ _ h, ne-eqb _ _ w, eq-eqb _ _ t) e
+
+      pub settle-false : (wanted ≡ TEXT → ⊥) → (sort ≡ TRUE → ⊥) → b ≡ put m top Op.FALSE 0 → b ≡ settled m top wanted sort place
+      unfolding settled
+      settle-false w t e = simp (le-ltb _ _ h, ne-eqb _ _ w, ne-eqb _ _ t) e
+
+pub settle-needed : (m : List ℕ) (top op sort place w : ℕ) (b : List ℕ) → w ≡ operandOf op → b ≡ settled m top w sort place → b ≡ settled m top (operandOf op) sort place
+settle-needed m top op sort place w b we be = be ∙ ap (λ (y : ℕ). settled m top y sort place) we
+
+pub unexpected-made : (t : Token) (r : ℕ) → r ≡ refusal (t .kind) → Aside r (t .start) ≡ refused t
+unfolding refused
+unexpected-made t r e = simp e
+
+module _ (m : List ℕ) (top op sort place : ℕ) (next : Token) (w : ℕ) (we : w ≡ operandOf op) (f : Bool) (fe : f ≡ fits w sort) where
+  pub finish-made : f ≡ true → (u : ℕ) (b : List ℕ) → u ≡ settledTop m top sort → b ≡ settled m top (operandOf op) sort place
+      → (v x : ℕ) (c : List ℕ) → v ≡ above b u → c ≡ put b u op 0 → x ≡ resultOf op
+      → ran (Found x 0 v next) c ≡ finishAt m top op sort place next
+  unfolding finishAt
+  finish-made h u b ue be v x c ve ce xe = simp (ap (λ (y : ℕ). fits y sort) (sym we), sym fe, h, sym ue, sym be, sym ve, sym ce, sym xe)
+
+  pub finish-not : f ≡ false → (r : Out) → r ≡ refused next → ran r m ≡ finishAt m top op sort place next
+  unfolding finishAt
+  finish-not h r e = simp (sym we, sym fe, h, e)
+
+module _ (s m : List ℕ) (top op : ℕ) (t : Token) where
+  pub ended-not : (t .kind ≡ Kind.SEMICOLON → ⊥) → (r : Out) → r ≡ refused t → ran r m ≡ endedAt s m top op t
+  unfolding endedAt
+  ended-not h r e = simp (ne-eqb _ _ h, e)
+
+  pub ended-made : t .kind ≡ Kind.SEMICOLON → (u : ℕ) (b : List ℕ) (n : Token) → u ≡ above m top → b ≡ put m top op 0 → n ≡ nextAt s (t .end)
+      → ran (Found TEST 0 u n) b ≡ endedAt s m top op t
+  unfolding endedAt
+  ended-made h u b n ue be ne = simp (eq-eqb _ _ h, sym ue, sym be, sym ne)
+
+module _ (s m : List ℕ) (top sort place : ℕ) (t : Token) (f : Bool) (fe : f ≡ fits TEXT sort) where
+  pub valued-made : f ≡ true → (u : ℕ) (b : List ℕ) → u ≡ settledTop m top sort → b ≡ settled m top TEXT sort place
+      → (r : Ran) → r ≡ endedAt s b u Op.VALUED t → r ≡ valuedAt s m top sort place t
+  unfolding valuedAt
+  valued-made h u b ue be r e = simp (sym fe, h, sym ue, sym be) e
+
+  pub valued-not : f ≡ false → (r : Out) → r ≡ refused t → ran r m ≡ valuedAt s m top sort place t
+  unfolding valuedAt
+  valued-not h r e = simp (sym fe, h, e)
+
+module _ (s : List ℕ) (sort place top : ℕ) (t : Token) where
+  pub closed-not : (t .kind ≡ Kind.CLOSE → ⊥) → (r : Out) → r ≡ refused t → r ≡ closedAt s sort place top t
+  unfolding closedAt
+  closed-not h r e = simp (ne-eqb _ _ h) e
+
+  pub closed-made : t .kind ≡ Kind.CLOSE → (n : Token) → n ≡ nextAt s (t .end) → Found sort place top n ≡ closedAt s sort place top t
+  unfolding closedAt
+  closed-made h n e = simp (eq-eqb _ _ h, sym e)

@@ -1,0 +1,100 @@
+-- The ways out of the functions of `leaf`. Assumes nothing.
+use mathlib.Core.Path.{_≡_, refl, sym, _∙_, ap}
+use mathlib.Core.Bool.{Bool, true, false}
+use mathlib.Core.List.{List}
+use Prim.Native.Nat.{ℕ, _<_, _≤_}
+use lib.ListN.{length}
+use borrow.Author.Tests.{lt-ltb, le-ltb, le-leb, lt-leb, eq-eqb, ne-eqb}
+use Rattle.lexical.specs.Kind
+use Rattle.lexical.specs.Literal.{decodedAt}
+use Rattle.lexical.specs.Number.{LIMIT, numberAt}
+use Rattle.lexical.specs.Word.{spells, word-true, word-false}
+use Rattle.lexical.specs.declared.token.Token.{Token}
+use Rattle.syntax.specs.Op
+use Rattle.conditions.specs.Table.{ANY, TEXT, NUMBER, TRUE, FALSE}
+use Rattle.conditions.specs.Word.{nextAt, wordSort}
+use Rattle.conditions.specs.Working.Emit.{Ran, ran, above, put}
+use Rattle.conditions.specs.Working.Leaf.{literalRead, nameRead, digitsRead, floatRead, leafRead}
+use Rattle.conditions.specs.declared.emit.Out.{Out}
+use Rattle.conditions.specs.declared.emit.Out.the-variants.{Found, Aside}
+
+module _ (s : List ℕ) (want start end : ℕ) where
+  pub word-settled : (want ≡ ANY → ⊥) → TEXT ≡ wordSort s want start end
+  unfolding wordSort
+  word-settled h = simp (ne-eqb _ _ h)
+
+  module _ (w : want ≡ ANY) (t : Bool) (te : t ≡ spells s start end word-true) where
+    pub word-is-true : t ≡ true → TRUE ≡ wordSort s want start end
+    unfolding wordSort
+    word-is-true h = simp (eq-eqb _ _ w, sym te, h)
+
+    module _ (tn : t ≡ false) (f : Bool) (fe : f ≡ spells s start end word-false) where
+      pub word-is-false : f ≡ true → FALSE ≡ wordSort s want start end
+      unfolding wordSort
+      word-is-false h = simp (eq-eqb _ _ w, sym te, tn, sym fe, h)
+
+      pub word-other : f ≡ false → TEXT ≡ wordSort s want start end
+      unfolding wordSort
+      word-other h = simp (eq-eqb _ _ w, sym te, tn, sym fe, h)
+
+module _ (s m : List ℕ) (top : ℕ) (t : Token) where
+  module _ (n : ℕ) (ne : n ≡ length (decodedAt s (t .start))) where
+    pub literal-long : 2048 < n → ran (Aside 7 (t .start)) m ≡ literalRead s m top t
+    unfolding literalRead
+    literal-long h = simp (sym ne, lt-ltb _ _ h)
+
+    pub literal-made : n ≤ 2048 → (u : ℕ) (b : List ℕ) (x : Token) → u ≡ above m top → b ≡ put m top Op.LITERAL (t .start) → x ≡ nextAt s (t .end)
+        → ran (Found TEXT 0 u x) b ≡ literalRead s m top t
+    unfolding literalRead
+    literal-made h u b x ue be xe = simp (sym ne, le-ltb _ _ h, sym ue, sym be, sym xe)
+
+  module _ (v : ℕ) (ve : v ≡ numberAt s (t .start) (t .end)) where
+    pub digits-large : LIMIT ≤ v → ran (Aside 5 (t .start)) m ≡ digitsRead s m top t
+    unfolding digitsRead
+    digits-large h = simp (sym ve, le-leb _ _ h)
+
+    pub digits-made : v < LIMIT → (u : ℕ) (b : List ℕ) (x : Token) → u ≡ above m top → b ≡ put m top Op.NUMBER (t .start) → x ≡ nextAt s (t .end)
+        → ran (Found NUMBER 0 u x) b ≡ digitsRead s m top t
+    unfolding digitsRead
+    digits-made h u b x ue be xe = simp (sym ve, lt-leb _ _ h, sym ue, sym be, sym xe)
+
+  module _ (want w : ℕ) (we : w ≡ wordSort s want (t .start) (t .end)) (x : Token) (xe : x ≡ nextAt s (t .end)) where
+    pub name-bare : (w ≡ TEXT → ⊥) → ran (Found w (t .start) top x) m ≡ nameRead s m top want t
+    unfolding nameRead
+    name-bare h = simp (sym we, ne-eqb _ _ h, sym xe)
+
+    pub name-made : w ≡ TEXT → (u : ℕ) (b : List ℕ) → u ≡ above m top → b ≡ put m top Op.NAME (t .start) → ran (Found TEXT 0 u x) b ≡ nameRead s m top want t
+    unfolding nameRead
+    name-made h u b ue be = simp (sym we, eq-eqb _ _ h, sym ue, sym be, sym xe)
+
+module _ (row : ℕ) (t : Token) where
+  pub float-row : t .kind ≡ Kind.AMPERSAND → 16 ≤ row → Aside 7 (t .start) ≡ floatRead row t
+  unfolding floatRead
+  float-row h k = simp (eq-eqb _ _ h, le-leb _ _ k)
+
+  pub float-sign : t .kind ≡ Kind.AMPERSAND → row < 16 → Aside 8 (t .start) ≡ floatRead row t
+  unfolding floatRead
+  float-sign h k = simp (eq-eqb _ _ h, lt-leb _ _ k)
+
+  pub float-made : (t .kind ≡ Kind.AMPERSAND → ⊥) → Aside 8 (t .start) ≡ floatRead row t
+  unfolding floatRead
+  float-made h = simp (ne-eqb _ _ h)
+
+module _ (s m : List ℕ) (top want row : ℕ) (t : Token) (r : Ran) where
+  pub leaf-literal : t .kind ≡ Kind.LITERAL → r ≡ literalRead s m top t → r ≡ leafRead s m top want row t
+  unfolding leafRead
+  leaf-literal h e = simp (eq-eqb _ _ h) e
+
+  module _ (l : t .kind ≡ Kind.LITERAL → ⊥) where
+    pub leaf-name : t .kind ≡ Kind.NAME → r ≡ nameRead s m top want t → r ≡ leafRead s m top want row t
+    unfolding leafRead
+    leaf-name h e = simp (ne-eqb _ _ l, eq-eqb _ _ h) e
+
+    pub leaf-digits : (t .kind ≡ Kind.NAME → ⊥) → t .kind ≡ Kind.DIGITS → r ≡ digitsRead s m top t → r ≡ leafRead s m top want row t
+    unfolding leafRead
+    leaf-digits n h e = simp (ne-eqb _ _ l, ne-eqb _ _ n, eq-eqb _ _ h) e
+
+pub leaf-float : (s m : List ℕ) (top want row : ℕ) (t : Token) → (t .kind ≡ Kind.LITERAL → ⊥) → (t .kind ≡ Kind.NAME → ⊥) → (t .kind ≡ Kind.DIGITS → ⊥)
+    → (o : Out) → o ≡ floatRead row t → ran o m ≡ leafRead s m top want row t
+unfolding leafRead
+leaf-float s m top want row t l n d o e = simp (ne-eqb _ _ l, ne-eqb _ _ n, ne-eqb _ _ d, e)

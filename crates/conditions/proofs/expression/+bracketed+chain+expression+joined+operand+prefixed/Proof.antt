@@ -1,0 +1,1516 @@
+use Rattle.conditions.proofs.ExpressionWays.{bracketed-0, bracketed-full, bracketed-aside, bracketed-found, chain-0, chain-start, chain-match, chain-aside, chain-stuck, chain-more, chain-other, chain-end, expr-0, expr-aside, expr-found, joined-0, joined-aside, joined-found, operand-0, operand-prefixed, operand-bracketed, operand-leaf, operand-not, prefixed-0, prefixed-row, prefixed-aside, prefixed-found}
+use mathlib.Core.Path.{_≡_}
+use Prim.Native.Nat.{_-_}
+use lib.ListN.{length}
+use Rattle.conditions.specs.Working.Expression.{chainRest, chainAt}
+use borrow.Author.Needs.{needs}
+use Prim.Native.Nat.{ℕ, _<_}
+use borrow.Fn.Kinds.{In}
+use borrow.Fn.PlainCycle.{Measures, is, falls, and}
+use Rattle.conditions.proofs.expression.bracketed.Reads as bracketed
+use Rattle.conditions.proofs.expression.bracketed.Kinds as bracketed-kinds
+use Rattle.conditions.proofs.expression.+bracketed+chain+expression+joined+operand+prefixed.Lts-bracketed as bracketed-lts
+use Rattle.conditions.proofs.expression.chain.Reads as chain
+use Rattle.conditions.proofs.expression.chain.Kinds as chain-kinds
+use Rattle.conditions.proofs.expression.+bracketed+chain+expression+joined+operand+prefixed.Lts-chain as chain-lts
+use Rattle.conditions.proofs.expression.expression.Reads as expression
+use Rattle.conditions.proofs.expression.expression.Kinds as expression-kinds
+use Rattle.conditions.proofs.expression.+bracketed+chain+expression+joined+operand+prefixed.Lts-expression as expression-lts
+use Rattle.conditions.proofs.expression.joined.Reads as joined
+use Rattle.conditions.proofs.expression.joined.Kinds as joined-kinds
+use Rattle.conditions.proofs.expression.+bracketed+chain+expression+joined+operand+prefixed.Lts-joined as joined-lts
+use Rattle.conditions.proofs.expression.operand.Reads as operand
+use Rattle.conditions.proofs.expression.operand.Kinds as operand-kinds
+use Rattle.conditions.proofs.expression.+bracketed+chain+expression+joined+operand+prefixed.Lts-operand as operand-lts
+use Rattle.conditions.proofs.expression.prefixed.Reads as prefixed
+use Rattle.conditions.proofs.expression.prefixed.Kinds as prefixed-kinds
+use Rattle.conditions.proofs.expression.+bracketed+chain+expression+joined+operand+prefixed.Lts-prefixed as prefixed-lts
+use Rattle.conditions.proofs.emit.closed.Reads as closed-reads
+use Rattle.conditions.proofs.emit.finish.Reads as finish-reads
+use Rattle.conditions.proofs.emit.settle_for.Reads as settle-for-reads
+use Rattle.conditions.proofs.emit.unexpected.Reads as unexpected-reads
+use Rattle.conditions.proofs.leaf.leaf.Reads as leaf-reads
+use Rattle.conditions.proofs.table.inside_level.Reads as inside-level-reads
+use Rattle.conditions.proofs.table.is_allowed.Reads as is-allowed-reads
+use Rattle.conditions.proofs.table.is_bound.Reads as is-bound-reads
+use Rattle.conditions.proofs.table.operand_level.Reads as operand-level-reads
+use Rattle.conditions.proofs.table.operand_want.Reads as operand-want-reads
+use Rattle.conditions.proofs.table.operator_of.Reads as operator-of-reads
+use Rattle.conditions.proofs.table.prefix_operator.Reads as prefix-operator-reads
+use Rattle.conditions.proofs.table.right_level.Reads as right-level-reads
+use Rattle.conditions.proofs.table.right_want.Reads as right-want-reads
+use Rattle.lexical.proofs.line.token_at.Reads as token-at-reads
+use Rattle.conditions.proofs.expression.+bracketed+chain+expression+joined+operand+prefixed.{
+  statement,
+}
+use Rattle.conditions.proofs.expression.+bracketed+chain+expression+joined+operand+prefixed.Tie.{
+  close,
+}
+
+abbrev μ-bracketed : Measures 2 bracketed-kinds.ps ℕ
+μ-bracketed κs a = a .1 .1 .1 .1 .1 .1 .0
+
+abbrev μ-chain : Measures 2 chain-kinds.ps ℕ
+μ-chain κs a = a .1 .1 .1 .1 .1 .1 .1 .1 .0
+
+abbrev μ-expression : Measures 2 expression-kinds.ps ℕ
+μ-expression κs a = a .1 .1 .1 .1 .1 .1 .1 .1 .0
+
+abbrev μ-joined : Measures 2 joined-kinds.ps ℕ
+μ-joined κs a = a .1 .1 .1 .1 .1 .1 .1 .1 .0
+
+abbrev μ-operand : Measures 2 operand-kinds.ps ℕ
+μ-operand κs a = a .1 .1 .1 .1 .1 .1 .1 .0
+
+abbrev μ-prefixed : Measures 2 prefixed-kinds.ps ℕ
+μ-prefixed κs a = a .1 .1 .1 .1 .1 .1 .1 .1 .0
+
+abbrev bracketed-at : ℕ → In 2 bracketed-kinds.ps
+bracketed-at t = and 2 bracketed-kinds.ps (is 2 bracketed-kinds.ps μ-bracketed t) bracketed.Pre
+
+abbrev bracketed-below : ℕ → In 2 bracketed-kinds.ps
+bracketed-below t =
+    and 2 bracketed-kinds.ps (falls 2 bracketed-kinds.ps _<_ μ-bracketed t) bracketed.Pre
+
+abbrev chain-at : ℕ → In 2 chain-kinds.ps
+chain-at t = and 2 chain-kinds.ps (is 2 chain-kinds.ps μ-chain t) chain.Pre
+
+abbrev chain-below : ℕ → In 2 chain-kinds.ps
+chain-below t = and 2 chain-kinds.ps (falls 2 chain-kinds.ps _<_ μ-chain t) chain.Pre
+
+abbrev expression-at : ℕ → In 2 expression-kinds.ps
+expression-at t =
+    and 2 expression-kinds.ps (is 2 expression-kinds.ps μ-expression t) expression.Pre
+
+abbrev expression-below : ℕ → In 2 expression-kinds.ps
+expression-below t =
+    and 2 expression-kinds.ps (falls 2 expression-kinds.ps _<_ μ-expression t) expression.Pre
+
+abbrev joined-at : ℕ → In 2 joined-kinds.ps
+joined-at t = and 2 joined-kinds.ps (is 2 joined-kinds.ps μ-joined t) joined.Pre
+
+abbrev joined-below : ℕ → In 2 joined-kinds.ps
+joined-below t = and 2 joined-kinds.ps (falls 2 joined-kinds.ps _<_ μ-joined t) joined.Pre
+
+abbrev operand-at : ℕ → In 2 operand-kinds.ps
+operand-at t = and 2 operand-kinds.ps (is 2 operand-kinds.ps μ-operand t) operand.Pre
+
+abbrev operand-below : ℕ → In 2 operand-kinds.ps
+operand-below t = and 2 operand-kinds.ps (falls 2 operand-kinds.ps _<_ μ-operand t) operand.Pre
+
+abbrev prefixed-at : ℕ → In 2 prefixed-kinds.ps
+prefixed-at t = and 2 prefixed-kinds.ps (is 2 prefixed-kinds.ps μ-prefixed t) prefixed.Pre
+
+abbrev prefixed-below : ℕ → In 2 prefixed-kinds.ps
+prefixed-below t =
+    and 2 prefixed-kinds.ps (falls 2 prefixed-kinds.ps _<_ μ-prefixed t) prefixed.Pre
+
+-- src/expression.rt:109:9
+bracketed-returns : (t : ℕ) → bracketed-lts.Need-returns (
+  token-at-reads.Asked,
+  token-at-reads.Learnt,
+  inside-level-reads.Asked,
+  inside-level-reads.Learnt,
+  expression-below t,
+  expression.Post,
+  closed-reads.Asked,
+  closed-reads.Learnt,
+) (bracketed-at t) bracketed.Post
+bracketed-returns t c = search bracketed-0
+
+-- src/expression.rt:115:9
+bracketed-returns-2 : (t : ℕ) → bracketed-lts.Need-returns-2 (
+  token-at-reads.Asked,
+  token-at-reads.Learnt,
+  inside-level-reads.Asked,
+  inside-level-reads.Learnt,
+  expression-below t,
+  expression.Post,
+  closed-reads.Asked,
+  closed-reads.Learnt,
+) (bracketed-at t) bracketed.Post
+bracketed-returns-2 t c = search bracketed-full
+
+-- src/expression.rt:120:9
+bracketed-token-at-requires : (t : ℕ) → bracketed-lts.Need-token-at-requires (
+  token-at-reads.Asked,
+  token-at-reads.Learnt,
+  inside-level-reads.Asked,
+  inside-level-reads.Learnt,
+  expression-below t,
+  expression.Post,
+  closed-reads.Asked,
+  closed-reads.Learnt,
+) (bracketed-at t) bracketed.Post
+bracketed-token-at-requires t c κs = search needs
+
+-- src/expression.rt:121:9
+bracketed-inside-level-requires : (t : ℕ) → bracketed-lts.Need-inside-level-requires (
+  token-at-reads.Asked,
+  token-at-reads.Learnt,
+  inside-level-reads.Asked,
+  inside-level-reads.Learnt,
+  expression-below t,
+  expression.Post,
+  closed-reads.Asked,
+  closed-reads.Learnt,
+) (bracketed-at t) bracketed.Post
+bracketed-inside-level-requires t c κs = search needs
+
+-- src/expression.rt:122:48
+bracketed-add-expression : (t : ℕ) → bracketed-lts.Need-add-expression (
+  token-at-reads.Asked,
+  token-at-reads.Learnt,
+  inside-level-reads.Asked,
+  inside-level-reads.Learnt,
+  expression-below t,
+  expression.Post,
+  closed-reads.Asked,
+  closed-reads.Learnt,
+) (bracketed-at t) bracketed.Post
+bracketed-add-expression t c = search needs
+
+-- src/expression.rt:122:61
+bracketed-sub-expression : (t : ℕ) → bracketed-lts.Need-sub-expression (
+  token-at-reads.Asked,
+  token-at-reads.Learnt,
+  inside-level-reads.Asked,
+  inside-level-reads.Learnt,
+  expression-below t,
+  expression.Post,
+  closed-reads.Asked,
+  closed-reads.Learnt,
+) (bracketed-at t) bracketed.Post
+bracketed-sub-expression t c = search needs
+
+-- src/expression.rt:122:11
+bracketed-expression-requires : (t : ℕ) → bracketed-lts.Need-expression-requires (
+  token-at-reads.Asked,
+  token-at-reads.Learnt,
+  inside-level-reads.Asked,
+  inside-level-reads.Learnt,
+  expression-below t,
+  expression.Post,
+  closed-reads.Asked,
+  closed-reads.Learnt,
+) (bracketed-at t) bracketed.Post
+bracketed-expression-requires t c κs = search needs
+
+-- src/expression.rt:123:22
+bracketed-enum-known-reason : (t : ℕ) → bracketed-lts.Need-enum-known-reason (
+  token-at-reads.Asked,
+  token-at-reads.Learnt,
+  inside-level-reads.Asked,
+  inside-level-reads.Learnt,
+  expression-below t,
+  expression.Post,
+  closed-reads.Asked,
+  closed-reads.Learnt,
+) (bracketed-at t) bracketed.Post
+bracketed-enum-known-reason t c = search needs
+
+-- src/expression.rt:125:13
+bracketed-enum-known-sort : (t : ℕ) → bracketed-lts.Need-enum-known-sort (
+  token-at-reads.Asked,
+  token-at-reads.Learnt,
+  inside-level-reads.Asked,
+  inside-level-reads.Learnt,
+  expression-below t,
+  expression.Post,
+  closed-reads.Asked,
+  closed-reads.Learnt,
+) (bracketed-at t) bracketed.Post
+bracketed-enum-known-sort t c = search needs
+
+-- src/expression.rt:129:14
+bracketed-closed-requires : (t : ℕ) → bracketed-lts.Need-closed-requires (
+  token-at-reads.Asked,
+  token-at-reads.Learnt,
+  inside-level-reads.Asked,
+  inside-level-reads.Learnt,
+  expression-below t,
+  expression.Post,
+  closed-reads.Asked,
+  closed-reads.Learnt,
+) (bracketed-at t) bracketed.Post
+bracketed-closed-requires t c κs = search needs
+
+-- src/expression.rt:105:1
+bracketed-same-length : (t : ℕ) → bracketed-lts.Need-same-length (
+  token-at-reads.Asked,
+  token-at-reads.Learnt,
+  inside-level-reads.Asked,
+  inside-level-reads.Learnt,
+  expression-below t,
+  expression.Post,
+  closed-reads.Asked,
+  closed-reads.Learnt,
+) (bracketed-at t) bracketed.Post
+bracketed-same-length t c = search needs
+
+-- src/expression.rt:105:1
+bracketed-returns-3 : (t : ℕ) → bracketed-lts.Need-returns-3 (
+  token-at-reads.Asked,
+  token-at-reads.Learnt,
+  inside-level-reads.Asked,
+  inside-level-reads.Learnt,
+  expression-below t,
+  expression.Post,
+  closed-reads.Asked,
+  closed-reads.Learnt,
+) (bracketed-at t) bracketed.Post
+bracketed-returns-3 t c = search bracketed-aside
+
+-- src/expression.rt:105:1
+bracketed-same-length-2 : (t : ℕ) → bracketed-lts.Need-same-length-2 (
+  token-at-reads.Asked,
+  token-at-reads.Learnt,
+  inside-level-reads.Asked,
+  inside-level-reads.Learnt,
+  expression-below t,
+  expression.Post,
+  closed-reads.Asked,
+  closed-reads.Learnt,
+) (bracketed-at t) bracketed.Post
+bracketed-same-length-2 t c = search needs
+
+-- src/expression.rt:105:1
+bracketed-returns-4 : (t : ℕ) → bracketed-lts.Need-returns-4 (
+  token-at-reads.Asked,
+  token-at-reads.Learnt,
+  inside-level-reads.Asked,
+  inside-level-reads.Learnt,
+  expression-below t,
+  expression.Post,
+  closed-reads.Asked,
+  closed-reads.Learnt,
+) (bracketed-at t) bracketed.Post
+bracketed-returns-4 t c = search bracketed-found
+
+abbrev chain-Inv-loop : chain-lts.InvT-loop
+chain-Inv-loop s code₀ from level nest before spot d sort₀ place₀ top₀ t₀ code sort place top t =
+    (length code ≡ length code₀) × (chainRest (d - 1) s code top level nest sort place t ≡ chainAt d s code₀ from level nest before spot t₀)
+
+abbrev chain-μ-loop : chain-lts.MeasureT-loop
+chain-μ-loop s code₀ from level nest before spot d sort₀ place₀ top₀ t₀ code sort place top t = length s - t .start
+
+-- src/expression.rt:138:9
+chain-returns : (t : ℕ) → chain-lts.Need-returns (
+  operator-of-reads.Asked,
+  operator-of-reads.Learnt,
+  is-bound-reads.Asked,
+  is-bound-reads.Learnt,
+  joined-below t,
+  joined.Post,
+) (chain-at t) chain.Post chain-Inv-loop chain-μ-loop
+chain-returns t c = search chain-0
+
+-- src/expression.rt:147:5
+chain-loop-holds : (t : ℕ) → chain-lts.Need-loop-holds (
+  operator-of-reads.Asked,
+  operator-of-reads.Learnt,
+  is-bound-reads.Asked,
+  is-bound-reads.Learnt,
+  joined-below t,
+  joined.Post,
+) (chain-at t) chain.Post chain-Inv-loop chain-μ-loop
+chain-loop-holds t c = (search needs, search chain-start)
+
+-- src/expression.rt:148:13
+chain-operator-of-requires : (t : ℕ) → chain-lts.Need-operator-of-requires (
+  operator-of-reads.Asked,
+  operator-of-reads.Learnt,
+  is-bound-reads.Asked,
+  is-bound-reads.Learnt,
+  joined-below t,
+  joined.Post,
+) (chain-at t) chain.Post chain-Inv-loop chain-μ-loop
+chain-operator-of-requires t c κs = search needs
+
+-- src/expression.rt:149:12
+chain-is-bound-requires : (t : ℕ) → chain-lts.Need-is-bound-requires (
+  operator-of-reads.Asked,
+  operator-of-reads.Learnt,
+  is-bound-reads.Asked,
+  is-bound-reads.Learnt,
+  joined-below t,
+  joined.Post,
+) (chain-at t) chain.Post chain-Inv-loop chain-μ-loop
+chain-is-bound-requires t c κs = search needs
+
+-- src/expression.rt:151:17
+chain-same-length : (t : ℕ) → chain-lts.Need-same-length (
+  operator-of-reads.Asked,
+  operator-of-reads.Learnt,
+  is-bound-reads.Asked,
+  is-bound-reads.Learnt,
+  joined-below t,
+  joined.Post,
+) (chain-at t) chain.Post chain-Inv-loop chain-μ-loop
+chain-same-length t c = search needs
+
+-- src/expression.rt:151:17
+chain-returns-2 : (t : ℕ) → chain-lts.Need-returns-2 (
+  operator-of-reads.Asked,
+  operator-of-reads.Learnt,
+  is-bound-reads.Asked,
+  is-bound-reads.Learnt,
+  joined-below t,
+  joined.Post,
+) (chain-at t) chain.Post chain-Inv-loop chain-μ-loop
+chain-returns-2 t c = search chain-match
+
+-- src/expression.rt:156:69
+chain-sub-joined : (t : ℕ) → chain-lts.Need-sub-joined (
+  operator-of-reads.Asked,
+  operator-of-reads.Learnt,
+  is-bound-reads.Asked,
+  is-bound-reads.Learnt,
+  joined-below t,
+  joined.Post,
+) (chain-at t) chain.Post chain-Inv-loop chain-μ-loop
+chain-sub-joined t c = search needs
+
+-- src/expression.rt:156:19
+chain-joined-requires : (t : ℕ) → chain-lts.Need-joined-requires (
+  operator-of-reads.Asked,
+  operator-of-reads.Learnt,
+  is-bound-reads.Asked,
+  is-bound-reads.Learnt,
+  joined-below t,
+  joined.Post,
+) (chain-at t) chain.Post chain-Inv-loop chain-μ-loop
+chain-joined-requires t c κs = search needs
+
+-- src/expression.rt:157:30
+chain-enum-known-reason : (t : ℕ) → chain-lts.Need-enum-known-reason (
+  operator-of-reads.Asked,
+  operator-of-reads.Learnt,
+  is-bound-reads.Asked,
+  is-bound-reads.Learnt,
+  joined-below t,
+  joined.Post,
+) (chain-at t) chain.Post chain-Inv-loop chain-μ-loop
+chain-enum-known-reason t c = search needs
+
+-- src/expression.rt:158:21
+chain-same-length-2 : (t : ℕ) → chain-lts.Need-same-length-2 (
+  operator-of-reads.Asked,
+  operator-of-reads.Learnt,
+  is-bound-reads.Asked,
+  is-bound-reads.Learnt,
+  joined-below t,
+  joined.Post,
+) (chain-at t) chain.Post chain-Inv-loop chain-μ-loop
+chain-same-length-2 t c = search needs
+
+-- src/expression.rt:158:21
+chain-returns-3 : (t : ℕ) → chain-lts.Need-returns-3 (
+  operator-of-reads.Asked,
+  operator-of-reads.Learnt,
+  is-bound-reads.Asked,
+  is-bound-reads.Learnt,
+  joined-below t,
+  joined.Post,
+) (chain-at t) chain.Post chain-Inv-loop chain-μ-loop
+chain-returns-3 t c = search chain-aside
+
+-- src/expression.rt:161:27
+chain-enum-known-x : (t : ℕ) → chain-lts.Need-enum-known-x (
+  operator-of-reads.Asked,
+  operator-of-reads.Learnt,
+  is-bound-reads.Asked,
+  is-bound-reads.Learnt,
+  joined-below t,
+  joined.Post,
+) (chain-at t) chain.Post chain-Inv-loop chain-μ-loop
+chain-enum-known-x t c = search needs
+
+-- src/expression.rt:167:25
+chain-same-length-3 : (t : ℕ) → chain-lts.Need-same-length-3 (
+  operator-of-reads.Asked,
+  operator-of-reads.Learnt,
+  is-bound-reads.Asked,
+  is-bound-reads.Learnt,
+  joined-below t,
+  joined.Post,
+) (chain-at t) chain.Post chain-Inv-loop chain-μ-loop
+chain-same-length-3 t c = search needs
+
+-- src/expression.rt:167:25
+chain-returns-4 : (t : ℕ) → chain-lts.Need-returns-4 (
+  operator-of-reads.Asked,
+  operator-of-reads.Learnt,
+  is-bound-reads.Asked,
+  is-bound-reads.Learnt,
+  joined-below t,
+  joined.Post,
+) (chain-at t) chain.Post chain-Inv-loop chain-μ-loop
+chain-returns-4 t c = search chain-stuck
+
+-- src/expression.rt:147:5
+chain-loop-less : (t : ℕ) → chain-lts.Need-loop-less (
+  operator-of-reads.Asked,
+  operator-of-reads.Learnt,
+  is-bound-reads.Asked,
+  is-bound-reads.Learnt,
+  joined-below t,
+  joined.Post,
+) (chain-at t) chain.Post chain-Inv-loop chain-μ-loop
+chain-loop-less t c = search needs
+
+-- src/expression.rt:147:5
+chain-loop-again : (t : ℕ) → chain-lts.Need-loop-again (
+  operator-of-reads.Asked,
+  operator-of-reads.Learnt,
+  is-bound-reads.Asked,
+  is-bound-reads.Learnt,
+  joined-below t,
+  joined.Post,
+) (chain-at t) chain.Post chain-Inv-loop chain-μ-loop
+chain-loop-again t c = (search needs, search chain-more)
+
+-- src/expression.rt:179:13
+chain-same-length-4 : (t : ℕ) → chain-lts.Need-same-length-4 (
+  operator-of-reads.Asked,
+  operator-of-reads.Learnt,
+  is-bound-reads.Asked,
+  is-bound-reads.Learnt,
+  joined-below t,
+  joined.Post,
+) (chain-at t) chain.Post chain-Inv-loop chain-μ-loop
+chain-same-length-4 t c = search needs
+
+-- src/expression.rt:179:13
+chain-returns-5 : (t : ℕ) → chain-lts.Need-returns-5 (
+  operator-of-reads.Asked,
+  operator-of-reads.Learnt,
+  is-bound-reads.Asked,
+  is-bound-reads.Learnt,
+  joined-below t,
+  joined.Post,
+) (chain-at t) chain.Post chain-Inv-loop chain-μ-loop
+chain-returns-5 t c = search chain-other
+
+-- src/expression.rt:134:1
+chain-same-length-5 : (t : ℕ) → chain-lts.Need-same-length-5 (
+  operator-of-reads.Asked,
+  operator-of-reads.Learnt,
+  is-bound-reads.Asked,
+  is-bound-reads.Learnt,
+  joined-below t,
+  joined.Post,
+) (chain-at t) chain.Post chain-Inv-loop chain-μ-loop
+chain-same-length-5 t c = search needs
+
+-- src/expression.rt:134:1
+chain-returns-6 : (t : ℕ) → chain-lts.Need-returns-6 (
+  operator-of-reads.Asked,
+  operator-of-reads.Learnt,
+  is-bound-reads.Asked,
+  is-bound-reads.Learnt,
+  joined-below t,
+  joined.Post,
+) (chain-at t) chain.Post chain-Inv-loop chain-μ-loop
+chain-returns-6 t c = search chain-end
+
+-- src/expression.rt:35:9
+expression-returns : (t : ℕ) → expression-lts.Need-returns (
+  operand-below t,
+  operand.Post,
+  chain-below t,
+  chain.Post,
+) (expression-at t) expression.Post
+expression-returns t c = search expr-0
+
+-- src/expression.rt:40:53
+expression-sub-operand : (t : ℕ) → expression-lts.Need-sub-operand (
+  operand-below t,
+  operand.Post,
+  chain-below t,
+  chain.Post,
+) (expression-at t) expression.Post
+expression-sub-operand t c = search needs
+
+-- src/expression.rt:40:11
+expression-operand-requires : (t : ℕ) → expression-lts.Need-operand-requires (
+  operand-below t,
+  operand.Post,
+  chain-below t,
+  chain.Post,
+) (expression-at t) expression.Post
+expression-operand-requires t c κs = search needs
+
+-- src/expression.rt:41:22
+expression-enum-known-reason : (t : ℕ) → expression-lts.Need-enum-known-reason (
+  operand-below t,
+  operand.Post,
+  chain-below t,
+  chain.Post,
+) (expression-at t) expression.Post
+expression-enum-known-reason t c = search needs
+
+-- src/expression.rt:43:13
+expression-enum-known-sort : (t : ℕ) → expression-lts.Need-enum-known-sort (
+  operand-below t,
+  operand.Post,
+  chain-below t,
+  chain.Post,
+) (expression-at t) expression.Post
+expression-enum-known-sort t c = search needs
+
+-- src/expression.rt:47:64
+expression-sub-chain : (t : ℕ) → expression-lts.Need-sub-chain (
+  operand-below t,
+  operand.Post,
+  chain-below t,
+  chain.Post,
+) (expression-at t) expression.Post
+expression-sub-chain t c = search needs
+
+-- src/expression.rt:47:14
+expression-chain-requires : (t : ℕ) → expression-lts.Need-chain-requires (
+  operand-below t,
+  operand.Post,
+  chain-below t,
+  chain.Post,
+) (expression-at t) expression.Post
+expression-chain-requires t c κs = search needs
+
+-- src/expression.rt:31:1
+expression-same-length : (t : ℕ) → expression-lts.Need-same-length (
+  operand-below t,
+  operand.Post,
+  chain-below t,
+  chain.Post,
+) (expression-at t) expression.Post
+expression-same-length t c = search needs
+
+-- src/expression.rt:31:1
+expression-returns-2 : (t : ℕ) → expression-lts.Need-returns-2 (
+  operand-below t,
+  operand.Post,
+  chain-below t,
+  chain.Post,
+) (expression-at t) expression.Post
+expression-returns-2 t c = search expr-aside
+
+-- src/expression.rt:31:1
+expression-same-length-2 : (t : ℕ) → expression-lts.Need-same-length-2 (
+  operand-below t,
+  operand.Post,
+  chain-below t,
+  chain.Post,
+) (expression-at t) expression.Post
+expression-same-length-2 t c = search needs
+
+-- src/expression.rt:31:1
+expression-returns-3 : (t : ℕ) → expression-lts.Need-returns-3 (
+  operand-below t,
+  operand.Post,
+  chain-below t,
+  chain.Post,
+) (expression-at t) expression.Post
+expression-returns-3 t c = search expr-found
+
+-- src/expression.rt:200:9
+joined-returns : (t : ℕ) → joined-lts.Need-returns (
+  settle-for-reads.Asked,
+  settle-for-reads.Learnt,
+  token-at-reads.Asked,
+  token-at-reads.Learnt,
+  right-level-reads.Asked,
+  right-level-reads.Learnt,
+  right-want-reads.Asked,
+  right-want-reads.Learnt,
+  expression-below t,
+  expression.Post,
+  finish-reads.Asked,
+  finish-reads.Learnt,
+) (joined-at t) joined.Post
+joined-returns t c = search joined-0
+
+-- src/expression.rt:202:9
+joined-settle-for-requires : (t : ℕ) → joined-lts.Need-settle-for-requires (
+  settle-for-reads.Asked,
+  settle-for-reads.Learnt,
+  token-at-reads.Asked,
+  token-at-reads.Learnt,
+  right-level-reads.Asked,
+  right-level-reads.Learnt,
+  right-want-reads.Asked,
+  right-want-reads.Learnt,
+  expression-below t,
+  expression.Post,
+  finish-reads.Asked,
+  finish-reads.Learnt,
+) (joined-at t) joined.Post
+joined-settle-for-requires t c κs = search needs
+
+-- src/expression.rt:203:9
+joined-token-at-requires : (t : ℕ) → joined-lts.Need-token-at-requires (
+  settle-for-reads.Asked,
+  settle-for-reads.Learnt,
+  token-at-reads.Asked,
+  token-at-reads.Learnt,
+  right-level-reads.Asked,
+  right-level-reads.Learnt,
+  right-want-reads.Asked,
+  right-want-reads.Learnt,
+  expression-below t,
+  expression.Post,
+  finish-reads.Asked,
+  finish-reads.Learnt,
+) (joined-at t) joined.Post
+joined-token-at-requires t c κs = search needs
+
+-- src/expression.rt:204:9
+joined-right-level-requires : (t : ℕ) → joined-lts.Need-right-level-requires (
+  settle-for-reads.Asked,
+  settle-for-reads.Learnt,
+  token-at-reads.Asked,
+  token-at-reads.Learnt,
+  right-level-reads.Asked,
+  right-level-reads.Learnt,
+  right-want-reads.Asked,
+  right-want-reads.Learnt,
+  expression-below t,
+  expression.Post,
+  finish-reads.Asked,
+  finish-reads.Learnt,
+) (joined-at t) joined.Post
+joined-right-level-requires t c κs = search needs
+
+-- src/expression.rt:205:9
+joined-right-want-requires : (t : ℕ) → joined-lts.Need-right-want-requires (
+  settle-for-reads.Asked,
+  settle-for-reads.Learnt,
+  token-at-reads.Asked,
+  token-at-reads.Learnt,
+  right-level-reads.Asked,
+  right-level-reads.Learnt,
+  right-want-reads.Asked,
+  right-want-reads.Learnt,
+  expression-below t,
+  expression.Post,
+  finish-reads.Asked,
+  finish-reads.Learnt,
+) (joined-at t) joined.Post
+joined-right-want-requires t c κs = search needs
+
+-- src/expression.rt:206:52
+joined-sub-expression : (t : ℕ) → joined-lts.Need-sub-expression (
+  settle-for-reads.Asked,
+  settle-for-reads.Learnt,
+  token-at-reads.Asked,
+  token-at-reads.Learnt,
+  right-level-reads.Asked,
+  right-level-reads.Learnt,
+  right-want-reads.Asked,
+  right-want-reads.Learnt,
+  expression-below t,
+  expression.Post,
+  finish-reads.Asked,
+  finish-reads.Learnt,
+) (joined-at t) joined.Post
+joined-sub-expression t c = search needs
+
+-- src/expression.rt:206:11
+joined-expression-requires : (t : ℕ) → joined-lts.Need-expression-requires (
+  settle-for-reads.Asked,
+  settle-for-reads.Learnt,
+  token-at-reads.Asked,
+  token-at-reads.Learnt,
+  right-level-reads.Asked,
+  right-level-reads.Learnt,
+  right-want-reads.Asked,
+  right-want-reads.Learnt,
+  expression-below t,
+  expression.Post,
+  finish-reads.Asked,
+  finish-reads.Learnt,
+) (joined-at t) joined.Post
+joined-expression-requires t c κs = search needs
+
+-- src/expression.rt:207:22
+joined-enum-known-reason : (t : ℕ) → joined-lts.Need-enum-known-reason (
+  settle-for-reads.Asked,
+  settle-for-reads.Learnt,
+  token-at-reads.Asked,
+  token-at-reads.Learnt,
+  right-level-reads.Asked,
+  right-level-reads.Learnt,
+  right-want-reads.Asked,
+  right-want-reads.Learnt,
+  expression-below t,
+  expression.Post,
+  finish-reads.Asked,
+  finish-reads.Learnt,
+) (joined-at t) joined.Post
+joined-enum-known-reason t c = search needs
+
+-- src/expression.rt:209:19
+joined-enum-known-x : (t : ℕ) → joined-lts.Need-enum-known-x (
+  settle-for-reads.Asked,
+  settle-for-reads.Learnt,
+  token-at-reads.Asked,
+  token-at-reads.Learnt,
+  right-level-reads.Asked,
+  right-level-reads.Learnt,
+  right-want-reads.Asked,
+  right-want-reads.Learnt,
+  expression-below t,
+  expression.Post,
+  finish-reads.Asked,
+  finish-reads.Learnt,
+) (joined-at t) joined.Post
+joined-enum-known-x t c = search needs
+
+-- src/expression.rt:213:14
+joined-finish-requires : (t : ℕ) → joined-lts.Need-finish-requires (
+  settle-for-reads.Asked,
+  settle-for-reads.Learnt,
+  token-at-reads.Asked,
+  token-at-reads.Learnt,
+  right-level-reads.Asked,
+  right-level-reads.Learnt,
+  right-want-reads.Asked,
+  right-want-reads.Learnt,
+  expression-below t,
+  expression.Post,
+  finish-reads.Asked,
+  finish-reads.Learnt,
+) (joined-at t) joined.Post
+joined-finish-requires t c κs = search needs
+
+-- src/expression.rt:196:1
+joined-same-length : (t : ℕ) → joined-lts.Need-same-length (
+  settle-for-reads.Asked,
+  settle-for-reads.Learnt,
+  token-at-reads.Asked,
+  token-at-reads.Learnt,
+  right-level-reads.Asked,
+  right-level-reads.Learnt,
+  right-want-reads.Asked,
+  right-want-reads.Learnt,
+  expression-below t,
+  expression.Post,
+  finish-reads.Asked,
+  finish-reads.Learnt,
+) (joined-at t) joined.Post
+joined-same-length t c = search needs
+
+-- src/expression.rt:196:1
+joined-returns-2 : (t : ℕ) → joined-lts.Need-returns-2 (
+  settle-for-reads.Asked,
+  settle-for-reads.Learnt,
+  token-at-reads.Asked,
+  token-at-reads.Learnt,
+  right-level-reads.Asked,
+  right-level-reads.Learnt,
+  right-want-reads.Asked,
+  right-want-reads.Learnt,
+  expression-below t,
+  expression.Post,
+  finish-reads.Asked,
+  finish-reads.Learnt,
+) (joined-at t) joined.Post
+joined-returns-2 t c = search joined-aside
+
+-- src/expression.rt:196:1
+joined-same-length-2 : (t : ℕ) → joined-lts.Need-same-length-2 (
+  settle-for-reads.Asked,
+  settle-for-reads.Learnt,
+  token-at-reads.Asked,
+  token-at-reads.Learnt,
+  right-level-reads.Asked,
+  right-level-reads.Learnt,
+  right-want-reads.Asked,
+  right-want-reads.Learnt,
+  expression-below t,
+  expression.Post,
+  finish-reads.Asked,
+  finish-reads.Learnt,
+) (joined-at t) joined.Post
+joined-same-length-2 t c = search needs
+
+-- src/expression.rt:196:1
+joined-returns-3 : (t : ℕ) → joined-lts.Need-returns-3 (
+  settle-for-reads.Asked,
+  settle-for-reads.Learnt,
+  token-at-reads.Asked,
+  token-at-reads.Learnt,
+  right-level-reads.Asked,
+  right-level-reads.Learnt,
+  right-want-reads.Asked,
+  right-want-reads.Learnt,
+  expression-below t,
+  expression.Post,
+  finish-reads.Asked,
+  finish-reads.Learnt,
+) (joined-at t) joined.Post
+joined-returns-3 t c = search joined-found
+
+-- src/expression.rt:56:9
+operand-returns : (t : ℕ) → operand-lts.Need-returns (
+  is-allowed-reads.Asked,
+  is-allowed-reads.Learnt,
+  prefix-operator-reads.Asked,
+  prefix-operator-reads.Learnt,
+  prefixed-below t,
+  prefixed.Post,
+  bracketed-below t,
+  bracketed.Post,
+  leaf-reads.Asked,
+  leaf-reads.Learnt,
+  unexpected-reads.Asked,
+  unexpected-reads.Learnt,
+) (operand-at t) operand.Post
+operand-returns t c = search operand-0
+
+-- src/expression.rt:61:8
+operand-is-allowed-requires : (t : ℕ) → operand-lts.Need-is-allowed-requires (
+  is-allowed-reads.Asked,
+  is-allowed-reads.Learnt,
+  prefix-operator-reads.Asked,
+  prefix-operator-reads.Learnt,
+  prefixed-below t,
+  prefixed.Post,
+  bracketed-below t,
+  bracketed.Post,
+  leaf-reads.Asked,
+  leaf-reads.Learnt,
+  unexpected-reads.Asked,
+  unexpected-reads.Learnt,
+) (operand-at t) operand.Post
+operand-is-allowed-requires t c κs = search needs
+
+-- src/expression.rt:62:13
+operand-prefix-operator-requires : (t : ℕ) → operand-lts.Need-prefix-operator-requires (
+  is-allowed-reads.Asked,
+  is-allowed-reads.Learnt,
+  prefix-operator-reads.Asked,
+  prefix-operator-reads.Learnt,
+  prefixed-below t,
+  prefixed.Post,
+  bracketed-below t,
+  bracketed.Post,
+  leaf-reads.Asked,
+  leaf-reads.Learnt,
+  unexpected-reads.Asked,
+  unexpected-reads.Learnt,
+) (operand-at t) operand.Post
+operand-prefix-operator-requires t c κs = search needs
+
+-- src/expression.rt:64:66
+operand-sub-prefixed : (t : ℕ) → operand-lts.Need-sub-prefixed (
+  is-allowed-reads.Asked,
+  is-allowed-reads.Learnt,
+  prefix-operator-reads.Asked,
+  prefix-operator-reads.Learnt,
+  prefixed-below t,
+  prefixed.Post,
+  bracketed-below t,
+  bracketed.Post,
+  leaf-reads.Asked,
+  leaf-reads.Learnt,
+  unexpected-reads.Asked,
+  unexpected-reads.Learnt,
+) (operand-at t) operand.Post
+operand-sub-prefixed t c = search needs
+
+-- src/expression.rt:64:13
+operand-prefixed-requires : (t : ℕ) → operand-lts.Need-prefixed-requires (
+  is-allowed-reads.Asked,
+  is-allowed-reads.Learnt,
+  prefix-operator-reads.Asked,
+  prefix-operator-reads.Learnt,
+  prefixed-below t,
+  prefixed.Post,
+  bracketed-below t,
+  bracketed.Post,
+  leaf-reads.Asked,
+  leaf-reads.Learnt,
+  unexpected-reads.Asked,
+  unexpected-reads.Learnt,
+) (operand-at t) operand.Post
+operand-prefixed-requires t c κs = search needs
+
+-- src/expression.rt:64:13
+operand-same-length : (t : ℕ) → operand-lts.Need-same-length (
+  is-allowed-reads.Asked,
+  is-allowed-reads.Learnt,
+  prefix-operator-reads.Asked,
+  prefix-operator-reads.Learnt,
+  prefixed-below t,
+  prefixed.Post,
+  bracketed-below t,
+  bracketed.Post,
+  leaf-reads.Asked,
+  leaf-reads.Learnt,
+  unexpected-reads.Asked,
+  unexpected-reads.Learnt,
+) (operand-at t) operand.Post
+operand-same-length t c = search needs
+
+-- src/expression.rt:64:13
+operand-returns-2 : (t : ℕ) → operand-lts.Need-returns-2 (
+  is-allowed-reads.Asked,
+  is-allowed-reads.Learnt,
+  prefix-operator-reads.Asked,
+  prefix-operator-reads.Learnt,
+  prefixed-below t,
+  prefixed.Post,
+  bracketed-below t,
+  bracketed.Post,
+  leaf-reads.Asked,
+  leaf-reads.Learnt,
+  unexpected-reads.Asked,
+  unexpected-reads.Learnt,
+) (operand-at t) operand.Post
+operand-returns-2 t c = search operand-prefixed
+
+-- src/expression.rt:67:59
+operand-sub-bracketed : (t : ℕ) → operand-lts.Need-sub-bracketed (
+  is-allowed-reads.Asked,
+  is-allowed-reads.Learnt,
+  prefix-operator-reads.Asked,
+  prefix-operator-reads.Learnt,
+  prefixed-below t,
+  prefixed.Post,
+  bracketed-below t,
+  bracketed.Post,
+  leaf-reads.Asked,
+  leaf-reads.Learnt,
+  unexpected-reads.Asked,
+  unexpected-reads.Learnt,
+) (operand-at t) operand.Post
+operand-sub-bracketed t c = search needs
+
+-- src/expression.rt:67:13
+operand-bracketed-requires : (t : ℕ) → operand-lts.Need-bracketed-requires (
+  is-allowed-reads.Asked,
+  is-allowed-reads.Learnt,
+  prefix-operator-reads.Asked,
+  prefix-operator-reads.Learnt,
+  prefixed-below t,
+  prefixed.Post,
+  bracketed-below t,
+  bracketed.Post,
+  leaf-reads.Asked,
+  leaf-reads.Learnt,
+  unexpected-reads.Asked,
+  unexpected-reads.Learnt,
+) (operand-at t) operand.Post
+operand-bracketed-requires t c κs = search needs
+
+-- src/expression.rt:67:13
+operand-same-length-2 : (t : ℕ) → operand-lts.Need-same-length-2 (
+  is-allowed-reads.Asked,
+  is-allowed-reads.Learnt,
+  prefix-operator-reads.Asked,
+  prefix-operator-reads.Learnt,
+  prefixed-below t,
+  prefixed.Post,
+  bracketed-below t,
+  bracketed.Post,
+  leaf-reads.Asked,
+  leaf-reads.Learnt,
+  unexpected-reads.Asked,
+  unexpected-reads.Learnt,
+) (operand-at t) operand.Post
+operand-same-length-2 t c = search needs
+
+-- src/expression.rt:67:13
+operand-returns-3 : (t : ℕ) → operand-lts.Need-returns-3 (
+  is-allowed-reads.Asked,
+  is-allowed-reads.Learnt,
+  prefix-operator-reads.Asked,
+  prefix-operator-reads.Learnt,
+  prefixed-below t,
+  prefixed.Post,
+  bracketed-below t,
+  bracketed.Post,
+  leaf-reads.Asked,
+  leaf-reads.Learnt,
+  unexpected-reads.Asked,
+  unexpected-reads.Learnt,
+) (operand-at t) operand.Post
+operand-returns-3 t c = search operand-bracketed
+
+-- src/expression.rt:69:9
+operand-leaf-requires : (t : ℕ) → operand-lts.Need-leaf-requires (
+  is-allowed-reads.Asked,
+  is-allowed-reads.Learnt,
+  prefix-operator-reads.Asked,
+  prefix-operator-reads.Learnt,
+  prefixed-below t,
+  prefixed.Post,
+  bracketed-below t,
+  bracketed.Post,
+  leaf-reads.Asked,
+  leaf-reads.Learnt,
+  unexpected-reads.Asked,
+  unexpected-reads.Learnt,
+) (operand-at t) operand.Post
+operand-leaf-requires t c κs = search needs
+
+-- src/expression.rt:69:9
+operand-same-length-3 : (t : ℕ) → operand-lts.Need-same-length-3 (
+  is-allowed-reads.Asked,
+  is-allowed-reads.Learnt,
+  prefix-operator-reads.Asked,
+  prefix-operator-reads.Learnt,
+  prefixed-below t,
+  prefixed.Post,
+  bracketed-below t,
+  bracketed.Post,
+  leaf-reads.Asked,
+  leaf-reads.Learnt,
+  unexpected-reads.Asked,
+  unexpected-reads.Learnt,
+) (operand-at t) operand.Post
+operand-same-length-3 t c = search needs
+
+-- src/expression.rt:69:9
+operand-returns-4 : (t : ℕ) → operand-lts.Need-returns-4 (
+  is-allowed-reads.Asked,
+  is-allowed-reads.Learnt,
+  prefix-operator-reads.Asked,
+  prefix-operator-reads.Learnt,
+  prefixed-below t,
+  prefixed.Post,
+  bracketed-below t,
+  bracketed.Post,
+  leaf-reads.Asked,
+  leaf-reads.Learnt,
+  unexpected-reads.Asked,
+  unexpected-reads.Learnt,
+) (operand-at t) operand.Post
+operand-returns-4 t c = search operand-leaf
+
+-- src/expression.rt:71:5
+operand-unexpected-requires : (t : ℕ) → operand-lts.Need-unexpected-requires (
+  is-allowed-reads.Asked,
+  is-allowed-reads.Learnt,
+  prefix-operator-reads.Asked,
+  prefix-operator-reads.Learnt,
+  prefixed-below t,
+  prefixed.Post,
+  bracketed-below t,
+  bracketed.Post,
+  leaf-reads.Asked,
+  leaf-reads.Learnt,
+  unexpected-reads.Asked,
+  unexpected-reads.Learnt,
+) (operand-at t) operand.Post
+operand-unexpected-requires t c κs = search needs
+
+-- src/expression.rt:52:1
+operand-returns-5 : (t : ℕ) → operand-lts.Need-returns-5 (
+  is-allowed-reads.Asked,
+  is-allowed-reads.Learnt,
+  prefix-operator-reads.Asked,
+  prefix-operator-reads.Learnt,
+  prefixed-below t,
+  prefixed.Post,
+  bracketed-below t,
+  bracketed.Post,
+  leaf-reads.Asked,
+  leaf-reads.Learnt,
+  unexpected-reads.Asked,
+  unexpected-reads.Learnt,
+) (operand-at t) operand.Post
+operand-returns-5 t c = search operand-not
+
+-- src/expression.rt:79:9
+prefixed-returns : (t : ℕ) → prefixed-lts.Need-returns (
+  token-at-reads.Asked,
+  token-at-reads.Learnt,
+  operand-level-reads.Asked,
+  operand-level-reads.Learnt,
+  operand-want-reads.Asked,
+  operand-want-reads.Learnt,
+  expression-below t,
+  expression.Post,
+  finish-reads.Asked,
+  finish-reads.Learnt,
+) (prefixed-at t) prefixed.Post
+prefixed-returns t c = search prefixed-0
+
+-- src/expression.rt:85:9
+prefixed-returns-2 : (t : ℕ) → prefixed-lts.Need-returns-2 (
+  token-at-reads.Asked,
+  token-at-reads.Learnt,
+  operand-level-reads.Asked,
+  operand-level-reads.Learnt,
+  operand-want-reads.Asked,
+  operand-want-reads.Learnt,
+  expression-below t,
+  expression.Post,
+  finish-reads.Asked,
+  finish-reads.Learnt,
+) (prefixed-at t) prefixed.Post
+prefixed-returns-2 t c = search prefixed-row
+
+-- src/expression.rt:90:9
+prefixed-token-at-requires : (t : ℕ) → prefixed-lts.Need-token-at-requires (
+  token-at-reads.Asked,
+  token-at-reads.Learnt,
+  operand-level-reads.Asked,
+  operand-level-reads.Learnt,
+  operand-want-reads.Asked,
+  operand-want-reads.Learnt,
+  expression-below t,
+  expression.Post,
+  finish-reads.Asked,
+  finish-reads.Learnt,
+) (prefixed-at t) prefixed.Post
+prefixed-token-at-requires t c κs = search needs
+
+-- src/expression.rt:91:9
+prefixed-operand-level-requires : (t : ℕ) → prefixed-lts.Need-operand-level-requires (
+  token-at-reads.Asked,
+  token-at-reads.Learnt,
+  operand-level-reads.Asked,
+  operand-level-reads.Learnt,
+  operand-want-reads.Asked,
+  operand-want-reads.Learnt,
+  expression-below t,
+  expression.Post,
+  finish-reads.Asked,
+  finish-reads.Learnt,
+) (prefixed-at t) prefixed.Post
+prefixed-operand-level-requires t c κs = search needs
+
+-- src/expression.rt:92:9
+prefixed-operand-want-requires : (t : ℕ) → prefixed-lts.Need-operand-want-requires (
+  token-at-reads.Asked,
+  token-at-reads.Learnt,
+  operand-level-reads.Asked,
+  operand-level-reads.Learnt,
+  operand-want-reads.Asked,
+  operand-want-reads.Learnt,
+  expression-below t,
+  expression.Post,
+  finish-reads.Asked,
+  finish-reads.Learnt,
+) (prefixed-at t) prefixed.Post
+prefixed-operand-want-requires t c κs = search needs
+
+-- src/expression.rt:93:42
+prefixed-add-expression : (t : ℕ) → prefixed-lts.Need-add-expression (
+  token-at-reads.Asked,
+  token-at-reads.Learnt,
+  operand-level-reads.Asked,
+  operand-level-reads.Learnt,
+  operand-want-reads.Asked,
+  operand-want-reads.Learnt,
+  expression-below t,
+  expression.Post,
+  finish-reads.Asked,
+  finish-reads.Learnt,
+) (prefixed-at t) prefixed.Post
+prefixed-add-expression t c = search needs
+
+-- src/expression.rt:93:60
+prefixed-sub-expression : (t : ℕ) → prefixed-lts.Need-sub-expression (
+  token-at-reads.Asked,
+  token-at-reads.Learnt,
+  operand-level-reads.Asked,
+  operand-level-reads.Learnt,
+  operand-want-reads.Asked,
+  operand-want-reads.Learnt,
+  expression-below t,
+  expression.Post,
+  finish-reads.Asked,
+  finish-reads.Learnt,
+) (prefixed-at t) prefixed.Post
+prefixed-sub-expression t c = search needs
+
+-- src/expression.rt:93:11
+prefixed-expression-requires : (t : ℕ) → prefixed-lts.Need-expression-requires (
+  token-at-reads.Asked,
+  token-at-reads.Learnt,
+  operand-level-reads.Asked,
+  operand-level-reads.Learnt,
+  operand-want-reads.Asked,
+  operand-want-reads.Learnt,
+  expression-below t,
+  expression.Post,
+  finish-reads.Asked,
+  finish-reads.Learnt,
+) (prefixed-at t) prefixed.Post
+prefixed-expression-requires t c κs = search needs
+
+-- src/expression.rt:94:22
+prefixed-enum-known-reason : (t : ℕ) → prefixed-lts.Need-enum-known-reason (
+  token-at-reads.Asked,
+  token-at-reads.Learnt,
+  operand-level-reads.Asked,
+  operand-level-reads.Learnt,
+  operand-want-reads.Asked,
+  operand-want-reads.Learnt,
+  expression-below t,
+  expression.Post,
+  finish-reads.Asked,
+  finish-reads.Learnt,
+) (prefixed-at t) prefixed.Post
+prefixed-enum-known-reason t c = search needs
+
+-- src/expression.rt:96:13
+prefixed-enum-known-sort : (t : ℕ) → prefixed-lts.Need-enum-known-sort (
+  token-at-reads.Asked,
+  token-at-reads.Learnt,
+  operand-level-reads.Asked,
+  operand-level-reads.Learnt,
+  operand-want-reads.Asked,
+  operand-want-reads.Learnt,
+  expression-below t,
+  expression.Post,
+  finish-reads.Asked,
+  finish-reads.Learnt,
+) (prefixed-at t) prefixed.Post
+prefixed-enum-known-sort t c = search needs
+
+-- src/expression.rt:100:14
+prefixed-finish-requires : (t : ℕ) → prefixed-lts.Need-finish-requires (
+  token-at-reads.Asked,
+  token-at-reads.Learnt,
+  operand-level-reads.Asked,
+  operand-level-reads.Learnt,
+  operand-want-reads.Asked,
+  operand-want-reads.Learnt,
+  expression-below t,
+  expression.Post,
+  finish-reads.Asked,
+  finish-reads.Learnt,
+) (prefixed-at t) prefixed.Post
+prefixed-finish-requires t c κs = search needs
+
+-- src/expression.rt:75:1
+prefixed-same-length : (t : ℕ) → prefixed-lts.Need-same-length (
+  token-at-reads.Asked,
+  token-at-reads.Learnt,
+  operand-level-reads.Asked,
+  operand-level-reads.Learnt,
+  operand-want-reads.Asked,
+  operand-want-reads.Learnt,
+  expression-below t,
+  expression.Post,
+  finish-reads.Asked,
+  finish-reads.Learnt,
+) (prefixed-at t) prefixed.Post
+prefixed-same-length t c = search needs
+
+-- src/expression.rt:75:1
+prefixed-returns-3 : (t : ℕ) → prefixed-lts.Need-returns-3 (
+  token-at-reads.Asked,
+  token-at-reads.Learnt,
+  operand-level-reads.Asked,
+  operand-level-reads.Learnt,
+  operand-want-reads.Asked,
+  operand-want-reads.Learnt,
+  expression-below t,
+  expression.Post,
+  finish-reads.Asked,
+  finish-reads.Learnt,
+) (prefixed-at t) prefixed.Post
+prefixed-returns-3 t c = search prefixed-aside
+
+-- src/expression.rt:75:1
+prefixed-same-length-2 : (t : ℕ) → prefixed-lts.Need-same-length-2 (
+  token-at-reads.Asked,
+  token-at-reads.Learnt,
+  operand-level-reads.Asked,
+  operand-level-reads.Learnt,
+  operand-want-reads.Asked,
+  operand-want-reads.Learnt,
+  expression-below t,
+  expression.Post,
+  finish-reads.Asked,
+  finish-reads.Learnt,
+) (prefixed-at t) prefixed.Post
+prefixed-same-length-2 t c = search needs
+
+-- src/expression.rt:75:1
+prefixed-returns-4 : (t : ℕ) → prefixed-lts.Need-returns-4 (
+  token-at-reads.Asked,
+  token-at-reads.Learnt,
+  operand-level-reads.Asked,
+  operand-level-reads.Learnt,
+  operand-want-reads.Asked,
+  operand-want-reads.Learnt,
+  expression-below t,
+  expression.Post,
+  finish-reads.Asked,
+  finish-reads.Learnt,
+) (prefixed-at t) prefixed.Post
+prefixed-returns-4 t c = search prefixed-found
+
+pub +bracketed+chain+expression+joined+operand+prefixed-spec : {M : Type 1} → statement M
++bracketed+chain+expression+joined+operand+prefixed-spec =
+    close μ-bracketed μ-chain μ-expression μ-joined μ-operand μ-prefixed (λ t. bracketed-lts.spec (
+      token-at-reads.Asked,
+      token-at-reads.Learnt,
+      inside-level-reads.Asked,
+      inside-level-reads.Learnt,
+      expression-below t,
+      expression.Post,
+      closed-reads.Asked,
+      closed-reads.Learnt,
+    )
+    (bracketed-at t)
+    bracketed.Post
+    (bracketed-returns t)
+    (bracketed-returns-2 t)
+    (bracketed-token-at-requires t)
+    (bracketed-inside-level-requires t)
+    (bracketed-add-expression t)
+    (bracketed-sub-expression t)
+    (bracketed-expression-requires t)
+    (bracketed-enum-known-reason t)
+    (bracketed-enum-known-sort t)
+    (bracketed-closed-requires t)
+    (bracketed-same-length t)
+    (bracketed-returns-3 t)
+    (bracketed-same-length-2 t)
+    (bracketed-returns-4 t))
+    (λ t. chain-lts.spec (
+      operator-of-reads.Asked,
+      operator-of-reads.Learnt,
+      is-bound-reads.Asked,
+      is-bound-reads.Learnt,
+      joined-below t,
+      joined.Post,
+    )
+    (chain-at t)
+    chain.Post
+    chain-Inv-loop
+    chain-μ-loop
+    (chain-returns t)
+    (chain-loop-holds t)
+    (chain-operator-of-requires t)
+    (chain-is-bound-requires t)
+    (chain-same-length t)
+    (chain-returns-2 t)
+    (chain-sub-joined t)
+    (chain-joined-requires t)
+    (chain-enum-known-reason t)
+    (chain-same-length-2 t)
+    (chain-returns-3 t)
+    (chain-enum-known-x t)
+    (chain-same-length-3 t)
+    (chain-returns-4 t)
+    (chain-loop-less t)
+    (chain-loop-again t)
+    (chain-same-length-4 t)
+    (chain-returns-5 t)
+    (chain-same-length-5 t)
+    (chain-returns-6 t))
+    (λ t. expression-lts.spec
+    (operand-below t, operand.Post, chain-below t, chain.Post)
+    (expression-at t)
+    expression.Post
+    (expression-returns t)
+    (expression-sub-operand t)
+    (expression-operand-requires t)
+    (expression-enum-known-reason t)
+    (expression-enum-known-sort t)
+    (expression-sub-chain t)
+    (expression-chain-requires t)
+    (expression-same-length t)
+    (expression-returns-2 t)
+    (expression-same-length-2 t)
+    (expression-returns-3 t))
+    (λ t. joined-lts.spec (
+      settle-for-reads.Asked,
+      settle-for-reads.Learnt,
+      token-at-reads.Asked,
+      token-at-reads.Learnt,
+      right-level-reads.Asked,
+      right-level-reads.Learnt,
+      right-want-reads.Asked,
+      right-want-reads.Learnt,
+      expression-below t,
+      expression.Post,
+      finish-reads.Asked,
+      finish-reads.Learnt,
+    )
+    (joined-at t)
+    joined.Post
+    (joined-returns t)
+    (joined-settle-for-requires t)
+    (joined-token-at-requires t)
+    (joined-right-level-requires t)
+    (joined-right-want-requires t)
+    (joined-sub-expression t)
+    (joined-expression-requires t)
+    (joined-enum-known-reason t)
+    (joined-enum-known-x t)
+    (joined-finish-requires t)
+    (joined-same-length t)
+    (joined-returns-2 t)
+    (joined-same-length-2 t)
+    (joined-returns-3 t))
+    (λ t. operand-lts.spec (
+      is-allowed-reads.Asked,
+      is-allowed-reads.Learnt,
+      prefix-operator-reads.Asked,
+      prefix-operator-reads.Learnt,
+      prefixed-below t,
+      prefixed.Post,
+      bracketed-below t,
+      bracketed.Post,
+      leaf-reads.Asked,
+      leaf-reads.Learnt,
+      unexpected-reads.Asked,
+      unexpected-reads.Learnt,
+    )
+    (operand-at t)
+    operand.Post
+    (operand-returns t)
+    (operand-is-allowed-requires t)
+    (operand-prefix-operator-requires t)
+    (operand-sub-prefixed t)
+    (operand-prefixed-requires t)
+    (operand-same-length t)
+    (operand-returns-2 t)
+    (operand-sub-bracketed t)
+    (operand-bracketed-requires t)
+    (operand-same-length-2 t)
+    (operand-returns-3 t)
+    (operand-leaf-requires t)
+    (operand-same-length-3 t)
+    (operand-returns-4 t)
+    (operand-unexpected-requires t)
+    (operand-returns-5 t))
+    λ t. prefixed-lts.spec (
+      token-at-reads.Asked,
+      token-at-reads.Learnt,
+      operand-level-reads.Asked,
+      operand-level-reads.Learnt,
+      operand-want-reads.Asked,
+      operand-want-reads.Learnt,
+      expression-below t,
+      expression.Post,
+      finish-reads.Asked,
+      finish-reads.Learnt,
+    )
+    (prefixed-at t)
+    prefixed.Post
+    (prefixed-returns t)
+    (prefixed-returns-2 t)
+    (prefixed-token-at-requires t)
+    (prefixed-operand-level-requires t)
+    (prefixed-operand-want-requires t)
+    (prefixed-add-expression t)
+    (prefixed-sub-expression t)
+    (prefixed-expression-requires t)
+    (prefixed-enum-known-reason t)
+    (prefixed-enum-known-sort t)
+    (prefixed-finish-requires t)
+    (prefixed-same-length t)
+    (prefixed-returns-3 t)
+    (prefixed-same-length-2 t)
+    (prefixed-returns-4 t)

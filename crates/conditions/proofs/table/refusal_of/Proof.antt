@@ -1,0 +1,25 @@
+use Rattle.conditions.specs.Table.{refusal}
+use borrow.Author.Needs.{needs}
+use Rattle.text.specs.Choice.{tests}
+use Rattle.conditions.proofs.table.refusal_of.Statement.{statement}
+use Rattle.conditions.proofs.table.refusal_of.Tie as tie
+use Rattle.conditions.proofs.table.refusal_of.Reads as reads
+use Rattle.conditions.proofs.table.refusal_of.Lts as lts
+
+-- src/table.rt:95:9
+returns : tie.Need-returns
+unfolding refusal
+returns c = search (needs, tests)
+
+-- src/table.rt:98:9
+returns-2 : tie.Need-returns-2
+unfolding refusal
+returns-2 c = search (needs, tests)
+
+-- src/table.rt:91:1
+returns-3 : tie.Need-returns-3
+unfolding refusal
+returns-3 c = search (needs, tests)
+
+pub refusal-of-spec : {M : Type 1} → statement M
+refusal-of-spec = tie.close (tie.spec returns returns-2 returns-3)

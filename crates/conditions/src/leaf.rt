@@ -1,0 +1,141 @@
+// Operands of one token.
+use crate::emit::Out;
+use crate::emit::push;
+use crate::table::ANY;
+use crate::table::FALSE;
+use crate::table::NUMBER;
+use crate::table::TEXT;
+use crate::table::TRUE;
+use lexical::kind;
+use lexical::line::token_at;
+use lexical::literal::literal_length;
+use lexical::number::LIMIT;
+use lexical::number::number_at;
+use lexical::token::Token;
+use lexical::word::is_false;
+use lexical::word::is_true;
+use syntax;
+ghost use mathlib.Core.Path.{_≡_};
+ghost use Rattle.conditions.specs.Word.{wordSort};
+ghost use Rattle.conditions.specs.Working.Emit.{ran};
+ghost use Rattle.conditions.specs.Working.Leaf.{literalRead, nameRead, digitsRead, floatRead, leafRead};
+
+// The most bytes that a literal may give, and the most prefix operators in a row.
+pub const LONGEST: usize = 2048;
+
+pub const ROW: usize = 16;
+
+// A literal.
+fn literal(s: &[u8], code: &mut [u32], top: usize, t: Token) -> Out
+    ensures { λ r. ⌜ ran r (now (code .exit)) ≡ literalRead (now (s .entry)) (now (code .entry)) top t ⌝ }
+{
+    let n = literal_length(s, t.start);
+    if LONGEST < n {
+        return Out::Aside {
+            reason: 7,
+            at: t.start,
+        };
+    }
+    let u = push(code, top, syntax::LITERAL, t.start);
+    let next = token_at(s, kind::IN_FIELD, t.end);
+    Out::Found {
+        sort: TEXT,
+        place: 0,
+        top: u,
+        next,
+    }
+}
+
+// The sort of a name: the bare words true and false are not settled yet.
+fn sort_of_name(s: &[u8], want: u8, start: usize, end: usize) -> u8
+    ensures { λ r. ⌜ r ≡ wordSort (now (s .entry)) want start end ⌝ }
+{
+    if want != ANY {
+        return TEXT;
+    }
+    if is_true(s, start, end) {
+        return TRUE;
+    }
+    if is_false(s, start, end) {
+        return FALSE;
+    }
+    TEXT
+}
+
+// A name.
+fn name(s: &[u8], code: &mut [u32], top: usize, want: u8, t: Token) -> Out
+    ensures { λ r. ⌜ ran r (now (code .exit)) ≡ nameRead (now (s .entry)) (now (code .entry)) top want t ⌝ }
+{
+    let w = sort_of_name(s, want, t.start, t.end);
+    let next = token_at(s, kind::IN_FIELD, t.end);
+    if w != TEXT {
+        return Out::Found {
+            sort: w,
+            place: t.start,
+            top,
+            next,
+        };
+    }
+    let u = push(code, top, syntax::NAME, t.start);
+    Out::Found {
+        sort: TEXT,
+        place: 0,
+        top: u,
+        next,
+    }
+}
+
+// An integer literal.
+fn digits(s: &[u8], code: &mut [u32], top: usize, t: Token) -> Out
+    ensures { λ r. ⌜ ran r (now (code .exit)) ≡ digitsRead (now (s .entry)) (now (code .entry)) top t ⌝ }
+{
+    let v = number_at(s, t.start, t.end);
+    if LIMIT <= v {
+        return Out::Aside {
+            reason: 5,
+            at: t.start,
+        };
+    }
+    let u = push(code, top, syntax::NUMBER, t.start);
+    let next = token_at(s, kind::IN_FIELD, t.end);
+    Out::Found {
+        sort: NUMBER,
+        place: 0,
+        top: u,
+        next,
+    }
+}
+
+// A float literal, or "&" behind so many prefix operators in a row.
+fn float(row: usize, t: Token) -> Out
+    ensures { λ r. ⌜ r ≡ floatRead row t ⌝ }
+{
+    if t.kind == kind::AMPERSAND {
+        if ROW <= row {
+            return Out::Aside {
+                reason: 7,
+                at: t.start,
+            };
+        }
+    }
+    Out::Aside {
+        reason: 8,
+        at: t.start,
+    }
+}
+
+// A token that may stand as an operand and is neither a prefix operator nor a bracket.
+pub fn leaf(s: &[u8], code: &mut [u32], top: usize, want: u8, row: usize, t: Token) -> Out
+    ensures { λ r. ⌜ ran r (now (code .exit)) ≡ leafRead (now (s .entry)) (now (code .entry)) top want row t ⌝ }
+{
+    if t.kind == kind::LITERAL {
+        return literal(s, code, top, t);
+    }
+    if t.kind == kind::NAME {
+        return name(s, code, top, want, t);
+    }
+    if t.kind == kind::DIGITS {
+        return digits(s, code, top, t);
+    }
+    float(row, t)
+}

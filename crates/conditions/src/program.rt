@@ -1,0 +1,224 @@
+// Programs: clauses one after the other, whose values may be programs again. Each function is given a depth, which falls at every call.
+use crate::emit::Out;
+use crate::emit::ended;
+use crate::emit::push;
+use crate::emit::settle;
+use crate::emit::unexpected;
+use crate::emit::valued;
+use crate::expression::BRACKETS;
+use crate::expression::expression;
+use crate::table::ANY;
+use crate::table::TEST;
+use crate::table::TEXT;
+use crate::table::is_fit;
+use crate::table::is_stop;
+use lexical::kind;
+use lexical::line::token_at;
+use lexical::token::Token;
+use syntax;
+ghost use mathlib.Core.Path.{_≡_};
+ghost use Rattle.conditions.specs.Working.Emit.{ran};
+ghost use Rattle.conditions.specs.Working.Program.{clauseAt, testedAt, valueAt, nestedAt, programAt, clausesAt, lastAt, conditionsAt};
+
+// A depth that no text exhausts.
+pub const DEPTH: usize = 6076;
+
+// A clause.
+fn clause(s: &[u8], code: &mut [u32], top: usize, nest: usize, t: Token, d: usize) -> Out
+    ensures { λ r. ⌜ ran r (now (code .exit)) ≡ clauseAt d (now (s .entry)) (now (code .entry)) top nest t ⌝ }
+{
+    if d == 0 {
+        return Out::Aside {
+            reason: 0,
+            at: t.start,
+        };
+    }
+    match expression(s, code, top, 0, ANY, 0, nest, t, d - 1) {
+        Out::Aside { reason, at } => Out::Aside { reason, at },
+        Out::Found {
+            sort,
+            place,
+            top: u,
+            next,
+        } => tested(s, code, u, nest, sort, place, next, d - 1),
+    }
+}
+
+// The rest of a clause behind its test.
+fn tested(
+    s: &[u8],
+    code: &mut [u32],
+    top: usize,
+    nest: usize,
+    sort: u8,
+    place: usize,
+    t: Token,
+    d: usize,
+) -> Out
+    ensures { λ r. ⌜ ran r (now (code .exit)) ≡ testedAt d (now (s .entry)) (now (code .entry)) top nest sort place t ⌝ }
+{
+    if d == 0 {
+        return Out::Aside {
+            reason: 0,
+            at: t.start,
+        };
+    }
+    if is_fit(TEST, sort) {
+        let u = settle(code, top, TEST, sort, place);
+        if t.kind == kind::ARROW {
+            let n = token_at(s, kind::IN_FIELD, t.end);
+            return value(s, code, u, nest, n, d - 1);
+        }
+        return ended(s, code, u, syntax::PLAIN, t);
+    }
+    unexpected(t)
+}
+
+// A clause's value.
+fn value(s: &[u8], code: &mut [u32], top: usize, nest: usize, t: Token, d: usize) -> Out
+    ensures { λ r. ⌜ ran r (now (code .exit)) ≡ valueAt d (now (s .entry)) (now (code .entry)) top nest t ⌝ }
+{
+    if d == 0 {
+        return Out::Aside {
+            reason: 0,
+            at: t.start,
+        };
+    }
+    if t.kind == kind::OPEN_BRACE {
+        return nested(s, code, top, nest, t, d - 1);
+    }
+    match expression(s, code, top, 3, TEXT, 0, nest, t, d - 1) {
+        Out::Aside { reason, at } => Out::Aside { reason, at },
+        Out::Found {
+            sort,
+            place,
+            top: u,
+            next,
+        } => valued(s, code, u, sort, place, next),
+    }
+}
+
+// The bracket t with the program that it holds, and the end of the clause.
+fn nested(s: &[u8], code: &mut [u32], top: usize, nest: usize, t: Token, d: usize) -> Out
+    ensures { λ r. ⌜ ran r (now (code .exit)) ≡ nestedAt d (now (s .entry)) (now (code .entry)) top nest t ⌝ }
+{
+    if d == 0 {
+        return Out::Aside {
+            reason: 0,
+            at: t.start,
+        };
+    }
+    if BRACKETS <= nest {
+        return Out::Aside {
+            reason: 7,
+            at: t.start,
+        };
+    }
+    let n = token_at(s, kind::IN_FIELD, t.end);
+    match program(s, code, top, nest + 1, n, d - 1) {
+        Out::Aside { reason, at } => Out::Aside { reason, at },
+        Out::Found {
+            sort: _,
+            place: _,
+            top: u,
+            next,
+        } => {
+            let e = token_at(s, kind::IN_FIELD, next.end);
+            ended(s, code, u, syntax::NESTED, e)
+        }
+    }
+}
+
+// A program whose code ends at `top`, with the token t behind it.
+fn last(nest: usize, top: usize, t: Token) -> Out
+    ensures { λ r. ⌜ r ≡ lastAt nest top t ⌝ }
+{
+    if is_stop(nest, t.kind) {
+        return Out::Found {
+            sort: TEST,
+            place: 0,
+            top,
+            next: t,
+        };
+    }
+    unexpected(t)
+}
+
+// A program that begins with the token t.
+fn program(s: &[u8], code: &mut [u32], top: usize, nest: usize, t: Token, d: usize) -> Out
+    ensures { λ r. ⌜ ran r (now (code .exit)) ≡ programAt d (now (s .entry)) (now (code .entry)) top nest t ⌝ }
+{
+    if d == 0 {
+        return Out::Aside {
+            reason: 0,
+            at: t.start,
+        };
+    }
+    let u = push(code, top, syntax::BEGIN, 0);
+    clauses(s, code, u, nest, t, d - 1)
+}
+
+// Clauses up to the end of the program.
+fn clauses(s: &[u8], code: &mut [u32], from: usize, nest: usize, first: Token, d: usize) -> Out
+    ensures { λ r. ⌜ ran r (now (code .exit)) ≡ clausesAt d (now (s .entry)) (now (code .entry)) from nest first ⌝ }
+{
+    if d == 0 {
+        return Out::Aside {
+            reason: 0,
+            at: first.start,
+        };
+    }
+    let mut top = from;
+    let mut t = first;
+    while t.start < s.len() {
+        if is_stop(nest, t.kind) {
+            return Out::Found {
+                sort: TEST,
+                place: 0,
+                top,
+                next: t,
+            };
+        }
+        match clause(s, code, top, nest, t, d - 1) {
+            Out::Aside { reason, at } => {
+                return Out::Aside { reason, at };
+            }
+            Out::Found {
+                sort: _,
+                place: _,
+                top: u,
+                next,
+            } => {
+                if next.start <= t.start {
+                    return Out::Aside {
+                        reason: 0,
+                        at: t.start,
+                    };
+                }
+                top = u;
+                t = next;
+            }
+        }
+    }
+    last(nest, top, t)
+}
+
+// Reads a Conditions field from the token behind its label on, and writes its code from `top` on. It asks for room for an entry a byte
+// of the text, and writes nothing where there is less.
+pub fn conditions(s: &[u8], code: &mut [u32], top: usize, t: Token) -> Out
+    ensures { λ r. ⌜ ran r (now (code .exit)) ≡ conditionsAt (now (s .entry)) (now (code .entry)) top t ⌝ }
+{
+    if code.len() < top {
+        return Out::Aside {
+            reason: 0,
+            at: t.start,
+        };
+    }
+    if code.len() - top < s.len() {
+        return Out::Aside {
+            reason: 0,
+            at: t.start,
+        };
+    }
+    program(s, code, top, 0, t, DEPTH)
+}

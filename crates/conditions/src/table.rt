@@ -1,0 +1,394 @@
+// Which token may stand where, and what each operator takes and gives; specs/Table.antt says what each number is.
+use lexical::kind;
+use syntax;
+ghost use mathlib.Core.Path.{_≡_};
+ghost use Prim.Native.Nat.{_<_};
+ghost use Rattle.conditions.specs.Table.{beginsString, beginsNumber, beginsFloat, allows, refusal, comparison, numberOperator, textOperator, testOperator, operator, prefixOperator, levelOf, operandOf, resultOf, operandLevel, operandWant, rightWant, rightLevel, binds, insideLevel, fits, stops};
+
+pub const ANY: u8 = 0;
+
+pub const TEXT: u8 = 1;
+
+pub const NUMBER: u8 = 2;
+
+pub const INTEGER: u8 = 3;
+
+pub const TEST: u8 = 0;
+
+pub const TRUE: u8 = 3;
+
+pub const FALSE: u8 = 4;
+
+pub const NONE: u32 = 0;
+
+pub const MATCH: u32 = 34;
+
+// May a token of this kind stand where this is wanted?
+pub fn is_allowed(want: u8, k: u8) -> bool
+    ensures { λ r. ⌜ r ≡ allows want k ⌝ }
+{
+    if k == kind::OPEN {
+        return true;
+    }
+    if k == kind::NOT {
+        return want == ANY;
+    }
+    if want == TEXT {
+        return is_string(k);
+    }
+    if is_number(k) {
+        return true;
+    }
+    if want == INTEGER {
+        return false;
+    }
+    if is_float(k) {
+        return true;
+    }
+    if want == NUMBER {
+        return false;
+    }
+    is_string(k)
+}
+
+// Does a string begin with it?
+pub fn is_string(k: u8) -> bool
+    ensures { λ r. ⌜ r ≡ beginsString k ⌝ }
+{
+    if k == kind::LITERAL {
+        return true;
+    }
+    if k == kind::NAME {
+        return true;
+    }
+    k == kind::DOLLAR
+}
+
+// Does an integer begin with it?
+pub fn is_number(k: u8) -> bool
+    ensures { λ r. ⌜ r ≡ beginsNumber k ⌝ }
+{
+    if k == kind::DIGITS {
+        return true;
+    }
+    if k == kind::MINUS {
+        return true;
+    }
+    k == kind::AT
+}
+
+// Does only a float begin with it?
+pub fn is_float(k: u8) -> bool
+    ensures { λ r. ⌜ r ≡ beginsFloat k ⌝ }
+{
+    if k == kind::FLOAT {
+        return true;
+    }
+    k == kind::AMPERSAND
+}
+
+// The reason for a token that may not stand where it stands.
+pub fn refusal_of(k: u8) -> u8
+    ensures { λ r. ⌜ r ≡ refusal k ⌝ }
+{
+    if k == kind::ILLEGAL {
+        return 1;
+    }
+    if k == kind::BAD_LINE {
+        return 3;
+    }
+    2
+}
+
+// The comparison of strings, or NONE.
+pub fn comparison_of(k: u8) -> u32
+    ensures { λ r. ⌜ r ≡ comparison k ⌝ }
+    ensures { λ r. ⌜ r < 22 ⌝ }
+{
+    if k == kind::EQUAL {
+        return syntax::TEXT_EQUAL;
+    }
+    if k == kind::UNEQUAL {
+        return syntax::TEXT_UNEQUAL;
+    }
+    if k == kind::LESS {
+        return syntax::TEXT_LESS;
+    }
+    if k == kind::GREATER {
+        return syntax::TEXT_GREATER;
+    }
+    if k == kind::AT_MOST {
+        return syntax::TEXT_AT_MOST;
+    }
+    if k == kind::AT_LEAST {
+        return syntax::TEXT_AT_LEAST;
+    }
+    NONE
+}
+
+// The operator behind an integer, or NONE.
+pub fn number_operator(k: u8) -> u32
+    ensures { λ r. ⌜ r ≡ numberOperator k ⌝ }
+{
+    if k == kind::POWER {
+        return syntax::POWER;
+    }
+    if k == kind::TIMES {
+        return syntax::TIMES;
+    }
+    if k == kind::DIVIDE {
+        return syntax::OVER;
+    }
+    if k == kind::REMAINDER {
+        return syntax::REMAINDER;
+    }
+    if k == kind::PLUS {
+        return syntax::PLUS;
+    }
+    if k == kind::MINUS {
+        return syntax::MINUS;
+    }
+    let c = comparison_of(k);
+    if c == NONE {
+        return NONE;
+    }
+    c + 6
+}
+
+// The operator behind a string, or NONE.
+pub fn text_operator(k: u8) -> u32
+    ensures { λ r. ⌜ r ≡ textOperator k ⌝ }
+{
+    if k == kind::DOT {
+        return syntax::JOIN;
+    }
+    if k == kind::MATCHES {
+        return MATCH;
+    }
+    comparison_of(k)
+}
+
+// The operator behind a test, or NONE.
+pub fn test_operator(k: u8) -> u32
+    ensures { λ r. ⌜ r ≡ testOperator k ⌝ }
+{
+    if k == kind::AND {
+        return syntax::BOTH;
+    }
+    if k == kind::OR {
+        return syntax::EITHER;
+    }
+    NONE
+}
+
+// The operator behind what was read, or NONE.
+pub fn operator_of(sort: u8, k: u8) -> u32
+    ensures { λ r. ⌜ r ≡ operator sort k ⌝ }
+{
+    if sort == NUMBER {
+        return number_operator(k);
+    }
+    if sort == TEXT {
+        return text_operator(k);
+    }
+    let o = test_operator(k);
+    if o != NONE {
+        return o;
+    }
+    if sort == TEST {
+        return NONE;
+    }
+    text_operator(k)
+}
+
+// The operator before an operand, or NONE.
+pub fn prefix_operator(k: u8) -> u32
+    ensures { λ r. ⌜ r ≡ prefixOperator k ⌝ }
+{
+    if k == kind::MINUS {
+        return syntax::NEGATE;
+    }
+    if k == kind::AT {
+        return syntax::CONVERT;
+    }
+    if k == kind::DOLLAR {
+        return syntax::LOOKUP;
+    }
+    if k == kind::NOT {
+        return syntax::OPPOSITE;
+    }
+    NONE
+}
+
+// How tightly an operator between two operands binds.
+pub fn level_of(op: u32) -> u8
+    ensures { λ r. ⌜ r ≡ levelOf op ⌝ }
+    ensures { λ r. ⌜ r < 6 ⌝ }
+{
+    if op == syntax::EITHER {
+        return 0;
+    }
+    if op == syntax::BOTH {
+        return 1;
+    }
+    if syntax::MINUS < op {
+        return 2;
+    }
+    if op == syntax::POWER {
+        return 5;
+    }
+    if op == syntax::JOIN {
+        return 3;
+    }
+    if op < syntax::PLUS {
+        return 4;
+    }
+    3
+}
+
+// What an operator takes.
+pub fn operand_of(op: u32) -> u8
+    ensures { λ r. ⌜ r ≡ operandOf op ⌝ }
+{
+    if op == syntax::OPPOSITE {
+        return TEST;
+    }
+    if syntax::AT_LEAST < op {
+        return TEST;
+    }
+    if syntax::TEXT_AT_LEAST < op {
+        return NUMBER;
+    }
+    if syntax::MINUS < op {
+        return TEXT;
+    }
+    if op == syntax::NEGATE {
+        return NUMBER;
+    }
+    if syntax::JOIN < op {
+        return NUMBER;
+    }
+    TEXT
+}
+
+// What an operator gives.
+pub fn result_of(op: u32) -> u8
+    ensures { λ r. ⌜ r ≡ resultOf op ⌝ }
+{
+    if syntax::MINUS < op {
+        return TEST;
+    }
+    if op == syntax::OPPOSITE {
+        return TEST;
+    }
+    if op == syntax::LOOKUP {
+        return TEXT;
+    }
+    if op == syntax::JOIN {
+        return TEXT;
+    }
+    NUMBER
+}
+
+// How far the operand of a prefix operator reaches.
+pub fn operand_level(op: u32) -> u8
+    ensures { λ r. ⌜ r ≡ operandLevel op ⌝ }
+{
+    if op == syntax::OPPOSITE {
+        return 2;
+    }
+    6
+}
+
+// What is wanted behind a prefix operator.
+pub fn operand_want(op: u32, want: u8) -> u8
+    ensures { λ r. ⌜ r ≡ operandWant op want ⌝ }
+{
+    if op == syntax::OPPOSITE {
+        return ANY;
+    }
+    if op != syntax::NEGATE {
+        return TEXT;
+    }
+    if want == ANY {
+        return NUMBER;
+    }
+    want
+}
+
+// What is wanted to the right of an operator.
+pub fn right_want(op: u32) -> u8
+    ensures { λ r. ⌜ r ≡ rightWant op ⌝ }
+{
+    let x = operand_of(op);
+    if x == TEST {
+        return ANY;
+    }
+    if x == TEXT {
+        return TEXT;
+    }
+    INTEGER
+}
+
+// How far the right operand of an operator reaches.
+pub fn right_level(op: u32) -> u8
+    ensures { λ r. ⌜ r ≡ rightLevel op ⌝ }
+{
+    level_of(op) + 1
+}
+
+// Does the operator belong to this level or one above?
+pub fn is_bound(level: u8, op: u32) -> bool
+    ensures { λ r. ⌜ r ≡ binds level op ⌝ }
+{
+    if op == NONE {
+        return false;
+    }
+    let l = level_of(op);
+    if l < level {
+        return false;
+    }
+    true
+}
+
+// How far what stands in brackets reaches.
+pub fn inside_level(want: u8) -> u8
+    ensures { λ r. ⌜ r ≡ insideLevel want ⌝ }
+{
+    if want == ANY {
+        return 0;
+    }
+    3
+}
+
+// Is what was read of this sort, or a bare word that can become it?
+pub fn is_fit(wanted: u8, sort: u8) -> bool
+    ensures { λ r. ⌜ r ≡ fits wanted sort ⌝ }
+{
+    if sort == wanted {
+        return true;
+    }
+    if sort < TRUE {
+        return false;
+    }
+    if wanted == NUMBER {
+        return false;
+    }
+    true
+}
+
+// Does a program in so many brackets end before a token of this kind?
+pub fn is_stop(nest: usize, k: u8) -> bool
+    ensures { λ r. ⌜ r ≡ stops nest k ⌝ }
+{
+    if nest != 0 {
+        return k == kind::CLOSE_BRACE;
+    }
+    if k == kind::END {
+        return true;
+    }
+    if k < kind::KEYNOTE_VERSION {
+        return false;
+    }
+    k <= kind::SIGNATURE
+}
