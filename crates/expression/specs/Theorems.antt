@@ -1,2 +1,3 @@
 pub mod Unread
 pub mod Shown
+pub mod Queried

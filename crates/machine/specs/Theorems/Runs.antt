@@ -26,17 +26,9 @@ use Rattle.expression.specs.declared.value.Operand.the-variants.{Rank}
 use Rattle.machine.specs.Machine.{State, on, stuck, unaryStep, lookupStep, binaryStep, raised, runAt, pushStep, clauseStep, stepOf, stepped, exec, resultOf}
 use Rattle.machine.specs.Need.{need, programNeed, clauseNeed, span, room, programRoom, clauseRoom}
 use Rattle.machine.specs.Proper.{Proper, ProgramProper, ClauseProper}
+use Rattle.machine.specs.Theorems.Bounds.{need-some}
 use Rattle.machine.specs.Working.Widths.{plain-rank, plain-ranged, within-span}
 use Rattle.machine.specs.Working.Stacking.{pair, topped, count-is, top-is, place-is, text-is, unary-is, lookup-is, binary-is}
-
-need-some : (e : Expr) → 1 ≤ need e
-unfolding need
-need-some (literal b) = omega arith
-need-some (name n) = omega arith
-need-some (number n) = omega arith
-need-some (truth t) = omega arith
-need-some (unary op e) = need-some e
-need-some (binary op e f) = omega arith
 
 -- an operator on one operand is the machine's operation, but for "$"
 applied-is : (vals : List (List ℕ)) (look : List ℕ → List ℕ) (op : ℕ) (v : Value) → 5 ≤ op → op ≤ 8 → eqb op 5 ≡ false → applied vals op v ≡ unaryOf look op v
