@@ -6,6 +6,7 @@ use Prim.Native.Nat.{ℕ, zero, suc, _+_, _-_, _<_, _≤_}
 use native.Mathlib.Omega.{arith}
 use lib.ListN.{length}
 use borrow.Author.Tests.{le-leb, lt-leb, eq-eqb, ne-eqb}
+use Rattle.text.specs.Choice.{pick, split, clash}
 use Rattle.text.specs.Loop.{loop-next, loop-done}
 use Rattle.lexical.specs.Kind
 use Rattle.lexical.specs.declared.token.Token.{Token}
@@ -144,35 +145,41 @@ module _ (d : ℕ) (s m : List ℕ) (top op nest sort place at : ℕ) (nz : d �
   pub joined-found : (x p u : ℕ) (k : Token) → r ≡ Found x p u k → (y : Ran) → y ≡ finishAt b u op x p k → y ≡ joinedAt d s m top op nest sort place at
   joined-found x p u k e y ye = simp (joined-unfold s m top nest d nz, sym qe, sym ce, sym ne, sym le, sym ve, sym re, e) ye
 
+loose : (level o : ℕ) (f : Bool) → f ≡ pick (Table.binds level o) false true → f ≡ true → Table.binds level o ≡ false
+loose level o f e h = split (Table.binds level o) (λ k. clash h (e ∙ rw k)) (λ k. k)
+
+bound : (level o : ℕ) (f : Bool) → f ≡ pick (Table.binds level o) false true → f ≡ false → Table.binds level o ≡ true
+bound level o f e h = split (Table.binds level o) (λ k. k) (λ k. clash (e ∙ rw k) h)
+
 -- a turn of `chain`, with the invariant `chainRest .. ≡ a`
 module _ (k : ℕ) (s m : List ℕ) (top level nest sort place : ℕ) (t : Token) (a : Ran) (inv : chainRest k s m top level nest sort place t ≡ a) where
   pub chain-end : length s ≤ t .start → ran (Found sort place top t) m ≡ a
   unfolding chainRest
   chain-end h = sym (loop-done _ _ _ (t, sort, place, top, m) _ (simp (le-leb _ _ h))) ∙ inv
 
-  module _ (in-s : t .start < length s) (o : ℕ) (oe : o ≡ Table.operator sort (t .kind)) (f : Bool) (fe : f ≡ Table.binds level o) where
-    pub chain-other : f ≡ false → ran (Found sort place top t) m ≡ a
+  module _ (in-s : t .start < length s) (o : ℕ) (oe : o ≡ Table.operator sort (t .kind)) (f : Bool) (fe : f ≡ pick (Table.binds level o) false true) where
+    pub chain-other : f ≡ true → ran (Found sort place top t) m ≡ a
     unfolding chainRest
-    chain-other h = sym (loop-done _ _ _ (t, sort, place, top, m) _ (simp (lt-leb _ _ in-s, sym oe, sym fe, h))) ∙ inv
+    chain-other h = sym (loop-done _ _ _ (t, sort, place, top, m) _ (simp (lt-leb _ _ in-s, sym oe, loose level o f fe h))) ∙ inv
 
-    module _ (ft : f ≡ true) where
+    module _ (ff : f ≡ false) where
       pub chain-match : o ≡ Table.MATCH → ran (Aside 8 (t .start)) m ≡ a
       unfolding chainRest
-      chain-match h = sym (loop-done _ _ _ (t, sort, place, top, m) _ (simp (lt-leb _ _ in-s, sym oe, sym fe, ft, eq-eqb _ _ h))) ∙ inv
+      chain-match h = sym (loop-done _ _ _ (t, sort, place, top, m) _ (simp (lt-leb _ _ in-s, sym oe, bound level o f fe ff, eq-eqb _ _ h))) ∙ inv
 
       module _ (on : o ≡ Table.MATCH → ⊥) (r : Out) (b : List ℕ) (re : ran r b ≡ joinedAt k s m top o nest sort place (t .end)) where
         pub chain-aside : (x p : ℕ) → r ≡ Aside x p → ran (Aside x p) b ≡ a
         unfolding chainRest
         chain-aside x p e =
-            sym (loop-done _ _ _ (t, sort, place, top, m) (ran (Aside x p) b) (simp (lt-leb _ _ in-s, sym oe, sym fe, ft, ne-eqb _ _ on, sym re, e))) ∙ inv
+            sym (loop-done _ _ _ (t, sort, place, top, m) (ran (Aside x p) b) (simp (lt-leb _ _ in-s, sym oe, bound level o f fe ff, ne-eqb _ _ on, sym re, e))) ∙ inv
 
         module _ (x p u : ℕ) (n : Token) (e : r ≡ Found x p u n) where
           pub chain-stuck : n .start ≤ t .start → ran (Aside 0 (t .start)) b ≡ a
           unfolding chainRest
           chain-stuck h =
-              sym (loop-done _ _ _ (t, sort, place, top, m) (ran (Aside 0 (t .start)) b) (simp (lt-leb _ _ in-s, sym oe, sym fe, ft, ne-eqb _ _ on, sym re, e, le-leb _ _ h))) ∙ inv
+              sym (loop-done _ _ _ (t, sort, place, top, m) (ran (Aside 0 (t .start)) b) (simp (lt-leb _ _ in-s, sym oe, bound level o f fe ff, ne-eqb _ _ on, sym re, e, le-leb _ _ h))) ∙ inv
 
           pub chain-more : t .start < n .start → chainRest k s b u level nest x p n ≡ a
           unfolding chainRest
           chain-more h =
-              sym (loop-next _ _ _ (t, sort, place, top, m) (n, x, p, u, b) (simp (lt-leb _ _ in-s, sym oe, sym fe, ft, ne-eqb _ _ on, sym re, e, lt-leb _ _ h)) (omega arith)) ∙ inv
+              sym (loop-next _ _ _ (t, sort, place, top, m) (n, x, p, u, b) (simp (lt-leb _ _ in-s, sym oe, bound level o f fe ff, ne-eqb _ _ on, sym re, e, lt-leb _ _ h)) (omega arith)) ∙ inv

@@ -1,10 +1,10 @@
 -- The ways out of the functions of `table` that go by a called function. Assumes nothing.
 use mathlib.Core.Path.{_≡_, sym, _∙_, ap}
 use mathlib.Core.Bool.{Bool, true, false}
-use Prim.Native.Nat.{ℕ, _+_, _<_, _≤_}
-use lib.Dec.{eqb}
-use borrow.Author.Tests.{lt-ltb, le-ltb, eq-eqb, ne-eqb}
-use Rattle.text.specs.Choice.{pick}
+use Prim.Native.Nat.{ℕ, _+_}
+use lib.Dec.{eqb, ltb}
+use borrow.Author.Tests.{eq-eqb, ne-eqb}
+use Rattle.text.specs.Choice.{pick, split}
 use Rattle.lexical.specs.Kind
 use Rattle.conditions.specs.Table
 
@@ -75,15 +75,10 @@ module _ (op l : ℕ) (le : l ≡ Table.levelOf op) where
   unfolding Table.rightLevel
   right-made = simp (sym le)
 
-  module _ (level : ℕ) (n : op ≡ Table.NONE → ⊥) where
-    pub bound-not : l < level → false ≡ Table.binds level op
-    unfolding Table.binds
-    bound-not h = simp (ne-eqb _ _ n, sym le, lt-ltb _ _ h)
+  pub loose-level : (level : ℕ) → (op ≡ Table.NONE → ⊥) → ltb l level ≡ pick (Table.binds level op) false true
+  unfolding Table.binds
+  loose-level level n = split (ltb l level) (λ e. simp (ne-eqb _ _ n, sym le, e)) (λ e. simp (ne-eqb _ _ n, sym le, e))
 
-    pub bound-made : level ≤ l → true ≡ Table.binds level op
-    unfolding Table.binds
-    bound-made h = simp (ne-eqb _ _ n, sym le, le-ltb _ _ h)
-
-pub bound-none : (level op : ℕ) → op ≡ Table.NONE → false ≡ Table.binds level op
+pub loose-none : (level op : ℕ) → op ≡ Table.NONE → true ≡ pick (Table.binds level op) false true
 unfolding Table.binds
-bound-none level op h = simp (eq-eqb _ _ h)
+loose-none level op h = simp (eq-eqb _ _ h)

@@ -6,3 +6,4 @@ pub mod Expression
 pub mod Program
 pub mod Working
 pub mod Compiled
+pub mod Examples

@@ -10,7 +10,7 @@ use crate::table::MATCH;
 use crate::table::NONE;
 use crate::table::inside_level;
 use crate::table::is_allowed;
-use crate::table::is_bound;
+use crate::table::is_loose;
 use crate::table::operand_level;
 use crate::table::operand_want;
 use crate::table::operator_of;
@@ -193,42 +193,41 @@ fn chain(
     let mut t = first;
     while t.start < s.len() {
         let o = operator_of(sort, t.kind);
-        if is_bound(level, o) {
-            if o == MATCH {
-                return Out::Aside {
-                    reason: 8,
-                    at: t.start,
-                };
-            }
-            match joined(s, code, top, o, nest, sort, place, t.end, d - 1) {
-                Out::Aside { reason, at } => {
-                    return Out::Aside { reason, at };
-                }
-                Out::Found {
-                    sort: x,
-                    place: p,
-                    top: u,
-                    next,
-                } => {
-                    if next.start <= t.start {
-                        return Out::Aside {
-                            reason: 0,
-                            at: t.start,
-                        };
-                    }
-                    sort = x;
-                    place = p;
-                    top = u;
-                    t = next;
-                }
-            }
-        } else {
+        if is_loose(level, o) {
             return Out::Found {
                 sort,
                 place,
                 top,
                 next: t,
             };
+        }
+        if o == MATCH {
+            return Out::Aside {
+                reason: 8,
+                at: t.start,
+            };
+        }
+        match joined(s, code, top, o, nest, sort, place, t.end, d - 1) {
+            Out::Aside { reason, at } => {
+                return Out::Aside { reason, at };
+            }
+            Out::Found {
+                sort: x,
+                place: p,
+                top: u,
+                next,
+            } => {
+                if next.start <= t.start {
+                    return Out::Aside {
+                        reason: 0,
+                        at: t.start,
+                    };
+                }
+                sort = x;
+                place = p;
+                top = u;
+                t = next;
+            }
         }
     }
     Out::Found {

@@ -2,7 +2,9 @@
 use lexical::kind;
 use syntax;
 ghost use mathlib.Core.Path.{_≡_};
+ghost use mathlib.Core.Bool.{true, false};
 ghost use Prim.Native.Nat.{_<_};
+ghost use Rattle.text.specs.Choice.{pick};
 ghost use Rattle.conditions.specs.Table.{beginsString, beginsNumber, beginsFloat, allows, refusal, comparison, numberOperator, textOperator, testOperator, operator, prefixOperator, levelOf, operandOf, resultOf, operandLevel, operandWant, rightWant, rightLevel, binds, insideLevel, fits, stops};
 
 pub const ANY: u8 = 0;
@@ -337,18 +339,14 @@ pub fn right_level(op: u32) -> u8
     level_of(op) + 1
 }
 
-// Does the operator belong to this level or one above?
-pub fn is_bound(level: u8, op: u32) -> bool
-    ensures { λ r. ⌜ r ≡ binds level op ⌝ }
+// Is there no operator of this level or one above?
+pub fn is_loose(level: u8, op: u32) -> bool
+    ensures { λ r. ⌜ r ≡ pick (binds level op) false true ⌝ }
 {
     if op == NONE {
-        return false;
+        return true;
     }
-    let l = level_of(op);
-    if l < level {
-        return false;
-    }
-    true
+    level_of(op) < level
 }
 
 // How far what stands in brackets reaches.

@@ -21,7 +21,7 @@ use Rattle.conditions.specs.Table.{TRUE}
 use Rattle.conditions.specs.Word.{nextAt}
 use Rattle.conditions.specs.Parsed.{Parsed, ok, aside, unexpected, Part, part, onPart, onOk}
 use Rattle.conditions.specs.Working.Emit.{Ran, ran, refused, onFound}
-use Rattle.conditions.specs.Working.Written.{Grown}
+use Rattle.conditions.specs.Working.Written.{Grown, Keeps}
 use Rattle.conditions.specs.declared.emit.Out.{Out}
 use Rattle.conditions.specs.declared.emit.Out.the-variants.{Found, Aside}
 
@@ -40,39 +40,39 @@ pub data PartCodes (s : List ℕ) (x p : ℕ) (e : Expr) (c : List ℕ) : Type 0
   bare : TRUE ≤ x → e ≡ name (nameAt s p) → c ≡ [] → PartCodes s x p e c
 
 pub data Same (s m : List ℕ) (top : ℕ) : Parsed Part → Ran → Type 0 where
-  same-aside : (r p : ℕ) (b : List ℕ) → Same s m top (aside r p) (ran (Aside r p) b)
+  same-aside : (r p : ℕ) (b : List ℕ) → Keeps m top b → Same s m top (aside r p) (ran (Aside r p) b)
   same-part : (x p u : ℕ) (e : Expr) (n : Token) (b : List ℕ) → p < 65536 → n .start ≤ length s → Grown m top b u (PartCodes s x p e)
       → Same s m top (ok (part x e) n) (ran (Found x p u n) b)
 
 -- the same of a clause or a program
 pub data SameAs {A : Type 0} (Q : A → List ℕ → Type 0) (s m : List ℕ) (top : ℕ) : Parsed A → Ran → Type 0 where
-  as-aside : (r p : ℕ) (b : List ℕ) → SameAs Q s m top (aside r p) (ran (Aside r p) b)
+  as-aside : (r p : ℕ) (b : List ℕ) → Keeps m top b → SameAs Q s m top (aside r p) (ran (Aside r p) b)
   as-ok : (a : A) (x p u : ℕ) (n : Token) (b : List ℕ) → n .start ≤ length s → Grown m top b u (Q a) → SameAs Q s m top (ok a n) (ran (Found x p u n) b)
 
-pub same-refused : (s m : List ℕ) (top : ℕ) (t : Token) (b : List ℕ) → Same s m top (unexpected t) (ran (refused t) b)
+pub same-refused : (s m : List ℕ) (top : ℕ) (t : Token) (b : List ℕ) → Keeps m top b → Same s m top (unexpected t) (ran (refused t) b)
 unfolding refused
-same-refused s m top t b = same-aside _ _ b
+same-refused s m top t b k = same-aside _ _ b k
 
-pub as-refused : {A : Type 0} (Q : A → List ℕ → Type 0) (s m : List ℕ) (top : ℕ) (t : Token) (b : List ℕ) → SameAs Q s m top (unexpected t) (ran (refused t) b)
+pub as-refused : {A : Type 0} (Q : A → List ℕ → Type 0) (s m : List ℕ) (top : ℕ) (t : Token) (b : List ℕ) → Keeps m top b → SameAs Q s m top (unexpected t) (ran (refused t) b)
 unfolding refused
-as-refused Q s m top t b = as-aside _ _ b
+as-refused Q s m top t b k = as-aside _ _ b k
 
 -- what holds of two choices by one test
 pub both : {A B : Type 0} (T : A → B → Type 0) (f : Bool) (a b : A) (c d : B) → (f ≡ true → T a c) → (f ≡ false → T b d) → T (pick f a b) (pick f c d)
 both T true a b c d h k = h refl
 both T false a b c d h k = k refl
 
-module _ {A : Type 0} (T : Parsed A → Ran → Type 0) (s m : List ℕ) (top : ℕ) (asides : (r p : ℕ) (b : List ℕ) → T (aside r p) (ran (Aside r p) b)) where
+module _ {A : Type 0} (T : Parsed A → Ran → Type 0) (s m : List ℕ) (top : ℕ) (asides : (r p : ℕ) (b : List ℕ) → Keeps m top b → T (aside r p) (ran (Aside r p) b)) where
   pub same-on : (q : Parsed Part) (r : Ran) (k : ℕ → Expr → Token → Parsed A) (l : ℕ → ℕ → ℕ → Token → List ℕ → Ran)
       → ((x p u : ℕ) (e : Expr) (n : Token) (b : List ℕ) → p < 65536 → n .start ≤ length s → Grown m top b u (PartCodes s x p e) → T (k x e n) (l x p u n b))
       → Same s m top q r → T (onPart q k) (onFound r l)
-  same-on _ _ k l h (same-aside r p b) = asides r p b
+  same-on _ _ k l h (same-aside r p b i) = asides r p b i
   same-on _ _ k l h (same-part x p u e n b near within g) = h x p u e n b near within g
 
   pub as-on : {B : Type 0} (Q : B → List ℕ → Type 0) (q : Parsed B) (r : Ran) (k : B → Token → Parsed A) (l : ℕ → ℕ → ℕ → Token → List ℕ → Ran)
       → ((a : B) (x p u : ℕ) (n : Token) (b : List ℕ) → n .start ≤ length s → Grown m top b u (Q a) → T (k a n) (l x p u n b))
       → SameAs Q s m top q r → T (onOk q k) (onFound r l)
-  as-on Q _ _ k l h (as-aside r p b) = asides r p b
+  as-on Q _ _ k l h (as-aside r p b i) = asides r p b i
   as-on Q _ _ k l h (as-ok a x p u n b within g) = h a x p u n b within g
 
 -- two loops whose turns belong together

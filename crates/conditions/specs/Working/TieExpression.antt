@@ -20,7 +20,7 @@ use Rattle.conditions.specs.Expression as Read
 use Rattle.conditions.specs.Working.Emit.{Ran, ran, onFound, refused, settledTop, settled, finishAt, closedAt}
 use Rattle.conditions.specs.Working.Leaf.{leafRead}
 use Rattle.conditions.specs.Working.Expression as Write
-use Rattle.conditions.specs.Working.Written.{Grown, grown-none}
+use Rattle.conditions.specs.Working.Written.{Grown, keeps-self, kept, under}
 use Rattle.conditions.specs.Working.Same.{PartCodes, Same, same-aside, same-part, same-refused, same-on, both, start-within, Steps, both-next, both-done, loop-same}
 use Rattle.conditions.specs.Working.TieOperand.{leaf-same, settle-grown, unary-same, binary-same, prefix-small, operator-small}
 use Rattle.conditions.specs.declared.emit.Out.{Out}
@@ -37,7 +37,7 @@ module _ (s : List ℕ) (short : length s < 65536) where
         → Same s m top (Read.prefixedOf (λ level want row nest t. Read.readExpression d s level want row nest t) s op want row nest t)
         (Write.prefixedBody (λ m top level want row nest t. Write.exprAt d s m top level want row nest t) s m top op want row nest t)
     prefixed-body m top op want row nest t small =
-        both (Same s m top) (leb 16 row) _ _ _ _ (λ h. same-aside 7 (t .start) m)
+        both (Same s m top) (leb 16 row) _ _ _ _ (λ h. same-aside 7 (t .start) m (keeps-self m top))
         (λ h. same-on (Same s m top) s m top same-aside
         (Read.readExpression d s (Table.operandLevel op) (Table.operandWant op want) (row + 1) nest (nextAt s (t .end)))
         (Write.exprAt d s m top (Table.operandLevel op) (Table.operandWant op want) (row + 1) nest (nextAt s (t .end)))
@@ -52,13 +52,13 @@ module _ (s : List ℕ) (short : length s < 65536) where
       where
         closed-cases : (f : Bool) → Same s m top (pick f (ok (part x e) (nextAt s (n .end))) (unexpected n)) (ran (pick f (Found x p u (nextAt s (n .end))) (refused n)) b)
         closed-cases true = same-part x p u e (nextAt s (n .end)) b near (start-within s (n .end)) g
-        closed-cases false = same-refused s m top n b
+        closed-cases false = same-refused s m top n b (kept g)
 
     bracketed-body : (m : List ℕ) (top want nest : ℕ) (t : Token)
         → Same s m top (Read.bracketedOf (λ level want row nest t. Read.readExpression d s level want row nest t) s want nest t)
         (Write.bracketedBody (λ m top level want row nest t. Write.exprAt d s m top level want row nest t) s m top want nest t)
     bracketed-body m top want nest t =
-        both (Same s m top) (leb 16 nest) _ _ _ _ (λ h. same-aside 7 (t .start) m)
+        both (Same s m top) (leb 16 nest) _ _ _ _ (λ h. same-aside 7 (t .start) m (keeps-self m top))
         (λ h. same-on (Same s m top) s m top same-aside
         (Read.readExpression d s (Table.insideLevel want) want 0 (nest + 1) (nextAt s (t .end)))
         (Write.exprAt d s m top (Table.insideLevel want) want 0 (nest + 1) (nextAt s (t .end)))
@@ -71,7 +71,8 @@ module _ (s : List ℕ) (short : length s < 65536) where
         → Same s m₀ top₀ (Read.joinedOf (λ level want row nest t. Read.readExpression d s level want row nest t) s op nest sort e at)
         (Write.joinedBody (λ m top level want row nest t. Write.exprAt d s m top level want row nest t) s m top op nest sort place at)
     joined-body m₀ top₀ m top op nest sort place at e near small g =
-        same-on (Same s m₀ top₀) s (settled m top (Table.operandOf op) sort place) (settledTop m top sort) same-aside
+        same-on (Same s m₀ top₀) s (settled m top (Table.operandOf op) sort place) (settledTop m top sort)
+        (λ r p b k. same-aside r p b (under (settle-grown s m₀ top₀ m top sort place e near g (Table.operandOf op)) k))
         (Read.readExpression d s (Table.rightLevel op) (Table.rightWant op) 0 nest (nextAt s at))
         (Write.exprAt d s (settled m top (Table.operandOf op) sort place) (settledTop m top sort) (Table.rightLevel op) (Table.rightWant op) 0 nest (nextAt s at))
         (λ x f n. applied (binary op (settledTree (Table.operandOf op) sort e)) op x f n) (λ x p u n b. finishAt b u op x p n)
@@ -89,10 +90,10 @@ module _ (s : List ℕ) (short : length s < 65536) where
     Turns = Steps (States m₀ top₀) (Same s m₀ top₀)
 
     joined-on : (t : Token) (q : Parsed Part) (r : Ran) → Same s m₀ top₀ q r → Turns (Read.onJoined t q) (Write.onJoined t r)
-    joined-on t _ _ (same-aside r p b) = both-done (aside r p) (ran (Aside r p) b) (same-aside r p b)
+    joined-on t _ _ (same-aside r p b k) = both-done (aside r p) (ran (Aside r p) b) (same-aside r p b k)
     joined-on t _ _ (same-part x p u e n b near within g) =
         both Turns (leb (n .start) (t .start)) _ _ _ _
-        (λ h. both-done (aside 0 (t .start)) (ran (Aside 0 (t .start)) b) (same-aside 0 (t .start) b))
+        (λ h. both-done (aside 0 (t .start)) (ran (Aside 0 (t .start)) b) (same-aside 0 (t .start) b (kept g)))
         (λ h. both-next (n, x, e) (n, x, p, u, b) (states n x e p u b near within g))
 
     module _ (d level nest : ℕ) (joined : (m : List ℕ) (top op sort place at : ℕ) (e : Expr) → place < 65536 → op < 64 → Grown m₀ top₀ m top (PartCodes s sort place e)
@@ -105,7 +106,7 @@ module _ (s : List ℕ) (short : length s < 65536) where
           (λ h. both-done (ok (part sort e) t) (ran (Found sort place top t) m) (same-part sort place top e t m near within g))
           (λ h. both Turns (Table.binds level (Table.operator sort (t .kind))) _ _ _ _
           (λ k. both Turns (eqb (Table.operator sort (t .kind)) Table.MATCH) _ _ _ _
-          (λ l. both-done (aside 8 (t .start)) (ran (Aside 8 (t .start)) m) (same-aside 8 (t .start) m))
+          (λ l. both-done (aside 8 (t .start)) (ran (Aside 8 (t .start)) m) (same-aside 8 (t .start) m (kept g)))
           (λ l. joined-on t _ _ (joined m top (Table.operator sort (t .kind)) sort place (t .end) e near (operator-small sort (t .kind)) g)))
           (λ k. both-done (ok (part sort e) t) (ran (Found sort place top t) m) (same-part sort place top e t m near within g)))
 
@@ -113,7 +114,7 @@ module _ (s : List ℕ) (short : length s < 65536) where
       measures _ _ (states t sort e place top m near within g) = refl
 
       outs : (x : Read.State) (y : Write.State) → States m₀ top₀ x y → Same s m₀ top₀ (aside 0 (x .0 .start)) (ran (Aside 0 (y .0 .start)) (y .4))
-      outs _ _ (states t sort e place top m near within g) = same-aside 0 (t .start) m
+      outs _ _ (states t sort e place top m near within g) = same-aside 0 (t .start) m (kept g)
 
       chain-body : (t : Token) (sort : ℕ) (e : Expr) (place top : ℕ) (m : List ℕ) → place < 65536 → t .start ≤ length s → Grown m₀ top₀ m top (PartCodes s sort place e)
           → Same s m₀ top₀ (Read.chainOf (λ op nest sort e at. Read.readJoined d s op nest sort e at) s level nest sort e t)
@@ -129,7 +130,7 @@ module _ (s : List ℕ) (short : length s < 65536) where
 
     pub expression-same : (d : ℕ) (m : List ℕ) (top level want row nest : ℕ) (t : Token) → t .start ≤ length s
         → Same s m top (Read.readExpression d s level want row nest t) (Write.exprAt d s m top level want row nest t)
-    expression-same zero m top level want row nest t within = same-aside 0 (t .start) m
+    expression-same zero m top level want row nest t within = same-aside 0 (t .start) m (keeps-self m top)
     expression-same (suc d) m top level want row nest t within =
         same-on (Same s m top) s m top same-aside (Read.readOperand d s want row nest t) (Write.operandAt d s m top want row nest t)
         (λ sort e n. Read.readChain d s level nest sort e n) (λ x p u n b. Write.chainAt d s b u level nest x p n)
@@ -138,34 +139,34 @@ module _ (s : List ℕ) (short : length s < 65536) where
 
     operand-same : (d : ℕ) (m : List ℕ) (top want row nest : ℕ) (t : Token) → t .start ≤ length s
         → Same s m top (Read.readOperand d s want row nest t) (Write.operandAt d s m top want row nest t)
-    operand-same zero m top want row nest t within = same-aside 0 (t .start) m
+    operand-same zero m top want row nest t within = same-aside 0 (t .start) m (keeps-self m top)
     operand-same (suc d) m top want row nest t within =
         both (Same s m top) (Table.allows want (t .kind)) _ _ _ _
         (λ h. both (Same s m top) (eqb (Table.prefixOperator (t .kind)) Table.NONE) _ _ _ _
         (λ k. both (Same s m top) (eqb (t .kind) Kind.OPEN) _ _ _ _ (λ l. bracketed-same d m top want nest t) (λ l. leaf-same s short m top t within want row))
         (λ k. prefixed-same d m top (Table.prefixOperator (t .kind)) want row nest t (prefix-small (t .kind))))
-        (λ h. same-refused s m top t m)
+        (λ h. same-refused s m top t m (keeps-self m top))
 
     prefixed-same : (d : ℕ) (m : List ℕ) (top op want row nest : ℕ) (t : Token) → op < 64
         → Same s m top (Read.readPrefixed d s op want row nest t) (Write.prefixedAt d s m top op want row nest t)
-    prefixed-same zero m top op want row nest t small = same-aside 0 (t .start) m
+    prefixed-same zero m top op want row nest t small = same-aside 0 (t .start) m (keeps-self m top)
     prefixed-same (suc d) m top op want row nest t small =
         prefixed-body d (λ m top level want row nest t within. expression-same d m top level want row nest t within) m top op want row nest t small
 
     bracketed-same : (d : ℕ) (m : List ℕ) (top want nest : ℕ) (t : Token)
         → Same s m top (Read.readBracketed d s want nest t) (Write.bracketedAt d s m top want nest t)
-    bracketed-same zero m top want nest t = same-aside 0 (t .start) m
+    bracketed-same zero m top want nest t = same-aside 0 (t .start) m (keeps-self m top)
     bracketed-same (suc d) m top want nest t =
         bracketed-body d (λ m top level want row nest t within. expression-same d m top level want row nest t within) m top want nest t
 
     chain-same : (d : ℕ) (m₀ : List ℕ) (top₀ : ℕ) (t : Token) (level nest sort : ℕ) (e : Expr) (place top : ℕ) (m : List ℕ) → place < 65536 → t .start ≤ length s
         → Grown m₀ top₀ m top (PartCodes s sort place e) → Same s m₀ top₀ (Read.readChain d s level nest sort e t) (Write.chainAt d s m top level nest sort place t)
-    chain-same zero m₀ top₀ t level nest sort e place top m near within g = same-aside 0 (t .start) m
+    chain-same zero m₀ top₀ t level nest sort e place top m near within g = same-aside 0 (t .start) m (kept g)
     chain-same (suc d) m₀ top₀ t level nest sort e place top m near within g =
         chain-body m₀ top₀ d level nest (λ m top op sort place at e near small g. joined-same d m₀ top₀ m top op nest sort place at e near small g) t sort e place top m near within g
 
     joined-same : (d : ℕ) (m₀ : List ℕ) (top₀ : ℕ) (m : List ℕ) (top op nest sort place at : ℕ) (e : Expr) → place < 65536 → op < 64
         → Grown m₀ top₀ m top (PartCodes s sort place e) → Same s m₀ top₀ (Read.readJoined d s op nest sort e at) (Write.joinedAt d s m top op nest sort place at)
-    joined-same zero m₀ top₀ m top op nest sort place at e near small g = same-aside 0 at m
+    joined-same zero m₀ top₀ m top op nest sort place at e near small g = same-aside 0 at m (kept g)
     joined-same (suc d) m₀ top₀ m top op nest sort place at e near small g =
         joined-body d (λ m top level want row nest t within. expression-same d m top level want row nest t within) m₀ top₀ m top op nest sort place at e near small g

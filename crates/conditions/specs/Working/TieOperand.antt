@@ -23,7 +23,7 @@ use Rattle.conditions.specs.Parsed.{Parsed, ok, aside, unexpected, Part,
 use Rattle.conditions.specs.Operand.{readLiteral, readName, readDigits, readFloat, readLeaf, settledTree, applied}
 use Rattle.conditions.specs.Working.Emit.{Ran, ran, refused, above, put, settledTop, settled, finishAt}
 use Rattle.conditions.specs.Working.Leaf.{literalRead, nameRead, digitsRead, floatRead, leafRead, leafFound, nameAs}
-use Rattle.conditions.specs.Working.Written.{Grown, Then, then, grown-as, grown-then, grown-none, grown-put, append-assoc}
+use Rattle.conditions.specs.Working.Written.{Grown, Then, then, grown-as, grown-then, grown-none, grown-put, append-assoc, keeps-self, kept, under}
 use Rattle.conditions.specs.Working.Same.{PartCodes, whole, bare, Same, same-aside, same-part, same-refused, both, start-within}
 use Rattle.conditions.specs.declared.emit.Out.{Out}
 use Rattle.conditions.specs.declared.emit.Out.the-variants.{Found, Aside}
@@ -89,13 +89,13 @@ module _ (s : List ℕ) (short : length s < 65536) (m : List ℕ) (top : ℕ) wh
     literal-same : Same s m top (readLiteral s t) (literalRead s m top t)
     unfolding readLiteral literalRead
     literal-same =
-        both (Same s m top) (ltb 2048 (length (decodedAt s (t .start)))) _ _ _ _ (λ h. same-aside 7 (t .start) m)
+        both (Same s m top) (ltb 2048 (length (decodedAt s (t .start)))) _ _ _ _ (λ h. same-aside 7 (t .start) m (keeps-self m top))
         (λ h. entered Table.TEXT Op.LITERAL _ (omega arith) (omega arith) (code-literal (t .start)))
 
     digits-same : Same s m top (readDigits s t) (digitsRead s m top t)
     unfolding readDigits digitsRead
     digits-same =
-        both (Same s m top) (leb Number.LIMIT (Number.numberAt s (t .start) (t .end))) _ _ _ _ (λ h. same-aside 5 (t .start) m)
+        both (Same s m top) (leb Number.LIMIT (Number.numberAt s (t .start) (t .end))) _ _ _ _ (λ h. same-aside 5 (t .start) m (keeps-self m top))
         (λ h. entered Table.NUMBER Op.NUMBER _ (omega arith) (omega arith) (code-number (t .start)))
 
     name-as : (w : ℕ) → ((w ≡ Table.TEXT → ⊥) → Table.TRUE ≤ w) → Same s m top (ok (part w (name (nameAt s (t .start)))) (nextAt s (t .end))) (nameAs s m top t w)
@@ -114,8 +114,8 @@ module _ (s : List ℕ) (short : length s < 65536) (m : List ℕ) (top : ℕ) wh
     unfolding readFloat floatRead
     float-same row =
         split (eqb (t .kind) Kind.AMPERSAND)
-        (λ h. split (leb 16 row) (λ k. rw (h, k) (same-aside 7 (t .start) m)) (λ k. rw (h, k) (same-aside 8 (t .start) m)))
-        (λ h. rw h (same-aside 8 (t .start) m))
+        (λ h. split (leb 16 row) (λ k. rw (h, k) (same-aside 7 (t .start) m (keeps-self m top))) (λ k. rw (h, k) (same-aside 8 (t .start) m (keeps-self m top))))
+        (λ h. rw h (same-aside 8 (t .start) m (keeps-self m top)))
 
     pub leaf-same : (want row : ℕ) → Same s m top (readLeaf s want row t) (leafRead s m top want row t)
     unfolding readLeaf leafRead
@@ -179,7 +179,7 @@ module _ (s m : List ℕ) (top : ℕ) (b : List ℕ) (u x p : ℕ) (e : Expr) (n
         (λ h. same-part (Table.resultOf op) 0 (above b₁ u₁) (unary op f) n (put b₁ u₁ op 0) (omega arith) within
         (grown-as m top (put b₁ u₁ op 0) (above b₁ u₁) (Then (Codes s f) (entry op 0)) (PartCodes s (Table.resultOf op) 0 (unary op f))
         (λ c q. whole (result-plain op) (unary-codes c q)) taken))
-        (λ h. same-refused s m top n b)
+        (λ h. same-refused s m top n b (kept g))
 
     binary-codes : (l : Expr) (c d : List ℕ) → Codes s l c → Then (Codes s f) (entry op 0) d → Codes s (binary op l f) (c ++ d)
     binary-codes l c _ k (then d q) = rw (sym (append-assoc c d (entry op 0 ∷ []))) (code-binary k q)
@@ -192,4 +192,4 @@ module _ (s m : List ℕ) (top : ℕ) (b : List ℕ) (u x p : ℕ) (e : Expr) (n
         (λ h. same-part (Table.resultOf op) 0 (above b₁ u₁) (binary op l f) n (put b₁ u₁ op 0) (omega arith) within
         (grown-then m₀ top₀ m top (put b₁ u₁ op 0) (above b₁ u₁) (Codes s l) (Then (Codes s f) (entry op 0)) (PartCodes s (Table.resultOf op) 0 (binary op l f))
         (λ c d q r. whole (result-plain op) (binary-codes l c d q r)) k taken))
-        (λ h. same-refused s m₀ top₀ n b)
+        (λ h. same-refused s m₀ top₀ n b (under k (kept g)))

@@ -23,7 +23,7 @@ use Rattle.conditions.specs.Program as Read
 use Rattle.conditions.specs.Working.Emit.{Ran, ran, refused, above, put, settledTop, settled, endedAt, valuedAt}
 use Rattle.conditions.specs.Working.Expression.{exprAt}
 use Rattle.conditions.specs.Working.Program as Write
-use Rattle.conditions.specs.Working.Written.{Grown, Then, then, grown-as, grown-then, grown-none, grown-put, append-assoc}
+use Rattle.conditions.specs.Working.Written.{Grown, Then, then, grown-as, grown-then, grown-none, grown-put, append-assoc, keeps-self, kept, under}
 use Rattle.conditions.specs.Working.Same.{PartCodes, Same, SameAs, as-aside, as-ok, as-refused, same-on, as-on, both, start-within, Steps, both-next, both-done, loop-same}
 use Rattle.conditions.specs.Working.TieOperand.{settle-grown}
 use Rattle.conditions.specs.Working.TieExpression.{expression-same}
@@ -51,7 +51,7 @@ module _ (s : List ℕ) (short : length s < 65536) where
         (grown-then m₀ top₀ m top (put b u op 0) (above b u) L (Then P (entry op 0)) (ClauseCodes s q) ended-codes g
         (grown-then m top b u (put b u op 0) (above b u) P (λ d. d ≡ entry op 0 ∷ []) (Then P (entry op 0)) (λ c d p r. rw r (then c p)) h
         (grown-put b u op 0 small (omega arith)))))
-        (λ k. as-refused (ClauseCodes s) s m₀ top₀ t b)
+        (λ k. as-refused (ClauseCodes s) s m₀ top₀ t b (under g (kept h)))
 
   plain-same : (m₀ : List ℕ) (top₀ : ℕ) (b : List ℕ) (u : ℕ) (e : Expr) (t : Token) → Grown m₀ top₀ b u (Codes s e)
       → SameClause m₀ top₀ (Read.ending s (plain e) t) (endedAt s b u Op.PLAIN t)
@@ -67,7 +67,7 @@ module _ (s : List ℕ) (short : length s < 65536) where
       both (SameClause m₀ top₀) (fits TEXT x) _ _ _ _
       (λ k. ended-same m₀ top₀ m top (settled b u TEXT x p) (settledTop b u x) (Codes s e) (Codes s (settledTree TEXT x f)) (valued e (settledTree TEXT x f)) Op.VALUED
       (omega arith) (λ c d l q. code-valued l q) g (settle-grown s m top b u x p f near h TEXT) n)
-      (λ k. as-refused (ClauseCodes s) s m₀ top₀ n b)
+      (λ k. as-refused (ClauseCodes s) s m₀ top₀ n b (under g (kept h)))
 
   -- where a program stands
   data States (m₀ : List ℕ) (top₀ : ℕ) : Read.State → Write.State → Type 0 where
@@ -80,10 +80,10 @@ module _ (s : List ℕ) (short : length s < 65536) where
 
     clause-on : (t : Token) (p : Program) (top : ℕ) (m : List ℕ) → Grown m₀ top₀ m top (ProgramCodes s p)
         → (q : Parsed Clause) (r : Ran) → SameClause m top q r → Turns (Read.onClause t p q) (Write.onClause t r)
-    clause-on t p top m g _ _ (as-aside r i b) = both-done (aside r i) (ran (Aside r i) b) (as-aside r i b)
+    clause-on t p top m g _ _ (as-aside r i b k) = both-done (aside r i) (ran (Aside r i) b) (as-aside r i b (under g k))
     clause-on t p top m g _ _ (as-ok c x i u n b within h) =
         both Turns (leb (n .start) (t .start)) _ _ _ _
-        (λ k. both-done (aside 0 (t .start)) (ran (Aside 0 (t .start)) b) (as-aside 0 (t .start) b))
+        (λ k. both-done (aside 0 (t .start)) (ran (Aside 0 (t .start)) b) (as-aside 0 (t .start) b (under g (kept h))))
         (λ k. both-next (n, also p c) (n, u, b) (states n (also p c) u b within
         (grown-then m₀ top₀ m top b u (ProgramCodes s p) (ClauseCodes s c) (ProgramCodes s (also p c)) (λ y z v w. code-also v w) g h)))
 
@@ -94,7 +94,7 @@ module _ (s : List ℕ) (short : length s < 65536) where
       where
         last-cases : (f : Bool) → SameProgram m₀ top₀ (pick f (ok p t) (unexpected t)) (ran (pick f (Found TEST 0 top t) (refused t)) m)
         last-cases true = as-ok p TEST 0 top t m within g
-        last-cases false = as-refused (ProgramCodes s) s m₀ top₀ t m
+        last-cases false = as-refused (ProgramCodes s) s m₀ top₀ t m (kept g)
 
     module _ (d nest : ℕ) (clause : (m : List ℕ) (top : ℕ) (t : Token) → t .start ≤ length s → SameClause m top (Read.readClause d s nest t) (Write.clauseAt d s m top nest t)) where
       clauses-turn : (x : Read.State) (y : Write.State) → States m₀ top₀ x y
@@ -110,7 +110,7 @@ module _ (s : List ℕ) (short : length s < 65536) where
       measures _ _ (states t p top m within g) = refl
 
       outs : (x : Read.State) (y : Write.State) → States m₀ top₀ x y → SameProgram m₀ top₀ (aside 0 (x .0 .start)) (ran (Aside 0 (y .0 .start)) (y .2))
-      outs _ _ (states t p top m within g) = as-aside 0 (t .start) m
+      outs _ _ (states t p top m within g) = as-aside 0 (t .start) m (kept g)
 
       clauses-body : (t : Token) (top : ℕ) (m : List ℕ) → t .start ≤ length s → Grown m₀ top₀ m top (ProgramCodes s none)
           → SameProgram m₀ top₀ (Read.clausesOf (λ nest t. Read.readClause d s nest t) s nest t) (Write.clausesLoop (λ m top nest t. Write.clauseAt d s m top nest t) s m top nest t)
@@ -124,7 +124,7 @@ module _ (s : List ℕ) (short : length s < 65536) where
 
     clause-same : (d : ℕ) (m : List ℕ) (top nest : ℕ) (t : Token) → t .start ≤ length s
         → SameClause m top (Read.readClause d s nest t) (Write.clauseAt d s m top nest t)
-    clause-same zero m top nest t within = as-aside 0 (t .start) m
+    clause-same zero m top nest t within = as-aside 0 (t .start) m (keeps-self m top)
     clause-same (suc d) m top nest t within =
         same-on (SameClause m top) s m top as-aside (readExpression d s 0 ANY 0 nest t) (exprAt d s m top 0 ANY 0 nest t)
         (λ sort e n. Read.readTested d s nest sort e n) (λ x p u n b. Write.testedAt d s b u nest x p n)
@@ -133,32 +133,32 @@ module _ (s : List ℕ) (short : length s < 65536) where
 
     tested-same : (d : ℕ) (m₀ : List ℕ) (top₀ : ℕ) (m : List ℕ) (top nest sort place : ℕ) (e : Expr) (t : Token) → place < 65536 → Grown m₀ top₀ m top (PartCodes s sort place e)
         → SameClause m₀ top₀ (Read.readTested d s nest sort e t) (Write.testedAt d s m top nest sort place t)
-    tested-same zero m₀ top₀ m top nest sort place e t near g = as-aside 0 (t .start) m
+    tested-same zero m₀ top₀ m top nest sort place e t near g = as-aside 0 (t .start) m (kept g)
     tested-same (suc d) m₀ top₀ m top nest sort place e t near g =
         both (SameClause m₀ top₀) (fits TEST sort) _ _ _ _
         (λ h. both (SameClause m₀ top₀) (eqb (t .kind) Kind.ARROW) _ _ _ _
         (λ k. value-same d m₀ top₀ (settled m top TEST sort place) (settledTop m top sort) nest (settledTree TEST sort e) (nextAt s (t .end)) (start-within s (t .end))
         (settle-grown s m₀ top₀ m top sort place e near g TEST))
         (λ k. plain-same m₀ top₀ (settled m top TEST sort place) (settledTop m top sort) (settledTree TEST sort e) t (settle-grown s m₀ top₀ m top sort place e near g TEST)))
-        (λ h. as-refused (ClauseCodes s) s m₀ top₀ t m)
+        (λ h. as-refused (ClauseCodes s) s m₀ top₀ t m (kept g))
 
     value-same : (d : ℕ) (m₀ : List ℕ) (top₀ : ℕ) (m : List ℕ) (top nest : ℕ) (e : Expr) (t : Token) → t .start ≤ length s → Grown m₀ top₀ m top (Codes s e)
         → SameClause m₀ top₀ (Read.readValue d s nest e t) (Write.valueAt d s m top nest t)
-    value-same zero m₀ top₀ m top nest e t within g = as-aside 0 (t .start) m
+    value-same zero m₀ top₀ m top nest e t within g = as-aside 0 (t .start) m (kept g)
     value-same (suc d) m₀ top₀ m top nest e t within g =
         both (SameClause m₀ top₀) (eqb (t .kind) Kind.OPEN-BRACE) _ _ _ _
         (λ h. nested-same d m₀ top₀ m top nest e t g)
-        (λ h. same-on (SameClause m₀ top₀) s m top as-aside (readExpression d s 3 TEXT 0 nest t) (exprAt d s m top 3 TEXT 0 nest t)
+        (λ h. same-on (SameClause m₀ top₀) s m top (λ r p b k. as-aside r p b (under g k)) (readExpression d s 3 TEXT 0 nest t) (exprAt d s m top 3 TEXT 0 nest t)
         (λ sort f n. Read.valuing s e sort f n) (λ x p u n b. valuedAt s b u x p n)
         (λ x p u f n b near within h. valued-same m₀ top₀ m top e g x p u f n b near h)
         (expression-same s short d m top 3 TEXT 0 nest t within))
 
     nested-same : (d : ℕ) (m₀ : List ℕ) (top₀ : ℕ) (m : List ℕ) (top nest : ℕ) (e : Expr) (t : Token) → Grown m₀ top₀ m top (Codes s e)
         → SameClause m₀ top₀ (Read.readNested d s nest e t) (Write.nestedAt d s m top nest t)
-    nested-same zero m₀ top₀ m top nest e t g = as-aside 0 (t .start) m
+    nested-same zero m₀ top₀ m top nest e t g = as-aside 0 (t .start) m (kept g)
     nested-same (suc d) m₀ top₀ m top nest e t g =
-        both (SameClause m₀ top₀) (leb 16 nest) _ _ _ _ (λ h. as-aside 7 (t .start) m)
-        (λ h. as-on (SameClause m₀ top₀) s m top as-aside (ProgramCodes s) (Read.readBlock d s (nest + 1) (nextAt s (t .end)))
+        both (SameClause m₀ top₀) (leb 16 nest) _ _ _ _ (λ h. as-aside 7 (t .start) m (kept g))
+        (λ h. as-on (SameClause m₀ top₀) s m top (λ r p b k. as-aside r p b (under g k)) (ProgramCodes s) (Read.readBlock d s (nest + 1) (nextAt s (t .end)))
         (Write.programAt d s m top (nest + 1) (nextAt s (t .end)))
         (λ p n. Read.ending s (nested e p) (nextAt s (n .end))) (λ x p u n b. endedAt s b u Op.NESTED (nextAt s (n .end)))
         (λ p x i u n b within h. ended-same m₀ top₀ m top b u (Codes s e) (ProgramCodes s p) (nested e p) Op.NESTED (omega arith) (λ c k l q. code-nested l q) g h (nextAt s (n .end)))
@@ -166,7 +166,7 @@ module _ (s : List ℕ) (short : length s < 65536) where
 
     pub block-same : (d : ℕ) (m : List ℕ) (top nest : ℕ) (t : Token) → t .start ≤ length s
         → SameProgram m top (Read.readBlock d s nest t) (Write.programAt d s m top nest t)
-    block-same zero m top nest t within = as-aside 0 (t .start) m
+    block-same zero m top nest t within = as-aside 0 (t .start) m (keeps-self m top)
     block-same (suc d) m top nest t within =
         clauses-same d m top (put m top Op.BEGIN 0) (above m top) nest t within
         (grown-as m top (put m top Op.BEGIN 0) (above m top) (λ c. c ≡ entry Op.BEGIN 0 ∷ []) (ProgramCodes s none) (λ c q. rw q code-none)
@@ -174,7 +174,7 @@ module _ (s : List ℕ) (short : length s < 65536) where
 
     clauses-same : (d : ℕ) (m₀ : List ℕ) (top₀ : ℕ) (m : List ℕ) (top nest : ℕ) (t : Token) → t .start ≤ length s → Grown m₀ top₀ m top (ProgramCodes s none)
         → SameProgram m₀ top₀ (Read.readClauses d s nest t) (Write.clausesAt d s m top nest t)
-    clauses-same zero m₀ top₀ m top nest t within g = as-aside 0 (t .start) m
+    clauses-same zero m₀ top₀ m top nest t within g = as-aside 0 (t .start) m (kept g)
     clauses-same (suc d) m₀ top₀ m top nest t within g =
         clauses-body m₀ top₀ d nest (λ m top t within. clause-same d m top nest t within) t top m within g
 

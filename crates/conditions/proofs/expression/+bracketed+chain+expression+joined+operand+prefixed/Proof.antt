@@ -1,4 +1,4 @@
-use Rattle.conditions.proofs.ExpressionWays.{bracketed-0, bracketed-full, bracketed-aside, bracketed-found, chain-0, chain-start, chain-match, chain-aside, chain-stuck, chain-more, chain-other, chain-end, expr-0, expr-aside, expr-found, joined-0, joined-aside, joined-found, operand-0, operand-prefixed, operand-bracketed, operand-leaf, operand-not, prefixed-0, prefixed-row, prefixed-aside, prefixed-found}
+use Rattle.conditions.proofs.ExpressionWays.{bracketed-0, bracketed-full, bracketed-aside, bracketed-found, chain-0, chain-start, chain-other, chain-match, chain-aside, chain-stuck, chain-more, chain-end, expr-0, expr-aside, expr-found, joined-0, joined-aside, joined-found, operand-0, operand-prefixed, operand-bracketed, operand-leaf, operand-not, prefixed-0, prefixed-row, prefixed-aside, prefixed-found}
 use mathlib.Core.Path.{_≡_}
 use Prim.Native.Nat.{_-_}
 use lib.ListN.{length}
@@ -32,7 +32,7 @@ use Rattle.conditions.proofs.emit.unexpected.Reads as unexpected-reads
 use Rattle.conditions.proofs.leaf.leaf.Reads as leaf-reads
 use Rattle.conditions.proofs.table.inside_level.Reads as inside-level-reads
 use Rattle.conditions.proofs.table.is_allowed.Reads as is-allowed-reads
-use Rattle.conditions.proofs.table.is_bound.Reads as is-bound-reads
+use Rattle.conditions.proofs.table.is_loose.Reads as is-loose-reads
 use Rattle.conditions.proofs.table.operand_level.Reads as operand-level-reads
 use Rattle.conditions.proofs.table.operand_want.Reads as operand-want-reads
 use Rattle.conditions.proofs.table.operator_of.Reads as operator-of-reads
@@ -105,7 +105,7 @@ abbrev prefixed-below : ℕ → In 2 prefixed-kinds.ps
 prefixed-below t =
     and 2 prefixed-kinds.ps (falls 2 prefixed-kinds.ps _<_ μ-prefixed t) prefixed.Pre
 
--- src/expression.rt:109:9
+-- src/expression.rt:146:9
 bracketed-returns : (t : ℕ) → bracketed-lts.Need-returns (
   token-at-reads.Asked,
   token-at-reads.Learnt,
@@ -118,7 +118,7 @@ bracketed-returns : (t : ℕ) → bracketed-lts.Need-returns (
 ) (bracketed-at t) bracketed.Post
 bracketed-returns t c = search bracketed-0
 
--- src/expression.rt:115:9
+-- src/expression.rt:152:9
 bracketed-returns-2 : (t : ℕ) → bracketed-lts.Need-returns-2 (
   token-at-reads.Asked,
   token-at-reads.Learnt,
@@ -131,7 +131,7 @@ bracketed-returns-2 : (t : ℕ) → bracketed-lts.Need-returns-2 (
 ) (bracketed-at t) bracketed.Post
 bracketed-returns-2 t c = search bracketed-full
 
--- src/expression.rt:120:9
+-- src/expression.rt:157:9
 bracketed-token-at-requires : (t : ℕ) → bracketed-lts.Need-token-at-requires (
   token-at-reads.Asked,
   token-at-reads.Learnt,
@@ -144,7 +144,7 @@ bracketed-token-at-requires : (t : ℕ) → bracketed-lts.Need-token-at-requires
 ) (bracketed-at t) bracketed.Post
 bracketed-token-at-requires t c κs = search needs
 
--- src/expression.rt:121:9
+-- src/expression.rt:158:9
 bracketed-inside-level-requires : (t : ℕ) → bracketed-lts.Need-inside-level-requires (
   token-at-reads.Asked,
   token-at-reads.Learnt,
@@ -157,7 +157,7 @@ bracketed-inside-level-requires : (t : ℕ) → bracketed-lts.Need-inside-level-
 ) (bracketed-at t) bracketed.Post
 bracketed-inside-level-requires t c κs = search needs
 
--- src/expression.rt:122:48
+-- src/expression.rt:159:48
 bracketed-add-expression : (t : ℕ) → bracketed-lts.Need-add-expression (
   token-at-reads.Asked,
   token-at-reads.Learnt,
@@ -170,7 +170,7 @@ bracketed-add-expression : (t : ℕ) → bracketed-lts.Need-add-expression (
 ) (bracketed-at t) bracketed.Post
 bracketed-add-expression t c = search needs
 
--- src/expression.rt:122:61
+-- src/expression.rt:159:61
 bracketed-sub-expression : (t : ℕ) → bracketed-lts.Need-sub-expression (
   token-at-reads.Asked,
   token-at-reads.Learnt,
@@ -183,7 +183,7 @@ bracketed-sub-expression : (t : ℕ) → bracketed-lts.Need-sub-expression (
 ) (bracketed-at t) bracketed.Post
 bracketed-sub-expression t c = search needs
 
--- src/expression.rt:122:11
+-- src/expression.rt:159:11
 bracketed-expression-requires : (t : ℕ) → bracketed-lts.Need-expression-requires (
   token-at-reads.Asked,
   token-at-reads.Learnt,
@@ -196,7 +196,7 @@ bracketed-expression-requires : (t : ℕ) → bracketed-lts.Need-expression-requ
 ) (bracketed-at t) bracketed.Post
 bracketed-expression-requires t c κs = search needs
 
--- src/expression.rt:123:22
+-- src/expression.rt:160:22
 bracketed-enum-known-reason : (t : ℕ) → bracketed-lts.Need-enum-known-reason (
   token-at-reads.Asked,
   token-at-reads.Learnt,
@@ -209,7 +209,7 @@ bracketed-enum-known-reason : (t : ℕ) → bracketed-lts.Need-enum-known-reason
 ) (bracketed-at t) bracketed.Post
 bracketed-enum-known-reason t c = search needs
 
--- src/expression.rt:125:13
+-- src/expression.rt:162:13
 bracketed-enum-known-sort : (t : ℕ) → bracketed-lts.Need-enum-known-sort (
   token-at-reads.Asked,
   token-at-reads.Learnt,
@@ -222,7 +222,7 @@ bracketed-enum-known-sort : (t : ℕ) → bracketed-lts.Need-enum-known-sort (
 ) (bracketed-at t) bracketed.Post
 bracketed-enum-known-sort t c = search needs
 
--- src/expression.rt:129:14
+-- src/expression.rt:166:14
 bracketed-closed-requires : (t : ℕ) → bracketed-lts.Need-closed-requires (
   token-at-reads.Asked,
   token-at-reads.Learnt,
@@ -235,7 +235,7 @@ bracketed-closed-requires : (t : ℕ) → bracketed-lts.Need-closed-requires (
 ) (bracketed-at t) bracketed.Post
 bracketed-closed-requires t c κs = search needs
 
--- src/expression.rt:105:1
+-- src/expression.rt:134:1
 bracketed-same-length : (t : ℕ) → bracketed-lts.Need-same-length (
   token-at-reads.Asked,
   token-at-reads.Learnt,
@@ -248,7 +248,7 @@ bracketed-same-length : (t : ℕ) → bracketed-lts.Need-same-length (
 ) (bracketed-at t) bracketed.Post
 bracketed-same-length t c = search needs
 
--- src/expression.rt:105:1
+-- src/expression.rt:134:1
 bracketed-returns-3 : (t : ℕ) → bracketed-lts.Need-returns-3 (
   token-at-reads.Asked,
   token-at-reads.Learnt,
@@ -261,7 +261,7 @@ bracketed-returns-3 : (t : ℕ) → bracketed-lts.Need-returns-3 (
 ) (bracketed-at t) bracketed.Post
 bracketed-returns-3 t c = search bracketed-aside
 
--- src/expression.rt:105:1
+-- src/expression.rt:134:1
 bracketed-same-length-2 : (t : ℕ) → bracketed-lts.Need-same-length-2 (
   token-at-reads.Asked,
   token-at-reads.Learnt,
@@ -274,7 +274,7 @@ bracketed-same-length-2 : (t : ℕ) → bracketed-lts.Need-same-length-2 (
 ) (bracketed-at t) bracketed.Post
 bracketed-same-length-2 t c = search needs
 
--- src/expression.rt:105:1
+-- src/expression.rt:134:1
 bracketed-returns-4 : (t : ℕ) → bracketed-lts.Need-returns-4 (
   token-at-reads.Asked,
   token-at-reads.Learnt,
@@ -294,227 +294,227 @@ chain-Inv-loop s code₀ from level nest before spot d sort₀ place₀ top₀ t
 abbrev chain-μ-loop : chain-lts.MeasureT-loop
 chain-μ-loop s code₀ from level nest before spot d sort₀ place₀ top₀ t₀ code sort place top t = length s - t .start
 
--- src/expression.rt:138:9
+-- src/expression.rt:185:9
 chain-returns : (t : ℕ) → chain-lts.Need-returns (
   operator-of-reads.Asked,
   operator-of-reads.Learnt,
-  is-bound-reads.Asked,
-  is-bound-reads.Learnt,
+  is-loose-reads.Asked,
+  is-loose-reads.Learnt,
   joined-below t,
   joined.Post,
 ) (chain-at t) chain.Post chain-Inv-loop chain-μ-loop
 chain-returns t c = search chain-0
 
--- src/expression.rt:147:5
+-- src/expression.rt:194:5
 chain-loop-holds : (t : ℕ) → chain-lts.Need-loop-holds (
   operator-of-reads.Asked,
   operator-of-reads.Learnt,
-  is-bound-reads.Asked,
-  is-bound-reads.Learnt,
+  is-loose-reads.Asked,
+  is-loose-reads.Learnt,
   joined-below t,
   joined.Post,
 ) (chain-at t) chain.Post chain-Inv-loop chain-μ-loop
 chain-loop-holds t c = (search needs, search chain-start)
 
--- src/expression.rt:148:13
+-- src/expression.rt:195:13
 chain-operator-of-requires : (t : ℕ) → chain-lts.Need-operator-of-requires (
   operator-of-reads.Asked,
   operator-of-reads.Learnt,
-  is-bound-reads.Asked,
-  is-bound-reads.Learnt,
+  is-loose-reads.Asked,
+  is-loose-reads.Learnt,
   joined-below t,
   joined.Post,
 ) (chain-at t) chain.Post chain-Inv-loop chain-μ-loop
 chain-operator-of-requires t c κs = search needs
 
--- src/expression.rt:149:12
-chain-is-bound-requires : (t : ℕ) → chain-lts.Need-is-bound-requires (
+-- src/expression.rt:196:12
+chain-is-loose-requires : (t : ℕ) → chain-lts.Need-is-loose-requires (
   operator-of-reads.Asked,
   operator-of-reads.Learnt,
-  is-bound-reads.Asked,
-  is-bound-reads.Learnt,
+  is-loose-reads.Asked,
+  is-loose-reads.Learnt,
   joined-below t,
   joined.Post,
 ) (chain-at t) chain.Post chain-Inv-loop chain-μ-loop
-chain-is-bound-requires t c κs = search needs
+chain-is-loose-requires t c κs = search needs
 
--- src/expression.rt:151:17
+-- src/expression.rt:197:13
 chain-same-length : (t : ℕ) → chain-lts.Need-same-length (
   operator-of-reads.Asked,
   operator-of-reads.Learnt,
-  is-bound-reads.Asked,
-  is-bound-reads.Learnt,
+  is-loose-reads.Asked,
+  is-loose-reads.Learnt,
   joined-below t,
   joined.Post,
 ) (chain-at t) chain.Post chain-Inv-loop chain-μ-loop
 chain-same-length t c = search needs
 
--- src/expression.rt:151:17
+-- src/expression.rt:197:13
 chain-returns-2 : (t : ℕ) → chain-lts.Need-returns-2 (
   operator-of-reads.Asked,
   operator-of-reads.Learnt,
-  is-bound-reads.Asked,
-  is-bound-reads.Learnt,
+  is-loose-reads.Asked,
+  is-loose-reads.Learnt,
   joined-below t,
   joined.Post,
 ) (chain-at t) chain.Post chain-Inv-loop chain-μ-loop
-chain-returns-2 t c = search chain-match
+chain-returns-2 t c = search chain-other
 
--- src/expression.rt:156:69
-chain-sub-joined : (t : ℕ) → chain-lts.Need-sub-joined (
-  operator-of-reads.Asked,
-  operator-of-reads.Learnt,
-  is-bound-reads.Asked,
-  is-bound-reads.Learnt,
-  joined-below t,
-  joined.Post,
-) (chain-at t) chain.Post chain-Inv-loop chain-μ-loop
-chain-sub-joined t c = search needs
-
--- src/expression.rt:156:19
-chain-joined-requires : (t : ℕ) → chain-lts.Need-joined-requires (
-  operator-of-reads.Asked,
-  operator-of-reads.Learnt,
-  is-bound-reads.Asked,
-  is-bound-reads.Learnt,
-  joined-below t,
-  joined.Post,
-) (chain-at t) chain.Post chain-Inv-loop chain-μ-loop
-chain-joined-requires t c κs = search needs
-
--- src/expression.rt:157:30
-chain-enum-known-reason : (t : ℕ) → chain-lts.Need-enum-known-reason (
-  operator-of-reads.Asked,
-  operator-of-reads.Learnt,
-  is-bound-reads.Asked,
-  is-bound-reads.Learnt,
-  joined-below t,
-  joined.Post,
-) (chain-at t) chain.Post chain-Inv-loop chain-μ-loop
-chain-enum-known-reason t c = search needs
-
--- src/expression.rt:158:21
+-- src/expression.rt:205:13
 chain-same-length-2 : (t : ℕ) → chain-lts.Need-same-length-2 (
   operator-of-reads.Asked,
   operator-of-reads.Learnt,
-  is-bound-reads.Asked,
-  is-bound-reads.Learnt,
+  is-loose-reads.Asked,
+  is-loose-reads.Learnt,
   joined-below t,
   joined.Post,
 ) (chain-at t) chain.Post chain-Inv-loop chain-μ-loop
 chain-same-length-2 t c = search needs
 
--- src/expression.rt:158:21
+-- src/expression.rt:205:13
 chain-returns-3 : (t : ℕ) → chain-lts.Need-returns-3 (
   operator-of-reads.Asked,
   operator-of-reads.Learnt,
-  is-bound-reads.Asked,
-  is-bound-reads.Learnt,
+  is-loose-reads.Asked,
+  is-loose-reads.Learnt,
   joined-below t,
   joined.Post,
 ) (chain-at t) chain.Post chain-Inv-loop chain-μ-loop
-chain-returns-3 t c = search chain-aside
+chain-returns-3 t c = search chain-match
 
--- src/expression.rt:161:27
-chain-enum-known-x : (t : ℕ) → chain-lts.Need-enum-known-x (
+-- src/expression.rt:210:65
+chain-sub-joined : (t : ℕ) → chain-lts.Need-sub-joined (
   operator-of-reads.Asked,
   operator-of-reads.Learnt,
-  is-bound-reads.Asked,
-  is-bound-reads.Learnt,
+  is-loose-reads.Asked,
+  is-loose-reads.Learnt,
   joined-below t,
   joined.Post,
 ) (chain-at t) chain.Post chain-Inv-loop chain-μ-loop
-chain-enum-known-x t c = search needs
+chain-sub-joined t c = search needs
 
--- src/expression.rt:167:25
+-- src/expression.rt:210:15
+chain-joined-requires : (t : ℕ) → chain-lts.Need-joined-requires (
+  operator-of-reads.Asked,
+  operator-of-reads.Learnt,
+  is-loose-reads.Asked,
+  is-loose-reads.Learnt,
+  joined-below t,
+  joined.Post,
+) (chain-at t) chain.Post chain-Inv-loop chain-μ-loop
+chain-joined-requires t c κs = search needs
+
+-- src/expression.rt:211:26
+chain-enum-known-reason : (t : ℕ) → chain-lts.Need-enum-known-reason (
+  operator-of-reads.Asked,
+  operator-of-reads.Learnt,
+  is-loose-reads.Asked,
+  is-loose-reads.Learnt,
+  joined-below t,
+  joined.Post,
+) (chain-at t) chain.Post chain-Inv-loop chain-μ-loop
+chain-enum-known-reason t c = search needs
+
+-- src/expression.rt:212:17
 chain-same-length-3 : (t : ℕ) → chain-lts.Need-same-length-3 (
   operator-of-reads.Asked,
   operator-of-reads.Learnt,
-  is-bound-reads.Asked,
-  is-bound-reads.Learnt,
+  is-loose-reads.Asked,
+  is-loose-reads.Learnt,
   joined-below t,
   joined.Post,
 ) (chain-at t) chain.Post chain-Inv-loop chain-μ-loop
 chain-same-length-3 t c = search needs
 
--- src/expression.rt:167:25
+-- src/expression.rt:212:17
 chain-returns-4 : (t : ℕ) → chain-lts.Need-returns-4 (
   operator-of-reads.Asked,
   operator-of-reads.Learnt,
-  is-bound-reads.Asked,
-  is-bound-reads.Learnt,
+  is-loose-reads.Asked,
+  is-loose-reads.Learnt,
   joined-below t,
   joined.Post,
 ) (chain-at t) chain.Post chain-Inv-loop chain-μ-loop
-chain-returns-4 t c = search chain-stuck
+chain-returns-4 t c = search chain-aside
 
--- src/expression.rt:147:5
-chain-loop-less : (t : ℕ) → chain-lts.Need-loop-less (
+-- src/expression.rt:215:23
+chain-enum-known-x : (t : ℕ) → chain-lts.Need-enum-known-x (
   operator-of-reads.Asked,
   operator-of-reads.Learnt,
-  is-bound-reads.Asked,
-  is-bound-reads.Learnt,
+  is-loose-reads.Asked,
+  is-loose-reads.Learnt,
   joined-below t,
   joined.Post,
 ) (chain-at t) chain.Post chain-Inv-loop chain-μ-loop
-chain-loop-less t c = search needs
+chain-enum-known-x t c = search needs
 
--- src/expression.rt:147:5
-chain-loop-again : (t : ℕ) → chain-lts.Need-loop-again (
-  operator-of-reads.Asked,
-  operator-of-reads.Learnt,
-  is-bound-reads.Asked,
-  is-bound-reads.Learnt,
-  joined-below t,
-  joined.Post,
-) (chain-at t) chain.Post chain-Inv-loop chain-μ-loop
-chain-loop-again t c = (search needs, search chain-more)
-
--- src/expression.rt:179:13
+-- src/expression.rt:221:21
 chain-same-length-4 : (t : ℕ) → chain-lts.Need-same-length-4 (
   operator-of-reads.Asked,
   operator-of-reads.Learnt,
-  is-bound-reads.Asked,
-  is-bound-reads.Learnt,
+  is-loose-reads.Asked,
+  is-loose-reads.Learnt,
   joined-below t,
   joined.Post,
 ) (chain-at t) chain.Post chain-Inv-loop chain-μ-loop
 chain-same-length-4 t c = search needs
 
--- src/expression.rt:179:13
+-- src/expression.rt:221:21
 chain-returns-5 : (t : ℕ) → chain-lts.Need-returns-5 (
   operator-of-reads.Asked,
   operator-of-reads.Learnt,
-  is-bound-reads.Asked,
-  is-bound-reads.Learnt,
+  is-loose-reads.Asked,
+  is-loose-reads.Learnt,
   joined-below t,
   joined.Post,
 ) (chain-at t) chain.Post chain-Inv-loop chain-μ-loop
-chain-returns-5 t c = search chain-other
+chain-returns-5 t c = search chain-stuck
 
--- src/expression.rt:134:1
+-- src/expression.rt:194:5
+chain-loop-less : (t : ℕ) → chain-lts.Need-loop-less (
+  operator-of-reads.Asked,
+  operator-of-reads.Learnt,
+  is-loose-reads.Asked,
+  is-loose-reads.Learnt,
+  joined-below t,
+  joined.Post,
+) (chain-at t) chain.Post chain-Inv-loop chain-μ-loop
+chain-loop-less t c = search needs
+
+-- src/expression.rt:194:5
+chain-loop-again : (t : ℕ) → chain-lts.Need-loop-again (
+  operator-of-reads.Asked,
+  operator-of-reads.Learnt,
+  is-loose-reads.Asked,
+  is-loose-reads.Learnt,
+  joined-below t,
+  joined.Post,
+) (chain-at t) chain.Post chain-Inv-loop chain-μ-loop
+chain-loop-again t c = (search needs, search chain-more)
+
+-- src/expression.rt:171:1
 chain-same-length-5 : (t : ℕ) → chain-lts.Need-same-length-5 (
   operator-of-reads.Asked,
   operator-of-reads.Learnt,
-  is-bound-reads.Asked,
-  is-bound-reads.Learnt,
+  is-loose-reads.Asked,
+  is-loose-reads.Learnt,
   joined-below t,
   joined.Post,
 ) (chain-at t) chain.Post chain-Inv-loop chain-μ-loop
 chain-same-length-5 t c = search needs
 
--- src/expression.rt:134:1
+-- src/expression.rt:171:1
 chain-returns-6 : (t : ℕ) → chain-lts.Need-returns-6 (
   operator-of-reads.Asked,
   operator-of-reads.Learnt,
-  is-bound-reads.Asked,
-  is-bound-reads.Learnt,
+  is-loose-reads.Asked,
+  is-loose-reads.Learnt,
   joined-below t,
   joined.Post,
 ) (chain-at t) chain.Post chain-Inv-loop chain-μ-loop
 chain-returns-6 t c = search chain-end
 
--- src/expression.rt:35:9
+-- src/expression.rt:45:9
 expression-returns : (t : ℕ) → expression-lts.Need-returns (
   operand-below t,
   operand.Post,
@@ -523,7 +523,7 @@ expression-returns : (t : ℕ) → expression-lts.Need-returns (
 ) (expression-at t) expression.Post
 expression-returns t c = search expr-0
 
--- src/expression.rt:40:53
+-- src/expression.rt:50:53
 expression-sub-operand : (t : ℕ) → expression-lts.Need-sub-operand (
   operand-below t,
   operand.Post,
@@ -532,7 +532,7 @@ expression-sub-operand : (t : ℕ) → expression-lts.Need-sub-operand (
 ) (expression-at t) expression.Post
 expression-sub-operand t c = search needs
 
--- src/expression.rt:40:11
+-- src/expression.rt:50:11
 expression-operand-requires : (t : ℕ) → expression-lts.Need-operand-requires (
   operand-below t,
   operand.Post,
@@ -541,7 +541,7 @@ expression-operand-requires : (t : ℕ) → expression-lts.Need-operand-requires
 ) (expression-at t) expression.Post
 expression-operand-requires t c κs = search needs
 
--- src/expression.rt:41:22
+-- src/expression.rt:51:22
 expression-enum-known-reason : (t : ℕ) → expression-lts.Need-enum-known-reason (
   operand-below t,
   operand.Post,
@@ -550,7 +550,7 @@ expression-enum-known-reason : (t : ℕ) → expression-lts.Need-enum-known-reas
 ) (expression-at t) expression.Post
 expression-enum-known-reason t c = search needs
 
--- src/expression.rt:43:13
+-- src/expression.rt:53:13
 expression-enum-known-sort : (t : ℕ) → expression-lts.Need-enum-known-sort (
   operand-below t,
   operand.Post,
@@ -559,7 +559,7 @@ expression-enum-known-sort : (t : ℕ) → expression-lts.Need-enum-known-sort (
 ) (expression-at t) expression.Post
 expression-enum-known-sort t c = search needs
 
--- src/expression.rt:47:64
+-- src/expression.rt:57:64
 expression-sub-chain : (t : ℕ) → expression-lts.Need-sub-chain (
   operand-below t,
   operand.Post,
@@ -568,7 +568,7 @@ expression-sub-chain : (t : ℕ) → expression-lts.Need-sub-chain (
 ) (expression-at t) expression.Post
 expression-sub-chain t c = search needs
 
--- src/expression.rt:47:14
+-- src/expression.rt:57:14
 expression-chain-requires : (t : ℕ) → expression-lts.Need-chain-requires (
   operand-below t,
   operand.Post,
@@ -613,7 +613,7 @@ expression-returns-3 : (t : ℕ) → expression-lts.Need-returns-3 (
 ) (expression-at t) expression.Post
 expression-returns-3 t c = search expr-found
 
--- src/expression.rt:200:9
+-- src/expression.rt:256:9
 joined-returns : (t : ℕ) → joined-lts.Need-returns (
   settle-for-reads.Asked,
   settle-for-reads.Learnt,
@@ -630,7 +630,7 @@ joined-returns : (t : ℕ) → joined-lts.Need-returns (
 ) (joined-at t) joined.Post
 joined-returns t c = search joined-0
 
--- src/expression.rt:202:9
+-- src/expression.rt:258:9
 joined-settle-for-requires : (t : ℕ) → joined-lts.Need-settle-for-requires (
   settle-for-reads.Asked,
   settle-for-reads.Learnt,
@@ -647,7 +647,7 @@ joined-settle-for-requires : (t : ℕ) → joined-lts.Need-settle-for-requires (
 ) (joined-at t) joined.Post
 joined-settle-for-requires t c κs = search needs
 
--- src/expression.rt:203:9
+-- src/expression.rt:259:9
 joined-token-at-requires : (t : ℕ) → joined-lts.Need-token-at-requires (
   settle-for-reads.Asked,
   settle-for-reads.Learnt,
@@ -664,7 +664,7 @@ joined-token-at-requires : (t : ℕ) → joined-lts.Need-token-at-requires (
 ) (joined-at t) joined.Post
 joined-token-at-requires t c κs = search needs
 
--- src/expression.rt:204:9
+-- src/expression.rt:260:9
 joined-right-level-requires : (t : ℕ) → joined-lts.Need-right-level-requires (
   settle-for-reads.Asked,
   settle-for-reads.Learnt,
@@ -681,7 +681,7 @@ joined-right-level-requires : (t : ℕ) → joined-lts.Need-right-level-requires
 ) (joined-at t) joined.Post
 joined-right-level-requires t c κs = search needs
 
--- src/expression.rt:205:9
+-- src/expression.rt:261:9
 joined-right-want-requires : (t : ℕ) → joined-lts.Need-right-want-requires (
   settle-for-reads.Asked,
   settle-for-reads.Learnt,
@@ -698,7 +698,7 @@ joined-right-want-requires : (t : ℕ) → joined-lts.Need-right-want-requires (
 ) (joined-at t) joined.Post
 joined-right-want-requires t c κs = search needs
 
--- src/expression.rt:206:52
+-- src/expression.rt:262:52
 joined-sub-expression : (t : ℕ) → joined-lts.Need-sub-expression (
   settle-for-reads.Asked,
   settle-for-reads.Learnt,
@@ -715,7 +715,7 @@ joined-sub-expression : (t : ℕ) → joined-lts.Need-sub-expression (
 ) (joined-at t) joined.Post
 joined-sub-expression t c = search needs
 
--- src/expression.rt:206:11
+-- src/expression.rt:262:11
 joined-expression-requires : (t : ℕ) → joined-lts.Need-expression-requires (
   settle-for-reads.Asked,
   settle-for-reads.Learnt,
@@ -732,7 +732,7 @@ joined-expression-requires : (t : ℕ) → joined-lts.Need-expression-requires (
 ) (joined-at t) joined.Post
 joined-expression-requires t c κs = search needs
 
--- src/expression.rt:207:22
+-- src/expression.rt:263:22
 joined-enum-known-reason : (t : ℕ) → joined-lts.Need-enum-known-reason (
   settle-for-reads.Asked,
   settle-for-reads.Learnt,
@@ -749,7 +749,7 @@ joined-enum-known-reason : (t : ℕ) → joined-lts.Need-enum-known-reason (
 ) (joined-at t) joined.Post
 joined-enum-known-reason t c = search needs
 
--- src/expression.rt:209:19
+-- src/expression.rt:265:19
 joined-enum-known-x : (t : ℕ) → joined-lts.Need-enum-known-x (
   settle-for-reads.Asked,
   settle-for-reads.Learnt,
@@ -766,7 +766,7 @@ joined-enum-known-x : (t : ℕ) → joined-lts.Need-enum-known-x (
 ) (joined-at t) joined.Post
 joined-enum-known-x t c = search needs
 
--- src/expression.rt:213:14
+-- src/expression.rt:269:14
 joined-finish-requires : (t : ℕ) → joined-lts.Need-finish-requires (
   settle-for-reads.Asked,
   settle-for-reads.Learnt,
@@ -783,7 +783,7 @@ joined-finish-requires : (t : ℕ) → joined-lts.Need-finish-requires (
 ) (joined-at t) joined.Post
 joined-finish-requires t c κs = search needs
 
--- src/expression.rt:196:1
+-- src/expression.rt:242:1
 joined-same-length : (t : ℕ) → joined-lts.Need-same-length (
   settle-for-reads.Asked,
   settle-for-reads.Learnt,
@@ -800,7 +800,7 @@ joined-same-length : (t : ℕ) → joined-lts.Need-same-length (
 ) (joined-at t) joined.Post
 joined-same-length t c = search needs
 
--- src/expression.rt:196:1
+-- src/expression.rt:242:1
 joined-returns-2 : (t : ℕ) → joined-lts.Need-returns-2 (
   settle-for-reads.Asked,
   settle-for-reads.Learnt,
@@ -817,7 +817,7 @@ joined-returns-2 : (t : ℕ) → joined-lts.Need-returns-2 (
 ) (joined-at t) joined.Post
 joined-returns-2 t c = search joined-aside
 
--- src/expression.rt:196:1
+-- src/expression.rt:242:1
 joined-same-length-2 : (t : ℕ) → joined-lts.Need-same-length-2 (
   settle-for-reads.Asked,
   settle-for-reads.Learnt,
@@ -834,7 +834,7 @@ joined-same-length-2 : (t : ℕ) → joined-lts.Need-same-length-2 (
 ) (joined-at t) joined.Post
 joined-same-length-2 t c = search needs
 
--- src/expression.rt:196:1
+-- src/expression.rt:242:1
 joined-returns-3 : (t : ℕ) → joined-lts.Need-returns-3 (
   settle-for-reads.Asked,
   settle-for-reads.Learnt,
@@ -851,7 +851,7 @@ joined-returns-3 : (t : ℕ) → joined-lts.Need-returns-3 (
 ) (joined-at t) joined.Post
 joined-returns-3 t c = search joined-found
 
--- src/expression.rt:56:9
+-- src/expression.rt:75:9
 operand-returns : (t : ℕ) → operand-lts.Need-returns (
   is-allowed-reads.Asked,
   is-allowed-reads.Learnt,
@@ -868,7 +868,7 @@ operand-returns : (t : ℕ) → operand-lts.Need-returns (
 ) (operand-at t) operand.Post
 operand-returns t c = search operand-0
 
--- src/expression.rt:61:8
+-- src/expression.rt:80:8
 operand-is-allowed-requires : (t : ℕ) → operand-lts.Need-is-allowed-requires (
   is-allowed-reads.Asked,
   is-allowed-reads.Learnt,
@@ -885,7 +885,7 @@ operand-is-allowed-requires : (t : ℕ) → operand-lts.Need-is-allowed-requires
 ) (operand-at t) operand.Post
 operand-is-allowed-requires t c κs = search needs
 
--- src/expression.rt:62:13
+-- src/expression.rt:81:13
 operand-prefix-operator-requires : (t : ℕ) → operand-lts.Need-prefix-operator-requires (
   is-allowed-reads.Asked,
   is-allowed-reads.Learnt,
@@ -902,7 +902,7 @@ operand-prefix-operator-requires : (t : ℕ) → operand-lts.Need-prefix-operato
 ) (operand-at t) operand.Post
 operand-prefix-operator-requires t c κs = search needs
 
--- src/expression.rt:64:66
+-- src/expression.rt:83:66
 operand-sub-prefixed : (t : ℕ) → operand-lts.Need-sub-prefixed (
   is-allowed-reads.Asked,
   is-allowed-reads.Learnt,
@@ -919,7 +919,7 @@ operand-sub-prefixed : (t : ℕ) → operand-lts.Need-sub-prefixed (
 ) (operand-at t) operand.Post
 operand-sub-prefixed t c = search needs
 
--- src/expression.rt:64:13
+-- src/expression.rt:83:13
 operand-prefixed-requires : (t : ℕ) → operand-lts.Need-prefixed-requires (
   is-allowed-reads.Asked,
   is-allowed-reads.Learnt,
@@ -936,7 +936,7 @@ operand-prefixed-requires : (t : ℕ) → operand-lts.Need-prefixed-requires (
 ) (operand-at t) operand.Post
 operand-prefixed-requires t c κs = search needs
 
--- src/expression.rt:64:13
+-- src/expression.rt:83:13
 operand-same-length : (t : ℕ) → operand-lts.Need-same-length (
   is-allowed-reads.Asked,
   is-allowed-reads.Learnt,
@@ -953,7 +953,7 @@ operand-same-length : (t : ℕ) → operand-lts.Need-same-length (
 ) (operand-at t) operand.Post
 operand-same-length t c = search needs
 
--- src/expression.rt:64:13
+-- src/expression.rt:83:13
 operand-returns-2 : (t : ℕ) → operand-lts.Need-returns-2 (
   is-allowed-reads.Asked,
   is-allowed-reads.Learnt,
@@ -970,7 +970,7 @@ operand-returns-2 : (t : ℕ) → operand-lts.Need-returns-2 (
 ) (operand-at t) operand.Post
 operand-returns-2 t c = search operand-prefixed
 
--- src/expression.rt:67:59
+-- src/expression.rt:86:59
 operand-sub-bracketed : (t : ℕ) → operand-lts.Need-sub-bracketed (
   is-allowed-reads.Asked,
   is-allowed-reads.Learnt,
@@ -987,7 +987,7 @@ operand-sub-bracketed : (t : ℕ) → operand-lts.Need-sub-bracketed (
 ) (operand-at t) operand.Post
 operand-sub-bracketed t c = search needs
 
--- src/expression.rt:67:13
+-- src/expression.rt:86:13
 operand-bracketed-requires : (t : ℕ) → operand-lts.Need-bracketed-requires (
   is-allowed-reads.Asked,
   is-allowed-reads.Learnt,
@@ -1004,7 +1004,7 @@ operand-bracketed-requires : (t : ℕ) → operand-lts.Need-bracketed-requires (
 ) (operand-at t) operand.Post
 operand-bracketed-requires t c κs = search needs
 
--- src/expression.rt:67:13
+-- src/expression.rt:86:13
 operand-same-length-2 : (t : ℕ) → operand-lts.Need-same-length-2 (
   is-allowed-reads.Asked,
   is-allowed-reads.Learnt,
@@ -1021,7 +1021,7 @@ operand-same-length-2 : (t : ℕ) → operand-lts.Need-same-length-2 (
 ) (operand-at t) operand.Post
 operand-same-length-2 t c = search needs
 
--- src/expression.rt:67:13
+-- src/expression.rt:86:13
 operand-returns-3 : (t : ℕ) → operand-lts.Need-returns-3 (
   is-allowed-reads.Asked,
   is-allowed-reads.Learnt,
@@ -1038,7 +1038,7 @@ operand-returns-3 : (t : ℕ) → operand-lts.Need-returns-3 (
 ) (operand-at t) operand.Post
 operand-returns-3 t c = search operand-bracketed
 
--- src/expression.rt:69:9
+-- src/expression.rt:88:9
 operand-leaf-requires : (t : ℕ) → operand-lts.Need-leaf-requires (
   is-allowed-reads.Asked,
   is-allowed-reads.Learnt,
@@ -1055,7 +1055,7 @@ operand-leaf-requires : (t : ℕ) → operand-lts.Need-leaf-requires (
 ) (operand-at t) operand.Post
 operand-leaf-requires t c κs = search needs
 
--- src/expression.rt:69:9
+-- src/expression.rt:88:9
 operand-same-length-3 : (t : ℕ) → operand-lts.Need-same-length-3 (
   is-allowed-reads.Asked,
   is-allowed-reads.Learnt,
@@ -1072,7 +1072,7 @@ operand-same-length-3 : (t : ℕ) → operand-lts.Need-same-length-3 (
 ) (operand-at t) operand.Post
 operand-same-length-3 t c = search needs
 
--- src/expression.rt:69:9
+-- src/expression.rt:88:9
 operand-returns-4 : (t : ℕ) → operand-lts.Need-returns-4 (
   is-allowed-reads.Asked,
   is-allowed-reads.Learnt,
@@ -1089,7 +1089,7 @@ operand-returns-4 : (t : ℕ) → operand-lts.Need-returns-4 (
 ) (operand-at t) operand.Post
 operand-returns-4 t c = search operand-leaf
 
--- src/expression.rt:71:5
+-- src/expression.rt:90:5
 operand-unexpected-requires : (t : ℕ) → operand-lts.Need-unexpected-requires (
   is-allowed-reads.Asked,
   is-allowed-reads.Learnt,
@@ -1106,7 +1106,7 @@ operand-unexpected-requires : (t : ℕ) → operand-lts.Need-unexpected-requires
 ) (operand-at t) operand.Post
 operand-unexpected-requires t c κs = search needs
 
--- src/expression.rt:52:1
+-- src/expression.rt:62:1
 operand-returns-5 : (t : ℕ) → operand-lts.Need-returns-5 (
   is-allowed-reads.Asked,
   is-allowed-reads.Learnt,
@@ -1123,7 +1123,7 @@ operand-returns-5 : (t : ℕ) → operand-lts.Need-returns-5 (
 ) (operand-at t) operand.Post
 operand-returns-5 t c = search operand-not
 
--- src/expression.rt:79:9
+-- src/expression.rt:108:9
 prefixed-returns : (t : ℕ) → prefixed-lts.Need-returns (
   token-at-reads.Asked,
   token-at-reads.Learnt,
@@ -1138,7 +1138,7 @@ prefixed-returns : (t : ℕ) → prefixed-lts.Need-returns (
 ) (prefixed-at t) prefixed.Post
 prefixed-returns t c = search prefixed-0
 
--- src/expression.rt:85:9
+-- src/expression.rt:114:9
 prefixed-returns-2 : (t : ℕ) → prefixed-lts.Need-returns-2 (
   token-at-reads.Asked,
   token-at-reads.Learnt,
@@ -1153,7 +1153,7 @@ prefixed-returns-2 : (t : ℕ) → prefixed-lts.Need-returns-2 (
 ) (prefixed-at t) prefixed.Post
 prefixed-returns-2 t c = search prefixed-row
 
--- src/expression.rt:90:9
+-- src/expression.rt:119:9
 prefixed-token-at-requires : (t : ℕ) → prefixed-lts.Need-token-at-requires (
   token-at-reads.Asked,
   token-at-reads.Learnt,
@@ -1168,7 +1168,7 @@ prefixed-token-at-requires : (t : ℕ) → prefixed-lts.Need-token-at-requires (
 ) (prefixed-at t) prefixed.Post
 prefixed-token-at-requires t c κs = search needs
 
--- src/expression.rt:91:9
+-- src/expression.rt:120:9
 prefixed-operand-level-requires : (t : ℕ) → prefixed-lts.Need-operand-level-requires (
   token-at-reads.Asked,
   token-at-reads.Learnt,
@@ -1183,7 +1183,7 @@ prefixed-operand-level-requires : (t : ℕ) → prefixed-lts.Need-operand-level-
 ) (prefixed-at t) prefixed.Post
 prefixed-operand-level-requires t c κs = search needs
 
--- src/expression.rt:92:9
+-- src/expression.rt:121:9
 prefixed-operand-want-requires : (t : ℕ) → prefixed-lts.Need-operand-want-requires (
   token-at-reads.Asked,
   token-at-reads.Learnt,
@@ -1198,7 +1198,7 @@ prefixed-operand-want-requires : (t : ℕ) → prefixed-lts.Need-operand-want-re
 ) (prefixed-at t) prefixed.Post
 prefixed-operand-want-requires t c κs = search needs
 
--- src/expression.rt:93:42
+-- src/expression.rt:122:42
 prefixed-add-expression : (t : ℕ) → prefixed-lts.Need-add-expression (
   token-at-reads.Asked,
   token-at-reads.Learnt,
@@ -1213,7 +1213,7 @@ prefixed-add-expression : (t : ℕ) → prefixed-lts.Need-add-expression (
 ) (prefixed-at t) prefixed.Post
 prefixed-add-expression t c = search needs
 
--- src/expression.rt:93:60
+-- src/expression.rt:122:60
 prefixed-sub-expression : (t : ℕ) → prefixed-lts.Need-sub-expression (
   token-at-reads.Asked,
   token-at-reads.Learnt,
@@ -1228,7 +1228,7 @@ prefixed-sub-expression : (t : ℕ) → prefixed-lts.Need-sub-expression (
 ) (prefixed-at t) prefixed.Post
 prefixed-sub-expression t c = search needs
 
--- src/expression.rt:93:11
+-- src/expression.rt:122:11
 prefixed-expression-requires : (t : ℕ) → prefixed-lts.Need-expression-requires (
   token-at-reads.Asked,
   token-at-reads.Learnt,
@@ -1243,7 +1243,7 @@ prefixed-expression-requires : (t : ℕ) → prefixed-lts.Need-expression-requir
 ) (prefixed-at t) prefixed.Post
 prefixed-expression-requires t c κs = search needs
 
--- src/expression.rt:94:22
+-- src/expression.rt:123:22
 prefixed-enum-known-reason : (t : ℕ) → prefixed-lts.Need-enum-known-reason (
   token-at-reads.Asked,
   token-at-reads.Learnt,
@@ -1258,7 +1258,7 @@ prefixed-enum-known-reason : (t : ℕ) → prefixed-lts.Need-enum-known-reason (
 ) (prefixed-at t) prefixed.Post
 prefixed-enum-known-reason t c = search needs
 
--- src/expression.rt:96:13
+-- src/expression.rt:125:13
 prefixed-enum-known-sort : (t : ℕ) → prefixed-lts.Need-enum-known-sort (
   token-at-reads.Asked,
   token-at-reads.Learnt,
@@ -1273,7 +1273,7 @@ prefixed-enum-known-sort : (t : ℕ) → prefixed-lts.Need-enum-known-sort (
 ) (prefixed-at t) prefixed.Post
 prefixed-enum-known-sort t c = search needs
 
--- src/expression.rt:100:14
+-- src/expression.rt:129:14
 prefixed-finish-requires : (t : ℕ) → prefixed-lts.Need-finish-requires (
   token-at-reads.Asked,
   token-at-reads.Learnt,
@@ -1288,7 +1288,7 @@ prefixed-finish-requires : (t : ℕ) → prefixed-lts.Need-finish-requires (
 ) (prefixed-at t) prefixed.Post
 prefixed-finish-requires t c κs = search needs
 
--- src/expression.rt:75:1
+-- src/expression.rt:94:1
 prefixed-same-length : (t : ℕ) → prefixed-lts.Need-same-length (
   token-at-reads.Asked,
   token-at-reads.Learnt,
@@ -1303,7 +1303,7 @@ prefixed-same-length : (t : ℕ) → prefixed-lts.Need-same-length (
 ) (prefixed-at t) prefixed.Post
 prefixed-same-length t c = search needs
 
--- src/expression.rt:75:1
+-- src/expression.rt:94:1
 prefixed-returns-3 : (t : ℕ) → prefixed-lts.Need-returns-3 (
   token-at-reads.Asked,
   token-at-reads.Learnt,
@@ -1318,7 +1318,7 @@ prefixed-returns-3 : (t : ℕ) → prefixed-lts.Need-returns-3 (
 ) (prefixed-at t) prefixed.Post
 prefixed-returns-3 t c = search prefixed-aside
 
--- src/expression.rt:75:1
+-- src/expression.rt:94:1
 prefixed-same-length-2 : (t : ℕ) → prefixed-lts.Need-same-length-2 (
   token-at-reads.Asked,
   token-at-reads.Learnt,
@@ -1333,7 +1333,7 @@ prefixed-same-length-2 : (t : ℕ) → prefixed-lts.Need-same-length-2 (
 ) (prefixed-at t) prefixed.Post
 prefixed-same-length-2 t c = search needs
 
--- src/expression.rt:75:1
+-- src/expression.rt:94:1
 prefixed-returns-4 : (t : ℕ) → prefixed-lts.Need-returns-4 (
   token-at-reads.Asked,
   token-at-reads.Learnt,
@@ -1379,8 +1379,8 @@ pub +bracketed+chain+expression+joined+operand+prefixed-spec : {M : Type 1} → 
     (λ t. chain-lts.spec (
       operator-of-reads.Asked,
       operator-of-reads.Learnt,
-      is-bound-reads.Asked,
-      is-bound-reads.Learnt,
+      is-loose-reads.Asked,
+      is-loose-reads.Learnt,
       joined-below t,
       joined.Post,
     )
@@ -1391,21 +1391,21 @@ pub +bracketed+chain+expression+joined+operand+prefixed-spec : {M : Type 1} → 
     (chain-returns t)
     (chain-loop-holds t)
     (chain-operator-of-requires t)
-    (chain-is-bound-requires t)
+    (chain-is-loose-requires t)
     (chain-same-length t)
     (chain-returns-2 t)
+    (chain-same-length-2 t)
+    (chain-returns-3 t)
     (chain-sub-joined t)
     (chain-joined-requires t)
     (chain-enum-known-reason t)
-    (chain-same-length-2 t)
-    (chain-returns-3 t)
-    (chain-enum-known-x t)
     (chain-same-length-3 t)
     (chain-returns-4 t)
-    (chain-loop-less t)
-    (chain-loop-again t)
+    (chain-enum-known-x t)
     (chain-same-length-4 t)
     (chain-returns-5 t)
+    (chain-loop-less t)
+    (chain-loop-again t)
     (chain-same-length-5 t)
     (chain-returns-6 t))
     (λ t. expression-lts.spec

@@ -1,0 +1,45 @@
+-- Worked examples of how operators group, which antt computes. Assumes nothing.
+use mathlib.Core.Path.{_≡_, refl}
+use mathlib.Core.Bool.{true, false}
+use mathlib.Core.List.{List, [], _∷_}
+use Prim.Native.Nat.{ℕ}
+use Rattle.text.specs.Scan.{past}
+use Rattle.text.specs.Digits.{value, valueFrom}
+use Rattle.text.specs.Class.{inClass, isDigit}
+use Rattle.text.specs.Loop.{loop, turns}
+use Rattle.lexical.specs.Kind
+use Rattle.lexical.specs.Class.{classOf}
+use Rattle.lexical.specs.Run.{hasClass, inRun}
+use Rattle.lexical.specs.Number as Number
+use Rattle.lexical.specs.Operator.{equalPair, pairOf, markKind, isOf, operatorKind}
+use Rattle.lexical.specs.Word.{lower, stands, spells}
+use Rattle.lexical.specs.Token.{token, widthOf, operatorAt, operatorToken, floatEnd, numberToken, tokenFrom}
+use Rattle.lexical.specs.Line.{visible, inLine, tokenAt}
+use Rattle.syntax.specs.Op
+use Rattle.syntax.specs.Expr.{Expr, number, truth, unary, binary}
+use Rattle.syntax.specs.Code.{numberAt}
+use Rattle.conditions.specs.Table
+use Rattle.conditions.specs.Word.{nextAt, wordSort}
+use Rattle.conditions.specs.Parsed.{Parsed, ok, Part, part}
+use Rattle.conditions.specs.Operand.{readLeaf, readName, readDigits, settledTree, applied}
+use Rattle.conditions.specs.Expression.{readExpression}
+
+-- `-2^3^2==4;` is ((-2)^3)^2 == 4
+abbrev powers : List ℕ
+powers = 32 ∷ 45 ∷ 50 ∷ 94 ∷ 51 ∷ 94 ∷ 50 ∷ 61 ∷ 61 ∷ 52 ∷ 59 ∷ []
+
+powers-group : readExpression 20 powers 0 Table.ANY 0 0 (nextAt powers 1)
+    ≡ ok (part Table.TEST (binary Op.EQUAL (binary Op.POWER (binary Op.POWER (unary Op.NEGATE (number 2)) (number 3)) (number 2)) (number 4))) (token Kind.SEMICOLON 10 11)
+unfolding readExpression readLeaf readDigits settledTree applied loop turns tokenAt inLine visible tokenFrom numberToken floatEnd operatorToken operatorAt operatorKind equalPair pairOf markKind isOf widthOf classOf hasClass inRun past Number.numberAt Number.held Number.decimal numberAt value valueFrom inClass isDigit Table.allows Table.beginsString Table.beginsNumber Table.beginsFloat Table.prefixOperator Table.operandLevel Table.operandWant Table.operandOf Table.resultOf Table.fits Table.operator Table.numberOperator Table.textOperator Table.testOperator Table.comparison Table.binds Table.levelOf Table.rightLevel Table.rightWant
+powers-group = refl
+
+-- `!1==2-3-4*5&&true||false;` is ((!(1 == (2 - 3) - (4 * 5))) && true) || false
+abbrev tests : List ℕ
+tests = 32 ∷ 33 ∷ 49 ∷ 61 ∷ 61 ∷ 50 ∷ 45 ∷ 51 ∷ 45 ∷ 52 ∷ 42 ∷ 53 ∷ 38 ∷ 38 ∷ 116 ∷ 114 ∷ 117 ∷ 101 ∷ 124 ∷ 124 ∷ 102 ∷ 97 ∷ 108 ∷ 115 ∷ 101 ∷ 59 ∷ []
+
+tests-group : readExpression 30 tests 0 Table.ANY 0 0 (nextAt tests 1)
+    ≡ ok (part Table.TEST (binary Op.EITHER
+    (binary Op.BOTH (unary Op.OPPOSITE (binary Op.EQUAL (number 1) (binary Op.MINUS (binary Op.MINUS (number 2) (number 3)) (binary Op.TIMES (number 4) (number 5))))) (truth true))
+    (truth false))) (token Kind.SEMICOLON 25 26)
+unfolding readExpression readLeaf readName readDigits wordSort spells stands lower settledTree applied loop turns tokenAt inLine visible tokenFrom numberToken floatEnd operatorToken operatorAt operatorKind equalPair pairOf markKind isOf widthOf classOf hasClass inRun past Number.numberAt Number.held Number.decimal numberAt value valueFrom inClass isDigit Table.allows Table.beginsString Table.beginsNumber Table.beginsFloat Table.prefixOperator Table.operandLevel Table.operandWant Table.operandOf Table.resultOf Table.fits Table.operator Table.numberOperator Table.textOperator Table.testOperator Table.comparison Table.binds Table.levelOf Table.rightLevel Table.rightWant
+tests-group = refl
