@@ -1,7 +1,7 @@
 -- What expressions give and what Conditions are worth. Assumes nothing.
-use mathlib.Core.Bool.{Bool, true, false}
+use mathlib.Core.Bool.{false}
 use mathlib.Core.List.{List, [], _∷_}
-use Prim.Native.Nat.{ℕ, zero, suc, _+_, _-_, max}
+use Prim.Native.Nat.{ℕ, suc, _-_, max}
 use lib.ListN.{length}
 use Rattle.text.specs.Choice.{pick}
 use Rattle.text.specs.Equal.{equal}

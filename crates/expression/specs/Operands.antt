@@ -1,6 +1,6 @@
 -- The machine's operands: two numbers on its stack, and the bytes of a string. Assumes nothing.
 use mathlib.Core.Bool.{Bool, true, false}
-use mathlib.Core.List.{List, []}
+use mathlib.Core.List.{List}
 use Prim.Native.Nat.{ℕ}
 use lib.Dec.{eqb}
 use Rattle.text.specs.Choice.{pick}

@@ -1,13 +1,13 @@
 -- The rulings on tests, integers and "@", computed from the definitions as one table. Assumes nothing.
 use mathlib.Core.Path.{_≡_, refl}
-use mathlib.Core.Bool.{Bool, true, false}
+use mathlib.Core.Bool.{true}
 use mathlib.Core.List.{List, [], _∷_}
 use Prim.Native.Nat.{ℕ}
 use Rattle.text.specs.Class.{isDigit, inClass}
 use Rattle.text.specs.Digits.{value, valueFrom}
 use Rattle.text.specs.Decimal.{inRange, roundedDown, withFraction, unsigned, decimal}
 use Rattle.syntax.specs.Op.{CONVERT, NEGATE, OPPOSITE, POWER, OVER, EQUAL, EITHER}
-use Rattle.syntax.specs.Expr.{Expr, literal, number, truth, unary, binary, Program, none, also, plain}
+use Rattle.syntax.specs.Expr.{Expr, literal, number, truth, unary, binary, none, also, plain}
 use Rattle.expression.specs.Integers.{ranged, apart, plus, negated, differ, times, over, raisedTo, odd, signOfPower, power, sizes, compared}
 use Rattle.expression.specs.Names.{Environment}
 use Rattle.expression.specs.Operations.{held, relates, arithmetic, textual, logical, isTextual, ofTexts, ofIntegers, ofTests, binaryOf, converted as convert, negative, opposite, unaryOf}

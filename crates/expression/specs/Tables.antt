@@ -1,4 +1,5 @@
 -- Names looked up in tables of places, as the code does it. Assumes nothing.
+use mathlib.Core.Path.{_≡_}
 use mathlib.Core.List.{List, [], _∷_, map}
 use Prim.Native.Nat.{ℕ, suc, _+_, _-_}
 use lib.Dec.{leb}
@@ -9,7 +10,6 @@ use Rattle.text.specs.Equal.{equal}
 use Rattle.text.specs.Join.{joined}
 use Rattle.record.specs.Lies.{Lie, StringAt, AttributeAt}
 use Rattle.expression.specs.Names.{Environment, minTrust, maxTrust, allValues, authorizers}
-use mathlib.Core.Path.{_≡_}
 
 -- "The lookup yields the first place whose name matches": which one, counted from i; the number of places where none does
 unfoldable pub firstFrom : List ℕ → List ℕ → ℕ → List ℕ → ℕ

@@ -1,5 +1,5 @@
 -- The machine, over lists: the numbers of its operands, two each, and the bytes of its strings; the last one is on top. Assumes nothing.
-use mathlib.Core.Bool.{Bool, true, false}
+use mathlib.Core.Bool.{false}
 use mathlib.Core.List.{List, [], _∷_, _++_}
 use Prim.Native.Nat.{ℕ, _+_, _-_, _/_, _%_, min}
 use lib.Dec.{eqb, leb, ltb}
@@ -10,12 +10,12 @@ use Rattle.text.specs.Class.{inClass, digit, word}
 use Rattle.text.specs.Digits.{value, limit}
 use Rattle.lexical.specs.Literal.{decodedAt}
 use Rattle.syntax.specs.Op.{LITERAL, NAME, NUMBER, TRUE, FALSE, LOOKUP, OPPOSITE, EITHER, BEGIN, PLAIN}
-use Rattle.expression.specs.Value.{Value, operand}
+use Rattle.expression.specs.Value.{operand}
 use Rattle.expression.specs.Operands.{kindOf, sizeOf, unpacked, width, valueOf, isText}
 use Rattle.expression.specs.Integers.{ranged}
 use Rattle.expression.specs.Clauses.{RAISE, applied, combined}
 use Rattle.expression.specs.declared.value.Operand.{Operand}
-use Rattle.expression.specs.declared.value.Operand.the-variants.{Text, Number, Test, Rank, Fault}
+use Rattle.expression.specs.declared.value.Operand.the-variants.{Text, Test, Rank, Fault}
 
 -- the two stacks; or that the machine can't go on
 pub data State : Type 0 where

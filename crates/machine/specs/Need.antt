@@ -1,5 +1,4 @@
 -- How much room Conditions need to run: operands at once, and bytes of strings. Assumes nothing.
-use mathlib.Core.Bool.{Bool, true, false}
 use Prim.Native.Nat.{ℕ, _+_, max}
 use lib.Dec.{eqb}
 use Rattle.text.specs.Choice.{pick}

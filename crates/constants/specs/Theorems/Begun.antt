@@ -1,21 +1,20 @@
 -- A buffer of constants that has begun shows the two joined texts, whatever stands behind them. Assumes nothing.
 use mathlib.Core.Path.{_≡_, refl, sym, ap, _∙_}
-use mathlib.Core.Bool.{Bool, true, false}
-use mathlib.Core.List.{List, [], _∷_, _++_, append-assoc}
-use Prim.Native.Nat.{ℕ, suc, _+_, _-_, _*_, _/_, _%_, _<_, _≤_}
+use mathlib.Core.List.{List, _++_, append-assoc}
+use Prim.Native.Nat.{ℕ, suc, _+_, _-_, _*_, _/_, _%_, _≤_}
 use native.Mathlib.Omega.{arith}
 use native.Mathlib.Nat.{add-zero}
-use lib.Dec.{eqb, leb, ltb}
+use lib.Dec.{leb, ltb}
 use lib.ListN.{length, getD, take, drop, length-append, length-drop, take-append-drop}
-use lib.Seq.{drop-drop, getD-drop, take-append-seam, drop-append-seam, take-at, length-take-le, take-take, drop-append-le, take-append-le}
-use borrow.Author.Tests.{le-ltb, lt-ltb, eq-eqb, ne-eqb, leb-true, ltb-false}
-use Rattle.text.specs.Choice.{pick, split}
+use lib.Seq.{drop-drop, getD-drop, take-append-seam, drop-append-seam, take-at, length-take-le}
+use borrow.Author.Tests.{le-ltb, ne-eqb, leb-true, ltb-false}
+use Rattle.text.specs.Choice.{split}
 use Rattle.text.specs.Copy.{put}
 use Rattle.text.specs.Counted.{part, pairAt, counted}
 use Rattle.record.specs.Encode.{stringBytes, attributeBytes}
 use Rattle.record.specs.Query.{Attribute}
 use Rattle.record.specs.Lies.{AttributeAt}
-use Rattle.constants.specs.Constants.{Written, written, countedInto, begunInto}
+use Rattle.constants.specs.Constants.{written, countedInto, begunInto}
 
 string-length : (a : List ℕ) → length (stringBytes a) ≡ 2 + length a
 unfolding stringBytes

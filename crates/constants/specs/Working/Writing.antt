@@ -1,22 +1,21 @@
 -- Working laws: the ways out of the functions that write the joined texts. Assumes nothing.
 use mathlib.Core.Path.{_≡_, refl, sym, ap, _∙_}
-use mathlib.Core.Bool.{Bool, true, false}
+use mathlib.Core.Bool.{Bool, true}
 use mathlib.Core.List.{List, [], _∷_, _++_, map}
-use Prim.Native.Nat.{ℕ, zero, suc, _+_, _-_, _*_, _/_, _%_, _<_, _≤_, min}
+use Prim.Native.Nat.{ℕ, suc, _+_, _-_, _/_, _%_, _<_, _≤_, min}
 use native.Mathlib.Omega.{arith}
 use native.Mathlib.Numerals.{add-one}
-use native.Mathlib.Nat.{add-assoc}
-use lib.Dec.{eqb, leb, ltb}
-use lib.ListN.{length, getD, take, drop, set, length-set, length-append, drop-of-length-le}
+use lib.Dec.{eqb}
+use lib.ListN.{length, getD, drop, set, length-set, length-append, drop-of-length-le}
 use lib.Seq.{drop-cons, sets-eq}
 use borrow.Author.Tests.{lt-ltb, le-ltb, le-leb, lt-leb, eq-eqb, ne-eqb}
 use Rattle.text.specs.Choice.{pick}
-use Rattle.text.specs.Copy.{Copied, copied, put, copyAt}
+use Rattle.text.specs.Copy.{copied, put, copyAt}
 use Rattle.text.specs.CopyLaws.{put-append, put-length}
 use Rattle.text.specs.Counted.{counted}
 use Rattle.text.specs.Join.{joined, followed}
 use Rattle.record.specs.Encode.{stringBytes}
-use Rattle.constants.specs.Constants.{Written, written, countedInto, andThen, begunInto}
+use Rattle.constants.specs.Constants.{written, countedInto, begunInto}
 
 -- the length of what is left to join from string i on
 unfoldable pub sizeFrom : ℕ → List (List ℕ) → ℕ

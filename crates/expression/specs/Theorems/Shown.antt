@@ -1,16 +1,14 @@
 -- Names looked up in tables that represent an environment stand for what they stand for in it. Assumes nothing.
 use mathlib.Core.Path.{_≡_, refl, sym, ap, _∙_}
-use mathlib.Core.Bool.{Bool, true, false}
 use mathlib.Core.List.{List, [], _∷_, map}
-use Prim.Native.Nat.{ℕ, zero, suc, _+_, _-_, _≤_}
+use Prim.Native.Nat.{ℕ, suc, _+_, _-_, _≤_}
 use native.Mathlib.Omega.{arith}
 use lib.Dec.{leb}
-use lib.ListN.{length, getD, length-map}
+use lib.ListN.{length, length-map}
 use borrow.Author.Tests.{le-leb, lt-leb, leb-true, leb-false}
-use Rattle.text.specs.Choice.{pick, split}
+use Rattle.text.specs.Choice.{split}
 use Rattle.text.specs.Counted.{counted}
 use Rattle.text.specs.Equal.{equal, equal-true}
-use Rattle.text.specs.Join.{joined}
 use Rattle.record.specs.Query.{Attribute}
 use Rattle.record.specs.Lies.{Lie, lie[], lie∷, StringAt, AttributeAt}
 use Rattle.expression.specs.Names.{Environment, settingOr, fromQuery, lookup}

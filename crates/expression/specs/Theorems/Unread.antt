@@ -3,18 +3,16 @@ use mathlib.Core.Path.{_≡_, refl, sym, ap, _∙_, subst}
 use mathlib.Core.Bool.{Bool, true, false, _||_}
 use mathlib.Core.List.{List, [], _∷_}
 use Prim.Native.Nat.{ℕ, max}
-use native.Mathlib.Omega.{arith}
 use lib.Dec.{eqb}
-use borrow.Author.Tests.{eqb-true}
-use Rattle.text.specs.Choice.{pick, split, clash}
+use Rattle.text.specs.Choice.{split}
 use Rattle.text.specs.Equal.{equal, equal-true, equal-refl}
 use Rattle.record.specs.Query.{Attribute}
 use Rattle.syntax.specs.Op.{LOOKUP}
 use Rattle.syntax.specs.Expr.{Expr, literal, name, number, truth, unary, binary, Program, none, also, Clause, plain, valued, nested}
 use Rattle.expression.specs.Value.{Value, text, integer, test, rank, fault, onText}
 use Rattle.expression.specs.Names.{Environment, settingOr, fromQuery, lookup}
-use Rattle.expression.specs.Operations.{held, unaryOf, binaryOf}
-use Rattle.expression.specs.Conditions.{evaluate, rankOf, top, gate, conditions, clause}
+use Rattle.expression.specs.Operations.{held, unaryOf}
+use Rattle.expression.specs.Conditions.{evaluate, conditions, clause}
 use Rattle.expression.specs.Reads.{reads, programReads, clauseReads, isSet, Alike, alike[], alike∷, withAttributes}
 
 or-left : (a b : Bool) → a ≡ true → a || b ≡ true

@@ -1,19 +1,18 @@
 -- Working laws: the ways out of the operators. Assumes nothing.
 use mathlib.Core.Path.{_≡_, refl, sym, ap, _∙_}
 use mathlib.Core.Bool.{Bool, true, false, not}
-use mathlib.Core.List.{List, [], _∷_, _++_, map}
-use Prim.Native.Nat.{ℕ, zero, suc, _+_, _-_, _<_, _≤_, max}
+use mathlib.Core.List.{List, _++_, map}
+use Prim.Native.Nat.{ℕ, _+_, _-_, _<_, _≤_, max}
 use native.Mathlib.Omega.{arith}
-use lib.Dec.{eqb, leb, ltb}
 use lib.ListN.{length, length-append, length-map}
 use borrow.Author.Tests.{lt-ltb, le-ltb, le-leb, lt-leb, eq-eqb, ne-eqb}
-use Rattle.text.specs.Choice.{pick, split, clash}
+use Rattle.text.specs.Choice.{pick}
 use Rattle.text.specs.Counted.{counted}
 use Rattle.text.specs.Order.{order}
 use Rattle.text.specs.Decimal.{integer as signed, decimal}
 use Rattle.text.specs.declared.Integer.{Integer}
 use Rattle.text.specs.declared.Order.{Order}
-use Rattle.expression.specs.Value.{Value, text, integer, test, rank, fault, operand, onText, onInteger, onTest}
+use Rattle.expression.specs.Value.{Value, text, integer, test, fault, operand, onText, onInteger, onTest}
 use Rattle.expression.specs.Operands.{valueOf, isText, isNumber, integerIn, isTest, holdsIn, rankIn, testIn}
 use Rattle.expression.specs.Integers.{plus, minus, times, over, remainder, power, negated, compared}
 use Rattle.expression.specs.Operations.{relates, isLess, isEqual, isGreater, held, arithmetic, textual, logical, ofTexts, ofIntegers, ofTests, isTextual, binaryOf, converted, negative, opposite}
@@ -381,9 +380,6 @@ apply-plain rec values op x a n6 n7 n8 n ne m me =
     simp (ne-eqb _ _ n6, ne-eqb _ _ n7, ne-eqb _ _ n8) (ap Rank (me ∙ gate-is x a n ∙ ap (gate (valueOf x a)) q))
 
 -- the ways out of the small functions
-pub minus-none : (op k : ℕ) → op ≤ k → 0 ≡ op - k
-minus-none op k h = omega arith
-
 module _ (x : Operand) (t : Bool) where
   pub as-test : t ≡ isTest x → t ≡ true → x ≡ testIn x
   unfolding testIn

@@ -1,16 +1,16 @@
 -- Working laws: the ways out of the functions that look names up. Assumes nothing.
-use mathlib.Core.Path.{_≡_, refl, sym, ap, _∙_}
+use mathlib.Core.Path.{_≡_, refl, sym, _∙_}
 use mathlib.Core.Bool.{Bool, true, false}
 use mathlib.Core.List.{List, [], _∷_, map}
 use Prim.Native.Nat.{ℕ, zero, suc, _+_, _-_, _<_, _≤_}
 use native.Mathlib.Omega.{arith}
 use native.Mathlib.Numerals.{add-one}
 use native.Mathlib.Nat.{not-suc-le-zero, le-of-suc-le-suc}
-use lib.Dec.{eqb, leb, ltb}
-use lib.ListN.{length, getD, take, drop, length-map, drop-of-length-le}
+use lib.Dec.{ltb}
+use lib.ListN.{length, getD, drop, drop-of-length-le}
 use lib.Seq.{drop-cons}
-use borrow.Author.Tests.{lt-ltb, le-ltb, le-leb, lt-leb, leb-true, leb-false}
-use Rattle.text.specs.Choice.{pick, split}
+use borrow.Author.Tests.{lt-ltb, le-leb, lt-leb}
+use Rattle.text.specs.Choice.{split}
 use Rattle.text.specs.Counted.{counted}
 use Rattle.text.specs.Equal.{equal}
 use Rattle.expression.specs.Conditions.{indexFrom}

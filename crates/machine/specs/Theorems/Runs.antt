@@ -1,17 +1,16 @@
 -- Compiled Conditions leave their rank on the stack. Assumes nothing.
 use mathlib.Core.Path.{_≡_, refl, sym, ap, _∙_}
-use mathlib.Core.Bool.{Bool, true, false}
+use mathlib.Core.Bool.{true, false}
 use mathlib.Core.List.{List, [], _∷_, _++_, map, append-assoc, append-nil}
-use Prim.Native.Nat.{ℕ, zero, suc, _+_, _-_, _*_, _/_, _%_, _<_, _≤_, min, max}
+use Prim.Native.Nat.{ℕ, _+_, _-_, _*_, _/_, _%_, _<_, _≤_, max}
 use native.Mathlib.Omega.{arith}
-use lib.Dec.{eqb, leb}
+use lib.Dec.{eqb}
 use lib.ListN.{length, length-append}
 use borrow.Author.Tests.{le-leb, lt-leb, eq-eqb, ne-eqb, eqb-true, eqb-false}
-use Rattle.text.specs.Choice.{pick, split}
+use Rattle.text.specs.Choice.{split}
 use Rattle.text.specs.Counted.{counted}
-use Rattle.text.specs.Digits.{value, limit}
 use Rattle.lexical.specs.Literal.{decodedAt}
-use Rattle.syntax.specs.Expr.{Expr, literal, name, number, truth, unary, binary, Program, none, also, Clause, plain, valued, nested}
+use Rattle.syntax.specs.Expr.{Expr, Program, none, also, Clause, plain, valued, nested}
 use Rattle.syntax.specs.Code.{entry, nameAt, numberAt, Codes, code-literal, code-name, code-number, code-true, code-false, code-unary, code-binary, ProgramCodes, code-none, code-also, ClauseCodes, code-plain, code-valued, code-nested}
 use Rattle.expression.specs.Value.{Value, rank, test, operand, bytesOf}
 use Rattle.expression.specs.Operands.{rankIn}
@@ -23,8 +22,8 @@ use Rattle.expression.specs.Clauses.{applied, combined}
 use Rattle.expression.specs.Tables.{lookupIn, Shows}
 use Rattle.expression.specs.Theorems.Shown.{values-are, lookup-is as shown-is}
 use Rattle.expression.specs.declared.value.Operand.the-variants.{Rank}
-use Rattle.machine.specs.Machine.{State, on, stuck, unaryStep, lookupStep, binaryStep, raised, runAt, pushStep, clauseStep, stepOf, stepped, exec, resultOf}
-use Rattle.machine.specs.Need.{need, programNeed, clauseNeed, span, room, programRoom, clauseRoom}
+use Rattle.machine.specs.Machine.{State, on, raised, runAt, pushStep, clauseStep, stepOf, stepped, exec, resultOf}
+use Rattle.machine.specs.Need.{need, programNeed, clauseNeed, room, programRoom, clauseRoom}
 use Rattle.machine.specs.Proper.{Proper, ProgramProper, ClauseProper}
 use Rattle.machine.specs.Theorems.Bounds.{need-some}
 use Rattle.machine.specs.Working.Widths.{plain-rank, plain-ranged, within-span}

@@ -1,22 +1,22 @@
 -- Working laws: what each step makes of values on top of the stacks. Assumes nothing.
-use mathlib.Core.Path.{_≡_, refl, sym, ap, _∙_}
-use mathlib.Core.Bool.{Bool, true, false}
+use mathlib.Core.Path.{_≡_, refl}
+use mathlib.Core.Bool.{true, false}
 use mathlib.Core.List.{List, [], _∷_, _++_, append-assoc, append-nil}
-use Prim.Native.Nat.{ℕ, zero, suc, _+_, _-_, _<_, _≤_, max}
+use Prim.Native.Nat.{ℕ, _+_, _-_, _≤_}
 use native.Mathlib.Omega.{arith}
-use lib.Dec.{eqb, leb, ltb}
-use lib.ListN.{length, getD, take, drop, length-append}
-use lib.Seq.{take-at, drop-at, getD-append-add, take-append-add, take-append-le}
-use borrow.Author.Tests.{lt-ltb, le-ltb, le-leb, lt-leb, eq-eqb, ne-eqb, ltb-true, ltb-false}
+use lib.Dec.{ltb}
+use lib.ListN.{length, take, drop, length-append}
+use lib.Seq.{take-at, drop-at, getD-append-add, take-append-add}
+use borrow.Author.Tests.{le-ltb, le-leb, eq-eqb, ltb-false}
 use Rattle.text.specs.Choice.{pick, split}
 use Rattle.expression.specs.Value.{Value, text, integer, test, rank, fault, operand, bytesOf, onText}
-use Rattle.expression.specs.Operands.{kindOf, sizeOf, unpacked, width, valueOf, isText, rankIn}
+use Rattle.expression.specs.Operands.{kindOf, sizeOf, unpacked, width, valueOf, isText}
 use Rattle.expression.specs.Operations.{held, unaryOf}
 use Rattle.expression.specs.Clauses.{applied, combined}
 use Rattle.expression.specs.declared.value.Operand.{Operand}
 use Rattle.expression.specs.declared.value.Operand.the-variants.{Text, Number, Test, Rank, Fault}
-use Rattle.machine.specs.Machine.{State, on, stuck, placed, textStep, topOf, below, unaryOn, unaryStep, lookupOn, lookupStep, settledOn, binaryOn, binaryStep}
-use Rattle.machine.specs.Working.Widths.{Plain, plain-applied, Front, front-combined}
+use Rattle.machine.specs.Machine.{State, on, placed, textStep, topOf, below, unaryOn, unaryStep, lookupOn, lookupStep, settledOn, binaryOn, binaryStep}
+use Rattle.machine.specs.Working.Widths.{plain-applied, Front, front-combined}
 
 -- the numbers of a value's operand, and the stacks with a value on top
 unfoldable pub pair : Value → List ℕ

@@ -5,24 +5,24 @@ use mathlib.Core.List.{List, [], _∷_, _++_, append-assoc}
 use Prim.Native.Nat.{ℕ, zero, suc, _+_, _-_, _<_, _≤_}
 use native.Mathlib.Omega.{arith}
 use native.Mathlib.Numerals.{add-one}
-use lib.Dec.{eqb, leb, ltb}
-use lib.ListN.{length, getD, take, drop, set, length-take, length-set, length-drop, length-append, drop-of-length-le}
+use lib.Dec.{leb, ltb}
+use lib.ListN.{length, getD, take, drop, set, length-set, length-drop, length-append, drop-of-length-le}
 use lib.Seq.{take-suc-set, length-take-le, take-take, getD-take, take-at, take-all, take-nil, sets, sets-eq, length-sets}
 use borrow.Author.Tests.{lt-ltb, le-ltb, le-leb, lt-leb, ltb-true, ltb-false, leb-true, leb-false}
-use Rattle.text.specs.Choice.{pick, split, clash}
+use Rattle.text.specs.Choice.{split, clash}
 use Rattle.text.specs.Scan.{run}
 use Rattle.text.specs.Class.{inClass}
-use Rattle.text.specs.Copy.{Copied, copied, put, copyAt}
+use Rattle.text.specs.Copy.{copied, put, copyAt}
 use Rattle.text.specs.CopyLaws.{put-length}
 use Rattle.lexical.specs.Literal.{decodedAt}
-use Rattle.lexical.specs.Decode.{Ran, ran, decodeInto}
-use Rattle.expression.specs.Value.{Value, operand}
+use Rattle.lexical.specs.Decode.{ran, decodeInto}
+use Rattle.expression.specs.Value.{operand}
 use Rattle.expression.specs.Operands.{kindOf, sizeOf, unpacked, width, valueOf, isText}
 use Rattle.expression.specs.Clauses.{applied, combined}
 use Rattle.expression.specs.declared.value.Operand.{Operand}
-use Rattle.expression.specs.declared.value.Operand.the-variants.{Text, Number, Test, Rank, Fault}
+use Rattle.expression.specs.declared.value.Operand.the-variants.{Text, Fault}
 use Rattle.machine.specs.Machine.{State, on, stuck, placed, textStep, topOf, below, unaryOn, unaryStep, lookupOn, lookupStep, settledOn, binaryOn, binaryStep, runAt}
-use Rattle.machine.specs.Live.{shown, Within, Live, Landed, landed, putAt, settled}
+use Rattle.machine.specs.Live.{Live, landed, putAt, settled}
 use Rattle.machine.specs.declared.Tops.{Tops}
 use Rattle.machine.specs.declared.Tops.the-variants.{At, Stuck}
 
