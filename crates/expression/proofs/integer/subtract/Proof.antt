@@ -1,0 +1,23 @@
+use Rattle.expression.specs.Working.Arithmetic.{minus-in}
+use borrow.Author.Needs.{needs}
+use Rattle.expression.proofs.integer.subtract.Statement.{statement}
+use Rattle.expression.proofs.integer.subtract.Tie as tie
+use Rattle.expression.proofs.integer.subtract.Reads as reads
+use Rattle.expression.proofs.integer.subtract.Lts as lts
+use Rattle.expression.proofs.integer.add.Reads as add-reads
+use Rattle.expression.proofs.integer.opposite.Reads as opposite-reads
+
+-- src/integer.rt:108:19
+opposite-requires : tie.Need-opposite-requires
+opposite-requires c κs = search needs
+
+-- src/integer.rt:111:5
+add-requires : tie.Need-add-requires
+add-requires c κs = search needs
+
+-- src/integer.rt:104:1
+returns : tie.Need-returns
+returns c = search minus-in
+
+pub subtract-spec : {M : Type 1} → statement M
+subtract-spec = tie.close (tie.spec opposite-requires add-requires returns)

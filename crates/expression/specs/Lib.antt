@@ -1,0 +1,10 @@
+pub mod Value
+pub mod Integers
+pub mod Names
+pub mod Operations
+pub mod Conditions
+pub mod Tables
+pub mod Reads
+pub mod Theorems
+pub mod Rulings
+pub mod Working
