@@ -1,0 +1,4 @@
+pub mod Outs
+pub mod Identifying
+pub mod Authorizing
+pub mod Setting
