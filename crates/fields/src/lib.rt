@@ -3,6 +3,8 @@
 pub mod authorizer;
 pub mod constants;
 pub mod identifier;
+pub mod licensees;
+pub mod list;
 pub mod out;
 pub mod signature;
 pub mod version;
