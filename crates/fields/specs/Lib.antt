@@ -7,3 +7,4 @@ pub mod Authorizer
 pub mod Licensees
 pub mod Signature
 pub mod Working
+pub mod Theorems
