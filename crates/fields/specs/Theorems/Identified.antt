@@ -14,7 +14,10 @@ use Rattle.text.specs.Equal.{equal}
 use Rattle.record.specs.Encode.{stringBytes}
 use Rattle.record.specs.Query.{Attribute}
 use Rattle.record.specs.Lies.{Lie, lie[], lie∷, AttributeAt}
+use Rattle.lexical.specs.Kind
+use Rattle.lexical.specs.Literal.{decodedAt}
 use Rattle.lexical.specs.declared.token.Token.{Token}
+use Rattle.fields.specs.Limits.{mostIdentifier}
 use Rattle.principal.specs.Principal.{Principal, same}
 use Rattle.principal.specs.Members.{member, member-here, member-there, member-cases}
 use Rattle.compliance.specs.Tables.{place}
@@ -28,7 +31,7 @@ use Rattle.expression.specs.Theorems.Shown.{setting-is}
 use Rattle.fields.specs.Parsed.{wordOf}
 use Rattle.fields.specs.Constants.{isSet}
 use Rattle.fields.specs.Identifier.{sizeFault, nameFault, identifierFault, identified}
-use Rattle.fields.specs.Working.Identifying.{Kept, entry, nameFaultIn, faultIn, enterIn}
+use Rattle.fields.specs.Working.Identifying.{Kept, entry, nameFaultIn, faultIn, literalIn, tokenIn, enterIn}
 use Rattle.fields.specs.declared.identifier.Entry.the-variants.{At}
 
 first-suc : (s name : List ℕ) (i : ℕ) (ps : List ℕ) → firstFrom s name (suc i) ps ≡ suc (firstFrom s name i ps)
@@ -89,3 +92,21 @@ module _ (pool places : List ℕ) (count end : ℕ) (names : List Principal) (ho
     pub enter-new-holds : Holds (put pool end (stringBytes id)) (set places count (end + 2)) (count + 1) (end + 2 + length id) (enter names id)
     unfolding enter
     enter-new-holds = rw m (add-holds holds id short room fits)
+
+seven : (n : ℕ) → sizeFault n ≡ 0 → ltb mostIdentifier n ≡ false
+unfolding sizeFault
+seven n h =
+    split (ltb mostIdentifier n)
+    (λ g. split (eqb n 0)
+    (λ e. let z : _≡_ {A = ℕ} 7 0 = rw e at h in absurd (let no : ⊥ = omega (arith, z) in no))
+    (λ e. let z : _≡_ {A = ℕ} 7 0 = rw (e, g) at h in absurd (let no : ⊥ = omega (arith, z) in no)))
+    (λ g. g)
+
+-- what is entered for a token without fault is the principal that it identifies
+pub token-is : (s consts constants pool places : List ℕ) (count end : ℕ) (l : List Attribute) → Lie (AttributeAt consts) constants l → (t : Token)
+    → identifierFault s l t ≡ 0 → tokenIn s consts constants pool places count end t ≡ enterIn pool places count end (identified s l t)
+unfolding tokenIn literalIn identified identifierFault
+token-is s consts constants pool places count end l lie t f =
+    split (eqb (t .kind) Kind.LITERAL)
+    (λ e. let z : sizeFault (length (decodedAt s (t .start))) ≡ 0 = rw e at f in rw (e, seven (length (decodedAt s (t .start))) z))
+    (λ e. rw (e, setting-is consts constants (wordOf s t) [] lie))
