@@ -8,7 +8,7 @@ ghost use Rattle.expression.specs.Conditions.{indexFrom};
 ghost use Rattle.expression.specs.Tables.{firstFrom, settingIn, queryIn, lookupIn};
 
 // Which of the places is the first whose string is this one; their number where none is.
-fn find(s: &[u8], places: &[usize], name: &[u8]) -> usize
+pub fn find(s: &[u8], places: &[usize], name: &[u8]) -> usize
     ensures { λ r. ⌜ r ≡ firstFrom (now (s .entry)) (now (name .entry)) 0 (now (places .entry)) ⌝ }
 {
     let mut i: usize = 0;
@@ -52,7 +52,7 @@ fn string_at<'a>(s: &'a [u8], places: &[usize], i: usize) -> &'a [u8]
 }
 
 // The value of the attribute with that name, empty where none has it.
-fn attribute<'a>(query: &'a [u8], names: &[usize], name: &[u8]) -> &'a [u8]
+pub fn attribute<'a>(query: &'a [u8], names: &[usize], name: &[u8]) -> &'a [u8]
     ensures { λ r. ⌜ now r ≡ settingIn (now (query .entry)) (now (names .entry)) (now (name .entry)) [] ⌝ }
 {
     let i = find(query, names, name);

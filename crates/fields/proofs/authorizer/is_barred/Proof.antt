@@ -1,0 +1,22 @@
+use Rattle.fields.proofs.authorizer.is_barred.Statement.{statement}
+use Rattle.fields.specs.Working.Authorizing.{barred-local, barred-verified}
+use borrow.Author.Needs.{needs}
+use Rattle.fields.proofs.authorizer.is_barred.Tie as tie
+use Rattle.fields.proofs.authorizer.is_barred.Reads as reads
+use Rattle.fields.proofs.authorizer.is_barred.Lts as lts
+use Rattle.fields.proofs.authorizer.is_policy.Reads as is-policy-reads
+
+-- src/authorizer.rt:47:9
+is-policy-requires : tie.Need-is-policy-requires
+is-policy-requires c κs = search needs
+
+-- src/authorizer.rt:47:9
+returns : tie.Need-returns
+returns c = search barred-verified
+
+-- src/authorizer.rt:43:1
+returns-2 : tie.Need-returns-2
+returns-2 c = search barred-local
+
+pub is-barred-spec : {M : Type 1} → statement M
+is-barred-spec = tie.close (tie.spec is-policy-requires returns returns-2)

@@ -1,0 +1,48 @@
+use Rattle.fields.proofs.authorizer.is_policy.Statement.{statement}
+use Rattle.fields.specs.Working.Authorizing.{policy-in, policy-out}
+use borrow.Author.Needs.{needs}
+use Rattle.fields.proofs.authorizer.is_policy.Tie as tie
+use Rattle.fields.proofs.authorizer.is_policy.Reads as reads
+use Rattle.fields.proofs.authorizer.is_policy.Lts as lts
+use Rattle.principal.proofs.same_principal.Reads as same-principal-reads
+use Rattle.text.proofs.counted_at.Reads as counted-at-reads
+
+-- src/authorizer.rt:36:9
+returns : tie.Need-returns
+returns c = search policy-out
+
+-- src/authorizer.rt:38:13
+mul-p : tie.Need-mul-p
+mul-p c = search needs
+
+-- src/authorizer.rt:38:13
+shared-slice-read-p : tie.Need-shared-slice-read-p
+shared-slice-read-p c = search needs
+
+-- src/authorizer.rt:39:31
+counted-at-requires : tie.Need-counted-at-requires
+counted-at-requires c κs = search needs
+
+-- src/authorizer.rt:39:58
+slice-aggregate-same-principal : tie.Need-slice-aggregate-same-principal
+slice-aggregate-same-principal c = search needs
+
+-- src/authorizer.rt:39:5
+same-principal-requires : tie.Need-same-principal-requires
+same-principal-requires c κs = search needs
+
+-- src/authorizer.rt:32:1
+returns-2 : tie.Need-returns-2
+returns-2 c = search policy-in
+
+pub is-policy-spec : {M : Type 1} → statement M
+is-policy-spec =
+    tie.close
+    (tie.spec
+    returns
+    mul-p
+    shared-slice-read-p
+    counted-at-requires
+    slice-aggregate-same-principal
+    same-principal-requires
+    returns-2)

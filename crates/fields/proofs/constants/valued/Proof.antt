@@ -1,0 +1,91 @@
+use Rattle.fields.proofs.constants.valued.Statement.{statement}
+use Rattle.fields.specs.Working.Setting.{value-full, value-long, value-none, value-on}
+use borrow.Author.Needs.{needs}
+use Rattle.fields.proofs.constants.valued.Tie as tie
+use Rattle.fields.proofs.constants.valued.Reads as reads
+use Rattle.fields.proofs.constants.valued.Lts as lts
+use Rattle.fields.proofs.constants.refused.Reads as refused-reads
+use Rattle.fields.proofs.constants.store.Reads as store-reads
+use Rattle.fields.proofs.out.word.Reads as word-reads
+use Rattle.lexical.proofs.token_at.Reads as token-at-reads
+use Rattle.lexical.proofs.literal_length.Reads as literal-length-reads
+
+-- src/constants.rt:146:9
+refused-requires : tie.Need-refused-requires
+refused-requires c κs = search needs
+
+-- src/constants.rt:146:9
+returns : tie.Need-returns
+returns c = search value-none
+
+-- src/constants.rt:148:23
+literal-length-requires : tie.Need-literal-length-requires
+literal-length-requires c κs = search needs
+
+-- src/constants.rt:149:9
+returns-2 : tie.Need-returns-2
+returns-2 c = search value-long
+
+-- src/constants.rt:154:9
+word-requires : tie.Need-word-requires
+word-requires c κs = search needs
+
+-- src/constants.rt:155:11
+store-requires : tie.Need-store-requires
+store-requires c κs = search needs
+
+-- src/constants.rt:156:26
+enum-told : tie.Need-enum-told
+enum-told c = search needs
+
+-- src/constants.rt:160:31
+enum-known-c : tie.Need-enum-known-c
+enum-known-c c = search needs
+
+-- src/constants.rt:163:19
+token-at-requires : tie.Need-token-at-requires
+token-at-requires c κs = search needs
+
+-- src/constants.rt:134:1
+same-length : tie.Need-same-length
+same-length c = search needs
+
+-- src/constants.rt:134:1
+same-length-2 : tie.Need-same-length-2
+same-length-2 c = search needs
+
+-- src/constants.rt:134:1
+returns-3 : tie.Need-returns-3
+returns-3 c = search value-full
+
+-- src/constants.rt:134:1
+same-length-3 : tie.Need-same-length-3
+same-length-3 c = search needs
+
+-- src/constants.rt:134:1
+same-length-4 : tie.Need-same-length-4
+same-length-4 c = search needs
+
+-- src/constants.rt:134:1
+returns-4 : tie.Need-returns-4
+returns-4 c = search value-on
+
+pub valued-spec : {M : Type 1} → statement M
+valued-spec =
+    tie.close
+    (tie.spec
+    refused-requires
+    returns
+    literal-length-requires
+    returns-2
+    word-requires
+    store-requires
+    enum-told
+    enum-known-c
+    token-at-requires
+    same-length
+    same-length-2
+    returns-3
+    same-length-3
+    same-length-4
+    returns-4)

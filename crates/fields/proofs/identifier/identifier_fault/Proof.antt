@@ -1,0 +1,56 @@
+use Rattle.fields.proofs.identifier.identifier_fault.Statement.{statement}
+use Rattle.fields.specs.Working.Identifying.{fault-literal, fault-name, fault-none}
+use borrow.Author.Needs.{needs}
+use Rattle.fields.proofs.identifier.identifier_fault.Tie as tie
+use Rattle.fields.proofs.identifier.identifier_fault.Reads as reads
+use Rattle.fields.proofs.identifier.identifier_fault.Lts as lts
+use Rattle.fields.proofs.identifier.name_fault.Reads as name-fault-reads
+use Rattle.fields.proofs.identifier.size_fault.Reads as size-fault-reads
+use Rattle.fields.proofs.out.refusal_of.Reads as refusal-of-reads
+use Rattle.fields.proofs.out.word.Reads as word-reads
+use Rattle.lexical.proofs.literal_length.Reads as literal-length-reads
+
+-- src/identifier.rt:57:13
+literal-length-requires : tie.Need-literal-length-requires
+literal-length-requires c κs = search needs
+
+-- src/identifier.rt:58:9
+size-fault-requires : tie.Need-size-fault-requires
+size-fault-requires c κs = search needs
+
+-- src/identifier.rt:58:9
+returns : tie.Need-returns
+returns c = search fault-literal
+
+-- src/identifier.rt:61:13
+word-requires : tie.Need-word-requires
+word-requires c κs = search needs
+
+-- src/identifier.rt:62:9
+name-fault-requires : tie.Need-name-fault-requires
+name-fault-requires c κs = search needs
+
+-- src/identifier.rt:62:9
+returns-2 : tie.Need-returns-2
+returns-2 c = search fault-name
+
+-- src/identifier.rt:64:5
+refusal-of-requires : tie.Need-refusal-of-requires
+refusal-of-requires c κs = search needs
+
+-- src/identifier.rt:53:1
+returns-3 : tie.Need-returns-3
+returns-3 c = search fault-none
+
+pub identifier-fault-spec : {M : Type 1} → statement M
+identifier-fault-spec =
+    tie.close
+    (tie.spec
+    literal-length-requires
+    size-fault-requires
+    returns
+    word-requires
+    name-fault-requires
+    returns-2
+    refusal-of-requires
+    returns-3)

@@ -1,0 +1,1182 @@
+use Prim.Native.Nat.{ℕ, _-_, _+_, _*_, _<_}
+use Rattle.fields.proofs.licensees.+chain+more+operand+primary.{statement}
+use Rattle.fields.proofs.licensees.+chain+more+operand+primary.Tie.{close}
+use Rattle.fields.specs.Working.Chain.{moreAt}
+use Rattle.fields.specs.Working.ChainWays.{more-again, more-less, chain-aside, chain-on, more-aside, more-end, more-stuck, operand-chain, operand-primary, primary-aside, primary-digits, primary-most, primary-on, primary-one}
+use borrow.Author.Needs.{needs}
+use borrow.Fn.Kinds.{In}
+use borrow.Fn.PlainCycle.{Measures, is, falls, and}
+use lib.ListN.{length}
+use mathlib.Core.Path.{_≡_}
+use Rattle.fields.proofs.licensees.chain.Reads as chain
+use Rattle.fields.proofs.licensees.chain.Kinds as chain-kinds
+use Rattle.fields.proofs.licensees.+chain+more+operand+primary.Lts-chain as chain-lts
+use Rattle.fields.proofs.licensees.more.Reads as more
+use Rattle.fields.proofs.licensees.more.Kinds as more-kinds
+use Rattle.fields.proofs.licensees.+chain+more+operand+primary.Lts-more as more-lts
+use Rattle.fields.proofs.licensees.operand.Reads as operand
+use Rattle.fields.proofs.licensees.operand.Kinds as operand-kinds
+use Rattle.fields.proofs.licensees.+chain+more+operand+primary.Lts-operand as operand-lts
+use Rattle.fields.proofs.licensees.primary.Reads as primary
+use Rattle.fields.proofs.licensees.primary.Kinds as primary-kinds
+use Rattle.fields.proofs.licensees.+chain+more+operand+primary.Lts-primary as primary-lts
+use Rattle.fields.proofs.licensees.closed.Reads as closed-reads
+use Rattle.fields.proofs.licensees.join_of.Reads as join-of-reads
+use Rattle.fields.proofs.licensees.joint_of.Reads as joint-of-reads
+use Rattle.fields.proofs.list.licensee.Reads as licensee-reads
+use Rattle.fields.proofs.list.push.Reads as push-reads
+use Rattle.fields.proofs.list.rest.Reads as rest-reads
+use Rattle.fields.proofs.list.threshold.Reads as threshold-reads
+use Rattle.lexical.proofs.token_at.Reads as token-at-reads
+
+abbrev μ-chain : Measures 6 chain-kinds.ps ℕ
+μ-chain κs a = 7 * (a .1 .1 .1 .1 .1 .1 .1 .1 .1 .0) + 3 * (a .1 .1 .1 .1 .1 .1 .1 .1 .0) + 3
+
+abbrev μ-more : Measures 6 more-kinds.ps ℕ
+μ-more κs a = 7 * (a .1 .1 .1 .1 .1 .1 .1 .1 .1 .0) + 3 * (a .1 .1 .1 .1 .1 .1 .1 .1 .0) + 2
+
+abbrev μ-operand : Measures 6 operand-kinds.ps ℕ
+μ-operand κs a = 7 * (a .1 .1 .1 .1 .1 .1 .1 .1 .1 .0) + 3 * (a .1 .1 .1 .1 .1 .1 .1 .1 .0) + 1
+
+abbrev μ-primary : Measures 6 primary-kinds.ps ℕ
+μ-primary κs a = 7 * (a .1 .1 .1 .1 .1 .1 .1 .1 .0)
+
+abbrev chain-at : ℕ → In 6 chain-kinds.ps
+chain-at t = and 6 chain-kinds.ps (is 6 chain-kinds.ps μ-chain t) chain.Pre
+
+abbrev chain-below : ℕ → In 6 chain-kinds.ps
+chain-below t = and 6 chain-kinds.ps (falls 6 chain-kinds.ps _<_ μ-chain t) chain.Pre
+
+abbrev more-at : ℕ → In 6 more-kinds.ps
+more-at t = and 6 more-kinds.ps (is 6 more-kinds.ps μ-more t) more.Pre
+
+abbrev more-below : ℕ → In 6 more-kinds.ps
+more-below t = and 6 more-kinds.ps (falls 6 more-kinds.ps _<_ μ-more t) more.Pre
+
+abbrev operand-at : ℕ → In 6 operand-kinds.ps
+operand-at t = and 6 operand-kinds.ps (is 6 operand-kinds.ps μ-operand t) operand.Pre
+
+abbrev operand-below : ℕ → In 6 operand-kinds.ps
+operand-below t = and 6 operand-kinds.ps (falls 6 operand-kinds.ps _<_ μ-operand t) operand.Pre
+
+abbrev primary-at : ℕ → In 6 primary-kinds.ps
+primary-at t = and 6 primary-kinds.ps (is 6 primary-kinds.ps μ-primary t) primary.Pre
+
+abbrev primary-below : ℕ → In 6 primary-kinds.ps
+primary-below t = and 6 primary-kinds.ps (falls 6 primary-kinds.ps _<_ μ-primary t) primary.Pre
+
+-- src/licensees.rt:140:11
+chain-operand-requires : (t : ℕ) → chain-lts.Need-operand-requires (
+  operand-below t,
+  operand.Post,
+  more-below t,
+  more.Post,
+) (chain-at t) chain.Post
+chain-operand-requires t c κs = search needs
+
+-- src/licensees.rt:141:27
+chain-enum-known-reason : (t : ℕ) → chain-lts.Need-enum-known-reason (
+  operand-below t,
+  operand.Post,
+  more-below t,
+  more.Post,
+) (chain-at t) chain.Post
+chain-enum-known-reason t c = search needs
+
+-- src/licensees.rt:142:24
+chain-enum-known-state : (t : ℕ) → chain-lts.Need-enum-known-state (
+  operand-below t,
+  operand.Post,
+  more-below t,
+  more.Post,
+) (chain-at t) chain.Post
+chain-enum-known-state t c = search needs
+
+-- src/licensees.rt:143:13
+chain-more-requires : (t : ℕ) → chain-lts.Need-more-requires (
+  operand-below t,
+  operand.Post,
+  more-below t,
+  more.Post,
+) (chain-at t) chain.Post
+chain-more-requires t c κs = search needs
+
+-- src/licensees.rt:126:1
+chain-same-length : (t : ℕ) → chain-lts.Need-same-length (
+  operand-below t,
+  operand.Post,
+  more-below t,
+  more.Post,
+) (chain-at t) chain.Post
+chain-same-length t c = search needs
+
+-- src/licensees.rt:126:1
+chain-same-length-2 : (t : ℕ) → chain-lts.Need-same-length-2 (
+  operand-below t,
+  operand.Post,
+  more-below t,
+  more.Post,
+) (chain-at t) chain.Post
+chain-same-length-2 t c = search needs
+
+-- src/licensees.rt:126:1
+chain-same-length-3 : (t : ℕ) → chain-lts.Need-same-length-3 (
+  operand-below t,
+  operand.Post,
+  more-below t,
+  more.Post,
+) (chain-at t) chain.Post
+chain-same-length-3 t c = search needs
+
+-- src/licensees.rt:126:1
+chain-returns : (t : ℕ) → chain-lts.Need-returns (
+  operand-below t,
+  operand.Post,
+  more-below t,
+  more.Post,
+) (chain-at t) chain.Post
+chain-returns t c = search chain-aside
+
+-- src/licensees.rt:126:1
+chain-same-length-4 : (t : ℕ) → chain-lts.Need-same-length-4 (
+  operand-below t,
+  operand.Post,
+  more-below t,
+  more.Post,
+) (chain-at t) chain.Post
+chain-same-length-4 t c = search needs
+
+-- src/licensees.rt:126:1
+chain-same-length-5 : (t : ℕ) → chain-lts.Need-same-length-5 (
+  operand-below t,
+  operand.Post,
+  more-below t,
+  more.Post,
+) (chain-at t) chain.Post
+chain-same-length-5 t c = search needs
+
+-- src/licensees.rt:126:1
+chain-same-length-6 : (t : ℕ) → chain-lts.Need-same-length-6 (
+  operand-below t,
+  operand.Post,
+  more-below t,
+  more.Post,
+) (chain-at t) chain.Post
+chain-same-length-6 t c = search needs
+
+-- src/licensees.rt:126:1
+chain-returns-2 : (t : ℕ) → chain-lts.Need-returns-2 (
+  operand-below t,
+  operand.Post,
+  more-below t,
+  more.Post,
+) (chain-at t) chain.Post
+chain-returns-2 t c = search chain-on
+
+abbrev more-Inv-loop : more-lts.InvT-loop
+more-Inv-loop s consts constants pool₀ places₀ code₀ level left joint state₀ t₀ pool places code state t =
+    (length pool ≡ length pool₀) × (length places ≡ length places₀) × (length code ≡ length code₀) × (moreAt left level s consts constants pool places code state t ≡ moreAt left level s consts constants pool₀ places₀ code₀ state₀ t₀)
+
+abbrev more-μ-loop : more-lts.MeasureT-loop
+more-μ-loop s consts constants pool₀ places₀ code₀ level left joint state₀ t₀ pool places code state t =
+    16 - state .listed
+
+-- src/licensees.rt:95:9
+more-joint-of-requires : (t : ℕ) → more-lts.Need-joint-of-requires (
+  joint-of-reads.Asked,
+  joint-of-reads.Learnt,
+  token-at-reads.Asked,
+  token-at-reads.Learnt,
+  operand-below t,
+  operand.Post,
+  rest-reads.Asked,
+  rest-reads.Learnt,
+  join-of-reads.Asked,
+  join-of-reads.Learnt,
+  push-reads.Asked,
+  push-reads.Learnt,
+) (more-at t) more.Post more-Inv-loop more-μ-loop
+more-joint-of-requires t c κs = search needs
+
+-- src/licensees.rt:98:5
+more-loop-holds : (t : ℕ) → more-lts.Need-loop-holds (
+  joint-of-reads.Asked,
+  joint-of-reads.Learnt,
+  token-at-reads.Asked,
+  token-at-reads.Learnt,
+  operand-below t,
+  operand.Post,
+  rest-reads.Asked,
+  rest-reads.Learnt,
+  join-of-reads.Asked,
+  join-of-reads.Learnt,
+  push-reads.Asked,
+  push-reads.Learnt,
+) (more-at t) more.Post more-Inv-loop more-μ-loop
+more-loop-holds t c = search needs
+
+-- src/licensees.rt:99:13
+more-token-at-requires : (t : ℕ) → more-lts.Need-token-at-requires (
+  joint-of-reads.Asked,
+  joint-of-reads.Learnt,
+  token-at-reads.Asked,
+  token-at-reads.Learnt,
+  operand-below t,
+  operand.Post,
+  rest-reads.Asked,
+  rest-reads.Learnt,
+  join-of-reads.Asked,
+  join-of-reads.Learnt,
+  push-reads.Asked,
+  push-reads.Learnt,
+) (more-at t) more.Post more-Inv-loop more-μ-loop
+more-token-at-requires t c κs = search needs
+
+-- src/licensees.rt:100:15
+more-operand-requires : (t : ℕ) → more-lts.Need-operand-requires (
+  joint-of-reads.Asked,
+  joint-of-reads.Learnt,
+  token-at-reads.Asked,
+  token-at-reads.Learnt,
+  operand-below t,
+  operand.Post,
+  rest-reads.Asked,
+  rest-reads.Learnt,
+  join-of-reads.Asked,
+  join-of-reads.Learnt,
+  push-reads.Asked,
+  push-reads.Learnt,
+) (more-at t) more.Post more-Inv-loop more-μ-loop
+more-operand-requires t c κs = search needs
+
+-- src/licensees.rt:101:31
+more-enum-known-reason : (t : ℕ) → more-lts.Need-enum-known-reason (
+  joint-of-reads.Asked,
+  joint-of-reads.Learnt,
+  token-at-reads.Asked,
+  token-at-reads.Learnt,
+  operand-below t,
+  operand.Post,
+  rest-reads.Asked,
+  rest-reads.Learnt,
+  join-of-reads.Asked,
+  join-of-reads.Learnt,
+  push-reads.Asked,
+  push-reads.Learnt,
+) (more-at t) more.Post more-Inv-loop more-μ-loop
+more-enum-known-reason t c = search needs
+
+-- src/licensees.rt:102:17
+more-same-length : (t : ℕ) → more-lts.Need-same-length (
+  joint-of-reads.Asked,
+  joint-of-reads.Learnt,
+  token-at-reads.Asked,
+  token-at-reads.Learnt,
+  operand-below t,
+  operand.Post,
+  rest-reads.Asked,
+  rest-reads.Learnt,
+  join-of-reads.Asked,
+  join-of-reads.Learnt,
+  push-reads.Asked,
+  push-reads.Learnt,
+) (more-at t) more.Post more-Inv-loop more-μ-loop
+more-same-length t c = search needs
+
+-- src/licensees.rt:102:17
+more-same-length-2 : (t : ℕ) → more-lts.Need-same-length-2 (
+  joint-of-reads.Asked,
+  joint-of-reads.Learnt,
+  token-at-reads.Asked,
+  token-at-reads.Learnt,
+  operand-below t,
+  operand.Post,
+  rest-reads.Asked,
+  rest-reads.Learnt,
+  join-of-reads.Asked,
+  join-of-reads.Learnt,
+  push-reads.Asked,
+  push-reads.Learnt,
+) (more-at t) more.Post more-Inv-loop more-μ-loop
+more-same-length-2 t c = search needs
+
+-- src/licensees.rt:102:17
+more-same-length-3 : (t : ℕ) → more-lts.Need-same-length-3 (
+  joint-of-reads.Asked,
+  joint-of-reads.Learnt,
+  token-at-reads.Asked,
+  token-at-reads.Learnt,
+  operand-below t,
+  operand.Post,
+  rest-reads.Asked,
+  rest-reads.Learnt,
+  join-of-reads.Asked,
+  join-of-reads.Learnt,
+  push-reads.Asked,
+  push-reads.Learnt,
+) (more-at t) more.Post more-Inv-loop more-μ-loop
+more-same-length-3 t c = search needs
+
+-- src/licensees.rt:102:17
+more-returns : (t : ℕ) → more-lts.Need-returns (
+  joint-of-reads.Asked,
+  joint-of-reads.Learnt,
+  token-at-reads.Asked,
+  token-at-reads.Learnt,
+  operand-below t,
+  operand.Post,
+  rest-reads.Asked,
+  rest-reads.Learnt,
+  join-of-reads.Asked,
+  join-of-reads.Learnt,
+  push-reads.Asked,
+  push-reads.Learnt,
+) (more-at t) more.Post more-Inv-loop more-μ-loop
+more-returns t c = search more-aside
+
+-- src/licensees.rt:104:35
+more-enum-known-u : (t : ℕ) → more-lts.Need-enum-known-u (
+  joint-of-reads.Asked,
+  joint-of-reads.Learnt,
+  token-at-reads.Asked,
+  token-at-reads.Learnt,
+  operand-below t,
+  operand.Post,
+  rest-reads.Asked,
+  rest-reads.Learnt,
+  join-of-reads.Asked,
+  join-of-reads.Learnt,
+  push-reads.Asked,
+  push-reads.Learnt,
+) (more-at t) more.Post more-Inv-loop more-μ-loop
+more-enum-known-u t c = search needs
+
+-- src/licensees.rt:105:20
+more-rest-requires : (t : ℕ) → more-lts.Need-rest-requires (
+  joint-of-reads.Asked,
+  joint-of-reads.Learnt,
+  token-at-reads.Asked,
+  token-at-reads.Learnt,
+  operand-below t,
+  operand.Post,
+  rest-reads.Asked,
+  rest-reads.Learnt,
+  join-of-reads.Asked,
+  join-of-reads.Learnt,
+  push-reads.Asked,
+  push-reads.Learnt,
+) (more-at t) more.Post more-Inv-loop more-μ-loop
+more-rest-requires t c κs = search needs
+
+-- src/licensees.rt:105:42
+more-rest-requires-2 : (t : ℕ) → more-lts.Need-rest-requires-2 (
+  joint-of-reads.Asked,
+  joint-of-reads.Learnt,
+  token-at-reads.Asked,
+  token-at-reads.Learnt,
+  operand-below t,
+  operand.Post,
+  rest-reads.Asked,
+  rest-reads.Learnt,
+  join-of-reads.Asked,
+  join-of-reads.Learnt,
+  push-reads.Asked,
+  push-reads.Learnt,
+) (more-at t) more.Post more-Inv-loop more-μ-loop
+more-rest-requires-2 t c κs = search needs
+
+-- src/licensees.rt:106:21
+more-same-length-4 : (t : ℕ) → more-lts.Need-same-length-4 (
+  joint-of-reads.Asked,
+  joint-of-reads.Learnt,
+  token-at-reads.Asked,
+  token-at-reads.Learnt,
+  operand-below t,
+  operand.Post,
+  rest-reads.Asked,
+  rest-reads.Learnt,
+  join-of-reads.Asked,
+  join-of-reads.Learnt,
+  push-reads.Asked,
+  push-reads.Learnt,
+) (more-at t) more.Post more-Inv-loop more-μ-loop
+more-same-length-4 t c = search needs
+
+-- src/licensees.rt:106:21
+more-same-length-5 : (t : ℕ) → more-lts.Need-same-length-5 (
+  joint-of-reads.Asked,
+  joint-of-reads.Learnt,
+  token-at-reads.Asked,
+  token-at-reads.Learnt,
+  operand-below t,
+  operand.Post,
+  rest-reads.Asked,
+  rest-reads.Learnt,
+  join-of-reads.Asked,
+  join-of-reads.Learnt,
+  push-reads.Asked,
+  push-reads.Learnt,
+) (more-at t) more.Post more-Inv-loop more-μ-loop
+more-same-length-5 t c = search needs
+
+-- src/licensees.rt:106:21
+more-same-length-6 : (t : ℕ) → more-lts.Need-same-length-6 (
+  joint-of-reads.Asked,
+  joint-of-reads.Learnt,
+  token-at-reads.Asked,
+  token-at-reads.Learnt,
+  operand-below t,
+  operand.Post,
+  rest-reads.Asked,
+  rest-reads.Learnt,
+  join-of-reads.Asked,
+  join-of-reads.Learnt,
+  push-reads.Asked,
+  push-reads.Learnt,
+) (more-at t) more.Post more-Inv-loop more-μ-loop
+more-same-length-6 t c = search needs
+
+-- src/licensees.rt:106:21
+more-returns-2 : (t : ℕ) → more-lts.Need-returns-2 (
+  joint-of-reads.Asked,
+  joint-of-reads.Learnt,
+  token-at-reads.Asked,
+  token-at-reads.Learnt,
+  operand-below t,
+  operand.Post,
+  rest-reads.Asked,
+  rest-reads.Learnt,
+  join-of-reads.Asked,
+  join-of-reads.Learnt,
+  push-reads.Asked,
+  push-reads.Learnt,
+) (more-at t) more.Post more-Inv-loop more-μ-loop
+more-returns-2 t c = search more-stuck
+
+-- src/licensees.rt:111:47
+more-join-of-requires : (t : ℕ) → more-lts.Need-join-of-requires (
+  joint-of-reads.Asked,
+  joint-of-reads.Learnt,
+  token-at-reads.Asked,
+  token-at-reads.Learnt,
+  operand-below t,
+  operand.Post,
+  rest-reads.Asked,
+  rest-reads.Learnt,
+  join-of-reads.Asked,
+  join-of-reads.Learnt,
+  push-reads.Asked,
+  push-reads.Learnt,
+) (more-at t) more.Post more-Inv-loop more-μ-loop
+more-join-of-requires t c κs = search needs
+
+-- src/licensees.rt:111:21
+more-push-requires : (t : ℕ) → more-lts.Need-push-requires (
+  joint-of-reads.Asked,
+  joint-of-reads.Learnt,
+  token-at-reads.Asked,
+  token-at-reads.Learnt,
+  operand-below t,
+  operand.Post,
+  rest-reads.Asked,
+  rest-reads.Learnt,
+  join-of-reads.Asked,
+  join-of-reads.Learnt,
+  push-reads.Asked,
+  push-reads.Learnt,
+) (more-at t) more.Post more-Inv-loop more-μ-loop
+more-push-requires t c κs = search needs
+
+-- src/licensees.rt:98:5
+more-loop-less : (t : ℕ) → more-lts.Need-loop-less (
+  joint-of-reads.Asked,
+  joint-of-reads.Learnt,
+  token-at-reads.Asked,
+  token-at-reads.Learnt,
+  operand-below t,
+  operand.Post,
+  rest-reads.Asked,
+  rest-reads.Learnt,
+  join-of-reads.Asked,
+  join-of-reads.Learnt,
+  push-reads.Asked,
+  push-reads.Learnt,
+) (more-at t) more.Post more-Inv-loop more-μ-loop
+more-loop-less t c = let f = more-less _ _ _ _ _ _ _ _ _ _ _ (c .before .before .before .before .before .before .before .before .before .before .before .before .before .before .before .before .before .before .before .before .before .before .before .before .loop .inv .3) _ (c .before .before .before .before .before .before .before .before .before .before .before .before .before .before .before .before .before .before .before .before .before .before .before .before .before .joint-of .ensures) (c .before .before .before .before .before .before .before .before .before .before .before .before .before .before .before .before .before .before .before .before .before .before .if1 .taken) _ (c .before .before .before .before .before .before .before .before .before .before .before .before .before .before .before .before .before .before .before .before .before .token-at .ensures) _ _ _ _ (c .before .before .before .before .before .before .before .before .before .before .before .before .before .before .before .before .before .operand .ensures) in search f
+
+-- src/licensees.rt:98:5
+more-loop-again : (t : ℕ) → more-lts.Need-loop-again (
+  joint-of-reads.Asked,
+  joint-of-reads.Learnt,
+  token-at-reads.Asked,
+  token-at-reads.Learnt,
+  operand-below t,
+  operand.Post,
+  rest-reads.Asked,
+  rest-reads.Learnt,
+  join-of-reads.Asked,
+  join-of-reads.Learnt,
+  push-reads.Asked,
+  push-reads.Learnt,
+) (more-at t) more.Post more-Inv-loop more-μ-loop
+more-loop-again t c = ((let w = c .before .before .before .before .before .before .before .before .before .before .before .before .before .before .before .before .before .before .before .before .before .before .before .before .loop .inv .0 in search needs), (let w = c .before .before .before .before .before .before .before .before .before .before .before .before .before .before .before .before .before .before .before .before .before .before .before .before .loop .inv .1 in search needs), (let w = c .before .before .before .before .before .before .before .before .before .before .before .before .before .before .before .before .before .before .before .before .before .before .before .before .loop .inv .2 in search needs), (let f = more-again _ _ _ _ _ _ _ _ _ _ _ (c .before .before .before .before .before .before .before .before .before .before .before .before .before .before .before .before .before .before .before .before .before .before .before .before .loop .inv .3) _ (c .before .before .before .before .before .before .before .before .before .before .before .before .before .before .before .before .before .before .before .before .before .before .before .before .before .joint-of .ensures) (c .before .before .before .before .before .before .before .before .before .before .before .before .before .before .before .before .before .before .before .before .before .before .if1 .taken) _ (c .before .before .before .before .before .before .before .before .before .before .before .before .before .before .before .before .before .before .before .before .before .token-at .ensures) _ _ _ _ (c .before .before .before .before .before .before .before .before .before .before .before .before .before .before .before .before .before .operand .ensures) in search f))
+
+-- src/licensees.rt:81:1
+more-same-length-7 : (t : ℕ) → more-lts.Need-same-length-7 (
+  joint-of-reads.Asked,
+  joint-of-reads.Learnt,
+  token-at-reads.Asked,
+  token-at-reads.Learnt,
+  operand-below t,
+  operand.Post,
+  rest-reads.Asked,
+  rest-reads.Learnt,
+  join-of-reads.Asked,
+  join-of-reads.Learnt,
+  push-reads.Asked,
+  push-reads.Learnt,
+) (more-at t) more.Post more-Inv-loop more-μ-loop
+more-same-length-7 t c = search needs
+
+-- src/licensees.rt:81:1
+more-same-length-8 : (t : ℕ) → more-lts.Need-same-length-8 (
+  joint-of-reads.Asked,
+  joint-of-reads.Learnt,
+  token-at-reads.Asked,
+  token-at-reads.Learnt,
+  operand-below t,
+  operand.Post,
+  rest-reads.Asked,
+  rest-reads.Learnt,
+  join-of-reads.Asked,
+  join-of-reads.Learnt,
+  push-reads.Asked,
+  push-reads.Learnt,
+) (more-at t) more.Post more-Inv-loop more-μ-loop
+more-same-length-8 t c = search needs
+
+-- src/licensees.rt:81:1
+more-same-length-9 : (t : ℕ) → more-lts.Need-same-length-9 (
+  joint-of-reads.Asked,
+  joint-of-reads.Learnt,
+  token-at-reads.Asked,
+  token-at-reads.Learnt,
+  operand-below t,
+  operand.Post,
+  rest-reads.Asked,
+  rest-reads.Learnt,
+  join-of-reads.Asked,
+  join-of-reads.Learnt,
+  push-reads.Asked,
+  push-reads.Learnt,
+) (more-at t) more.Post more-Inv-loop more-μ-loop
+more-same-length-9 t c = search needs
+
+-- src/licensees.rt:81:1
+more-returns-3 : (t : ℕ) → more-lts.Need-returns-3 (
+  joint-of-reads.Asked,
+  joint-of-reads.Learnt,
+  token-at-reads.Asked,
+  token-at-reads.Learnt,
+  operand-below t,
+  operand.Post,
+  rest-reads.Asked,
+  rest-reads.Learnt,
+  join-of-reads.Asked,
+  join-of-reads.Learnt,
+  push-reads.Asked,
+  push-reads.Learnt,
+) (more-at t) more.Post more-Inv-loop more-μ-loop
+more-returns-3 t c = search more-end
+
+-- src/licensees.rt:75:9
+operand-primary-requires : (t : ℕ) → operand-lts.Need-primary-requires (
+  primary-below t,
+  primary.Post,
+  chain-below t,
+  chain.Post,
+) (operand-at t) operand.Post
+operand-primary-requires t c κs = search needs
+
+-- src/licensees.rt:75:9
+operand-same-length : (t : ℕ) → operand-lts.Need-same-length (
+  primary-below t,
+  primary.Post,
+  chain-below t,
+  chain.Post,
+) (operand-at t) operand.Post
+operand-same-length t c = search needs
+
+-- src/licensees.rt:75:9
+operand-same-length-2 : (t : ℕ) → operand-lts.Need-same-length-2 (
+  primary-below t,
+  primary.Post,
+  chain-below t,
+  chain.Post,
+) (operand-at t) operand.Post
+operand-same-length-2 t c = search needs
+
+-- src/licensees.rt:75:9
+operand-same-length-3 : (t : ℕ) → operand-lts.Need-same-length-3 (
+  primary-below t,
+  primary.Post,
+  chain-below t,
+  chain.Post,
+) (operand-at t) operand.Post
+operand-same-length-3 t c = search needs
+
+-- src/licensees.rt:75:9
+operand-returns : (t : ℕ) → operand-lts.Need-returns (
+  primary-below t,
+  primary.Post,
+  chain-below t,
+  chain.Post,
+) (operand-at t) operand.Post
+operand-returns t c = search operand-primary
+
+-- src/licensees.rt:77:60
+operand-sub-chain : (t : ℕ) → operand-lts.Need-sub-chain (
+  primary-below t,
+  primary.Post,
+  chain-below t,
+  chain.Post,
+) (operand-at t) operand.Post
+operand-sub-chain t c = search needs
+
+-- src/licensees.rt:77:5
+operand-chain-requires : (t : ℕ) → operand-lts.Need-chain-requires (
+  primary-below t,
+  primary.Post,
+  chain-below t,
+  chain.Post,
+) (operand-at t) operand.Post
+operand-chain-requires t c κs = search needs
+
+-- src/licensees.rt:60:1
+operand-same-length-4 : (t : ℕ) → operand-lts.Need-same-length-4 (
+  primary-below t,
+  primary.Post,
+  chain-below t,
+  chain.Post,
+) (operand-at t) operand.Post
+operand-same-length-4 t c = search needs
+
+-- src/licensees.rt:60:1
+operand-same-length-5 : (t : ℕ) → operand-lts.Need-same-length-5 (
+  primary-below t,
+  primary.Post,
+  chain-below t,
+  chain.Post,
+) (operand-at t) operand.Post
+operand-same-length-5 t c = search needs
+
+-- src/licensees.rt:60:1
+operand-same-length-6 : (t : ℕ) → operand-lts.Need-same-length-6 (
+  primary-below t,
+  primary.Post,
+  chain-below t,
+  chain.Post,
+) (operand-at t) operand.Post
+operand-same-length-6 t c = search needs
+
+-- src/licensees.rt:60:1
+operand-returns-2 : (t : ℕ) → operand-lts.Need-returns-2 (
+  primary-below t,
+  primary.Post,
+  chain-below t,
+  chain.Post,
+) (operand-at t) operand.Post
+operand-returns-2 t c = search operand-chain
+
+-- src/licensees.rt:163:9
+primary-threshold-requires : (t : ℕ) → primary-lts.Need-threshold-requires (
+  threshold-reads.Asked,
+  threshold-reads.Learnt,
+  licensee-reads.Asked,
+  licensee-reads.Learnt,
+  token-at-reads.Asked,
+  token-at-reads.Learnt,
+  chain-below t,
+  chain.Post,
+  closed-reads.Asked,
+  closed-reads.Learnt,
+) (primary-at t) primary.Post
+primary-threshold-requires t c κs = search needs
+
+-- src/licensees.rt:163:9
+primary-same-length : (t : ℕ) → primary-lts.Need-same-length (
+  threshold-reads.Asked,
+  threshold-reads.Learnt,
+  licensee-reads.Asked,
+  licensee-reads.Learnt,
+  token-at-reads.Asked,
+  token-at-reads.Learnt,
+  chain-below t,
+  chain.Post,
+  closed-reads.Asked,
+  closed-reads.Learnt,
+) (primary-at t) primary.Post
+primary-same-length t c = search needs
+
+-- src/licensees.rt:163:9
+primary-same-length-2 : (t : ℕ) → primary-lts.Need-same-length-2 (
+  threshold-reads.Asked,
+  threshold-reads.Learnt,
+  licensee-reads.Asked,
+  licensee-reads.Learnt,
+  token-at-reads.Asked,
+  token-at-reads.Learnt,
+  chain-below t,
+  chain.Post,
+  closed-reads.Asked,
+  closed-reads.Learnt,
+) (primary-at t) primary.Post
+primary-same-length-2 t c = search needs
+
+-- src/licensees.rt:163:9
+primary-same-length-3 : (t : ℕ) → primary-lts.Need-same-length-3 (
+  threshold-reads.Asked,
+  threshold-reads.Learnt,
+  licensee-reads.Asked,
+  licensee-reads.Learnt,
+  token-at-reads.Asked,
+  token-at-reads.Learnt,
+  chain-below t,
+  chain.Post,
+  closed-reads.Asked,
+  closed-reads.Learnt,
+) (primary-at t) primary.Post
+primary-same-length-3 t c = search needs
+
+-- src/licensees.rt:163:9
+primary-returns : (t : ℕ) → primary-lts.Need-returns (
+  threshold-reads.Asked,
+  threshold-reads.Learnt,
+  licensee-reads.Asked,
+  licensee-reads.Learnt,
+  token-at-reads.Asked,
+  token-at-reads.Learnt,
+  chain-below t,
+  chain.Post,
+  closed-reads.Asked,
+  closed-reads.Learnt,
+) (primary-at t) primary.Post
+primary-returns t c = search primary-digits
+
+-- src/licensees.rt:166:9
+primary-licensee-requires : (t : ℕ) → primary-lts.Need-licensee-requires (
+  threshold-reads.Asked,
+  threshold-reads.Learnt,
+  licensee-reads.Asked,
+  licensee-reads.Learnt,
+  token-at-reads.Asked,
+  token-at-reads.Learnt,
+  chain-below t,
+  chain.Post,
+  closed-reads.Asked,
+  closed-reads.Learnt,
+) (primary-at t) primary.Post
+primary-licensee-requires t c κs = search needs
+
+-- src/licensees.rt:166:9
+primary-same-length-4 : (t : ℕ) → primary-lts.Need-same-length-4 (
+  threshold-reads.Asked,
+  threshold-reads.Learnt,
+  licensee-reads.Asked,
+  licensee-reads.Learnt,
+  token-at-reads.Asked,
+  token-at-reads.Learnt,
+  chain-below t,
+  chain.Post,
+  closed-reads.Asked,
+  closed-reads.Learnt,
+) (primary-at t) primary.Post
+primary-same-length-4 t c = search needs
+
+-- src/licensees.rt:166:9
+primary-same-length-5 : (t : ℕ) → primary-lts.Need-same-length-5 (
+  threshold-reads.Asked,
+  threshold-reads.Learnt,
+  licensee-reads.Asked,
+  licensee-reads.Learnt,
+  token-at-reads.Asked,
+  token-at-reads.Learnt,
+  chain-below t,
+  chain.Post,
+  closed-reads.Asked,
+  closed-reads.Learnt,
+) (primary-at t) primary.Post
+primary-same-length-5 t c = search needs
+
+-- src/licensees.rt:166:9
+primary-same-length-6 : (t : ℕ) → primary-lts.Need-same-length-6 (
+  threshold-reads.Asked,
+  threshold-reads.Learnt,
+  licensee-reads.Asked,
+  licensee-reads.Learnt,
+  token-at-reads.Asked,
+  token-at-reads.Learnt,
+  chain-below t,
+  chain.Post,
+  closed-reads.Asked,
+  closed-reads.Learnt,
+) (primary-at t) primary.Post
+primary-same-length-6 t c = search needs
+
+-- src/licensees.rt:166:9
+primary-returns-2 : (t : ℕ) → primary-lts.Need-returns-2 (
+  threshold-reads.Asked,
+  threshold-reads.Learnt,
+  licensee-reads.Asked,
+  licensee-reads.Learnt,
+  token-at-reads.Asked,
+  token-at-reads.Learnt,
+  chain-below t,
+  chain.Post,
+  closed-reads.Asked,
+  closed-reads.Learnt,
+) (primary-at t) primary.Post
+primary-returns-2 t c = search primary-one
+
+-- src/licensees.rt:169:9
+primary-returns-3 : (t : ℕ) → primary-lts.Need-returns-3 (
+  threshold-reads.Asked,
+  threshold-reads.Learnt,
+  licensee-reads.Asked,
+  licensee-reads.Learnt,
+  token-at-reads.Asked,
+  token-at-reads.Learnt,
+  chain-below t,
+  chain.Post,
+  closed-reads.Asked,
+  closed-reads.Learnt,
+) (primary-at t) primary.Post
+primary-returns-3 t c = search primary-most
+
+-- src/licensees.rt:174:9
+primary-token-at-requires : (t : ℕ) → primary-lts.Need-token-at-requires (
+  threshold-reads.Asked,
+  threshold-reads.Learnt,
+  licensee-reads.Asked,
+  licensee-reads.Learnt,
+  token-at-reads.Asked,
+  token-at-reads.Learnt,
+  chain-below t,
+  chain.Post,
+  closed-reads.Asked,
+  closed-reads.Learnt,
+) (primary-at t) primary.Post
+primary-token-at-requires t c κs = search needs
+
+-- src/licensees.rt:175:71
+primary-sub-chain : (t : ℕ) → primary-lts.Need-sub-chain (
+  threshold-reads.Asked,
+  threshold-reads.Learnt,
+  licensee-reads.Asked,
+  licensee-reads.Learnt,
+  token-at-reads.Asked,
+  token-at-reads.Learnt,
+  chain-below t,
+  chain.Post,
+  closed-reads.Asked,
+  closed-reads.Learnt,
+) (primary-at t) primary.Post
+primary-sub-chain t c = search needs
+
+-- src/licensees.rt:175:11
+primary-chain-requires : (t : ℕ) → primary-lts.Need-chain-requires (
+  threshold-reads.Asked,
+  threshold-reads.Learnt,
+  licensee-reads.Asked,
+  licensee-reads.Learnt,
+  token-at-reads.Asked,
+  token-at-reads.Learnt,
+  chain-below t,
+  chain.Post,
+  closed-reads.Asked,
+  closed-reads.Learnt,
+) (primary-at t) primary.Post
+primary-chain-requires t c κs = search needs
+
+-- src/licensees.rt:176:27
+primary-enum-known-reason : (t : ℕ) → primary-lts.Need-enum-known-reason (
+  threshold-reads.Asked,
+  threshold-reads.Learnt,
+  licensee-reads.Asked,
+  licensee-reads.Learnt,
+  token-at-reads.Asked,
+  token-at-reads.Learnt,
+  chain-below t,
+  chain.Post,
+  closed-reads.Asked,
+  closed-reads.Learnt,
+) (primary-at t) primary.Post
+primary-enum-known-reason t c = search needs
+
+-- src/licensees.rt:177:24
+primary-enum-known-state : (t : ℕ) → primary-lts.Need-enum-known-state (
+  threshold-reads.Asked,
+  threshold-reads.Learnt,
+  licensee-reads.Asked,
+  licensee-reads.Learnt,
+  token-at-reads.Asked,
+  token-at-reads.Learnt,
+  chain-below t,
+  chain.Post,
+  closed-reads.Asked,
+  closed-reads.Learnt,
+) (primary-at t) primary.Post
+primary-enum-known-state t c = search needs
+
+-- src/licensees.rt:177:41
+primary-closed-requires : (t : ℕ) → primary-lts.Need-closed-requires (
+  threshold-reads.Asked,
+  threshold-reads.Learnt,
+  licensee-reads.Asked,
+  licensee-reads.Learnt,
+  token-at-reads.Asked,
+  token-at-reads.Learnt,
+  chain-below t,
+  chain.Post,
+  closed-reads.Asked,
+  closed-reads.Learnt,
+) (primary-at t) primary.Post
+primary-closed-requires t c κs = search needs
+
+-- src/licensees.rt:149:1
+primary-same-length-7 : (t : ℕ) → primary-lts.Need-same-length-7 (
+  threshold-reads.Asked,
+  threshold-reads.Learnt,
+  licensee-reads.Asked,
+  licensee-reads.Learnt,
+  token-at-reads.Asked,
+  token-at-reads.Learnt,
+  chain-below t,
+  chain.Post,
+  closed-reads.Asked,
+  closed-reads.Learnt,
+) (primary-at t) primary.Post
+primary-same-length-7 t c = search needs
+
+-- src/licensees.rt:149:1
+primary-same-length-8 : (t : ℕ) → primary-lts.Need-same-length-8 (
+  threshold-reads.Asked,
+  threshold-reads.Learnt,
+  licensee-reads.Asked,
+  licensee-reads.Learnt,
+  token-at-reads.Asked,
+  token-at-reads.Learnt,
+  chain-below t,
+  chain.Post,
+  closed-reads.Asked,
+  closed-reads.Learnt,
+) (primary-at t) primary.Post
+primary-same-length-8 t c = search needs
+
+-- src/licensees.rt:149:1
+primary-same-length-9 : (t : ℕ) → primary-lts.Need-same-length-9 (
+  threshold-reads.Asked,
+  threshold-reads.Learnt,
+  licensee-reads.Asked,
+  licensee-reads.Learnt,
+  token-at-reads.Asked,
+  token-at-reads.Learnt,
+  chain-below t,
+  chain.Post,
+  closed-reads.Asked,
+  closed-reads.Learnt,
+) (primary-at t) primary.Post
+primary-same-length-9 t c = search needs
+
+-- src/licensees.rt:149:1
+primary-returns-4 : (t : ℕ) → primary-lts.Need-returns-4 (
+  threshold-reads.Asked,
+  threshold-reads.Learnt,
+  licensee-reads.Asked,
+  licensee-reads.Learnt,
+  token-at-reads.Asked,
+  token-at-reads.Learnt,
+  chain-below t,
+  chain.Post,
+  closed-reads.Asked,
+  closed-reads.Learnt,
+) (primary-at t) primary.Post
+primary-returns-4 t c = search primary-aside
+
+-- src/licensees.rt:149:1
+primary-same-length-10 : (t : ℕ) → primary-lts.Need-same-length-10 (
+  threshold-reads.Asked,
+  threshold-reads.Learnt,
+  licensee-reads.Asked,
+  licensee-reads.Learnt,
+  token-at-reads.Asked,
+  token-at-reads.Learnt,
+  chain-below t,
+  chain.Post,
+  closed-reads.Asked,
+  closed-reads.Learnt,
+) (primary-at t) primary.Post
+primary-same-length-10 t c = search needs
+
+-- src/licensees.rt:149:1
+primary-same-length-11 : (t : ℕ) → primary-lts.Need-same-length-11 (
+  threshold-reads.Asked,
+  threshold-reads.Learnt,
+  licensee-reads.Asked,
+  licensee-reads.Learnt,
+  token-at-reads.Asked,
+  token-at-reads.Learnt,
+  chain-below t,
+  chain.Post,
+  closed-reads.Asked,
+  closed-reads.Learnt,
+) (primary-at t) primary.Post
+primary-same-length-11 t c = search needs
+
+-- src/licensees.rt:149:1
+primary-same-length-12 : (t : ℕ) → primary-lts.Need-same-length-12 (
+  threshold-reads.Asked,
+  threshold-reads.Learnt,
+  licensee-reads.Asked,
+  licensee-reads.Learnt,
+  token-at-reads.Asked,
+  token-at-reads.Learnt,
+  chain-below t,
+  chain.Post,
+  closed-reads.Asked,
+  closed-reads.Learnt,
+) (primary-at t) primary.Post
+primary-same-length-12 t c = search needs
+
+-- src/licensees.rt:149:1
+primary-returns-5 : (t : ℕ) → primary-lts.Need-returns-5 (
+  threshold-reads.Asked,
+  threshold-reads.Learnt,
+  licensee-reads.Asked,
+  licensee-reads.Learnt,
+  token-at-reads.Asked,
+  token-at-reads.Learnt,
+  chain-below t,
+  chain.Post,
+  closed-reads.Asked,
+  closed-reads.Learnt,
+) (primary-at t) primary.Post
+primary-returns-5 t c = search primary-on
+
+pub +chain+more+operand+primary-spec : {M : Type 1} → statement M
++chain+more+operand+primary-spec = close μ-chain μ-more μ-operand μ-primary (λ t. chain-lts.spec (
+  operand-below t,
+  operand.Post,
+  more-below t,
+  more.Post,
+)
+    (chain-at t)
+    chain.Post
+    (chain-operand-requires t)
+    (chain-enum-known-reason t)
+    (chain-enum-known-state t)
+    (chain-more-requires t)
+    (chain-same-length t)
+    (chain-same-length-2 t)
+    (chain-same-length-3 t)
+    (chain-returns t)
+    (chain-same-length-4 t)
+    (chain-same-length-5 t)
+    (chain-same-length-6 t)
+    (chain-returns-2 t))
+    (λ t. more-lts.spec (
+      joint-of-reads.Asked,
+      joint-of-reads.Learnt,
+      token-at-reads.Asked,
+      token-at-reads.Learnt,
+      operand-below t,
+      operand.Post,
+      rest-reads.Asked,
+      rest-reads.Learnt,
+      join-of-reads.Asked,
+      join-of-reads.Learnt,
+      push-reads.Asked,
+      push-reads.Learnt,
+    )
+    (more-at t)
+    more.Post
+    more-Inv-loop
+    more-μ-loop
+    (more-joint-of-requires t)
+    (more-loop-holds t)
+    (more-token-at-requires t)
+    (more-operand-requires t)
+    (more-enum-known-reason t)
+    (more-same-length t)
+    (more-same-length-2 t)
+    (more-same-length-3 t)
+    (more-returns t)
+    (more-enum-known-u t)
+    (more-rest-requires t)
+    (more-rest-requires-2 t)
+    (more-same-length-4 t)
+    (more-same-length-5 t)
+    (more-same-length-6 t)
+    (more-returns-2 t)
+    (more-join-of-requires t)
+    (more-push-requires t)
+    (more-loop-less t)
+    (more-loop-again t)
+    (more-same-length-7 t)
+    (more-same-length-8 t)
+    (more-same-length-9 t)
+    (more-returns-3 t))
+    (λ t. operand-lts.spec
+    (primary-below t, primary.Post, chain-below t, chain.Post)
+    (operand-at t)
+    operand.Post
+    (operand-primary-requires t)
+    (operand-same-length t)
+    (operand-same-length-2 t)
+    (operand-same-length-3 t)
+    (operand-returns t)
+    (operand-sub-chain t)
+    (operand-chain-requires t)
+    (operand-same-length-4 t)
+    (operand-same-length-5 t)
+    (operand-same-length-6 t)
+    (operand-returns-2 t))
+    λ t. primary-lts.spec (
+      threshold-reads.Asked,
+      threshold-reads.Learnt,
+      licensee-reads.Asked,
+      licensee-reads.Learnt,
+      token-at-reads.Asked,
+      token-at-reads.Learnt,
+      chain-below t,
+      chain.Post,
+      closed-reads.Asked,
+      closed-reads.Learnt,
+    )
+    (primary-at t)
+    primary.Post
+    (primary-threshold-requires t)
+    (primary-same-length t)
+    (primary-same-length-2 t)
+    (primary-same-length-3 t)
+    (primary-returns t)
+    (primary-licensee-requires t)
+    (primary-same-length-4 t)
+    (primary-same-length-5 t)
+    (primary-same-length-6 t)
+    (primary-returns-2 t)
+    (primary-returns-3 t)
+    (primary-token-at-requires t)
+    (primary-sub-chain t)
+    (primary-chain-requires t)
+    (primary-enum-known-reason t)
+    (primary-enum-known-state t)
+    (primary-closed-requires t)
+    (primary-same-length-7 t)
+    (primary-same-length-8 t)
+    (primary-same-length-9 t)
+    (primary-returns-4 t)
+    (primary-same-length-10 t)
+    (primary-same-length-11 t)
+    (primary-same-length-12 t)
+    (primary-returns-5 t)

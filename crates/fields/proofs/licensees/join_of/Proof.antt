@@ -1,0 +1,16 @@
+use Rattle.fields.proofs.licensees.join_of.Statement.{statement}
+use Rattle.fields.specs.Working.ChainWays.{join-all, join-any}
+use Rattle.fields.proofs.licensees.join_of.Tie as tie
+use Rattle.fields.proofs.licensees.join_of.Reads as reads
+use Rattle.fields.proofs.licensees.join_of.Lts as lts
+
+-- src/licensees.rt:43:9
+returns : tie.Need-returns
+returns c = search join-all
+
+-- src/licensees.rt:39:1
+returns-2 : tie.Need-returns-2
+returns-2 c = search join-any
+
+pub join-of-spec : {M : Type 1} → statement M
+join-of-spec = tie.close (tie.spec returns returns-2)

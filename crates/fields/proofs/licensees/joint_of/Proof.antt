@@ -1,0 +1,16 @@
+use Rattle.fields.proofs.licensees.joint_of.Statement.{statement}
+use Rattle.fields.specs.Working.ChainWays.{joint-all, joint-any}
+use Rattle.fields.proofs.licensees.joint_of.Tie as tie
+use Rattle.fields.proofs.licensees.joint_of.Reads as reads
+use Rattle.fields.proofs.licensees.joint_of.Lts as lts
+
+-- src/licensees.rt:33:9
+returns : tie.Need-returns
+returns c = search joint-all
+
+-- src/licensees.rt:29:1
+returns-2 : tie.Need-returns-2
+returns-2 c = search joint-any
+
+pub joint-of-spec : {M : Type 1} → statement M
+joint-of-spec = tie.close (tie.spec returns returns-2)

@@ -1,0 +1,164 @@
+use Prim.Native.Nat.{_-_}
+use Rattle.fields.proofs.list.list.Statement.{statement}
+use Rattle.fields.specs.Licensees.{licensee, listed}
+use Rattle.fields.specs.Working.List.{listIn}
+use Rattle.fields.specs.Working.ListWays.{item-less, item-more, item-aside, item-close, item-other, item-stuck}
+use borrow.Author.Needs.{needs}
+use lib.ListN.{length}
+use mathlib.Core.Path.{_≡_}
+use Rattle.fields.proofs.list.list.Tie as tie
+use Rattle.fields.proofs.list.list.Reads as reads
+use Rattle.fields.proofs.list.list.Lts as lts
+use Rattle.fields.proofs.list.licensee.Reads as licensee-reads
+use Rattle.fields.proofs.list.list_end.Reads as list-end-reads
+use Rattle.fields.proofs.list.refused.Reads as refused-reads
+use Rattle.fields.proofs.list.rest.Reads as rest-reads
+use Rattle.lexical.proofs.token_at.Reads as token-at-reads
+
+abbrev Inv-loop : tie.InvT-loop
+Inv-loop s consts constants pool₀ places₀ code₀ k st state₀ t₀ pool places code state t = (length pool ≡ length pool₀) × (length places ≡ length places₀) × (length code ≡ length code₀) × (listIn s consts constants k (st .listed) pool places code state t ≡ listIn s consts constants k (st .listed) pool₀ places₀ code₀ st t₀)
+
+abbrev μ-loop : tie.MeasureT-loop
+μ-loop s consts constants pool₀ places₀ code₀ k st state₀ t₀ pool places code state t = 16 - state .listed
+
+-- src/list.rt:192:5
+loop-holds : tie.Need-loop-holds Inv-loop μ-loop
+loop-holds c = search needs
+
+-- src/list.rt:193:15
+licensee-requires : tie.Need-licensee-requires Inv-loop μ-loop
+licensee-requires c κs = search needs
+
+-- src/list.rt:194:31
+enum-known-reason : tie.Need-enum-known-reason Inv-loop μ-loop
+enum-known-reason c = search needs
+
+-- src/list.rt:195:17
+same-length : tie.Need-same-length Inv-loop μ-loop
+same-length c = search needs
+
+-- src/list.rt:195:17
+same-length-2 : tie.Need-same-length-2 Inv-loop μ-loop
+same-length-2 c = search needs
+
+-- src/list.rt:195:17
+same-length-3 : tie.Need-same-length-3 Inv-loop μ-loop
+same-length-3 c = search needs
+
+-- src/list.rt:195:17
+returns : tie.Need-returns Inv-loop μ-loop
+returns c = search item-aside
+
+-- src/list.rt:197:35
+enum-known-u : tie.Need-enum-known-u Inv-loop μ-loop
+enum-known-u c = search needs
+
+-- src/list.rt:199:21
+list-end-requires : tie.Need-list-end-requires Inv-loop μ-loop
+list-end-requires c κs = search needs
+
+-- src/list.rt:199:21
+same-length-4 : tie.Need-same-length-4 Inv-loop μ-loop
+same-length-4 c = search needs
+
+-- src/list.rt:199:21
+same-length-5 : tie.Need-same-length-5 Inv-loop μ-loop
+same-length-5 c = search needs
+
+-- src/list.rt:199:21
+same-length-6 : tie.Need-same-length-6 Inv-loop μ-loop
+same-length-6 c = search needs
+
+-- src/list.rt:199:21
+returns-2 : tie.Need-returns-2 Inv-loop μ-loop
+returns-2 c = search item-close
+
+-- src/list.rt:202:21
+refused-requires : tie.Need-refused-requires Inv-loop μ-loop
+refused-requires c κs = search needs
+
+-- src/list.rt:202:21
+same-length-7 : tie.Need-same-length-7 Inv-loop μ-loop
+same-length-7 c = search needs
+
+-- src/list.rt:202:21
+same-length-8 : tie.Need-same-length-8 Inv-loop μ-loop
+same-length-8 c = search needs
+
+-- src/list.rt:202:21
+same-length-9 : tie.Need-same-length-9 Inv-loop μ-loop
+same-length-9 c = search needs
+
+-- src/list.rt:202:21
+returns-3 : tie.Need-returns-3 Inv-loop μ-loop
+returns-3 c = search item-other
+
+-- src/list.rt:204:20
+rest-requires : tie.Need-rest-requires Inv-loop μ-loop
+rest-requires c κs = search needs
+
+-- src/list.rt:204:42
+rest-requires-2 : tie.Need-rest-requires-2 Inv-loop μ-loop
+rest-requires-2 c κs = search needs
+
+-- src/list.rt:205:21
+same-length-10 : tie.Need-same-length-10 Inv-loop μ-loop
+same-length-10 c = search needs
+
+-- src/list.rt:205:21
+same-length-11 : tie.Need-same-length-11 Inv-loop μ-loop
+same-length-11 c = search needs
+
+-- src/list.rt:205:21
+same-length-12 : tie.Need-same-length-12 Inv-loop μ-loop
+same-length-12 c = search needs
+
+-- src/list.rt:205:21
+returns-4 : tie.Need-returns-4 Inv-loop μ-loop
+returns-4 c = search item-stuck
+
+-- src/list.rt:211:17
+token-at-requires : tie.Need-token-at-requires Inv-loop μ-loop
+token-at-requires c κs = search needs
+
+-- src/list.rt:192:5
+loop-less : tie.Need-loop-less Inv-loop μ-loop
+loop-less c = let f = item-less _ _ _ _ _ _ _ _ _ _ _ (c .before .before .before .before .before .before .before .before .before .before .before .before .before .before .before .before .before .before .before .before .before .loop .inv .3) _ _ _ _ (c .before .before .before .before .before .before .before .before .before .before .before .before .before .before .before .before .before .licensee .ensures) in search f
+
+-- src/list.rt:192:5
+loop-again : tie.Need-loop-again Inv-loop μ-loop
+loop-again c = ((let w = c .before .before .before .before .before .before .before .before .before .before .before .before .before .before .before .before .before .before .before .before .before .loop .inv .0 in search needs), (let w = c .before .before .before .before .before .before .before .before .before .before .before .before .before .before .before .before .before .before .before .before .before .loop .inv .1 in search needs), (let w = c .before .before .before .before .before .before .before .before .before .before .before .before .before .before .before .before .before .before .before .before .before .loop .inv .2 in search needs), (let f = item-more _ _ _ _ _ _ _ _ _ _ _ (c .before .before .before .before .before .before .before .before .before .before .before .before .before .before .before .before .before .before .before .before .before .loop .inv .3) _ _ _ _ (c .before .before .before .before .before .before .before .before .before .before .before .before .before .before .before .before .before .licensee .ensures) in search f))
+
+pub list-spec : {M : Type 1} → statement M
+list-spec =
+    tie.close
+    (tie.spec
+    Inv-loop
+    μ-loop
+    loop-holds
+    licensee-requires
+    enum-known-reason
+    same-length
+    same-length-2
+    same-length-3
+    returns
+    enum-known-u
+    list-end-requires
+    same-length-4
+    same-length-5
+    same-length-6
+    returns-2
+    refused-requires
+    same-length-7
+    same-length-8
+    same-length-9
+    returns-3
+    rest-requires
+    rest-requires-2
+    same-length-10
+    same-length-11
+    same-length-12
+    returns-4
+    token-at-requires
+    loop-less
+    loop-again)

@@ -1,0 +1,32 @@
+use Rattle.fields.proofs.signature.signature.Statement.{statement}
+use Rattle.fields.specs.Working.Outs.{signature-long, signature-none, signature-read}
+use borrow.Author.Needs.{needs}
+use Rattle.fields.proofs.signature.signature.Tie as tie
+use Rattle.fields.proofs.signature.signature.Reads as reads
+use Rattle.fields.proofs.signature.signature.Lts as lts
+use Rattle.fields.proofs.out.unexpected.Reads as unexpected-reads
+use Rattle.lexical.proofs.literal_length.Reads as literal-length-reads
+
+-- src/signature.rt:19:9
+unexpected-requires : tie.Need-unexpected-requires
+unexpected-requires c κs = search needs
+
+-- src/signature.rt:19:9
+returns : tie.Need-returns
+returns c = search signature-none
+
+-- src/signature.rt:21:23
+literal-length-requires : tie.Need-literal-length-requires
+literal-length-requires c κs = search needs
+
+-- src/signature.rt:22:9
+returns-2 : tie.Need-returns-2
+returns-2 c = search signature-long
+
+-- src/signature.rt:15:1
+returns-3 : tie.Need-returns-3
+returns-3 c = search signature-read
+
+pub signature-spec : {M : Type 1} → statement M
+signature-spec =
+    tie.close (tie.spec unexpected-requires returns literal-length-requires returns-2 returns-3)

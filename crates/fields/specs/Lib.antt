@@ -1,0 +1,10 @@
+pub mod Limits
+pub mod Parsed
+pub mod Version
+pub mod Constants
+pub mod Identifier
+pub mod Authorizer
+pub mod Licensees
+pub mod Signature
+pub mod Working
+pub mod Theorems

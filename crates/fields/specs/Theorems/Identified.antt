@@ -1,0 +1,112 @@
+-- An identifier read by the tables is the one that the meaning reads, and the index holds it afterwards. Assumes nothing.
+use mathlib.Core.Path.{_≡_, refl, sym, ap, _∙_}
+use mathlib.Core.Bool.{Bool, true, false}
+use mathlib.Core.List.{List, [], _∷_, _++_}
+use Prim.Native.Nat.{ℕ, suc, _+_, _≤_, _<_}
+use native.Mathlib.Omega.{arith}
+use lib.Dec.{eqb, leb, ltb}
+use lib.ListN.{length, set}
+use borrow.Author.Tests.{le-leb, lt-leb, lt-ltb, le-ltb, leb-true, leb-false}
+use Rattle.text.specs.Choice.{pick, split, clash}
+use Rattle.text.specs.Copy.{put}
+use Rattle.text.specs.Counted.{counted}
+use Rattle.text.specs.Equal.{equal}
+use Rattle.record.specs.Encode.{stringBytes}
+use Rattle.record.specs.Query.{Attribute}
+use Rattle.record.specs.Lies.{Lie, lie[], lie∷, AttributeAt}
+use Rattle.lexical.specs.Kind
+use Rattle.lexical.specs.Literal.{decodedAt}
+use Rattle.lexical.specs.declared.token.Token.{Token}
+use Rattle.fields.specs.Limits.{mostIdentifier}
+use Rattle.principal.specs.Principal.{Principal, same}
+use Rattle.principal.specs.Members.{member, member-here, member-there, member-cases}
+use Rattle.compliance.specs.Tables.{place}
+use Rattle.compliance.specs.Theorems.Fill.{place-absent, place-added}
+use Rattle.index.specs.Index.{enter, Holds}
+use Rattle.index.specs.IndexLaws.{names-are, add-gives, add-holds}
+use Rattle.index.specs.Working.Finding.{namesOf}
+use Rattle.expression.specs.Names.{settingOr}
+use Rattle.expression.specs.Tables.{firstFrom, settingIn}
+use Rattle.expression.specs.Theorems.Shown.{setting-is}
+use Rattle.fields.specs.Parsed.{wordOf}
+use Rattle.fields.specs.Constants.{isSet}
+use Rattle.fields.specs.Identifier.{sizeFault, nameFault, identifierFault, identified}
+use Rattle.fields.specs.Working.Identifying.{Kept, entry, nameFaultIn, faultIn, literalIn, tokenIn, enterIn}
+use Rattle.fields.specs.declared.identifier.Entry.the-variants.{At}
+
+first-suc : (s name : List ℕ) (i : ℕ) (ps : List ℕ) → firstFrom s name (suc i) ps ≡ suc (firstFrom s name i ps)
+unfolding firstFrom
+first-suc s name i [] = refl
+first-suc s name i (p ∷ ps) = split (equal (counted s p) name) (λ e. rw e) (λ e. rw e (first-suc s name (suc i) ps))
+
+-- a name is unset where none of the places has it
+unset-is : (s ps name : List ℕ) {l : List Attribute} → Lie (AttributeAt s) ps l → {A : Type 0} (x y : A) → pick (leb (length ps) (firstFrom s name 0 ps)) x y ≡ pick (isSet l name) y x
+unfolding firstFrom isSet
+unset-is s ps name lie[] x y = refl
+unset-is s ps name (lie∷ {v = p} {vs = vs} {a = a} {l = l} at t) x y =
+    let is : equal (counted s p) name ≡ equal (a .name) name = ap (λ (z : List ℕ). equal z name) (at .0) in
+    split (equal (a .name) name)
+    (λ e. rw (is, e, lt-leb (suc (length vs)) 0 (omega arith)))
+    (λ e. split (leb (length vs) (firstFrom s name 0 vs))
+    (λ g. let h : length vs ≤ firstFrom s name 0 vs = leb-true _ _ g in
+    rw (is, e, first-suc s name 0 vs, le-leb (suc (length vs)) (suc (firstFrom s name 0 vs)) (omega arith)) (let z = unset-is s vs name t x y in rw g at z))
+    (λ g. let h : suc (firstFrom s name 0 vs) ≤ length vs = leb-false _ _ g in
+    rw (is, e, first-suc s name 0 vs, lt-leb (suc (length vs)) (suc (firstFrom s name 0 vs)) (omega arith)) (let z = unset-is s vs name t x y in rw g at z)))
+
+module _ (s consts places : List ℕ) (l : List Attribute) (lie : Lie (AttributeAt consts) places l) where
+  -- the same reason against a name
+  pub name-fault-is : (name : List ℕ) → nameFaultIn consts places name ≡ nameFault l name
+  unfolding nameFaultIn nameFault
+  name-fault-is name = unset-is consts places name lie 4 _ ∙ rw (setting-is consts places name [] lie)
+
+  -- the same reason against a token
+  pub fault-is : (t : Token) → faultIn s consts places t ≡ identifierFault s l t
+  unfolding faultIn identifierFault
+  fault-is t = rw (name-fault-is (wordOf s t))
+
+place-below : (names : List Principal) (p : Principal) → member p names ≡ true → place names p < length names
+unfolding place member
+place-below [] p e = clash e refl
+place-below (q ∷ names) p e =
+    split (same p q) (λ h. rw h (omega arith)) (λ h. rw h (let k : member p names ≡ true = rw h at e in omega (arith, place-below names p k)))
+
+module _ (pool places : List ℕ) (count end : ℕ) (names : List Principal) (holds : Holds pool places count end names) (id : Principal) where
+  -- a principal that is there keeps its number
+  pub enter-known : member id names ≡ true → enterIn pool places count end id ≡ entry (At (place (enter names id) id) count end) pool places
+  unfolding enterIn enter
+  enter-known m =
+      let z : place names id < count = omega (arith, place-below names id m, holds .counted) in
+      rw (names-are holds, m, lt-ltb (place names id) count z)
+
+  -- a new one gets the next, and the index holds it behind the others
+  module _ (m : member id names ≡ false) (short : length id ≤ 65535) (room : count < length places) (fits : end + 2 + length id ≤ length pool) where
+    pub enter-new : enterIn pool places count end id
+        ≡ entry (At (place (enter names id) id) (count + 1) (end + 2 + length id)) (put pool end (stringBytes id)) (set places count (end + 2))
+    unfolding enterIn enter
+    enter-new =
+        let a : place names id ≡ length names = place-absent names id m in
+        let b : place (names ++ (id ∷ [])) id ≡ length names = place-added names id m in
+        let z : count ≤ place names id = omega (arith, holds .counted) in
+        rw (names-are holds, le-ltb (place names id) count z, add-gives holds id short room fits, m, a, b)
+
+    pub enter-new-holds : Holds (put pool end (stringBytes id)) (set places count (end + 2)) (count + 1) (end + 2 + length id) (enter names id)
+    unfolding enter
+    enter-new-holds = rw m (add-holds holds id short room fits)
+
+seven : (n : ℕ) → sizeFault n ≡ 0 → ltb mostIdentifier n ≡ false
+unfolding sizeFault
+seven n h =
+    split (ltb mostIdentifier n)
+    (λ g. split (eqb n 0)
+    (λ e. let z : _≡_ {A = ℕ} 7 0 = rw e at h in absurd (let no : ⊥ = omega (arith, z) in no))
+    (λ e. let z : _≡_ {A = ℕ} 7 0 = rw (e, g) at h in absurd (let no : ⊥ = omega (arith, z) in no)))
+    (λ g. g)
+
+-- what is entered for a token without fault is the principal that it identifies
+pub token-is : (s consts constants pool places : List ℕ) (count end : ℕ) (l : List Attribute) → Lie (AttributeAt consts) constants l → (t : Token)
+    → identifierFault s l t ≡ 0 → tokenIn s consts constants pool places count end t ≡ enterIn pool places count end (identified s l t)
+unfolding tokenIn literalIn identified identifierFault
+token-is s consts constants pool places count end l lie t f =
+    split (eqb (t .kind) Kind.LITERAL)
+    (λ e. let z : sizeFault (length (decodedAt s (t .start))) ≡ 0 = rw e at f in rw (e, seven (length (decodedAt s (t .start))) z))
+    (λ e. rw (e, setting-is consts constants (wordOf s t) [] lie))

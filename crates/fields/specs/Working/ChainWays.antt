@@ -1,0 +1,187 @@
+-- The ways out of the functions that write chains, brackets and the field. Assumes nothing.
+use mathlib.Core.Path.{_≡_, refl, sym, ap, _∙_}
+use mathlib.Core.Bool.{Bool, true, false}
+use mathlib.Core.List.{List, []}
+use Prim.Native.Nat.{ℕ, zero, suc, _+_, _-_, _<_, _≤_}
+use native.Mathlib.Omega.{arith}
+use lib.Dec.{eqb, leb, ltb}
+use lib.ListN.{length}
+use borrow.Author.Tests.{lt-ltb, le-ltb, le-leb, lt-leb, eq-eqb, ne-eqb}
+use Rattle.text.specs.Loop.{loop-next, loop-done}
+use Rattle.limits.specs.Limits.{mostLicensees}
+use Rattle.lexical.specs.Kind
+use Rattle.lexical.specs.Line.{tokenAt}
+use Rattle.lexical.specs.declared.token.Token.{Token}
+use Rattle.compliance.specs.Codes.{andCode, orCode, zeroCode}
+use Rattle.fields.specs.Limits.{mostBrackets}
+use Rattle.fields.specs.Parsed.{ending}
+use Rattle.fields.specs.Working.List.{Ran, ran, refusedLicensed, above, pushed, sized, stateOf, licenseeIn, thresholdIn}
+use Rattle.fields.specs.Working.Chain.{jointOf, joinOf, closedIn, operandAt, moreAt, chainAt, primaryAt, primaryBody, innerAt, endIn, fieldIn}
+use Rattle.fields.specs.declared.list.State.{State}
+use Rattle.fields.specs.declared.list.Licensed.{Licensed}
+use Rattle.fields.specs.declared.list.Licensed.the-variants.{On, Aside}
+
+-- `joint_of` and `join_of`
+module _ (level : ℕ) where
+  pub joint-all : level ≡ 0 → Kind.AND ≡ jointOf level
+  unfolding jointOf
+  joint-all h = simp (eq-eqb _ _ h)
+
+  pub joint-any : (level ≡ 0 → ⊥) → Kind.OR ≡ jointOf level
+  unfolding jointOf
+  joint-any h = simp (ne-eqb _ _ h)
+
+  pub join-all : level ≡ 0 → andCode ≡ joinOf level
+  unfolding joinOf
+  join-all h = simp (eq-eqb _ _ h)
+
+  pub join-any : (level ≡ 0 → ⊥) → orCode ≡ joinOf level
+  unfolding joinOf
+  join-any h = simp (ne-eqb _ _ h)
+
+-- `closed`
+module _ (s : List ℕ) (st : State) (t : Token) where
+  pub closed-not : (r : Licensed) → (t .kind ≡ Kind.CLOSE → ⊥) → r ≡ refusedLicensed t → r ≡ closedIn s st t
+  unfolding closedIn
+  closed-not r h re = re ∙ simp (ne-eqb _ _ h)
+
+  pub closed-on : (n : Token) → t .kind ≡ Kind.CLOSE → n ≡ tokenAt s Kind.IN-LICENSEES (t .end) → On st n ≡ closedIn s st t
+  unfolding closedIn
+  closed-on n h ne = rw ne (simp (eq-eqb _ _ h))
+
+-- `operand`
+module _ (left level : ℕ) (s consts constants pool places code : List ℕ) (st : State) (t : Token) (r : Ran) where
+  pub operand-primary : level ≡ 0 → r ≡ primaryAt left s consts constants pool places code st t → r ≡ operandAt left level s consts constants pool places code st t
+  unfolding operandAt
+  operand-primary h re = re ∙ rw h
+
+operand-up : (left level : ℕ) (s consts constants pool places code : List ℕ) (st : State) (t : Token)
+    → chainAt left level s consts constants pool places code st t ≡ operandAt left (suc level) s consts constants pool places code st t
+unfolding chainAt operandAt moreAt
+operand-up left level s consts constants pool places code st t = refl
+
+pub operand-chain : (left level : ℕ) (s consts constants pool places code : List ℕ) (st : State) (t : Token) (r : Ran)
+    → (level ≡ 0 → ⊥) → r ≡ chainAt left (level - 1) s consts constants pool places code st t → r ≡ operandAt left level s consts constants pool places code st t
+operand-chain left zero s consts constants pool places code st t r h re = absurd (h refl)
+operand-chain left (suc level) s consts constants pool places code st t r h re =
+    let z : suc level - 1 ≡ level = omega arith in
+    let w : r ≡ chainAt left level s consts constants pool places code st t = rw z at re in
+    w ∙ operand-up left level s consts constants pool places code st t
+
+-- `chain`
+module _ (left level : ℕ) (s consts constants pool places code : List ℕ) (st : State) (t : Token) (r : Licensed) (p q m : List ℕ)
+    (re : ran r p q m ≡ operandAt left level s consts constants pool places code st t) where
+  pub chain-aside : (x y : ℕ) → r ≡ Aside x y → ran (Aside x y) p q m ≡ chainAt left level s consts constants pool places code st t
+  unfolding chainAt
+  chain-aside x y h = simp (sym re, h)
+
+  pub chain-on : (u : State) (n : Token) (w : Ran) → r ≡ On u n → w ≡ moreAt left level s consts constants p q m u n → w ≡ chainAt left level s consts constants pool places code st t
+  unfolding chainAt
+  chain-on u n w h we = we ∙ simp (sym re, h)
+
+-- the loop of `more`, with the invariant `moreAt .. ≡ a`
+module _ (left level : ℕ) (s consts constants pool places code : List ℕ) (st : State) (t : Token) (a : Ran)
+    (inv : moreAt left level s consts constants pool places code st t ≡ a) (j : ℕ) (je : j ≡ jointOf level) where
+  pub more-end : (t .kind ≡ j → ⊥) → ran (On st t) pool places code ≡ a
+  unfolding moreAt
+  more-end h = let g : t .kind ≡ jointOf level → ⊥ = λ e. h (e ∙ sym je) in sym (loop-done _ _ _ (st, t, pool, places, code) _ (simp (ne-eqb _ _ g))) ∙ inv
+
+  module _ (h : t .kind ≡ j) (n : Token) (ne : n ≡ tokenAt s Kind.IN-LICENSEES (t .end)) (r : Licensed) (p q m : List ℕ)
+      (re : ran r p q m ≡ operandAt left level s consts constants pool places code st n) where
+    is : t .kind ≡ jointOf level
+    is = h ∙ je
+
+    at-next : operandAt left level s consts constants pool places code st (tokenAt s Kind.IN-LICENSEES (t .end)) ≡ ran r p q m
+    at-next = rw (sym ne) (sym re)
+
+    pub more-aside : (x y : ℕ) → r ≡ Aside x y → ran (Aside x y) p q m ≡ a
+    unfolding moreAt
+    more-aside x y k = sym (loop-done _ _ _ (st, t, pool, places, code) (ran (Aside x y) p q m) (simp (eq-eqb _ _ is, at-next, k))) ∙ inv
+
+    module _ (u : State) (v : Token) (rv : r ≡ On u v) (x y : ℕ) (xe : x ≡ 16 - st .listed) (ye : y ≡ 16 - u .listed) where
+      pub more-stuck : x ≤ y → ran (Aside 0 0) p q m ≡ a
+      unfolding moreAt
+      more-stuck g = sym (loop-done _ _ _ (st, t, pool, places, code) (ran (Aside 0 0) p q m) (simp (eq-eqb _ _ is, at-next, rv, sym xe, sym ye, le-leb _ _ g))) ∙ inv
+
+      pub more-again : (o z : ℕ) (b : List ℕ) → y < x → o ≡ joinOf level → z ≡ above m (u .size) → b ≡ pushed m (u .size) o
+          → moreAt left level s consts constants p q b (sized u z) v ≡ a
+      unfolding moreAt
+      more-again o z b g oe ze be =
+          rw (ze, be, oe) (sym (loop-next _ _ _ (st, t, pool, places, code) (sized u (above m (u .size)), v, p, q, pushed m (u .size) (joinOf level))
+          (simp (eq-eqb _ _ is, at-next, rv, sym xe, sym ye, lt-leb _ _ g)) (omega (arith, xe, ye))) ∙ inv)
+
+      pub more-less : y < x → 16 - u .listed < 16 - st .listed
+      more-less g = omega (arith, xe, ye)
+
+-- `primary`: where a bracket may be opened, what is inside is a chain with one less
+primary-unfold : (left : ℕ) (s consts constants pool places code : List ℕ) (st : State) (t : Token)
+    → primaryAt left s consts constants pool places code st t ≡ primaryBody (λ p q m u n. innerAt left s consts constants p q m u n) left s consts constants pool places code st t
+unfolding primaryAt innerAt chainAt operandAt moreAt
+primary-unfold zero s consts constants pool places code st t = refl
+primary-unfold (suc left) s consts constants pool places code st t = refl
+
+inner-is : (left : ℕ) → (left ≡ 0 → ⊥) → (s consts constants pool places code : List ℕ) (st : State) (t : Token)
+    → innerAt left s consts constants pool places code st t ≡ chainAt (left - 1) 1 s consts constants pool places code st t
+unfolding innerAt
+inner-is zero h s consts constants pool places code st t = absurd (h refl)
+inner-is (suc left) h s consts constants pool places code st t =
+    let z : suc left - 1 ≡ left = omega arith in ap (λ (l : ℕ). chainAt l 1 s consts constants pool places code st t) (sym z)
+
+module _ (left : ℕ) (s consts constants pool places code : List ℕ) (st : State) (t : Token) where
+  pub primary-digits : (r : Ran) → t .kind ≡ Kind.DIGITS → r ≡ thresholdIn left s consts constants pool places code st t → r ≡ primaryAt left s consts constants pool places code st t
+  primary-digits r h re = re ∙ simp (primary-unfold left, eq-eqb _ _ h)
+
+  module _ (nd : t .kind ≡ Kind.DIGITS → ⊥) where
+    pub primary-one : (r : Ran) → (t .kind ≡ Kind.OPEN → ⊥) → r ≡ licenseeIn s consts constants pool places code st t → r ≡ primaryAt left s consts constants pool places code st t
+    primary-one r h re = re ∙ simp (primary-unfold left, ne-eqb _ _ nd, ne-eqb _ _ h)
+
+    module _ (h : t .kind ≡ Kind.OPEN) where
+      pub primary-most : left ≡ 0 → ran (Aside 7 (t .start)) pool places code ≡ primaryAt left s consts constants pool places code st t
+      primary-most z = simp (primary-unfold left, ne-eqb _ _ nd, eq-eqb _ _ h, eq-eqb _ _ z)
+
+      module _ (nz : left ≡ 0 → ⊥) (n : Token) (ne : n ≡ tokenAt s Kind.IN-LICENSEES (t .end)) (r : Licensed) (p q m : List ℕ)
+          (re : ran r p q m ≡ chainAt (left - 1) 1 s consts constants pool places code st n) where
+        inside : innerAt left s consts constants pool places code st (tokenAt s Kind.IN-LICENSEES (t .end)) ≡ ran r p q m
+        inside = inner-is left nz s consts constants pool places code st (tokenAt s Kind.IN-LICENSEES (t .end)) ∙ rw (sym ne) (sym re)
+
+        pub primary-aside : (x y : ℕ) → r ≡ Aside x y → ran (Aside x y) p q m ≡ primaryAt left s consts constants pool places code st t
+        primary-aside x y k = simp (primary-unfold left, ne-eqb _ _ nd, eq-eqb _ _ h, ne-eqb _ _ nz, inside, k)
+
+        pub primary-on : (u : State) (v : Token) (w : Licensed) → r ≡ On u v → w ≡ closedIn s u v → ran w p q m ≡ primaryAt left s consts constants pool places code st t
+        primary-on u v w k we = rw we (simp (primary-unfold left, ne-eqb _ _ nd, eq-eqb _ _ h, ne-eqb _ _ nz, inside, k))
+
+-- `finished`
+module _ (st : State) (t : Token) (b : Bool) (be : b ≡ ending (t .kind)) where
+  pub end-on : b ≡ true → On st t ≡ endIn st t
+  unfolding endIn
+  end-on y = simp (sym be, y)
+
+  pub end-not : (r : Licensed) → b ≡ false → r ≡ refusedLicensed t → r ≡ endIn st t
+  unfolding endIn
+  end-not r y re = re ∙ simp (sym be, y)
+
+-- `licensees`
+module _ (s consts constants pool places code : List ℕ) (count end size : ℕ) (t : Token) where
+  pub field-past : length code < size → ran (Aside 0 0) pool places code ≡ fieldIn s consts constants pool places code count end size t
+  unfolding fieldIn
+  field-past h = simp (lt-ltb _ _ h)
+
+  module _ (h : size ≤ length code) where
+    pub field-short : length code - size < 48 → ran (Aside 0 0) pool places code ≡ fieldIn s consts constants pool places code count end size t
+    unfolding fieldIn
+    field-short k = simp (le-ltb _ _ h, lt-ltb _ _ k)
+
+    module _ (k : 48 ≤ length code - size) (b : Bool) (be : b ≡ ending (t .kind)) where
+      pub field-empty : (z : ℕ) (m : List ℕ) → b ≡ true → z ≡ above code size → m ≡ pushed code size zeroCode
+          → ran (On (stateOf count end z 0) t) pool places m ≡ fieldIn s consts constants pool places code count end size t
+      unfolding fieldIn
+      field-empty z m y ze me = rw (ze, me) (simp (le-ltb _ _ h, le-ltb _ _ k, sym be, y))
+
+      module _ (nb : b ≡ false) (r : Licensed) (p q m : List ℕ) (re : ran r p q m ≡ chainAt 16 1 s consts constants pool places code (stateOf count end size 0) t) where
+        pub field-aside : (x y : ℕ) → r ≡ Aside x y → ran (Aside x y) p q m ≡ fieldIn s consts constants pool places code count end size t
+        unfolding fieldIn
+        field-aside x y g = simp (le-ltb _ _ h, le-ltb _ _ k, sym be, nb, sym re, g)
+
+        pub field-on : (u : State) (n : Token) (w : Licensed) → r ≡ On u n → w ≡ endIn u n → ran w p q m ≡ fieldIn s consts constants pool places code count end size t
+        unfolding fieldIn
+        field-on u n w g we = rw we (simp (le-ltb _ _ h, le-ltb _ _ k, sym be, nb, sym re, g))

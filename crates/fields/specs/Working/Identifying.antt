@@ -1,0 +1,146 @@
+-- Working definitions: an identifier by the tables of constants, entered into the index; and the ways out of the functions that do it.
+-- Assumes nothing.
+use mathlib.Core.Path.{_≡_, refl, sym, ap, _∙_}
+use mathlib.Core.Bool.{Bool, true, false}
+use mathlib.Core.List.{List, [], _∷_, _++_}
+use Prim.Native.Nat.{ℕ, zero, suc, _+_, _-_, _<_, _≤_}
+use native.Mathlib.Omega.{arith}
+use lib.Dec.{eqb, leb, ltb}
+use lib.ListN.{length, getD, take, drop}
+use lib.Seq.{take-append-seam, length-take-le}
+use borrow.Author.Tests.{lt-ltb, le-ltb, le-leb, lt-leb, eq-eqb, ne-eqb}
+use Rattle.text.specs.Choice.{pick, clash}
+use Rattle.lexical.specs.Kind
+use Rattle.lexical.specs.Literal.{decodedAt}
+use Rattle.lexical.specs.Decode.{Ran, ran, decodeInto}
+use Rattle.lexical.specs.DecodeLaws.{decode-fits}
+use Rattle.lexical.specs.declared.token.Token.{Token}
+use Rattle.principal.specs.Principal.{Principal}
+use Rattle.compliance.specs.Tables.{place}
+use Rattle.index.specs.Working.Finding.{namesOf}
+use Rattle.index.specs.Working.Adding.{After, entered, addInto}
+use Rattle.index.specs.declared.Entered.{Entered}
+use Rattle.index.specs.declared.Entered.the-variants.{Now, Full as NoRoom}
+use Rattle.expression.specs.Tables.{firstFrom, settingIn}
+use Rattle.fields.specs.Limits.{mostIdentifier}
+use Rattle.fields.specs.Parsed.{refusal, wordOf}
+use Rattle.fields.specs.Identifier.{sizeFault}
+use Rattle.fields.specs.declared.identifier.Entry.{Entry}
+use Rattle.fields.specs.declared.identifier.Entry.the-variants.{At, Full}
+
+-- the reason against a name, by the places of the constants
+unfoldable pub nameFaultIn : List ℕ → List ℕ → List ℕ → ℕ
+nameFaultIn consts places name =
+    pick (leb (length places) (firstFrom consts name 0 places)) 4 (sizeFault (length (settingIn consts places name [])))
+
+unfoldable pub faultIn : List ℕ → List ℕ → List ℕ → Token → ℕ
+faultIn s consts places t =
+    pick (eqb (t .kind) Kind.LITERAL) (sizeFault (length (decodedAt s (t .start))))
+    (pick (eqb (t .kind) Kind.NAME) (nameFaultIn consts places (wordOf s t)) (refusal (t .kind)))
+
+-- an answer, the pool and the table
+pub data Kept : Type 0 where
+  entry : Entry → List ℕ → List ℕ → Kept
+
+abbrev pub onAdded : ℕ → After → Kept
+onAdded i (entered (Now c e) pool places) = entry (At i c e) pool places
+onAdded i (entered NoRoom pool places) = entry Full pool places
+
+-- "unless it is one of them already"
+unfoldable pub enterIn : List ℕ → List ℕ → ℕ → ℕ → Principal → Kept
+enterIn pool places count end id =
+    pick (ltb (place (namesOf pool places count) id) count) (entry (At (place (namesOf pool places count) id) count end) pool places)
+    (onAdded (place (namesOf pool places count) id) (addInto pool places count end id))
+
+unfoldable pub literalIn : List ℕ → List ℕ → ℕ → ℕ → Principal → Kept
+literalIn pool places count end id = pick (ltb mostIdentifier (length id)) (entry Full pool places) (enterIn pool places count end id)
+
+-- the principal that t identifies
+unfoldable pub tokenIn : List ℕ → List ℕ → List ℕ → List ℕ → List ℕ → ℕ → ℕ → Token → Kept
+tokenIn s consts constants pool places count end t =
+    pick (eqb (t .kind) Kind.LITERAL) (literalIn pool places count end (decodedAt s (t .start)))
+    (enterIn pool places count end (settingIn consts constants (wordOf s t) []))
+
+-- `name_fault`
+module _ (consts places name : List ℕ) (i : ℕ) (ie : i ≡ firstFrom consts name 0 places) where
+  pub name-unset : length places ≤ i → 4 ≡ nameFaultIn consts places name
+  unfolding nameFaultIn
+  name-unset h = simp (sym ie, le-leb _ _ h)
+
+  pub name-sized : (v : List ℕ) (r : ℕ) → i < length places → v ≡ settingIn consts places name [] → r ≡ sizeFault (length v) → r ≡ nameFaultIn consts places name
+  unfolding nameFaultIn
+  name-sized v r h ve re = re ∙ simp (sym ie, lt-leb _ _ h, ve)
+
+-- `identifier_fault`
+module _ (s consts places : List ℕ) (t : Token) where
+  pub fault-literal : (n r : ℕ) → t .kind ≡ Kind.LITERAL → n ≡ length (decodedAt s (t .start)) → r ≡ sizeFault n → r ≡ faultIn s consts places t
+  unfolding faultIn
+  fault-literal n r h ne re = re ∙ simp (eq-eqb _ _ h, ne)
+
+  module _ (no : t .kind ≡ Kind.LITERAL → ⊥) where
+    pub fault-name : (w : List ℕ) (r : ℕ) → t .kind ≡ Kind.NAME → w ≡ wordOf s t → r ≡ nameFaultIn consts places w → r ≡ faultIn s consts places t
+    unfolding faultIn
+    fault-name w r h we re = re ∙ simp (ne-eqb _ _ no, eq-eqb _ _ h, we)
+
+    pub fault-none : (r : ℕ) → (t .kind ≡ Kind.NAME → ⊥) → r ≡ refusal (t .kind) → r ≡ faultIn s consts places t
+    unfolding faultIn
+    fault-none r h re = re ∙ simp (ne-eqb _ _ no, ne-eqb _ _ h)
+
+-- `enter`
+module _ (pool places : List ℕ) (count end : ℕ) (id : List ℕ) (i : ℕ) (ie : i ≡ place (namesOf pool places count) id) where
+  pub enter-there : i < count → entry (At i count end) pool places ≡ enterIn pool places count end id
+  unfolding enterIn
+  enter-there h = simp (sym ie, lt-ltb _ _ h)
+
+  module _ (h : count ≤ i) (r : Entered) (p q : List ℕ) (re : entered r p q ≡ addInto pool places count end id) where
+    pub enter-new : (c e : ℕ) → r ≡ Now c e → entry (At i c e) p q ≡ enterIn pool places count end id
+    unfolding enterIn
+    enter-new c e k = simp (sym ie, le-ltb _ _ h, sym re, k)
+
+    pub enter-full : r ≡ NoRoom → entry Full p q ≡ enterIn pool places count end id
+    unfolding enterIn
+    enter-full k = simp (sym ie, le-ltb _ _ h, sym re, k)
+
+-- `enter_literal`
+pub front-of : (s : List ℕ) (k n : ℕ) → k ≤ n → length s ≡ n → k ≡ length (take k s)
+front-of s k n h l = sym (length-take-le k s (omega arith))
+
+pub front-length : (s : List ℕ) (k : ℕ) → k ≤ length s → k ≡ length (take k s)
+front-length s k h = sym (length-take-le k s h)
+
+decoded-front : (s : List ℕ) (start : ℕ) (m b : List ℕ) (t : Bool) → length (decodedAt s start) ≤ length m → ran t b ≡ decodeInto s start m 0
+    → (t ≡ true) × (take (length (decodedAt s start)) b ≡ decodedAt s start)
+decoded-front s start m b t h e =
+    let f : decodeInto s start m 0 ≡ ran true (decodedAt s start ++ drop (0 + length (decodedAt s start)) m) = decode-fits s start m 0 (omega arith) in
+    let y : t ≡ true = cc (e, f) in
+    let g : b ≡ decodedAt s start ++ drop (0 + length (decodedAt s start)) m = cc (e, f) in
+    (y, rw g (take-append-seam (decodedAt s start) (drop (0 + length (decodedAt s start)) m)))
+
+module _ (s pool places : List ℕ) (count end start n : ℕ) (ne : n ≡ length (decodedAt s start)) where
+  pub literal-long : mostIdentifier < n → entry Full pool places ≡ literalIn pool places count end (decodedAt s start)
+  unfolding literalIn
+  literal-long h = simp (sym ne, lt-ltb _ _ h)
+
+  module _ (h : n ≤ mostIdentifier) (m : List ℕ) (room : length m ≡ 256) (t : Bool) (b : List ℕ) (be : ran t b ≡ decodeInto s start m 0) where
+    front : (t ≡ true) × (take (length (decodedAt s start)) b ≡ decodedAt s start)
+    front = decoded-front s start m b t (omega (arith, ne)) be
+
+    pub literal-entered : (r : Kept) → t ≡ true → r ≡ enterIn pool places count end (take n b) → r ≡ literalIn pool places count end (decodedAt s start)
+    unfolding literalIn
+    literal-entered r y re =
+        let z : take n b ≡ decodedAt s start = rw ne (front .1) in
+        re ∙ rw z (simp (sym ne, le-ltb _ _ h))
+
+    pub literal-never : t ≡ false → entry Full pool places ≡ literalIn pool places count end (decodedAt s start)
+    literal-never f = clash (front .0) f
+
+-- `enter_token`
+module _ (s consts constants pool places : List ℕ) (count end : ℕ) (t : Token) (r : Kept) where
+  pub token-literal : t .kind ≡ Kind.LITERAL → r ≡ literalIn pool places count end (decodedAt s (t .start)) → r ≡ tokenIn s consts constants pool places count end t
+  unfolding tokenIn
+  token-literal h e = e ∙ simp (eq-eqb _ _ h)
+
+  pub token-name : (w v : List ℕ) → (t .kind ≡ Kind.LITERAL → ⊥) → w ≡ wordOf s t → v ≡ settingIn consts constants w [] → r ≡ enterIn pool places count end v
+      → r ≡ tokenIn s consts constants pool places count end t
+  unfolding tokenIn
+  token-name w v h we ve e = e ∙ simp (ne-eqb _ _ h, ve, we)

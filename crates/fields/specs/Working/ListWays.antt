@@ -1,0 +1,172 @@
+-- The ways out of the functions that write licensees and lists. Assumes nothing.
+use mathlib.Core.Path.{_≡_, refl, sym, ap, _∙_}
+use mathlib.Core.Bool.{Bool, true, false}
+use mathlib.Core.List.{List, []}
+use Prim.Native.Nat.{ℕ, _+_, _-_, _<_, _≤_}
+use native.Mathlib.Omega.{arith}
+use lib.Dec.{eqb, leb, ltb}
+use lib.ListN.{length, set}
+use borrow.Author.Tests.{lt-ltb, le-ltb, le-leb, lt-leb, eq-eqb, ne-eqb}
+use Rattle.text.specs.Loop.{loop-next, loop-done}
+use Rattle.limits.specs.Limits.{mostLicensees}
+use Rattle.lexical.specs.Kind
+use Rattle.lexical.specs.Line.{tokenAt}
+use Rattle.lexical.specs.Number.{numberAt}
+use Rattle.lexical.specs.declared.token.Token.{Token}
+use Rattle.compliance.specs.Codes.{kOfCode}
+use Rattle.fields.specs.Parsed.{refusal}
+use Rattle.fields.specs.Working.Identifying.{Kept, entry, faultIn, tokenIn}
+use Rattle.fields.specs.Working.List.{Ran, ran, Wrote, wrote, refusedLicensed, above, pushed, sized, stateOf, licenseeIn, itemsOf, listedIn, onWrote, listIn, openedIn, thresholdIn}
+use Rattle.fields.specs.declared.identifier.Entry.{Entry}
+use Rattle.fields.specs.declared.identifier.Entry.the-variants.{At, Full}
+use Rattle.fields.specs.declared.list.State.{State}
+use Rattle.fields.specs.declared.list.Licensed.{Licensed}
+use Rattle.fields.specs.declared.list.Licensed.the-variants.{On, Aside}
+
+-- `rest`
+pub rest-none : (n : ℕ) → mostLicensees ≤ n → 0 ≡ 16 - n
+rest-none n h = omega arith
+
+-- `push`
+module _ (code : List ℕ) (size : ℕ) where
+  pub above-full : length code ≤ size → size ≡ above code size
+  unfolding above
+  above-full h = simp (le-leb _ _ h)
+
+  pub above-room : size < length code → size + 1 ≡ above code size
+  unfolding above
+  above-room h = simp (lt-leb _ _ h)
+
+  pub pushed-full : (x : ℕ) → length code ≤ size → code ≡ pushed code size x
+  unfolding pushed
+  pushed-full x h = simp (le-leb _ _ h)
+
+  pub pushed-room : (x : ℕ) → size < length code → set code size x ≡ pushed code size x
+  unfolding pushed
+  pushed-room x h = simp (lt-leb _ _ h)
+
+-- `licensee`
+module _ (s consts constants pool places code : List ℕ) (st : State) (t : Token) (f : ℕ) (fe : f ≡ faultIn s consts constants t) where
+  pub licensee-fault : (f ≡ 0 → ⊥) → ran (Aside f (t .start)) pool places code ≡ licenseeIn s consts constants pool places code st t
+  unfolding licenseeIn
+  licensee-fault h = simp (sym fe, ne-eqb _ _ h)
+
+  module _ (z : f ≡ 0) where
+    pub licensee-most : mostLicensees ≤ st .listed → ran (Aside 7 (t .start)) pool places code ≡ licenseeIn s consts constants pool places code st t
+    unfolding licenseeIn
+    licensee-most h = simp (sym fe, eq-eqb _ _ z, le-leb _ _ h)
+
+    module _ (h : st .listed < mostLicensees) (r : Entry) (p q : List ℕ) (re : entry r p q ≡ tokenIn s consts constants pool places (st .count) (st .end) t) where
+      pub licensee-full : r ≡ Full → ran (Aside 0 0) p q code ≡ licenseeIn s consts constants pool places code st t
+      unfolding licenseeIn
+      licensee-full k = simp (sym fe, eq-eqb _ _ z, lt-leb _ _ h, sym re, k)
+
+      module _ (i c e : ℕ) (k : r ≡ At i c e) where
+        pub licensee-high : 32768 ≤ i → ran (Aside 0 0) p q code ≡ licenseeIn s consts constants pool places code st t
+        unfolding licenseeIn
+        licensee-high g = simp (sym fe, eq-eqb _ _ z, lt-leb _ _ h, sym re, k, le-leb _ _ g)
+
+        pub licensee-on : (x y : ℕ) (b : List ℕ) (n : Token) → i < 32768 → x ≡ i → y ≡ above code (st .size) → b ≡ pushed code (st .size) x → n ≡ tokenAt s Kind.IN-LICENSEES (t .end)
+            → ran (On (stateOf c e y (st .listed + 1)) n) p q b ≡ licenseeIn s consts constants pool places code st t
+        unfolding licenseeIn
+        licensee-on x y b n g xe ye be ne = rw (ye, be, xe, ne) (simp (sym fe, eq-eqb _ _ z, lt-leb _ _ h, sym re, k, lt-leb _ _ g))
+
+-- `items`
+module _ (before listed : ℕ) where
+  pub items-less : listed < before → 0 ≡ itemsOf before listed
+  unfolding itemsOf
+  items-less h = simp (lt-ltb _ _ h)
+
+  module _ (h : before ≤ listed) where
+    pub items-many : mostLicensees < listed - before → 0 ≡ itemsOf before listed
+    unfolding itemsOf
+    items-many k = simp (le-ltb _ _ h, lt-ltb _ _ k)
+
+    pub items-are : listed - before ≤ mostLicensees → listed - before ≡ itemsOf before listed
+    unfolding itemsOf
+    items-are k = simp (le-ltb _ _ h, le-ltb _ _ k)
+
+-- `list_end`
+module _ (s code : List ℕ) (k before : ℕ) (st : State) (t : Token) (m : ℕ) (me : m ≡ itemsOf before (st .listed)) (n : ℕ) (ne : n ≡ m) where
+  nm : itemsOf before (st .listed) ≡ n
+  nm = sym me ∙ sym ne
+
+  pub list-few : n < k → wrote (Aside 5 (t .start)) code ≡ listedIn s code k before st t
+  unfolding listedIn
+  list-few h = rw nm (simp (lt-ltb _ _ h))
+
+  pub list-enough : (x y : ℕ) (b : List ℕ) (u : Token) → k ≤ n → x ≡ kOfCode k n → y ≡ above code (st .size) → b ≡ pushed code (st .size) x → u ≡ tokenAt s Kind.IN-LICENSEES (t .end)
+      → wrote (On (sized st y) u) b ≡ listedIn s code k before st t
+  unfolding listedIn
+  list-enough x y b u h xe ye be ue = rw (ye, be, xe, ue, nm) (simp (le-ltb _ _ h))
+
+-- the loop of `list`, with the invariant `listIn .. ≡ a`
+module _ (s consts constants : List ℕ) (k before : ℕ) (pool places code : List ℕ) (st : State) (t : Token) (a : Ran)
+    (inv : listIn s consts constants k before pool places code st t ≡ a) (r : Licensed) (p q m : List ℕ) (re : ran r p q m ≡ licenseeIn s consts constants pool places code st t) where
+  pub item-aside : (x y : ℕ) → r ≡ Aside x y → ran (Aside x y) p q m ≡ a
+  unfolding listIn
+  item-aside x y h = sym (loop-done _ _ _ (st, t, pool, places, code) (ran (Aside x y) p q m) (simp (sym re, h))) ∙ inv
+
+  module _ (u : State) (n : Token) (rv : r ≡ On u n) where
+    pub item-close : (w : Licensed) (b : List ℕ) → n .kind ≡ Kind.CLOSE → wrote w b ≡ listedIn s m k before u n → ran w p q b ≡ a
+    unfolding listIn
+    item-close w b h we =
+        ap (onWrote p q) we ∙ sym (loop-done _ _ _ (st, t, pool, places, code) (onWrote p q (listedIn s m k before u n)) (simp (sym re, rv, eq-eqb _ _ h))) ∙ inv
+
+    module _ (nc : n .kind ≡ Kind.CLOSE → ⊥) where
+      pub item-other : (w : Licensed) → (n .kind ≡ Kind.COMMA → ⊥) → w ≡ refusedLicensed n → ran w p q m ≡ a
+      unfolding listIn
+      item-other w h we =
+          rw we (sym (loop-done _ _ _ (st, t, pool, places, code) (ran (refusedLicensed n) p q m) (simp (sym re, rv, ne-eqb _ _ nc, ne-eqb _ _ h))) ∙ inv)
+
+      module _ (h : n .kind ≡ Kind.COMMA) (x y : ℕ) (xe : x ≡ 16 - st .listed) (ye : y ≡ 16 - u .listed) where
+        pub item-stuck : x ≤ y → ran (Aside 0 0) p q m ≡ a
+        unfolding listIn
+        item-stuck g =
+            sym (loop-done _ _ _ (st, t, pool, places, code) (ran (Aside 0 0) p q m) (simp (sym re, rv, ne-eqb _ _ nc, eq-eqb _ _ h, sym xe, sym ye, le-leb _ _ g))) ∙ inv
+
+        pub item-more : (v : Token) → y < x → v ≡ tokenAt s Kind.IN-LICENSEES (n .end) → listIn s consts constants k before p q m u v ≡ a
+        unfolding listIn
+        item-more v g ve =
+            rw ve (sym (loop-next _ _ _ (st, t, pool, places, code) (u, tokenAt s Kind.IN-LICENSEES (n .end), p, q, m)
+            (simp (sym re, rv, ne-eqb _ _ nc, eq-eqb _ _ h, sym xe, sym ye, lt-leb _ _ g)) (omega (arith, xe, ye))) ∙ inv)
+
+        pub item-less : y < x → 16 - u .listed < 16 - st .listed
+        item-less g = omega (arith, xe, ye)
+
+-- `opened`
+module _ (left : ℕ) (s consts constants : List ℕ) (k : ℕ) (pool places code : List ℕ) (st : State) (t : Token) where
+  pub opened-not : (r : Licensed) → (t .kind ≡ Kind.OPEN → ⊥) → r ≡ refusedLicensed t → ran r pool places code ≡ openedIn left s consts constants k pool places code st t
+  unfolding openedIn
+  opened-not r h re = rw re (simp (ne-eqb _ _ h))
+
+  module _ (h : t .kind ≡ Kind.OPEN) where
+    pub opened-most : left ≡ 0 → ran (Aside 7 (t .start)) pool places code ≡ openedIn left s consts constants k pool places code st t
+    unfolding openedIn
+    opened-most z = simp (eq-eqb _ _ h, eq-eqb _ _ z)
+
+    pub opened-list : (n : Token) (r : Ran) → (left ≡ 0 → ⊥) → n ≡ tokenAt s Kind.IN-LICENSEES (t .end) → r ≡ listIn s consts constants k (st .listed) pool places code st n
+        → r ≡ openedIn left s consts constants k pool places code st t
+    unfolding openedIn
+    opened-list n r z ne re = re ∙ simp (eq-eqb _ _ h, ne-eqb _ _ z, ne)
+
+-- `threshold`
+module _ (left : ℕ) (s consts constants pool places code : List ℕ) (st : State) (t : Token) (k : ℕ) (ke : k ≡ numberAt s (t .start) (t .end)) where
+  pub threshold-none : k ≡ 0 → ran (Aside 5 (t .start)) pool places code ≡ thresholdIn left s consts constants pool places code st t
+  unfolding thresholdIn
+  threshold-none z = simp (sym ke, eq-eqb _ _ z)
+
+  module _ (nz : k ≡ 0 → ⊥) where
+    pub threshold-high : 16 < k → ran (Aside 5 (t .start)) pool places code ≡ thresholdIn left s consts constants pool places code st t
+    unfolding thresholdIn
+    threshold-high h = simp (sym ke, ne-eqb _ _ nz, lt-ltb _ _ h)
+
+    module _ (low : k ≤ 16) (o : Token) (oe : o ≡ tokenAt s Kind.IN-LICENSEES (t .end)) where
+      pub threshold-not : (r : Licensed) → (o .kind ≡ Kind.OF → ⊥) → r ≡ refusedLicensed o → ran r pool places code ≡ thresholdIn left s consts constants pool places code st t
+      unfolding thresholdIn
+      threshold-not r h re = rw re (simp (sym ke, ne-eqb _ _ nz, le-ltb _ _ low, sym oe, ne-eqb _ _ h))
+
+      pub threshold-of : (n : Token) (x : ℕ) (r : Ran) → o .kind ≡ Kind.OF → n ≡ tokenAt s Kind.IN-LICENSEES (o .end) → x ≡ k → r ≡ openedIn left s consts constants x pool places code st n
+          → r ≡ thresholdIn left s consts constants pool places code st t
+      unfolding thresholdIn
+      threshold-of n x r h ne xe re = re ∙ rw xe (simp (sym ke, ne-eqb _ _ nz, le-ltb _ _ low, sym oe, eq-eqb _ _ h, ne))

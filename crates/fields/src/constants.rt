@@ -1,0 +1,236 @@
+// Local-Constants: each constant goes into a lent buffer as two strings behind their lengths, its name and its value, and the place of its name
+// into a lent table.
+use crate::out::NO_ROOM;
+use crate::out::is_ending;
+use crate::out::refusal_of;
+use crate::out::word;
+use crate::signature::MOST_LITERAL;
+use expression::name::find;
+use index::Entered;
+use lexical::kind;
+use lexical::line::token_at;
+use lexical::literal::decode_into;
+use lexical::literal::literal_length;
+use lexical::token::Token;
+ghost use mathlib.Core.Path.{_≡_};
+ghost use Rattle.text.specs.Copy.{copied};
+ghost use Rattle.lexical.specs.Literal.{decodedAt};
+ghost use Rattle.index.specs.Working.Adding.{countedInto, entered};
+ghost use Rattle.fields.specs.Constants.{reserved};
+ghost use Rattle.fields.specs.Working.Setting.{takenIn, constantFaultIn, refusedSettings, storeIn, valueIn, assignedIn, stored, constantsIn};
+
+pub const MOST_CONSTANTS: usize = 16;
+
+// The number of constants, the end of their bytes and the token behind them; or the first fault.
+pub enum Settings {
+    On {
+        count: usize,
+        end: usize,
+        next: Token,
+    },
+    Aside {
+        reason: u8,
+        place: usize,
+    },
+}
+
+fn refused(t: Token) -> Settings
+    ensures { λ r. ⌜ r ≡ refusedSettings t ⌝ }
+{
+    Settings::Aside {
+        reason: refusal_of(t.kind),
+        place: t.start,
+    }
+}
+
+// Does the name start with "_"?
+fn is_reserved(name: &[u8]) -> bool
+    ensures { λ r. ⌜ r ≡ reserved (now (name .entry)) ⌝ }
+{
+    if name.len() == 0 {
+        return false;
+    }
+    name[0] == 95
+}
+
+// Has one of the first `count` constants that name?
+fn is_taken(consts: &[u8], places: &[usize], count: usize, name: &[u8]) -> bool
+    ensures { λ r. ⌜ r ≡ takenIn (now (consts .entry)) (now (places .entry)) count (now (name .entry)) ⌝ }
+{
+    if places.len() < count {
+        return false;
+    }
+    let i = find(consts, &places[..count], name);
+    i < count
+}
+
+// The reason against t as the name of one more constant, or 0.
+fn name_fault(s: &[u8], consts: &[u8], places: &[usize], count: usize, t: Token) -> u8
+    ensures { λ r. ⌜ r ≡ constantFaultIn (now (s .entry)) (now (consts .entry)) (now (places .entry)) count t ⌝ }
+{
+    if t.kind != kind::NAME {
+        return refusal_of(t.kind);
+    }
+    let name = word(s, t);
+    if is_reserved(name) {
+        return 4;
+    }
+    if is_taken(consts, places, count, name) {
+        return 4;
+    }
+    0
+}
+
+// Puts what the literal at `start` gives behind its two-byte length into buf at a place; where there is no room, nothing is written.
+fn put_literal(s: &[u8], start: usize, buf: &mut [u8], at: usize) -> bool
+    ensures { λ r. ⌜ copied r (now (buf .exit)) ≡ countedInto (now (buf .entry)) at (decodedAt (now (s .entry)) start) ⌝ }
+{
+    let n = literal_length(s, start);
+    if 65535 < n {
+        return false;
+    }
+    if buf.len() < at {
+        return false;
+    }
+    if buf.len() - at < 2 {
+        return false;
+    }
+    if decode_into(s, start, buf, at + 2) {
+        buf[at] = (n / 256 % 256) as u8;
+        buf[at + 1] = (n % 256) as u8;
+        return true;
+    }
+    false
+}
+
+// Stores a constant: its name, and behind it what the literal at `start` gives.
+fn store(
+    s: &[u8],
+    consts: &mut [u8],
+    places: &mut [usize],
+    count: usize,
+    end: usize,
+    name: &[u8],
+    start: usize,
+) -> Entered
+    ensures { λ r. ⌜ entered r (now (consts .exit)) (now (places .exit)) ≡ storeIn (now (consts .entry)) (now (places .entry)) count end (now (name .entry)) (decodedAt (now (s .entry)) start) ⌝ }
+{
+    match index::add(consts, places, count, end, name) {
+        Entered::Full => Entered::Full,
+        Entered::Now { count: c, end: e } => {
+            let n = literal_length(s, start);
+            if put_literal(s, start, consts, e) {
+                return Entered::Now {
+                    count: c,
+                    end: e + 2 + n,
+                };
+            }
+            Entered::Full
+        }
+    }
+}
+
+// The value v of the constant whose name is t.
+fn valued(
+    s: &[u8],
+    consts: &mut [u8],
+    places: &mut [usize],
+    count: usize,
+    end: usize,
+    t: Token,
+    v: Token,
+) -> Settings
+    ensures { λ r. ⌜ stored r (now (consts .exit)) (now (places .exit)) ≡ valueIn (now (s .entry)) (now (consts .entry)) (now (places .entry)) count end t v ⌝ }
+{
+    if v.kind != kind::LITERAL {
+        return refused(v);
+    }
+    if MOST_LITERAL < literal_length(s, v.start) {
+        return Settings::Aside {
+            reason: 7,
+            place: v.start,
+        };
+    }
+    let name = word(s, t);
+    match store(s, consts, places, count, end, name, v.start) {
+        Entered::Full => Settings::Aside {
+            reason: NO_ROOM,
+            place: 0,
+        },
+        Entered::Now { count: c, end: e } => Settings::On {
+            count: c,
+            end: e,
+            next: token_at(s, kind::IN_FIELD, v.end),
+        },
+    }
+}
+
+// The constant whose name is t, behind that name.
+fn assigned(
+    s: &[u8],
+    consts: &mut [u8],
+    places: &mut [usize],
+    count: usize,
+    end: usize,
+    t: Token,
+) -> Settings
+    ensures { λ r. ⌜ stored r (now (consts .exit)) (now (places .exit)) ≡ assignedIn (now (s .entry)) (now (consts .entry)) (now (places .entry)) count end t ⌝ }
+{
+    let a = token_at(s, kind::IN_FIELD, t.end);
+    if a.kind != kind::ASSIGN {
+        return refused(a);
+    }
+    let v = token_at(s, kind::IN_FIELD, a.end);
+    valued(s, consts, places, count, end, t, v)
+}
+
+// The field whose first token is t. The constants go into `consts` from `start` on.
+pub fn constants(
+    s: &[u8],
+    consts: &mut [u8],
+    places: &mut [usize],
+    start: usize,
+    from: Token,
+) -> Settings
+    ensures { λ r. ⌜ stored r (now (consts .exit)) (now (places .exit)) ≡ constantsIn (now (s .entry)) (now (consts .entry)) (now (places .entry)) 0 start from ⌝ }
+{
+    let mut count: usize = 0;
+    let mut end = start;
+    let mut t = from;
+    loop {
+        if is_ending(t.kind) {
+            return Settings::On {
+                count,
+                end,
+                next: t,
+            };
+        }
+        let f = name_fault(s, consts, places, count, t);
+        if f != 0 {
+            return Settings::Aside {
+                reason: f,
+                place: t.start,
+            };
+        }
+        if MOST_CONSTANTS <= count {
+            return Settings::Aside {
+                reason: 7,
+                place: t.start,
+            };
+        }
+        match assigned(s, consts, places, count, end, t) {
+            Settings::Aside { reason, place } => {
+                return Settings::Aside { reason, place };
+            }
+            Settings::On {
+                count: _,
+                end: e,
+                next,
+            } => {
+                count += 1;
+                end = e;
+                t = next;
+            }
+        }
+    }
+}

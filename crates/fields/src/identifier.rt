@@ -1,0 +1,129 @@
+// A principal's identifier: a literal, or a name set in Local-Constants earlier. `constants` are the places of the names in `consts`.
+use crate::out::refusal_of;
+use crate::out::word;
+use expression::name::attribute;
+use expression::name::find;
+use lexical::kind;
+use lexical::literal::decode_into;
+use lexical::literal::literal_length;
+use lexical::token::Token;
+ghost use mathlib.Core.Path.{_≡_};
+ghost use Rattle.lexical.specs.Literal.{decodedAt};
+ghost use Rattle.fields.specs.Identifier.{sizeFault};
+ghost use Rattle.fields.specs.Working.Identifying.{entry, nameFaultIn, faultIn, enterIn, literalIn, tokenIn};
+
+pub const MOST_IDENTIFIER: usize = 256;
+
+// A principal's number in the index, with the index's count and end; or no room for it.
+pub enum Entry {
+    At {
+        number: usize,
+        count: usize,
+        end: usize,
+    },
+    Full,
+}
+
+// The reason against an identifier of n bytes, or 0.
+fn size_fault(n: usize) -> u8
+    ensures { λ r. ⌜ r ≡ sizeFault n ⌝ }
+{
+    if n == 0 {
+        return 7;
+    }
+    if MOST_IDENTIFIER < n {
+        return 7;
+    }
+    0
+}
+
+// The reason against a name, or 0.
+fn name_fault(consts: &[u8], constants: &[usize], name: &[u8]) -> u8
+    ensures { λ r. ⌜ r ≡ nameFaultIn (now (consts .entry)) (now (constants .entry)) (now (name .entry)) ⌝ }
+{
+    let i = find(consts, constants, name);
+    if constants.len() <= i {
+        return 4;
+    }
+    let value = attribute(consts, constants, name);
+    size_fault(value.len())
+}
+
+// The reason against t as an identifier, or 0.
+pub fn identifier_fault(s: &[u8], consts: &[u8], constants: &[usize], t: Token) -> u8
+    ensures { λ r. ⌜ r ≡ faultIn (now (s .entry)) (now (consts .entry)) (now (constants .entry)) t ⌝ }
+{
+    if t.kind == kind::LITERAL {
+        let n = literal_length(s, t.start);
+        return size_fault(n);
+    }
+    if t.kind == kind::NAME {
+        let name = word(s, t);
+        return name_fault(consts, constants, name);
+    }
+    refusal_of(t.kind)
+}
+
+// Enters an identifier into the index, unless it is there already.
+fn enter(pool: &mut [u8], places: &mut [usize], count: usize, end: usize, id: &[u8]) -> Entry
+    ensures { λ r. ⌜ entry r (now (pool .exit)) (now (places .exit)) ≡ enterIn (now (pool .entry)) (now (places .entry)) count end (now (id .entry)) ⌝ }
+{
+    let i = index::find(pool, places, count, id);
+    if i < count {
+        return Entry::At {
+            number: i,
+            count,
+            end,
+        };
+    }
+    match index::add(pool, places, count, end, id) {
+        index::Entered::Now { count: c, end: e } => Entry::At {
+            number: i,
+            count: c,
+            end: e,
+        },
+        index::Entered::Full => Entry::Full,
+    }
+}
+
+// Enters what the literal at `start` gives.
+fn enter_literal(
+    s: &[u8],
+    pool: &mut [u8],
+    places: &mut [usize],
+    count: usize,
+    end: usize,
+    start: usize,
+) -> Entry
+    ensures { λ r. ⌜ entry r (now (pool .exit)) (now (places .exit)) ≡ literalIn (now (pool .entry)) (now (places .entry)) count end (decodedAt (now (s .entry)) start) ⌝ }
+{
+    let n = literal_length(s, start);
+    if MOST_IDENTIFIER < n {
+        return Entry::Full;
+    }
+    let mut id = [0u8; 256];
+    if decode_into(s, start, &mut id, 0) {
+        return enter(pool, places, count, end, &id[..n]);
+    }
+    Entry::Full
+}
+
+// Enters the principal that t identifies.
+pub fn enter_token(
+    s: &[u8],
+    consts: &[u8],
+    constants: &[usize],
+    pool: &mut [u8],
+    places: &mut [usize],
+    count: usize,
+    end: usize,
+    t: Token,
+) -> Entry
+    ensures { λ r. ⌜ entry r (now (pool .exit)) (now (places .exit)) ≡ tokenIn (now (s .entry)) (now (consts .entry)) (now (constants .entry)) (now (pool .entry)) (now (places .entry)) count end t ⌝ }
+{
+    if t.kind == kind::LITERAL {
+        return enter_literal(s, pool, places, count, end, t.start);
+    }
+    let name = word(s, t);
+    enter(pool, places, count, end, attribute(consts, constants, name))
+}
