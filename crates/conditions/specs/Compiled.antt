@@ -12,7 +12,7 @@ use Rattle.syntax.specs.Expr.{Program}
 use Rattle.syntax.specs.Code.{ProgramCodes}
 use Rattle.conditions.specs.Table.{stops}
 use Rattle.conditions.specs.Word.{nextAt}
-use Rattle.conditions.specs.Parsed.{Parsed, ok, aside}
+use Rattle.syntax.specs.Parsed.{Parsed, ok, aside}
 use Rattle.conditions.specs.Program.{DEPTH, readProgram}
 use Rattle.conditions.specs.Working.Emit.{Ran, ran}
 use Rattle.conditions.specs.Working.Program.{programAt, conditionsAt}

@@ -20,7 +20,8 @@ use Rattle.syntax.specs.Expr.{Expr, number, truth, unary, binary}
 use Rattle.syntax.specs.Code.{numberAt}
 use Rattle.conditions.specs.Table
 use Rattle.conditions.specs.Word.{nextAt, wordSort}
-use Rattle.conditions.specs.Parsed.{Parsed, ok, Part, part}
+use Rattle.syntax.specs.Parsed.{Parsed, ok}
+use Rattle.conditions.specs.Parsed.{Part, part}
 use Rattle.conditions.specs.Operand.{readLeaf, readName, readDigits, settledTree, applied}
 use Rattle.conditions.specs.Expression.{readExpression}
 

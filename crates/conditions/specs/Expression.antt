@@ -10,7 +10,8 @@ use Rattle.lexical.specs.declared.token.Token.{Token}
 use Rattle.syntax.specs.Expr.{Expr, unary, binary}
 use Rattle.conditions.specs.Table
 use Rattle.conditions.specs.Word.{nextAt}
-use Rattle.conditions.specs.Parsed.{Parsed, ok, aside, unexpected, Part, part, onPart}
+use Rattle.syntax.specs.Parsed.{Parsed, ok, aside, unexpected}
+use Rattle.conditions.specs.Parsed.{Part, part, onPart}
 use Rattle.conditions.specs.Operand.{readLeaf, settledTree, applied}
 
 -- level, want, prefix operators in a row, open brackets, token

@@ -12,7 +12,8 @@ use Rattle.syntax.specs.Expr.{Expr, literal, name, number, truth}
 use Rattle.syntax.specs.Code.{nameAt, numberAt}
 use Rattle.conditions.specs.Table.{TEXT, NUMBER, TRUE, fits, operandOf, resultOf}
 use Rattle.conditions.specs.Word.{nextAt, wordSort}
-use Rattle.conditions.specs.Parsed.{Parsed, ok, aside, unexpected, Part, part}
+use Rattle.syntax.specs.Parsed.{Parsed, ok, aside, unexpected}
+use Rattle.conditions.specs.Parsed.{Part, part}
 
 -- reason 7: "literal 2,048 decoded bytes"
 unfoldable pub readLiteral : List ℕ → Token → Parsed Part

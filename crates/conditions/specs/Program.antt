@@ -10,7 +10,8 @@ use Rattle.lexical.specs.declared.token.Token.{Token}
 use Rattle.syntax.specs.Expr.{Expr, Program, none, also, Clause, plain, valued, nested}
 use Rattle.conditions.specs.Table.{ANY, TEST, TEXT, fits, stops}
 use Rattle.conditions.specs.Word.{nextAt}
-use Rattle.conditions.specs.Parsed.{Parsed, ok, aside, unexpected, onPart, onOk}
+use Rattle.syntax.specs.Parsed.{Parsed, ok, aside, unexpected, andThen}
+use Rattle.conditions.specs.Parsed.{onPart}
 use Rattle.conditions.specs.Operand.{settledTree}
 use Rattle.conditions.specs.Expression.{readExpression}
 
@@ -41,7 +42,7 @@ valueOf d block s nest e t =
 abbrev pub nestedOf : (ℕ → Token → Parsed Program) → List ℕ → ℕ → Expr → Token → Parsed Clause
 nestedOf program s nest e t =
     pick (leb 16 nest) (aside 7 (t .start))
-    (onOk (program (nest + 1) (nextAt s (t .end))) (λ p n. ending s (nested e p) (nextAt s (n .end))))
+    (andThen (program (nest + 1) (nextAt s (t .end))) (λ p n. ending s (nested e p) (nextAt s (n .end))))
 
 -- the token, and the clauses before it
 abbrev pub State : Type 0

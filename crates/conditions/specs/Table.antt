@@ -65,10 +65,6 @@ allows want k =
     (pick (beginsFloat k) true
     (pick (eqb want NUMBER) false (beginsString k)))))))
 
--- reason 1 "no token can be formed", 3 "line start [..] wrong", else 2 "token after which the field's grammar [..] allows no continuation"
-unfoldable pub refusal : ℕ → ℕ
-refusal k = pick (eqb k Kind.ILLEGAL) 1 (pick (eqb k Kind.BAD-LINE) 3 2)
-
 -- the comparison of strings that a token writes, or NONE
 unfoldable pub comparison : ℕ → ℕ
 comparison k =

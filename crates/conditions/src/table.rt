@@ -5,7 +5,8 @@ ghost use mathlib.Core.Path.{_≡_};
 ghost use mathlib.Core.Bool.{true, false};
 ghost use Prim.Native.Nat.{_<_};
 ghost use Rattle.text.specs.Choice.{pick};
-ghost use Rattle.conditions.specs.Table.{beginsString, beginsNumber, beginsFloat, allows, refusal, comparison, numberOperator, textOperator, testOperator, operator, prefixOperator, levelOf, operandOf, resultOf, operandLevel, operandWant, rightWant, rightLevel, binds, insideLevel, fits, stops};
+ghost use Rattle.syntax.specs.Parsed.{refusal};
+ghost use Rattle.conditions.specs.Table.{beginsString, beginsNumber, beginsFloat, allows, comparison, numberOperator, textOperator, testOperator, operator, prefixOperator, levelOf, operandOf, resultOf, operandLevel, operandWant, rightWant, rightLevel, binds, insideLevel, fits, stops};
 
 pub const ANY: u8 = 0;
 

@@ -8,7 +8,8 @@ use Rattle.record.specs.Query.{Attribute}
 use Rattle.lexical.specs.Kind
 use Rattle.lexical.specs.declared.token.Token.{Token}
 use Rattle.principal.specs.Principal.{Principal, same, policy}
-use Rattle.fields.specs.Parsed.{Parsed, aside, andThen, ended}
+use Rattle.syntax.specs.Parsed.{Parsed, aside, andThen}
+use Rattle.fields.specs.Parsed.{ended}
 use Rattle.fields.specs.Identifier.{identifier}
 
 -- "2 verified credential"

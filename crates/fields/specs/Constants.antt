@@ -12,7 +12,8 @@ use Rattle.lexical.specs.Kind
 use Rattle.lexical.specs.Literal.{decodedAt}
 use Rattle.lexical.specs.declared.token.Token.{Token}
 use Rattle.fields.specs.Limits.{mostConstants, mostLiteral}
-use Rattle.fields.specs.Parsed.{Parsed, ok, aside, behind, wordOf, refusal, unexpected, ending}
+use Rattle.syntax.specs.Parsed.{Parsed, ok, aside, refusal, unexpected}
+use Rattle.fields.specs.Parsed.{behind, wordOf, ending}
 
 -- has one of the constants that name?
 unfoldable pub isSet : List Attribute → List ℕ → Bool

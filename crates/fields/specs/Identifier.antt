@@ -12,7 +12,8 @@ use Rattle.lexical.specs.declared.token.Token.{Token}
 use Rattle.principal.specs.Principal.{Principal}
 use Rattle.expression.specs.Names.{settingOr}
 use Rattle.fields.specs.Limits.{mostIdentifier}
-use Rattle.fields.specs.Parsed.{Parsed, ok, aside, behind, wordOf, refusal}
+use Rattle.syntax.specs.Parsed.{Parsed, ok, aside, refusal}
+use Rattle.fields.specs.Parsed.{behind, wordOf}
 use Rattle.fields.specs.Constants.{isSet}
 
 -- 7 "principal identifier 1 to 256 bytes", or 0

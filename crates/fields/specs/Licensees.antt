@@ -14,7 +14,8 @@ use Rattle.lexical.specs.declared.token.Token.{Token}
 use Rattle.principal.specs.Principal.{Principal}
 use Rattle.compliance.specs.Licensees.{Expression, name, and, or, kOf, named, Licensees, empty, given}
 use Rattle.fields.specs.Limits.{mostBrackets}
-use Rattle.fields.specs.Parsed.{Parsed, ok, aside, andThen, behind, unexpected, ending, ended}
+use Rattle.syntax.specs.Parsed.{Parsed, ok, aside, andThen, unexpected}
+use Rattle.fields.specs.Parsed.{behind, ending, ended}
 use Rattle.fields.specs.Identifier.{identifier}
 
 abbrev pub after : List ℕ → Token → Token

@@ -9,7 +9,7 @@ use Rattle.lexical.specs.Kind
 use Rattle.lexical.specs.Literal.{decodedAt}
 use Rattle.lexical.specs.declared.token.Token.{Token}
 use Rattle.fields.specs.Limits.{mostLiteral}
-use Rattle.fields.specs.Parsed.{Parsed, ok, aside, unexpected}
+use Rattle.syntax.specs.Parsed.{Parsed, ok, aside, unexpected}
 
 -- "one string literal; nothing after it is read": what is read ends where t does
 unfoldable pub signature : List ℕ → Token → Parsed (List ℕ)

@@ -9,7 +9,8 @@ use Rattle.lexical.specs.Kind
 use Rattle.lexical.specs.Literal.{decodedAt}
 use Rattle.lexical.specs.Number.{LIMIT, numberAt}
 use Rattle.lexical.specs.declared.token.Token.{Token}
-use Rattle.fields.specs.Parsed.{Parsed, aside, behind, unexpected, ended}
+use Rattle.syntax.specs.Parsed.{Parsed, aside, unexpected}
+use Rattle.fields.specs.Parsed.{behind, ended}
 
 -- "a literal of value "2""
 abbrev pub two : List ℕ

@@ -14,6 +14,11 @@ use Rattle.principal.specs.Members.{member}
 unfoldable pub enter : List Principal → Principal → List Principal
 enter names p = pick (member p names) names (names ++ (p ∷ []))
 
+-- the principals with these behind them, in order, each once
+unfoldable pub enterAll : List Principal → List Principal → List Principal
+enterAll names [] = names
+enterAll names (p ∷ ps) = enterAll (enter names p) ps
+
 -- the front of the pool holds the principals one behind the other, each behind its two-byte length; the table holds their places
 pub record Holds (pool places : List ℕ) (count end : ℕ) (names : List Principal) : Type 0 where
   pub bytes : take end pool ≡ itemsBytes stringBytes names

@@ -18,6 +18,7 @@ use Rattle.lexical.specs.Line.{tokenAt}
 use Rattle.lexical.specs.LineLaws.{token-real, token-fault, token-end}
 use Rattle.lexical.specs.declared.token.Token.{Token}
 use Rattle.syntax.specs.Op
+use Rattle.syntax.specs.Parsed.{refusal}
 use Rattle.conditions.specs.Table
 use Rattle.conditions.specs.Word.{nextAt, wordSort}
 use Rattle.conditions.specs.Working.Emit.{Ran, ran, refused, onFound, above, put, settledTop, settled, finishAt}
@@ -75,8 +76,8 @@ pub data Paced (s : List ℕ) (top₀ at₀ low : ℕ) : Ran → Type 0 where
   paced-aside : (r p : ℕ) (b : List ℕ) → (r ≡ 0 → ⊥) → Paced s top₀ at₀ low (ran (Aside r p) b)
   paced-found : (x p u : ℕ) (n : Token) (b : List ℕ) → Sound s n → low < n .start → u + debt x + at₀ ≤ top₀ + n .start → Paced s top₀ at₀ low (ran (Found x p u n) b)
 
-pub refusal-some : (k : ℕ) → Table.refusal k ≡ 0 → ⊥
-unfolding Table.refusal
+pub refusal-some : (k : ℕ) → refusal k ≡ 0 → ⊥
+unfolding refusal
 refusal-some k =
     chosen (λ (r : ℕ). r ≡ 0 → ⊥) (eqb k Kind.ILLEGAL) 1 _ (λ e z. omega (arith, z))
     (λ e. chosen (λ (r : ℕ). r ≡ 0 → ⊥) (eqb k Kind.BAD-LINE) 3 2 (λ f z. omega (arith, z)) (λ f z. omega (arith, z)))

@@ -19,7 +19,8 @@ use Rattle.syntax.specs.Expr.{Expr, name}
 use Rattle.syntax.specs.Code.{Codes, nameAt}
 use Rattle.conditions.specs.Table.{TRUE}
 use Rattle.conditions.specs.Word.{nextAt}
-use Rattle.conditions.specs.Parsed.{Parsed, ok, aside, unexpected, Part, part, onPart, onOk}
+use Rattle.syntax.specs.Parsed.{Parsed, ok, aside, unexpected, andThen}
+use Rattle.conditions.specs.Parsed.{Part, part, onPart}
 use Rattle.conditions.specs.Working.Emit.{Ran, ran, refused, onFound}
 use Rattle.conditions.specs.Working.Written.{Grown, Keeps}
 use Rattle.conditions.specs.declared.emit.Out.{Out}
@@ -71,7 +72,7 @@ module _ {A : Type 0} (T : Parsed A → Ran → Type 0) (s m : List ℕ) (top : 
 
   pub as-on : {B : Type 0} (Q : B → List ℕ → Type 0) (q : Parsed B) (r : Ran) (k : B → Token → Parsed A) (l : ℕ → ℕ → ℕ → Token → List ℕ → Ran)
       → ((a : B) (x p u : ℕ) (n : Token) (b : List ℕ) → n .start ≤ length s → Grown m top b u (Q a) → T (k a n) (l x p u n b))
-      → SameAs Q s m top q r → T (onOk q k) (onFound r l)
+      → SameAs Q s m top q r → T (andThen q k) (onFound r l)
   as-on Q _ _ k l h (as-aside r p b i) = asides r p b i
   as-on Q _ _ k l h (as-ok a x p u n b within g) = h a x p u n b within g
 

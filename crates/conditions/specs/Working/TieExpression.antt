@@ -14,7 +14,8 @@ use Rattle.syntax.specs.Expr.{Expr, unary, binary}
 use Rattle.syntax.specs.Code.{Codes}
 use Rattle.conditions.specs.Table
 use Rattle.conditions.specs.Word.{nextAt}
-use Rattle.conditions.specs.Parsed.{Parsed, ok, aside, unexpected, Part, part, onPart}
+use Rattle.syntax.specs.Parsed.{Parsed, ok, aside, unexpected}
+use Rattle.conditions.specs.Parsed.{Part, part, onPart}
 use Rattle.conditions.specs.Operand.{readLeaf, settledTree, applied}
 use Rattle.conditions.specs.Expression as Read
 use Rattle.conditions.specs.Working.Emit.{Ran, ran, onFound, refused, settledTop, settled, finishAt, closedAt}

@@ -19,7 +19,8 @@ use Rattle.syntax.specs.Expr.{Expr, name, unary, binary, truth}
 use Rattle.syntax.specs.Code.{entry, nameAt, Codes, code-literal, code-name, code-number, code-true, code-false, code-unary, code-binary}
 use Rattle.conditions.specs.Table
 use Rattle.conditions.specs.Word.{nextAt, wordSort}
-use Rattle.conditions.specs.Parsed.{Parsed, ok, aside, unexpected, Part, part}
+use Rattle.syntax.specs.Parsed.{Parsed, ok, aside, unexpected}
+use Rattle.conditions.specs.Parsed.{Part, part}
 use Rattle.conditions.specs.Operand.{readLiteral, readName, readDigits, readFloat, readLeaf, settledTree, applied}
 use Rattle.conditions.specs.Working.Emit.{Ran, ran, refused, above, put, settledTop, settled, finishAt}
 use Rattle.conditions.specs.Working.Leaf.{literalRead, nameRead, digitsRead, floatRead, leafRead, leafFound, nameAs}

@@ -16,7 +16,7 @@ use Rattle.syntax.specs.Expr.{Expr, Program, none, also, Clause, plain, valued,
 use Rattle.syntax.specs.Code.{entry, Codes, ProgramCodes, ClauseCodes, code-none, code-also, code-plain, code-valued, code-nested}
 use Rattle.conditions.specs.Table.{ANY, TEST, TEXT, fits, stops}
 use Rattle.conditions.specs.Word.{nextAt}
-use Rattle.conditions.specs.Parsed.{Parsed, ok, aside, unexpected}
+use Rattle.syntax.specs.Parsed.{Parsed, ok, aside, unexpected}
 use Rattle.conditions.specs.Operand.{settledTree}
 use Rattle.conditions.specs.Expression.{readExpression}
 use Rattle.conditions.specs.Program as Read

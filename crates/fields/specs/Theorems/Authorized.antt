@@ -14,7 +14,8 @@ use Rattle.compliance.specs.Tables.{place}
 use Rattle.index.specs.Index.{enter, Holds}
 use Rattle.lexical.specs.Kind
 use Rattle.lexical.specs.declared.token.Token.{Token}
-use Rattle.fields.specs.Parsed.{aside, ended, behind}
+use Rattle.syntax.specs.Parsed.{aside}
+use Rattle.fields.specs.Parsed.{ended, behind}
 use Rattle.fields.specs.Identifier.{identifierFault, identified, identifier}
 use Rattle.fields.specs.Authorizer.{verified, authorized, authorizer}
 use Rattle.fields.specs.Working.Identifying.{faultIn}

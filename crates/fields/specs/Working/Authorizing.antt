@@ -12,7 +12,8 @@ use Rattle.lexical.specs.Kind
 use Rattle.lexical.specs.Line.{tokenAt}
 use Rattle.lexical.specs.declared.token.Token.{Token}
 use Rattle.principal.specs.Principal.{same, policy}
-use Rattle.fields.specs.Parsed.{behind, refusal, ending}
+use Rattle.syntax.specs.Parsed.{refusal}
+use Rattle.fields.specs.Parsed.{behind, ending}
 use Rattle.fields.specs.Authorizer.{verified}
 use Rattle.fields.specs.Working.Identifying.{Kept, entry, faultIn, tokenIn}
 use Rattle.fields.specs.declared.identifier.Entry.{Entry}

@@ -23,7 +23,8 @@ use Rattle.index.specs.declared.Entered.{Entered}
 use Rattle.index.specs.declared.Entered.the-variants.{Now, Full as NoRoom}
 use Rattle.expression.specs.Tables.{firstFrom, settingIn}
 use Rattle.fields.specs.Limits.{mostIdentifier}
-use Rattle.fields.specs.Parsed.{refusal, wordOf}
+use Rattle.syntax.specs.Parsed.{refusal}
+use Rattle.fields.specs.Parsed.{wordOf}
 use Rattle.fields.specs.Identifier.{sizeFault}
 use Rattle.fields.specs.declared.identifier.Entry.{Entry}
 use Rattle.fields.specs.declared.identifier.Entry.the-variants.{At, Full}

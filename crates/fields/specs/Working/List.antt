@@ -11,7 +11,7 @@ use Rattle.lexical.specs.Kind
 use Rattle.lexical.specs.Number.{numberAt}
 use Rattle.lexical.specs.declared.token.Token.{Token}
 use Rattle.compliance.specs.Codes.{kOfCode}
-use Rattle.fields.specs.Parsed.{refusal}
+use Rattle.syntax.specs.Parsed.{refusal}
 use Rattle.fields.specs.Licensees.{after}
 use Rattle.fields.specs.Working.Identifying.{Kept, entry, faultIn, tokenIn}
 use Rattle.fields.specs.declared.identifier.Entry.the-variants.{At, Full}

@@ -14,7 +14,7 @@ use Rattle.lexical.specs.Line.{tokenAt}
 use Rattle.lexical.specs.Number.{numberAt}
 use Rattle.lexical.specs.declared.token.Token.{Token}
 use Rattle.compliance.specs.Codes.{kOfCode}
-use Rattle.fields.specs.Parsed.{refusal}
+use Rattle.syntax.specs.Parsed.{refusal}
 use Rattle.fields.specs.Working.Identifying.{Kept, entry, faultIn, tokenIn}
 use Rattle.fields.specs.Working.List.{Ran, ran, Wrote, wrote, refusedLicensed, above, pushed, sized, stateOf, licenseeIn, itemsOf, listedIn, onWrote, listIn, openedIn, thresholdIn}
 use Rattle.fields.specs.declared.identifier.Entry.{Entry}

@@ -18,7 +18,8 @@ use Rattle.lexical.specs.Number.{LIMIT, numberAt}
 use Rattle.lexical.specs.Line.{tokenAt}
 use Rattle.lexical.specs.declared.token.Token.{Token}
 use Rattle.fields.specs.Limits.{mostLiteral}
-use Rattle.fields.specs.Parsed.{Parsed, ok, aside, behind, refusal, ending, ended, wordOf}
+use Rattle.syntax.specs.Parsed.{Parsed, ok, aside, refusal}
+use Rattle.fields.specs.Parsed.{behind, ending, ended, wordOf}
 use Rattle.fields.specs.Version.{two, versionNumber, versionLiteral, version}
 use Rattle.fields.specs.Signature.{signature}
 use Rattle.fields.specs.declared.out.Out.{Out}

@@ -1,4 +1,4 @@
-use Rattle.conditions.specs.Table.{refusal}
+use Rattle.syntax.specs.Parsed.{refusal}
 use borrow.Author.Needs.{needs}
 use Rattle.text.specs.Choice.{tests}
 use Rattle.conditions.proofs.table.refusal_of.Statement.{statement}

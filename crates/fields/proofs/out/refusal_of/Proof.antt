@@ -1,5 +1,5 @@
 use Rattle.fields.proofs.out.refusal_of.Statement.{statement}
-use Rattle.fields.specs.Parsed.{refusal}
+use Rattle.syntax.specs.Parsed.{refusal}
 use Rattle.text.specs.Choice.{tests}
 use borrow.Author.Needs.{needs}
 use Rattle.fields.proofs.out.refusal_of.Tie as tie

@@ -1,0 +1,3 @@
+pub mod Assertion
+pub mod Draft
+pub mod Read
