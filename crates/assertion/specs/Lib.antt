@@ -1,3 +1,4 @@
 pub mod Assertion
 pub mod Draft
 pub mod Read
+pub mod Working

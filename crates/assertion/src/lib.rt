@@ -1,1 +1,247 @@
 // An assertion: its fields read from left to right, its principals entered into the index, its Conditions judged.
+pub mod field;
+mod label;
+
+use crate::field::Partial;
+use crate::field::Went;
+use crate::field::field;
+use crate::label::is_free;
+use crate::label::use_label;
+use compliance::machine::TOP;
+use fields::list::push;
+use fields::out::Out;
+use fields::out::is_ending;
+use fields::out::refusal_of;
+use fields::signature::signature;
+use lexical::kind;
+use lexical::line::token_at;
+use lexical::token::Token;
+ghost use mathlib.Core.Path.{_≡_};
+ghost use lib.ListN.{length};
+ghost use Rattle.assertion.specs.Draft.{without};
+ghost use Rattle.assertion.specs.Read.{first};
+ghost use Rattle.assertion.specs.Working.Field.{given, tabled, moved, fieldAt};
+ghost use Rattle.assertion.specs.Working.Reading.{readBy, finishedBy, keptIn, finishedIn, signedIn, lastAt, lastIn, fieldsIn, readIn};
+
+// A kept assertion: its authorizer's number, the rank of its Conditions, and the ends of the index and of the code; or the reason against
+// it and the place.
+pub enum Reading {
+    Kept {
+        author: usize,
+        rank: u8,
+        count: usize,
+        end: usize,
+        size: usize,
+    },
+    Dropped {
+        reason: u8,
+        place: usize,
+    },
+}
+
+// A kept assertion. Missing Licensees are an instruction of their own.
+fn kept(code: &mut [u16], d: Partial) -> Reading
+    ensures { λ r. ⌜ finishedBy r (now (code .exit)) ≡ keptIn (now (code .entry)) d ⌝ }
+{
+    if d.licensed {
+        return Reading::Kept {
+            author: d.author,
+            rank: d.rank,
+            count: d.count,
+            end: d.end,
+            size: d.size,
+        };
+    }
+    let size = push(code, d.size, TOP);
+    Reading::Kept {
+        author: d.author,
+        rank: d.rank,
+        count: d.count,
+        end: d.end,
+        size,
+    }
+}
+
+// The end of what is read.
+fn finished(code: &mut [u16], d: Partial, end: usize) -> Reading
+    ensures { λ r. ⌜ finishedBy r (now (code .exit)) ≡ finishedIn (now (code .entry)) d end ⌝ }
+{
+    if d.authored {
+        return kept(code, d);
+    }
+    Reading::Dropped {
+        reason: 3,
+        place: end,
+    }
+}
+
+// Signature, whose first token is t: nothing is read behind it.
+fn signed(s: &[u8], code: &mut [u16], d: Partial, t: Token) -> Reading
+    ensures { λ r. ⌜ finishedBy r (now (code .exit)) ≡ signedIn (now (s .entry)) (now (code .entry)) d t ⌝ }
+{
+    match signature(s, t) {
+        Out::Aside { reason, place } => Reading::Dropped { reason, place },
+        Out::On { next } => finished(code, d, next.end),
+    }
+}
+
+// Is t's field none that is read on from: the end, no label, a label that may not stand here, or Signature?
+fn is_last(free: &[u8], k: u8) -> bool
+    ensures { λ r. ⌜ r ≡ lastAt (now (free .entry)) k ⌝ }
+{
+    if k == kind::END {
+        return true;
+    }
+    if is_ending(k) {
+        if is_free(free, k) {
+            return k == kind::SIGNATURE;
+        }
+        return true;
+    }
+    true
+}
+
+// What comes of an assertion where t is the last to be looked at.
+fn last(s: &[u8], free: &[u8], code: &mut [u16], d: Partial, t: Token) -> Reading
+    ensures { λ r. ⌜ finishedBy r (now (code .exit)) ≡ lastIn (now (s .entry)) (now (free .entry)) (now (code .entry)) d t ⌝ }
+{
+    if t.kind == kind::END {
+        return finished(code, d, t.start);
+    }
+    if is_ending(t.kind) {
+        if is_free(free, t.kind) {
+            let n = token_at(s, kind::mode_of(t.kind), t.end);
+            return signed(s, code, d, n);
+        }
+        return Reading::Dropped {
+            reason: 3,
+            place: t.start,
+        };
+    }
+    Reading::Dropped {
+        reason: refusal_of(t.kind),
+        place: t.start,
+    }
+}
+
+// The field behind the label t.
+fn next_field(
+    free: &mut [u8],
+    s: &[u8],
+    standing: u8,
+    query: &[u8],
+    values: &[usize],
+    names: &[usize],
+    consts: &mut [u8],
+    start: usize,
+    constants: &mut [usize],
+    pool: &mut [u8],
+    places: &mut [usize],
+    code: &mut [u16],
+    program: &mut [u32],
+    stack: &mut [u64],
+    bytes: &mut [u8],
+    d: Partial,
+    t: Token,
+) -> Went
+    ensures { λ r. ⌜ moved r (tabled (now (consts .exit)) (now (constants .exit)) (now (pool .exit)) (now (places .exit)) (now (code .exit)) (now (program .exit))) ≡ fieldAt (given (now (s .entry)) standing (now (query .entry)) (now (values .entry)) (now (names .entry)) start (length (now (stack .entry))) (length (now (bytes .entry)))) (t .kind) (tabled (now (consts .entry)) (now (constants .entry)) (now (pool .entry)) (now (places .entry)) (now (code .entry)) (now (program .entry))) d (first (now (s .entry)) t) ⌝ }
+    ensures { λ _. ⌜ now (free .exit) ≡ without (now (free .entry)) (t .kind) ⌝ }
+{
+    use_label(free, t.kind);
+    let n = token_at(s, kind::mode_of(t.kind), t.end);
+    field(
+        t.kind, s, standing, query, values, names, consts, start, constants, pool, places, code,
+        program, stack, bytes, d, n,
+    )
+}
+
+// The fields from the label t on.
+fn fields(
+    free: &mut [u8],
+    s: &[u8],
+    standing: u8,
+    query: &[u8],
+    values: &[usize],
+    names: &[usize],
+    consts: &mut [u8],
+    start: usize,
+    constants: &mut [usize],
+    pool: &mut [u8],
+    places: &mut [usize],
+    code: &mut [u16],
+    program: &mut [u32],
+    stack: &mut [u64],
+    bytes: &mut [u8],
+    partial: Partial,
+    from: Token,
+) -> Reading
+    ensures { λ r. ⌜ readBy r (tabled (now (consts .exit)) (now (constants .exit)) (now (pool .exit)) (now (places .exit)) (now (code .exit)) (now (program .exit))) ≡ fieldsIn (given (now (s .entry)) standing (now (query .entry)) (now (values .entry)) (now (names .entry)) start (length (now (stack .entry))) (length (now (bytes .entry)))) (now (free .entry)) (tabled (now (consts .entry)) (now (constants .entry)) (now (pool .entry)) (now (places .entry)) (now (code .entry)) (now (program .entry))) partial from ⌝ }
+{
+    let mut d = partial;
+    let mut t = from;
+    loop {
+        if is_last(free, t.kind) {
+            return last(s, free, code, d, t);
+        }
+        match next_field(
+            free, s, standing, query, values, names, consts, start, constants, pool, places, code,
+            program, stack, bytes, d, t,
+        ) {
+            Went::Aside { reason, place } => {
+                return Reading::Dropped { reason, place };
+            }
+            Went::On { partial: u, next } => {
+                d = u;
+                t = next;
+            }
+        }
+    }
+}
+
+// The assertion s of that standing. Its constants go into `consts` from `start` on, its principals into the index, its licensees' program
+// into `code` from `size` on; `top` is the rank of missing Conditions.
+pub fn read(
+    s: &[u8],
+    standing: u8,
+    top: u8,
+    query: &[u8],
+    values: &[usize],
+    names: &[usize],
+    consts: &mut [u8],
+    start: usize,
+    constants: &mut [usize],
+    pool: &mut [u8],
+    places: &mut [usize],
+    count: usize,
+    end: usize,
+    code: &mut [u16],
+    size: usize,
+    program: &mut [u32],
+    stack: &mut [u64],
+    bytes: &mut [u8],
+) -> Reading
+    ensures { λ r. ⌜ readBy r (tabled (now (consts .exit)) (now (constants .exit)) (now (pool .exit)) (now (places .exit)) (now (code .exit)) (now (program .exit))) ≡ readIn (given (now (s .entry)) standing (now (query .entry)) (now (values .entry)) (now (names .entry)) start (length (now (stack .entry))) (length (now (bytes .entry)))) top (tabled (now (consts .entry)) (now (constants .entry)) (now (pool .entry)) (now (places .entry)) (now (code .entry)) (now (program .entry))) count end size ⌝ }
+{
+    if standing == 0 {
+        return Reading::Dropped {
+            reason: 9,
+            place: 0,
+        };
+    }
+    let mut free = [0u8, 0, 0, 0, 1, 1, 1, 1, 1, 1, 1];
+    let d = Partial {
+        authored: false,
+        author: 0,
+        licensed: false,
+        rank: top,
+        known: 0,
+        count,
+        end,
+        size,
+    };
+    let t = token_at(s, kind::BEFORE, 0);
+    fields(
+        &mut free, s, standing, query, values, names, consts, start, constants, pool, places, code,
+        program, stack, bytes, d, t,
+    )
+}

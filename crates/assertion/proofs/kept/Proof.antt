@@ -1,0 +1,26 @@
+use borrow.Author.Needs.{needs}
+use Rattle.assertion.proofs.kept.Statement.{statement}
+use Rattle.assertion.proofs.kept.Tie as tie
+use Rattle.assertion.proofs.kept.Reads as reads
+use Rattle.assertion.proofs.kept.Lts as lts
+use Rattle.fields.proofs.list.push.Reads as push-reads
+use Rattle.assertion.specs.Working.ReadingWays.{kept-given, kept-missing}
+
+-- src/lib.rt:46:9
+returns : tie.Need-returns
+returns c = search kept-given
+
+-- src/lib.rt:54:9
+push-requires : tie.Need-push-requires
+push-requires c κs = search needs
+
+-- src/lib.rt:42:1
+same-length : tie.Need-same-length
+same-length c = search needs
+
+-- src/lib.rt:42:1
+returns-2 : tie.Need-returns-2
+returns-2 c = search kept-missing
+
+pub kept-spec : {M : Type 1} → statement M
+kept-spec = tie.close (tie.spec returns push-requires same-length returns-2)

@@ -1,0 +1,4 @@
+pub mod Field
+pub mod FieldWays
+pub mod Reading
+pub mod ReadingWays

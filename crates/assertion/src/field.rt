@@ -1,0 +1,265 @@
+// One field of an assertion, read into the tables.
+use fields::authorizer::Author;
+use fields::authorizer::authorizer;
+use fields::constants::Settings;
+use fields::constants::constants as local_constants;
+use fields::licensees::licensees;
+use fields::list::Licensed;
+use fields::out::Out;
+use fields::out::ended;
+use fields::version::version;
+use judge::Judged;
+use judge::judge;
+use lexical::kind;
+use lexical::token::Token;
+ghost use mathlib.Core.Path.{_≡_};
+ghost use lib.ListN.{length, take};
+ghost use Rattle.judge.specs.Working.Judging.{judgedIn, writtenIn};
+ghost use Rattle.fields.specs.Working.Setting.{constantsIn};
+ghost use Rattle.fields.specs.Working.Authorizing.{authorizerIn};
+ghost use Rattle.fields.specs.Working.Chain.{fieldIn};
+ghost use Rattle.assertion.specs.Working.Field.{given, tabled, moved, passedOn, settled, settledAs, madeAs, listed, listedAs, onJudged, fieldAt};
+
+// What is read so far: whether there was an Authorizer and its number, whether there were Licensees, the rank of Conditions, how many
+// constants are known, and the ends of the index and of the licensees' programs.
+pub struct Partial {
+    pub authored: bool,
+    pub author: usize,
+    pub licensed: bool,
+    pub rank: u8,
+    pub known: usize,
+    pub count: usize,
+    pub end: usize,
+    pub size: usize,
+}
+
+// What is read with one field more and the token behind it, or the first fault.
+pub enum Went {
+    On { partial: Partial, next: Token },
+    Aside { reason: u8, place: usize },
+}
+
+// A field that says nothing to the tables.
+fn passed(d: Partial, o: Out) -> Went
+    ensures { λ r. ⌜ r ≡ passedOn d o ⌝ }
+{
+    match o {
+        Out::Aside { reason, place } => Went::Aside { reason, place },
+        Out::On { next } => Went::On { partial: d, next },
+    }
+}
+
+// The first n entries, or all where there are fewer.
+fn front(places: &[usize], n: usize) -> &[usize]
+    ensures { λ r. ⌜ now r ≡ take n (now (places .entry)) ⌝ }
+{
+    if places.len() <= n {
+        return places;
+    }
+    &places[..n]
+}
+
+fn constants_field(
+    s: &[u8],
+    consts: &mut [u8],
+    start: usize,
+    constants: &mut [usize],
+    d: Partial,
+    t: Token,
+) -> Went
+    ensures { λ r. ⌜ settled r (now (consts .exit)) (now (constants .exit)) ≡ settledAs d (constantsIn (now (s .entry)) (now (consts .entry)) (now (constants .entry)) 0 start t) ⌝ }
+{
+    match local_constants(s, consts, constants, start, t) {
+        Settings::Aside { reason, place } => Went::Aside { reason, place },
+        Settings::On {
+            count,
+            end: _,
+            next,
+        } => Went::On {
+            partial: Partial {
+                authored: d.authored,
+                author: d.author,
+                licensed: d.licensed,
+                rank: d.rank,
+                known: count,
+                count: d.count,
+                end: d.end,
+                size: d.size,
+            },
+            next,
+        },
+    }
+}
+
+fn authorizer_field(
+    s: &[u8],
+    standing: u8,
+    consts: &[u8],
+    constants: &[usize],
+    pool: &mut [u8],
+    places: &mut [usize],
+    d: Partial,
+    t: Token,
+) -> Went
+    ensures { λ r. ⌜ settled r (now (pool .exit)) (now (places .exit)) ≡ madeAs d (authorizerIn (now (s .entry)) standing (now (consts .entry)) (take (d .known) (now (constants .entry))) (now (pool .entry)) (now (places .entry)) (d .count) (d .end) t) ⌝ }
+{
+    match authorizer(
+        s,
+        standing,
+        consts,
+        front(constants, d.known),
+        pool,
+        places,
+        d.count,
+        d.end,
+        t,
+    ) {
+        Author::Aside { reason, place } => Went::Aside { reason, place },
+        Author::On {
+            number,
+            count,
+            end,
+            next,
+        } => Went::On {
+            partial: Partial {
+                authored: true,
+                author: number,
+                licensed: d.licensed,
+                rank: d.rank,
+                known: d.known,
+                count,
+                end,
+                size: d.size,
+            },
+            next,
+        },
+    }
+}
+
+fn licensees_field(
+    s: &[u8],
+    consts: &[u8],
+    constants: &[usize],
+    pool: &mut [u8],
+    places: &mut [usize],
+    code: &mut [u16],
+    d: Partial,
+    t: Token,
+) -> Went
+    ensures { λ r. ⌜ listed r (now (pool .exit)) (now (places .exit)) (now (code .exit)) ≡ listedAs d (fieldIn (now (s .entry)) (now (consts .entry)) (take (d .known) (now (constants .entry))) (now (pool .entry)) (now (places .entry)) (now (code .entry)) (d .count) (d .end) (d .size) t) ⌝ }
+{
+    match licensees(
+        s,
+        consts,
+        front(constants, d.known),
+        pool,
+        places,
+        code,
+        d.count,
+        d.end,
+        d.size,
+        t,
+    ) {
+        Licensed::Aside { reason, place } => Went::Aside { reason, place },
+        Licensed::On { state, next } => Went::On {
+            partial: Partial {
+                authored: d.authored,
+                author: d.author,
+                licensed: true,
+                rank: d.rank,
+                known: d.known,
+                count: state.count,
+                end: state.end,
+                size: state.size,
+            },
+            next,
+        },
+    }
+}
+
+fn conditions_field<'a>(
+    s: &[u8],
+    query: &'a [u8],
+    values: &[usize],
+    names: &[usize],
+    consts: &'a [u8],
+    constants: &[usize],
+    program: &mut [u32],
+    stack: &mut [u64],
+    bytes: &mut [u8],
+    d: Partial,
+    t: Token,
+) -> Went
+    ensures { λ r. ⌜ r ≡ onJudged d (judgedIn (now (s .entry)) t (now (query .entry)) (now (consts .entry)) (now (values .entry)) (now (names .entry)) (take (d .known) (now (constants .entry))) (now (program .entry)) (length (now (stack .entry))) (length (now (bytes .entry)))) ⌝ }
+    ensures { λ _. ⌜ now (program .exit) ≡ writtenIn (now (s .entry)) t (now (program .entry)) ⌝ }
+{
+    match judge(
+        s,
+        t,
+        query,
+        consts,
+        values,
+        names,
+        front(constants, d.known),
+        program,
+        stack,
+        bytes,
+    ) {
+        Judged::Aside { reason, place } => Went::Aside { reason, place },
+        Judged::On { rank, next } => Went::On {
+            partial: Partial {
+                authored: d.authored,
+                author: d.author,
+                licensed: d.licensed,
+                rank,
+                known: d.known,
+                count: d.count,
+                end: d.end,
+                size: d.size,
+            },
+            next,
+        },
+    }
+}
+
+// The field with that label, whose first token is t.
+pub fn field(
+    k: u8,
+    s: &[u8],
+    standing: u8,
+    query: &[u8],
+    values: &[usize],
+    names: &[usize],
+    consts: &mut [u8],
+    start: usize,
+    constants: &mut [usize],
+    pool: &mut [u8],
+    places: &mut [usize],
+    code: &mut [u16],
+    program: &mut [u32],
+    stack: &mut [u64],
+    bytes: &mut [u8],
+    d: Partial,
+    t: Token,
+) -> Went
+    ensures { λ r. ⌜ moved r (tabled (now (consts .exit)) (now (constants .exit)) (now (pool .exit)) (now (places .exit)) (now (code .exit)) (now (program .exit))) ≡ fieldAt (given (now (s .entry)) standing (now (query .entry)) (now (values .entry)) (now (names .entry)) start (length (now (stack .entry))) (length (now (bytes .entry)))) k (tabled (now (consts .entry)) (now (constants .entry)) (now (pool .entry)) (now (places .entry)) (now (code .entry)) (now (program .entry))) d t ⌝ }
+{
+    if k == kind::KEYNOTE_VERSION {
+        return passed(d, version(s, t));
+    }
+    if k == kind::LOCAL_CONSTANTS {
+        return constants_field(s, consts, start, constants, d, t);
+    }
+    if k == kind::AUTHORIZER {
+        return authorizer_field(s, standing, consts, constants, pool, places, d, t);
+    }
+    if k == kind::LICENSEES {
+        return licensees_field(s, consts, constants, pool, places, code, d, t);
+    }
+    if k == kind::CONDITIONS {
+        return conditions_field(
+            s, query, values, names, consts, constants, program, stack, bytes, d, t,
+        );
+    }
+    passed(d, ended(t))
+}
