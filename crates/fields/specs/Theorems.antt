@@ -1,2 +1,4 @@
+pub mod Together
 pub mod Identified
+pub mod Constanted
 pub mod Authorized

@@ -40,7 +40,7 @@ first-suc s name i [] = refl
 first-suc s name i (p ∷ ps) = split (equal (counted s p) name) (λ e. rw e) (λ e. rw e (first-suc s name (suc i) ps))
 
 -- a name is unset where none of the places has it
-unset-is : (s ps name : List ℕ) {l : List Attribute} → Lie (AttributeAt s) ps l → {A : Type 0} (x y : A) → pick (leb (length ps) (firstFrom s name 0 ps)) x y ≡ pick (isSet l name) y x
+pub unset-is : (s ps name : List ℕ) {l : List Attribute} → Lie (AttributeAt s) ps l → {A : Type 0} (x y : A) → pick (leb (length ps) (firstFrom s name 0 ps)) x y ≡ pick (isSet l name) y x
 unfolding firstFrom isSet
 unset-is s ps name lie[] x y = refl
 unset-is s ps name (lie∷ {v = p} {vs = vs} {a = a} {l = l} at t) x y =
