@@ -2,3 +2,5 @@ pub mod Together
 pub mod Identified
 pub mod Constanted
 pub mod Authorized
+pub mod Growing
+pub mod Listed
