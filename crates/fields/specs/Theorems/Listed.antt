@@ -123,3 +123,89 @@ module _ (s consts constants : List ℕ) (l : List Attribute) (lie : Lie (Attrib
       (entry-read pool places (st .count) (st .end) names (ready .holds) (ready .low) (identified s l t) (identified-few s l t z)
       (omega (arith, more, ready .tableRoom)) (omega (arith, more, ready .poolRoom))))))
       (λ f. rw (fault-is s consts constants l lie t, f) (licensee-aside (identifierFault s l t) (t .start) pool places code (eqb-false _ _ f) (stays-self ready)))
+
+-- a list and the loop that writes it, side by side
+data Items (s pool places code : List ℕ) (st : State) (names : List Principal) : List Principal × Token → Loop → Type 0 where
+  items : (ps : List Principal) (t : Token) (u : State) (pool′ places′ code′ : List ℕ) → Grown pool places code st names ps (map (place (enterAll names ps)) ps) u pool′ places′ code′
+      → Items s pool places code st names (ps, t) (u, t, pool′, places′, code′)
+
+module _ (s consts constants : List ℕ) (l : List Attribute) (lie : Lie (AttributeAt consts) constants l) (k : ℕ) (pool places code : List ℕ) (st : State) (names : List Principal)
+    (ready : Ready pool places code st names) where
+  abbrev Turns : List Principal × Token → Loop → Step (List Principal × Token) (Parsed Expression) → Step Loop Ran → Type 0
+  Turns = Steps (λ x. mostLicensees - (st .listed + length (x .0))) (λ x. unexpected (x .1)) (listTurn s l (st .listed) k)
+      (λ x. mostLicensees - x .0 .listed) (λ x. ran (Aside 0 0) (x .2) (x .3) (x .4)) (itemTurn s consts constants k (st .listed))
+      (Items s pool places code st names) (ExpressionRead s pool places code st names)
+
+  -- the end of a list
+  close-read : (ps : List Principal) (w : State) (n : Token) (pool′ places′ code′ : List ℕ) → 0 < length ps
+      → Grown pool places code st names ps (map (place (enterAll names ps)) ps) w pool′ places′ code′
+      → ExpressionRead s pool places code st names (listed s k ps n) (onWrote pool′ places′ (listedIn s code′ k (st .listed) w n))
+  unfolding listed listedIn named compile
+  close-read ps w n pool′ places′ code′ some grown =
+      let i : itemsOf (st .listed) (w .listed) ≡ length ps = items-are (st .listed) (length ps) (w .listed) (grown .listed) (grown .few) in
+      let room : w .size < length code = omega (arith, some, grown .size, length-map ps (place (enterAll names ps)), grown .listed, grown .few, ready .codeRoom) in
+      split (ltb (length ps) k)
+      (λ f. rw (i, f) (expression-aside 5 (n .start) pool′ places′ code′ (λ z. omega (arith, z)) (grown .stays)))
+      (λ f. rw (i, f) (expression-on (kOf k ps) (sized w (above code′ (w .size))) (after s n) pool′ places′ (pushed code′ (w .size) (kOfCode k (length ps)))
+      (stood-at s Kind.IN-LICENSEES (n .end)) (f-kOf k ps some) (grown-push grown (kOfCode k (length ps)) room)))
+
+  module _ (ps : List Principal) (t : Token) (u : State) (pool′ places′ code′ : List ℕ) (grown : Grown pool places code st names ps (map (place (enterAll names ps)) ps) u pool′ places′ code′) where
+    item-turned : (x : Parsed Principal) (y : Ran) → LicenseeRead s pool′ places′ code′ u (enterAll names ps) x y
+        → Turns (ps, t) (u, t, pool′, places′, code′) (onListed s k ps x) (onItem s k (st .listed) u y)
+    item-turned _ _ (licensee-aside r p pool″ places″ code″ h more) = both-done (aside r p) (ran (Aside r p) pool″ places″ code″) (expression-aside r p pool″ places″ code″ h (stays-then grown more))
+    item-turned _ _ (licensee-on p w n pool″ places″ code″ sn more) =
+        let g : Grown pool places code st names (ps ++ (p ∷ [])) (map (place (enterAll names (ps ++ (p ∷ [])))) (ps ++ (p ∷ []))) w pool″ places″ code″
+        = rw (list-code names ps p) at (grown-then grown more) in
+        let j : length (ps ++ (p ∷ [])) ≡ length ps + 1 = length-append ps (p ∷ []) in
+        both (Turns (ps, t) (u, t, pool′, places′, code′)) (eqb (n .kind) Kind.CLOSE) _ _ _ _
+        (λ f. both-done _ _ (close-read (ps ++ (p ∷ [])) w n pool″ places″ code″ (omega arith) g))
+        (λ f. both (Turns (ps, t) (u, t, pool′, places′, code′)) (eqb (n .kind) Kind.COMMA) _ _ _ _
+        (λ h. rw (lt-leb (mostLicensees - u .listed) (mostLicensees - w .listed) (omega (arith, more .listed, more .few)))
+        (both-next (ps ++ (p ∷ []), after s n) (w, after s n, pool″, places″, code″) (items (ps ++ (p ∷ [])) (after s n) w pool″ places″ code″ g)
+        (omega (arith, grown .listed, more .listed, more .few)) (omega (arith, more .listed, more .few))))
+        (λ h. both-done (unexpected n) (ran (refusedLicensed n) pool″ places″ code″) (expression-aside (refusal (n .kind)) (n .start) pool″ places″ code″ (refusal-some (n .kind)) (g .stays))))
+
+    item-turn : Turns (ps, t) (u, t, pool′, places′, code′) (listTurn s l (st .listed) k (ps, t)) (itemTurn s consts constants k (st .listed) (u, t, pool′, places′, code′))
+    item-turn =
+        rw (← grown .listed)
+        (item-turned _ _ (licensee-read s consts constants l lie pool′ places′ code′ u (enterAll names ps) (grown-ready grown ready (omega (arith, length-map ps (place (enterAll names ps))))) t))
+
+  list-turns : (x : List Principal × Token) (y : Loop) → Items s pool places code st names x y → Turns x y (listTurn s l (st .listed) k x) (itemTurn s consts constants k (st .listed) y)
+  list-turns _ _ (items ps t u pool′ places′ code′ grown) = item-turn ps t u pool′ places′ code′ grown
+
+  pub list-read : (t : Token) → ExpressionRead s pool places code st names (listFrom s l (st .listed) k [] t) (listIn s consts constants k (st .listed) pool places code st t)
+  unfolding listFrom listIn
+  list-read t =
+      loop-same _ _ (listTurn s l (st .listed) k) _ _ (itemTurn s consts constants k (st .listed)) (Items s pool places code st names) (ExpressionRead s pool places code st names)
+      list-turns ([], t) (st, t, pool, places, code) (items [] t st pool places code (grown-none ready))
+
+  set-aside : (r p : ℕ) → (r ≡ 0 → ⊥) → ExpressionRead s pool places code st names (aside r p) (ran (Aside r p) pool places code)
+  set-aside r p h = expression-aside r p pool places code h (stays-self ready)
+
+  refused : (t : Token) → ExpressionRead s pool places code st names (unexpected t) (ran (refusedLicensed t) pool places code)
+  refused t = set-aside (refusal (t .kind)) (t .start) (refusal-some (t .kind))
+
+  opened-read : (left : ℕ) (t : Token) → ExpressionRead s pool places code st names (listOpened s l left (st .listed) k t) (openedIn left s consts constants k pool places code st t)
+  unfolding listOpened openedIn
+  opened-read left t =
+      both (ExpressionRead s pool places code st names) (eqb (t .kind) Kind.OPEN) _ _ _ _
+      (λ f. both (ExpressionRead s pool places code st names) (eqb left 0) _ _ _ _ (λ g. set-aside 7 (t .start) (λ z. omega (arith, z))) (λ g. list-read (after s t)))
+      (λ f. refused t)
+
+  of-read : (left : ℕ) (t : Token) → ExpressionRead s pool places code st names (ofRead s l left (st .listed) k t) (ofIn left s consts constants k pool places code st t)
+  unfolding ofRead
+  of-read left t = both (ExpressionRead s pool places code st names) (eqb (t .kind) Kind.OF) _ _ _ _ (λ f. opened-read left (after s t)) (λ f. refused t)
+
+  pub threshold-of : (left : ℕ) (t : Token) → ExpressionRead s pool places code st names (threshold s l left (st .listed) t k) (thresholdOf left s consts constants pool places code st t k)
+  unfolding threshold
+  threshold-of left t =
+      both (ExpressionRead s pool places code st names) (eqb k 0) _ _ _ _ (λ f. set-aside 5 (t .start) (λ z. omega (arith, z)))
+      (λ f. both (ExpressionRead s pool places code st names) (ltb mostLicensees k) _ _ _ _ (λ g. set-aside 5 (t .start) (λ z. omega (arith, z))) (λ g. of-read left (after s t)))
+
+-- a K-of
+pub threshold-read : (s consts constants : List ℕ) (l : List Attribute) → Lie (AttributeAt consts) constants l → (pool places code : List ℕ) (st : State) (names : List Principal)
+    → Ready pool places code st names → (left : ℕ) (t : Token)
+    → ExpressionRead s pool places code st names (threshold s l left (st .listed) t (numberAt s (t .start) (t .end))) (thresholdIn left s consts constants pool places code st t)
+unfolding thresholdIn
+threshold-read s consts constants l lie pool places code st names ready left t =
+    threshold-of s consts constants l lie (numberAt s (t .start) (t .end)) pool places code st names ready left t
