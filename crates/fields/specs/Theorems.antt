@@ -4,3 +4,4 @@ pub mod Constanted
 pub mod Authorized
 pub mod Growing
 pub mod Listed
+pub mod Chained
