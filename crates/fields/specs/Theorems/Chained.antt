@@ -132,3 +132,40 @@ pub expression-reads : (s : List ℕ) (reader : Reader) (writer : Writer) → Re
 expression-reads s reader writer reads =
     chain-reads s 1 Kind.OR orCode or or-joins (λ n t. chain s Kind.AND and reader n t) (λ p q m u n. chainBody writer s 0 p q m u n)
     (chain-reads s 0 Kind.AND andCode and and-joins reader writer reads)
+
+module _ (s consts constants : List ℕ) (l : List Attribute) (lie : Lie (AttributeAt consts) constants l) where
+  closed-read : {pool places code : List ℕ} {st : State} {names : List Principal} (p : Parsed Expression) (r : Ran) → ExpressionRead s pool places code st names p r
+      → ExpressionRead s pool places code st names (andThen p (λ e u. closed s e u)) (onOn r (λ u n p q m. ran (closedIn s u n) p q m))
+  unfolding closed closedIn
+  closed-read _ _ (expression-aside r p pool′ places′ code′ h more) = expression-aside r p pool′ places′ code′ h more
+  closed-read _ _ (expression-on x u n pool′ places′ code′ sn f grown) =
+      split (eqb (n .kind) Kind.CLOSE)
+      (λ g. rw g (expression-on x u (after s n) pool′ places′ code′ (stood-at s Kind.IN-LICENSEES (n .end)) f grown))
+      (λ g. rw g (expression-aside (refusal (n .kind)) (n .start) pool′ places′ code′ (refusal-some (n .kind)) (grown .stays)))
+
+  named-read : {pool places code : List ℕ} {st : State} {names : List Principal} (p : Parsed Principal) (r : Ran) → LicenseeRead s pool places code st names p r
+      → ExpressionRead s pool places code st names (andThen p (λ q u. ok (name q) u)) r
+  unfolding named compile
+  named-read _ _ (licensee-aside r p pool′ places′ code′ h more) = expression-aside r p pool′ places′ code′ h more
+  named-read _ _ (licensee-on p u n pool′ places′ code′ sn grown) = expression-on (name p) u n pool′ places′ code′ sn f-name grown
+
+  -- a principal, a K-of or a bracket
+  body-reads : (left : ℕ) (inner : Reader) (writer : Writer) → ((left ≡ 0 → ⊥) → Reads s inner writer)
+      → Reads s (λ n t. primaryBody s l left inner n t) (λ p q m u n. primaryIn writer left s consts constants p q m u n)
+  body-reads left inner writer reads pool places code st names t ready =
+      split (eqb (t .kind) Kind.OPEN)
+      (λ f. rw (f, ne-eqb (t .kind) Kind.DIGITS (λ z. omega (arith, z, eqb-true (t .kind) Kind.OPEN f)))
+      (both (ExpressionRead s pool places code st names) (eqb left 0) _ _ _ _
+      (λ g. expression-aside 7 (t .start) pool places code (λ z. omega (arith, z)) (stays-self ready))
+      (λ g. closed-read _ _ (reads (eqb-false _ _ g) pool places code st names (after s t) ready))))
+      (λ f. rw f
+      (both (ExpressionRead s pool places code st names) (eqb (t .kind) Kind.DIGITS) _ _ _ _
+      (λ g. threshold-read s consts constants l lie pool places code st names ready left t)
+      (λ g. named-read _ _ (licensee-read s consts constants l lie pool places code st names ready t))))
+
+  pub primary-reads : (left : ℕ) → Reads s (λ n t. primary s l left n t) (λ p q m u n. primaryAt left s consts constants p q m u n)
+  unfolding primary primaryAt
+  primary-reads zero = body-reads 0 (λ n t. unexpected t) (λ p q m u n. ran (Aside 0 0) p q m) (λ h. absurd (h refl))
+  primary-reads (suc left) =
+      body-reads (suc left) (λ n t. expressionOf s (λ n t. primary s l left n t) n t) (λ p q m u n. operandOf (λ p q m u n. primaryAt left s consts constants p q m u n) s 2 p q m u n)
+      (λ h. expression-reads s (λ n t. primary s l left n t) (λ p q m u n. primaryAt left s consts constants p q m u n) (primary-reads left))
