@@ -5,3 +5,4 @@ pub mod Authorized
 pub mod Growing
 pub mod Listed
 pub mod Chained
+pub mod Licensed

@@ -49,7 +49,6 @@ pub record Ready (pool places code : List ℕ) (st : State) (names : List Princi
   pub namesRoom : st .count + 16 ≤ 32768 + st .listed
   pub poolRoom : st .end + 4128 ≤ length pool + 258 * st .listed
   pub codeRoom : st .size + 48 ≤ length code + 3 * st .listed
-  pub sizeFits : st .size ≤ length code
 
 -- what was there before is there still
 pub record Stays (pool places code : List ℕ) (st : State) (names : List Principal) (pool′ places′ code′ : List ℕ) : Type 0 where
@@ -154,5 +153,4 @@ module _ {pool places code : List ℕ} {st : State} {names ps : List Principal} 
     namesRoom = omega (arith, ready .namesRoom, grown .countUp, grown .listed);
     poolRoom = omega (arith, ready .poolRoom, grown .endUp, grown .listed, grown .stays .samePool);
     codeRoom = omega (arith, ready .codeRoom, grown .size, grown .listed, grown .stays .sameCode, short);
-    sizeFits = omega (arith, ready .codeRoom, grown .size, grown .listed, grown .few, grown .stays .sameCode, short);
   }
