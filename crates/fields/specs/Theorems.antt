@@ -6,3 +6,4 @@ pub mod Growing
 pub mod Listed
 pub mod Chained
 pub mod Licensed
+pub mod Versioned
