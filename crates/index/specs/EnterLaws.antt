@@ -1,13 +1,13 @@
 -- What entering principals does to the list of them: those that were there stay in front, and each one entered is there. Assumes nothing.
 use mathlib.Core.Path.{_≡_, refl, sym, ap, _∙_}
-use mathlib.Core.Bool.{Bool, true, false}
+use mathlib.Core.Bool.{true}
 use mathlib.Core.List.{List, [], _∷_, _++_, append-assoc, append-nil, List·Memᴰ as Mem, List·Memᴰ·head as here, List·Memᴰ·tail as there}
-use Prim.Native.Nat.{ℕ, suc, _+_, _<_, _≤_}
+use Prim.Native.Nat.{_+_, _<_, _≤_}
 use native.Mathlib.Omega.{arith}
 use lib.ListN.{length, getD, length-append}
 use Rattle.text.specs.Choice.{pick, split, clash}
 use Rattle.principal.specs.Principal.{Principal, same, same-refl}
-use Rattle.principal.specs.Members.{member, member-none, member-here, member-left, member-right}
+use Rattle.principal.specs.Members.{member, member-here, member-left, member-right}
 use Rattle.compliance.specs.Tables.{place}
 use Rattle.index.specs.Index.{enter, enterAll}
 

@@ -1,16 +1,13 @@
 -- What the index holds: the principals entered, in order. Assumes nothing.
 use mathlib.Core.Path.{_≡_, refl, sym, ap, _∙_}
-use mathlib.Core.Bool.{Bool, true, false}
 use mathlib.Core.List.{List, [], _∷_, _++_, map, append-assoc, append-nil}
-use Prim.Native.Nat.{ℕ, zero, suc, _+_, _-_, _<_, _≤_}
+use Prim.Native.Nat.{ℕ, _+_, _-_, _<_, _≤_}
 use native.Mathlib.Omega.{arith}
 use native.Mathlib.Numerals.{add-one}
-use lib.Dec.{ltb, leb}
-use lib.ListN.{length, getD, take, drop, set, length-append, length-take, length-set, take-append-drop}
+use lib.ListN.{length, take, drop, set, length-append, length-set, take-append-drop}
 use lib.Seq.{take-suc-set, take-at, take-take, take-append-seam, length-take-le}
 use borrow.Author.Tests.{le-ltb, le-leb, lt-leb}
-use Rattle.text.specs.Choice.{pick}
-use Rattle.text.specs.Copy.{copied, put, copyAt}
+use Rattle.text.specs.Copy.{put, copyAt}
 use Rattle.text.specs.CopyLaws.{put-length}
 use Rattle.text.specs.Counted.{counted}
 use Rattle.record.specs.Encode.{stringBytes, itemsBytes}
@@ -20,9 +17,8 @@ use Rattle.principal.specs.Principal.{Principal}
 use Rattle.compliance.specs.Tables.{place}
 use Rattle.index.specs.Index.{Holds}
 use Rattle.index.specs.Working.Finding.{namesOf}
-use Rattle.index.specs.Working.Adding.{After, entered, countedInto, addInto}
-use Rattle.index.specs.declared.Entered.{Entered}
-use Rattle.index.specs.declared.Entered.the-variants.{Now, Full}
+use Rattle.index.specs.Working.Adding.{entered, countedInto, addInto}
+use Rattle.index.specs.declared.Entered.the-variants.{Now}
 
 string-length : (id : List ℕ) → length (stringBytes id) ≡ 2 + length id
 unfolding stringBytes

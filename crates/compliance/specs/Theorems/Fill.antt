@@ -51,6 +51,7 @@ place-stays (q ∷ names) more p i = split (same p q)
     (λ e. rw e)
     (λ e. rw e (ap suc (place-stays names more p (⊎-elim (λ x. clash x e) (λ x. x) (member-cases p q names i)))))
 
+-- so do the indices of a list, and the program of an expression
 pub places-stay : (names more ps : List Principal) → ((p : Principal) → Mem p ps → member p names ≡ true) → map (place (names ++ more)) ps ≡ map (place names) ps
 places-stay names more [] h = refl
 places-stay names more (p ∷ ps) h = ap₂ _∷_ (place-stays names more p (h p (here refl))) (places-stay names more ps (λ q m. h q (there m)))

@@ -1,18 +1,18 @@
 -- Authorizer read by the tables is what the meaning reads. Assumes nothing.
 use mathlib.Core.Path.{_≡_, refl, sym, ap, _∙_}
-use mathlib.Core.Bool.{Bool, true, false}
-use mathlib.Core.List.{List, [], _∷_, _++_, map}
+use mathlib.Core.Bool.{true}
+use mathlib.Core.List.{List, map}
 use Prim.Native.Nat.{ℕ, _+_, _*_, _<_, _≤_}
 use native.Mathlib.Omega.{arith}
-use lib.Dec.{eqb, leb}
+use lib.Dec.{eqb}
 use lib.ListN.{length, getD, take, List·getD-map}
 use lib.Seq.{getD-take}
 use borrow.Author.Tests.{lt-leb, eqb-true, eqb-false}
-use Rattle.text.specs.Choice.{pick, split}
+use Rattle.text.specs.Choice.{split}
 use Rattle.text.specs.Counted.{counted}
 use Rattle.record.specs.Query.{Attribute}
 use Rattle.record.specs.Lies.{Lie, AttributeAt}
-use Rattle.principal.specs.Principal.{Principal, same, same-sym, same-left, policy}
+use Rattle.principal.specs.Principal.{Principal, same, same-left, policy}
 use Rattle.principal.specs.Members.{member}
 use Rattle.compliance.specs.Tables.{place}
 use Rattle.index.specs.Index.{enter, Holds}
@@ -20,14 +20,13 @@ use Rattle.index.specs.IndexLaws.{names-are}
 use Rattle.index.specs.EnterLaws.{fresh, enter-is, enter-member, place-same, place-below}
 use Rattle.index.specs.Working.Finding.{namesOf}
 use Rattle.lexical.specs.Kind
-use Rattle.lexical.specs.Line.{tokenAt}
 use Rattle.lexical.specs.declared.token.Token.{Token}
 use Rattle.syntax.specs.Parsed.{Parsed, ok, aside, refusal}
 use Rattle.syntax.specs.Stood.{Stood, stood-at}
 use Rattle.fields.specs.Parsed.{ending, ended, behind}
 use Rattle.fields.specs.Identifier.{identifierFault, identified, identifier}
 use Rattle.fields.specs.Authorizer.{verified, authorized, authorizer}
-use Rattle.fields.specs.Working.Identifying.{Kept, entry, faultIn, tokenIn}
+use Rattle.fields.specs.Working.Identifying.{Kept, entry}
 use Rattle.fields.specs.Working.Authorizing.{Made, made, policyAt, barredAt, authorizerEnd, onEntry, authorizerIn}
 use Rattle.fields.specs.declared.identifier.Entry.the-variants.{At}
 use Rattle.fields.specs.declared.authorizer.Author.the-variants.{On, Aside}

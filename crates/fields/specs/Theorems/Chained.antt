@@ -1,38 +1,36 @@
 -- Licensees joined by operators and in brackets: what is entered and written is what the meaning reads. Assumes nothing.
-use mathlib.Core.Path.{_≡_, refl, sym, ap, _∙_}
-use mathlib.Core.Bool.{Bool, true, false}
+use mathlib.Core.Path.{_≡_, refl, ap, _∙_}
 use mathlib.Core.List.{List, [], _∷_, _++_, append-assoc}
 use Prim.Native.Nat.{ℕ, zero, suc, _+_, _-_, _*_, _<_, _≤_}
 use native.Mathlib.Omega.{arith}
-use lib.Dec.{eqb, leb, ltb}
+use lib.Dec.{eqb}
 use lib.ListN.{length, length-append}
 use borrow.Author.Tests.{lt-leb, ne-eqb, eqb-true, eqb-false}
-use Rattle.text.specs.Choice.{pick, split}
-use Rattle.text.specs.Loop.{Step, next, done}
+use Rattle.text.specs.Choice.{split}
+use Rattle.text.specs.Loop.{Step}
 use Rattle.record.specs.Query.{Attribute}
 use Rattle.record.specs.Lies.{Lie, AttributeAt}
 use Rattle.limits.specs.Limits.{mostLicensees}
 use Rattle.principal.specs.Principal.{Principal}
 use Rattle.compliance.specs.Codes.{andCode, orCode}
-use Rattle.compliance.specs.Licensees.{Expression, name, and, or, kOf, named}
+use Rattle.compliance.specs.Licensees.{Expression, name, and, or, named}
 use Rattle.compliance.specs.Tables.{compile, Formed, f-name, f-and, f-or}
 use Rattle.compliance.specs.Theorems.Fill.{compile-stays}
 use Rattle.compliance.specs.Theorems.Compile.{named-some}
 use Rattle.index.specs.Index.{enterAll}
 use Rattle.index.specs.EnterLaws.{freshAll, enter-all-is, enter-all-append, enter-all-member}
 use Rattle.lexical.specs.Kind
-use Rattle.lexical.specs.Number.{numberAt}
 use Rattle.lexical.specs.declared.token.Token.{Token}
 use Rattle.syntax.specs.Parsed.{Parsed, ok, aside, andThen, refusal, unexpected}
 use Rattle.syntax.specs.Stood.{Stood, stood-at}
-use Rattle.fields.specs.Licensees.{after, licensee, threshold, closed, Reader, onOperand, chainTurn, chainFrom, chain, expressionOf, primaryBody, primary}
-use Rattle.fields.specs.Working.List.{Ran, ran, Loop, refusedLicensed, above, pushed, sized, licenseeIn, thresholdIn}
+use Rattle.fields.specs.Licensees.{after, closed, Reader, onOperand, chainTurn, chainFrom, chain, expressionOf, primaryBody, primary}
+use Rattle.fields.specs.Working.List.{Ran, ran, Loop, above, pushed, sized}
 use Rattle.fields.specs.Working.Chain.{jointOf, joinOf, Writer, onOn, onJoined, moreTurn, moreBody, chainBody, operandOf, closedIn, primaryAt}
 use Rattle.fields.specs.Working.Chain.{primaryBody as primaryIn}
 use Rattle.fields.specs.declared.list.State.{State}
 use Rattle.fields.specs.declared.list.Licensed.the-variants.{On, Aside}
 use Rattle.fields.specs.Theorems.Together.{both, Steps, both-next, both-done, loop-same, refusal-some}
-use Rattle.fields.specs.Theorems.Growing.{compile-short, Ready, Stays, Grown, stays-self, stays-then, grown-then, grown-push, grown-ready}
+use Rattle.fields.specs.Theorems.Growing.{compile-short, Ready, Grown, stays-self, stays-then, grown-then, grown-push, grown-ready}
 use Rattle.fields.specs.Theorems.Listed.{ExpressionRead, expression-aside, expression-on, LicenseeRead, licensee-aside, licensee-on, licensee-read, threshold-read}
 
 -- wherever there is room, what is written is what is read

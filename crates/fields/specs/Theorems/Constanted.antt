@@ -2,7 +2,7 @@
 use mathlib.Core.Path.{_≡_, refl, sym, ap, _∙_}
 use mathlib.Core.Bool.{Bool, true, false}
 use mathlib.Core.List.{List, [], _∷_, _++_, append-assoc, append-nil}
-use Prim.Native.Nat.{ℕ, zero, suc, _+_, _-_, _*_, _<_, _≤_}
+use Prim.Native.Nat.{ℕ, _+_, _-_, _*_, _<_, _≤_}
 use native.Mathlib.Omega.{arith}
 use native.Mathlib.Numerals.{add-one}
 use lib.Dec.{eqb, leb, ltb}
@@ -10,9 +10,9 @@ use lib.ListN.{length, take, drop, set, length-append, length-set, take-append-d
 use lib.Seq.{take-suc-set, take-at, drop-at, take-take, length-take-le}
 use borrow.Author.Tests.{lt-ltb, le-ltb, le-leb, lt-leb, leb-true, leb-false, ltb-false, eqb-true, eqb-false}
 use Rattle.text.specs.Choice.{pick, split}
-use Rattle.text.specs.Copy.{copied, put, copyAt}
+use Rattle.text.specs.Copy.{put, copyAt}
 use Rattle.text.specs.CopyLaws.{put-append, put-length}
-use Rattle.text.specs.Loop.{Step, next, done}
+use Rattle.text.specs.Loop.{Step, done}
 use Rattle.text.specs.Counted.{counted}
 use Rattle.record.specs.Encode.{stringBytes, attributeBytes, itemsBytes}
 use Rattle.record.specs.Places.{stringSize, attributeSize, placesFrom}
@@ -23,14 +23,14 @@ use Rattle.lexical.specs.Kind
 use Rattle.lexical.specs.Literal.{decodedAt}
 use Rattle.lexical.specs.Line.{tokenAt}
 use Rattle.lexical.specs.declared.token.Token.{Token}
-use Rattle.index.specs.Working.Adding.{After, entered, addInto, countedInto}
+use Rattle.index.specs.Working.Adding.{entered, addInto, countedInto}
 use Rattle.index.specs.declared.Entered.the-variants.{Now}
 use Rattle.expression.specs.Tables.{firstFrom}
 use Rattle.syntax.specs.Parsed.{Parsed, ok, aside, refusal, unexpected}
 use Rattle.syntax.specs.Stood.{Stood, stood-at, stood-end}
 use Rattle.fields.specs.Limits.{mostConstants, mostLiteral}
 use Rattle.fields.specs.Parsed.{behind, ending, wordOf}
-use Rattle.fields.specs.Constants.{isSet, reserved, constantValue, assigned, nameFault, constant, constantsTurn, onConstant, constantsFrom}
+use Rattle.fields.specs.Constants.{isSet, constantValue, assigned, nameFault, constant, constantsTurn, onConstant, constantsFrom}
 use Rattle.fields.specs.Working.Setting.{Stored, stored, State, takenIn, constantFaultIn, storeIn, valueIn, assignedIn, settingTurn, onAssigned, onStored, assignedFrom, constantsIn, refusedSettings}
 use Rattle.fields.specs.declared.constants.Settings.the-variants.{On, Aside}
 use Rattle.fields.specs.Theorems.Together.{both, Steps, both-next, both-done, loop-same, refusal-some, behind-from, stood-start, stood-wide, stood-literal, word-short}

@@ -1,18 +1,16 @@
 -- What the readers of Licensees do to the index and to the code: they grow by what was read, and the room is enough for sixteen licensees.
 -- Assumes nothing.
 use mathlib.Core.Path.{_≡_, refl, sym, ap, _∙_}
-use mathlib.Core.Bool.{Bool, true, false}
 use mathlib.Core.List.{List, [], _∷_, _++_, append-assoc, append-nil}
-use Prim.Native.Nat.{ℕ, zero, suc, _+_, _-_, _*_, _<_, _≤_}
+use Prim.Native.Nat.{ℕ, _+_, _-_, _*_, _<_, _≤_}
 use native.Mathlib.Omega.{arith}
 use native.Mathlib.Numerals.{add-one}
-use lib.Dec.{leb}
-use lib.ListN.{length, take, set, length-append, length-set, length-map}
+use lib.ListN.{length, take, length-append, length-set, length-map}
 use lib.Seq.{take-suc-set, take-take, take-at, length-take-le}
 use borrow.Author.Tests.{lt-leb}
 use Rattle.principal.specs.Principal.{Principal}
-use Rattle.compliance.specs.Licensees.{Expression, name, and, or, kOf, named}
-use Rattle.compliance.specs.Tables.{compile, Formed, f-name, f-and, f-or, f-kOf, place}
+use Rattle.compliance.specs.Licensees.{Expression, named}
+use Rattle.compliance.specs.Tables.{compile, Formed, f-name, f-and, f-or, f-kOf}
 use Rattle.index.specs.Index.{enterAll, Holds}
 use Rattle.index.specs.EnterLaws.{enter-all-is, enter-all-append, freshAll}
 use Rattle.fields.specs.Working.List.{above, pushed, sized}

@@ -1,18 +1,18 @@
 -- An identifier read by the tables is the one that the meaning reads, and the index holds it afterwards. Assumes nothing.
-use mathlib.Core.Path.{_≡_, refl, sym, ap, _∙_}
-use mathlib.Core.Bool.{Bool, true, false}
+use mathlib.Core.Path.{_≡_, refl, ap, _∙_}
+use mathlib.Core.Bool.{true, false}
 use mathlib.Core.List.{List, [], _∷_, _++_}
 use Prim.Native.Nat.{ℕ, suc, _+_, _*_, _≤_, _<_}
 use native.Mathlib.Omega.{arith}
 use lib.Dec.{eqb, leb, ltb}
 use lib.ListN.{length, set, length-set}
 use borrow.Author.Tests.{le-leb, lt-leb, lt-ltb, le-ltb, leb-true, leb-false, ltb-false}
-use Rattle.text.specs.Choice.{pick, split, clash}
+use Rattle.text.specs.Choice.{pick, split}
 use Rattle.text.specs.Copy.{put}
 use Rattle.text.specs.CopyLaws.{put-length}
 use Rattle.text.specs.Counted.{counted}
 use Rattle.text.specs.Equal.{equal}
-use Rattle.record.specs.Encode.{stringBytes, itemsBytes}
+use Rattle.record.specs.Encode.{stringBytes}
 use Rattle.record.specs.Query.{Attribute}
 use Rattle.record.specs.Lies.{Lie, lie[], lie∷, AttributeAt}
 use Rattle.lexical.specs.Kind
@@ -20,22 +20,20 @@ use Rattle.lexical.specs.Literal.{decodedAt}
 use Rattle.lexical.specs.declared.token.Token.{Token}
 use Rattle.fields.specs.Limits.{mostIdentifier}
 use Rattle.principal.specs.Principal.{Principal, same}
-use Rattle.principal.specs.Members.{member, member-here, member-there, member-cases}
+use Rattle.principal.specs.Members.{member}
 use Rattle.compliance.specs.Tables.{place}
 use Rattle.compliance.specs.Theorems.Fill.{place-absent, place-added}
 use Rattle.index.specs.Index.{enter, Holds}
 use Rattle.index.specs.IndexLaws.{names-are, add-gives, add-holds, holds-front}
-use Rattle.index.specs.EnterLaws.{fresh, enter-is, place-below}
-use Rattle.index.specs.Working.Finding.{namesOf}
+use Rattle.index.specs.EnterLaws.{place-below}
 use Rattle.expression.specs.Names.{settingOr}
-use Rattle.expression.specs.Tables.{firstFrom, settingIn}
+use Rattle.expression.specs.Tables.{firstFrom}
 use Rattle.expression.specs.Theorems.Shown.{setting-is}
 use Rattle.fields.specs.Parsed.{wordOf}
 use Rattle.fields.specs.Constants.{isSet}
 use Rattle.fields.specs.Identifier.{sizeFault, nameFault, identifierFault, identified}
 use Rattle.fields.specs.Working.Identifying.{Kept, entry, nameFaultIn, faultIn, literalIn, tokenIn, enterIn}
 use Rattle.fields.specs.declared.identifier.Entry.the-variants.{At}
-use Rattle.syntax.specs.Parsed.{refusal}
 use Rattle.fields.specs.Theorems.Together.{refusal-some}
 
 first-suc : (s name : List ℕ) (i : ℕ) (ps : List ℕ) → firstFrom s name (suc i) ps ≡ suc (firstFrom s name i ps)

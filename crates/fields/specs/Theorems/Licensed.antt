@@ -1,19 +1,17 @@
 -- Licensees read into the index and written as a postfix program are what the meaning reads. Assumes nothing.
-use mathlib.Core.Path.{_≡_, refl, sym, ap, _∙_}
-use mathlib.Core.Bool.{Bool, true, false}
-use mathlib.Core.List.{List, [], _∷_, _++_}
+use mathlib.Core.Path.{_≡_}
+use mathlib.Core.List.{List, _++_}
 use Prim.Native.Nat.{ℕ, _+_, _-_, _*_, _<_, _≤_}
 use native.Mathlib.Omega.{arith}
-use lib.Dec.{ltb}
 use lib.ListN.{length, take}
 use borrow.Author.Tests.{le-ltb}
-use Rattle.text.specs.Choice.{pick, split}
+use Rattle.text.specs.Choice.{split}
 use Rattle.record.specs.Query.{Attribute}
 use Rattle.record.specs.Lies.{Lie, AttributeAt}
 use Rattle.principal.specs.Principal.{Principal}
 use Rattle.compliance.specs.Codes.{zeroCode}
 use Rattle.compliance.specs.Licensees.{Expression, named, Licensees, missing, empty, given, licensees}
-use Rattle.compliance.specs.Tables.{compile, compiled, Formed}
+use Rattle.compliance.specs.Tables.{compiled, Formed}
 use Rattle.index.specs.Index.{enterAll, Holds}
 use Rattle.lexical.specs.declared.token.Token.{Token}
 use Rattle.syntax.specs.Parsed.{Parsed, ok, aside, andThen, refusal}
@@ -22,7 +20,7 @@ use Rattle.fields.specs.Limits.{mostBrackets}
 use Rattle.fields.specs.Parsed.{ending, ended}
 use Rattle.fields.specs.Licensees.{primary, expression}
 use Rattle.fields.specs.Licensees.{licensees as licenseesOf}
-use Rattle.fields.specs.Working.List.{Ran, ran, above, pushed, sized, stateOf}
+use Rattle.fields.specs.Working.List.{Ran, ran, above, pushed, stateOf}
 use Rattle.fields.specs.Working.Chain.{onOn, primaryAt, operandAt, moreAt, chainAt, endIn, fieldIn}
 use Rattle.fields.specs.declared.list.State.{State}
 use Rattle.fields.specs.declared.list.Licensed.the-variants.{On, Aside}

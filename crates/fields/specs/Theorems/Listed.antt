@@ -1,37 +1,35 @@
 -- Licensees read one by one and in lists: what is entered and written is what the meaning reads. Assumes nothing.
-use mathlib.Core.Path.{_≡_, refl, sym, ap, _∙_}
-use mathlib.Core.Bool.{Bool, true, false}
+use mathlib.Core.Path.{_≡_, refl, sym, ap}
 use mathlib.Core.List.{List, [], _∷_, _++_, map, append-nil}
-use Prim.Native.Nat.{ℕ, zero, suc, _+_, _-_, _*_, _<_, _≤_}
+use Prim.Native.Nat.{ℕ, _+_, _-_, _*_, _<_, _≤_}
 use native.Mathlib.Omega.{arith}
 use lib.Dec.{eqb, leb, ltb}
 use lib.ListN.{length, take, length-append, length-map}
 use borrow.Author.Tests.{lt-leb, le-ltb, leb-false, eqb-true, eqb-false}
-use Rattle.text.specs.Choice.{pick, split}
-use Rattle.text.specs.Loop.{Step, next, done}
+use Rattle.text.specs.Choice.{split}
+use Rattle.text.specs.Loop.{Step}
 use Rattle.record.specs.Query.{Attribute}
 use Rattle.record.specs.Lies.{Lie, AttributeAt}
 use Rattle.limits.specs.Limits.{mostLicensees}
 use Rattle.principal.specs.Principal.{Principal}
 use Rattle.compliance.specs.Codes.{kOfCode}
-use Rattle.compliance.specs.Licensees.{Expression, name, and, or, kOf, named}
-use Rattle.compliance.specs.Tables.{place, compile, Formed, f-name, f-kOf}
+use Rattle.compliance.specs.Licensees.{Expression, kOf, named}
+use Rattle.compliance.specs.Tables.{place, compile, Formed, f-kOf}
 use Rattle.compliance.specs.Theorems.Fill.{places-stay}
 use Rattle.index.specs.Index.{enter, enterAll, Holds}
 use Rattle.index.specs.EnterLaws.{fresh, enter-is, freshAll, enter-all-is, enter-all-append, enter-member, enter-all-member, place-below}
 use Rattle.lexical.specs.Kind
 use Rattle.lexical.specs.Number.{numberAt}
 use Rattle.lexical.specs.declared.token.Token.{Token}
-use Rattle.syntax.specs.Parsed.{Parsed, ok, aside, andThen, refusal, unexpected}
+use Rattle.syntax.specs.Parsed.{Parsed, ok, aside, refusal, unexpected}
 use Rattle.syntax.specs.Stood.{Stood, stood-at}
 use Rattle.fields.specs.Identifier.{identifierFault, identified, identifier}
 use Rattle.fields.specs.Licensees.{after, licensee, listed, onListed, listTurn, listFrom, listOpened, ofRead, threshold}
-use Rattle.fields.specs.Working.Identifying.{Kept, entry, faultIn, tokenIn}
-use Rattle.fields.specs.Working.List.{Ran, ran, Wrote, wrote, refusedLicensed, above, pushed, sized, stateOf, onEntered, licenseeIn, itemsOf, listedWith, listedIn, onWrote, Loop, onItem, listIn, openedIn, ofIn, thresholdOf, thresholdIn}
+use Rattle.fields.specs.Working.Identifying.{Kept, entry}
+use Rattle.fields.specs.Working.List.{Ran, ran, wrote, refusedLicensed, above, pushed, sized, stateOf, onEntered, licenseeIn, itemsOf, listedIn, onWrote, Loop, onItem, listIn, openedIn, ofIn, thresholdOf, thresholdIn}
 use Rattle.fields.specs.Working.List.{listTurn as itemTurn}
 use Rattle.fields.specs.declared.identifier.Entry.the-variants.{At}
 use Rattle.fields.specs.declared.list.State.{State}
-use Rattle.fields.specs.declared.list.Licensed.{Licensed}
 use Rattle.fields.specs.declared.list.Licensed.the-variants.{On, Aside}
 use Rattle.fields.specs.Theorems.Together.{both, Steps, both-next, both-done, loop-same, refusal-some}
 use Rattle.fields.specs.Theorems.Identified.{fault-is, token-is, identified-few, holds-before, EntryRead, entry-at, entry-read}

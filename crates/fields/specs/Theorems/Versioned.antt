@@ -1,6 +1,5 @@
 -- What KeyNote-Version and Signature give: a reason that is not 0, or the token behind. Assumes nothing.
-use mathlib.Core.Path.{_≡_, refl, sym, ap, _∙_}
-use mathlib.Core.Bool.{Bool, true, false}
+use mathlib.Core.Path.{_≡_, sym, _∙_}
 use mathlib.Core.List.{List}
 use Prim.Native.Nat.{ℕ, _≤_}
 use native.Mathlib.Omega.{arith}
@@ -13,7 +12,7 @@ use Rattle.lexical.specs.Bounds.{chosen}
 use Rattle.lexical.specs.Literal.{decodedAt}
 use Rattle.lexical.specs.Number.{LIMIT, numberAt}
 use Rattle.lexical.specs.declared.token.Token.{Token}
-use Rattle.syntax.specs.Parsed.{Parsed, ok, aside, refusal}
+use Rattle.syntax.specs.Parsed.{Parsed, ok, aside}
 use Rattle.syntax.specs.Stood.{Stood, stood-at}
 use Rattle.fields.specs.Limits.{mostLiteral}
 use Rattle.fields.specs.Parsed.{behind, ending, ended}
