@@ -1,16 +1,13 @@
 -- What the index holds: the principals entered, in order. Assumes nothing.
 use mathlib.Core.Path.{_≡_, refl, sym, ap, _∙_}
-use mathlib.Core.Bool.{Bool, true, false}
 use mathlib.Core.List.{List, [], _∷_, _++_, map, append-assoc, append-nil}
-use Prim.Native.Nat.{ℕ, zero, suc, _+_, _-_, _<_, _≤_}
+use Prim.Native.Nat.{ℕ, _+_, _-_, _<_, _≤_}
 use native.Mathlib.Omega.{arith}
 use native.Mathlib.Numerals.{add-one}
-use lib.Dec.{ltb, leb}
-use lib.ListN.{length, getD, take, drop, set, length-append, length-take, length-set, take-append-drop}
-use lib.Seq.{take-suc-set, take-at, length-take-le}
+use lib.ListN.{length, take, drop, set, length-append, length-set, take-append-drop}
+use lib.Seq.{take-suc-set, take-at, take-take, take-append-seam, length-take-le}
 use borrow.Author.Tests.{le-ltb, le-leb, lt-leb}
-use Rattle.text.specs.Choice.{pick}
-use Rattle.text.specs.Copy.{copied, put, copyAt}
+use Rattle.text.specs.Copy.{put, copyAt}
 use Rattle.text.specs.CopyLaws.{put-length}
 use Rattle.text.specs.Counted.{counted}
 use Rattle.record.specs.Encode.{stringBytes, itemsBytes}
@@ -20,9 +17,8 @@ use Rattle.principal.specs.Principal.{Principal}
 use Rattle.compliance.specs.Tables.{place}
 use Rattle.index.specs.Index.{Holds}
 use Rattle.index.specs.Working.Finding.{namesOf}
-use Rattle.index.specs.Working.Adding.{After, entered, countedInto, addInto}
-use Rattle.index.specs.declared.Entered.{Entered}
-use Rattle.index.specs.declared.Entered.the-variants.{Now, Full}
+use Rattle.index.specs.Working.Adding.{entered, countedInto, addInto}
+use Rattle.index.specs.declared.Entered.the-variants.{Now}
 
 string-length : (id : List ℕ) → length (stringBytes id) ≡ 2 + length id
 unfolding stringBytes
@@ -91,3 +87,34 @@ module _ {pool places : List ℕ} {count end : ℕ} {names : List Principal} (ho
         inPool = omega arith;
         inTable = omega (arith, length-set places count (end + 2));
       }
+
+items-append : (l m : List Principal) → itemsBytes stringBytes (l ++ m) ≡ itemsBytes stringBytes l ++ itemsBytes stringBytes m
+unfolding itemsBytes
+items-append [] m = refl
+items-append (b ∷ l) m = rw (items-append l m) (sym (append-assoc (stringBytes b) (itemsBytes stringBytes l) (itemsBytes stringBytes m)))
+
+-- the places of the first principals are the first places
+places-front : (l m : List Principal) (at : ℕ) → take (length l) (placesFrom stringSize 2 at (l ++ m)) ≡ placesFrom stringSize 2 at l
+unfolding placesFrom
+places-front [] m at = refl
+places-front (b ∷ l) m at = ap (λ (x : List ℕ). (at + 2) ∷ x) (places-front l m (at + stringSize b))
+
+-- an index of more principals holds each front of them
+pub holds-front : {pool places : List ℕ} {count end : ℕ} (names more : List Principal) → Holds pool places count end (names ++ more)
+    → Holds pool places (length names) (length (itemsBytes stringBytes names)) names
+holds-front {pool} {places} {count} {end} names more holds =
+    let l : length (names ++ more) ≡ length names + length more = length-append names more in
+    let b : length (itemsBytes stringBytes (names ++ more)) ≡ length (itemsBytes stringBytes names) + length (itemsBytes stringBytes more)
+    = ap length (items-append names more) ∙ length-append (itemsBytes stringBytes names) (itemsBytes stringBytes more) in
+    record {
+      bytes =
+          sym (take-take (length (itemsBytes stringBytes names)) end pool (omega (arith, holds .ends)))
+          ∙ ap (take (length (itemsBytes stringBytes names))) (holds .bytes ∙ items-append names more)
+          ∙ take-append-seam (itemsBytes stringBytes names) (itemsBytes stringBytes more);
+      entries =
+          sym (take-take (length names) count places (omega (arith, holds .counted))) ∙ ap (take (length names)) (holds .entries) ∙ places-front names more 0;
+      counted = refl;
+      ends = refl;
+      inPool = omega (arith, holds .ends, holds .inPool);
+      inTable = omega (arith, holds .counted, holds .inTable);
+    }

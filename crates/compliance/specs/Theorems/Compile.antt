@@ -14,7 +14,8 @@ use Rattle.compliance.specs.Tables.{place, compile, compiled, Formed, f-
 use Rattle.compliance.specs.Working.Highest.{two-or, two-and}
 use Rattle.compliance.specs.Working.Machine.{pushed, combined, stepped, exec, lastOf, worth}
 
-named-some : {e : Expression} → Formed e → 0 < length (named e)
+-- a formed expression names somebody
+pub named-some : {e : Expression} → Formed e → 0 < length (named e)
 unfolding named
 named-some f-name = omega arith
 named-some (f-and {a = a} {b = b} f g) = rw length-append (omega (arith, named-some f))

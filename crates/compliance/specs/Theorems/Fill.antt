@@ -51,11 +51,12 @@ place-stays (q ∷ names) more p i = split (same p q)
     (λ e. rw e)
     (λ e. rw e (ap suc (place-stays names more p (⊎-elim (λ x. clash x e) (λ x. x) (member-cases p q names i)))))
 
-places-stay : (names more ps : List Principal) → ((p : Principal) → Mem p ps → member p names ≡ true) → map (place (names ++ more)) ps ≡ map (place names) ps
+-- so do the indices of a list, and the program of an expression
+pub places-stay : (names more ps : List Principal) → ((p : Principal) → Mem p ps → member p names ≡ true) → map (place (names ++ more)) ps ≡ map (place names) ps
 places-stay names more [] h = refl
 places-stay names more (p ∷ ps) h = ap₂ _∷_ (place-stays names more p (h p (here refl))) (places-stay names more ps (λ q m. h q (there m)))
 
-compile-stays : (names more : List Principal) (e : Expression) → ((p : Principal) → Mem p (named e) → member p names ≡ true) → compile (names ++ more) e ≡ compile names e
+pub compile-stays : (names more : List Principal) (e : Expression) → ((p : Principal) → Mem p (named e) → member p names ≡ true) → compile (names ++ more) e ≡ compile names e
 unfolding compile named
 compile-stays names more (name p) h = ap (λ (i : ℕ). i ∷ []) (place-stays names more p (h p (here refl)))
 compile-stays names more (and a b) h =

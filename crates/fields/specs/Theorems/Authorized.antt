@@ -1,57 +1,95 @@
 -- Authorizer read by the tables is what the meaning reads. Assumes nothing.
 use mathlib.Core.Path.{_≡_, refl, sym, ap, _∙_}
-use mathlib.Core.Bool.{Bool, true, false}
-use mathlib.Core.List.{List, [], _∷_}
-use Prim.Native.Nat.{ℕ}
+use mathlib.Core.Bool.{true}
+use mathlib.Core.List.{List, map}
+use Prim.Native.Nat.{ℕ, _+_, _*_, _<_, _≤_}
+use native.Mathlib.Omega.{arith}
 use lib.Dec.{eqb}
-use borrow.Author.Tests.{ne-eqb}
-use Rattle.text.specs.Choice.{pick}
+use lib.ListN.{length, getD, take, List·getD-map}
+use lib.Seq.{getD-take}
+use borrow.Author.Tests.{lt-leb, eqb-true, eqb-false}
+use Rattle.text.specs.Choice.{split}
+use Rattle.text.specs.Counted.{counted}
 use Rattle.record.specs.Query.{Attribute}
 use Rattle.record.specs.Lies.{Lie, AttributeAt}
-use Rattle.principal.specs.Principal.{Principal}
+use Rattle.principal.specs.Principal.{Principal, same, same-left, policy}
 use Rattle.principal.specs.Members.{member}
 use Rattle.compliance.specs.Tables.{place}
 use Rattle.index.specs.Index.{enter, Holds}
+use Rattle.index.specs.IndexLaws.{names-are}
+use Rattle.index.specs.EnterLaws.{fresh, enter-is, enter-member, place-same, place-below}
+use Rattle.index.specs.Working.Finding.{namesOf}
 use Rattle.lexical.specs.Kind
 use Rattle.lexical.specs.declared.token.Token.{Token}
-use Rattle.syntax.specs.Parsed.{aside}
-use Rattle.fields.specs.Parsed.{ended, behind}
+use Rattle.syntax.specs.Parsed.{Parsed, ok, aside, refusal}
+use Rattle.syntax.specs.Stood.{Stood, stood-at}
+use Rattle.fields.specs.Parsed.{ending, ended, behind}
 use Rattle.fields.specs.Identifier.{identifierFault, identified, identifier}
 use Rattle.fields.specs.Authorizer.{verified, authorized, authorizer}
-use Rattle.fields.specs.Working.Identifying.{faultIn}
-use Rattle.fields.specs.Working.Authorizing.{made, barredAt, authorizerEnd, authorizerIn}
-use Rattle.fields.specs.declared.authorizer.Author.the-variants.{Aside}
-use Rattle.fields.specs.Theorems.Identified.{fault-is, token-is, enter-known}
+use Rattle.fields.specs.Working.Identifying.{Kept, entry}
+use Rattle.fields.specs.Working.Authorizing.{Made, made, policyAt, barredAt, authorizerEnd, onEntry, authorizerIn}
+use Rattle.fields.specs.declared.identifier.Entry.the-variants.{At}
+use Rattle.fields.specs.declared.authorizer.Author.the-variants.{On, Aside}
+use Rattle.fields.specs.Theorems.Together.{refusal-some}
+use Rattle.fields.specs.Theorems.Identified.{fault-is, token-is, identified-few, holds-before, EntryRead, entry-at, entry-read}
 
-module _ (s : List ℕ) (standing : ℕ) (consts constants pool places : List ℕ) (count end : ℕ) (l : List Attribute) (lie : Lie (AttributeAt consts) constants l) (t : Token)
-    (f : identifierFault s l t ≡ 0 → ⊥) where
-  -- an identifier's fault sets the assertion aside with the same reason at the same place, and nothing is written
-  pub fault-meant : authorizer s standing l t ≡ aside (identifierFault s l t) (t .start)
-  unfolding authorizer identifier
-  fault-meant = rw (ne-eqb (identifierFault s l t) 0 f)
+-- the same fault, or the same principal and token behind: the index holds it, at the number found
+pub data AuthorRead (s pool places : List ℕ) (count end : ℕ) (names : List Principal) : Parsed Principal → Made → Type 0 where
+  author-aside : (r p : ℕ) (pool′ places′ : List ℕ) → (r ≡ 0 → ⊥) → length pool′ ≡ length pool → length places′ ≡ length places → Holds pool′ places′ count end names
+      → AuthorRead s pool places count end names (aside r p) (made (Aside r p) pool′ places′)
+  author-on : (p : Principal) (i c e : ℕ) (n : Token) (pool′ places′ : List ℕ) → Stood s n → i ≡ place (enter names p) p → Holds pool′ places′ c e (enter names p) → e ≤ 258 * c
+      → length pool′ ≡ length pool → length places′ ≡ length places → AuthorRead s pool places count end names (ok p n) (made (On i c e n) pool′ places′)
 
-  pub fault-told : authorizerIn s standing consts constants pool places count end t ≡ made (Aside (identifierFault s l t) (t .start)) pool places
-  unfolding authorizerIn
-  fault-told = rw (fault-is s consts constants l lie t, ne-eqb (identifierFault s l t) 0 f)
+-- is the principal at a member's number POLICY? as the member is
+policy-is : {pool places : List ℕ} {c e : ℕ} {names : List Principal} → Holds pool places c e names → (p : Principal) → member p names ≡ true
+    → policyAt pool places (place names p) ≡ same p policy
+unfolding policyAt namesOf
+policy-is {pool} {places} {c} {e} {names} holds p m =
+    let b : place names p < c = omega (arith, place-below names p m, holds .counted) in
+    let a : map (counted pool) (take c places) ≡ names = names-are holds in
+    let g : counted pool (getD places (place names p) 0) ≡ getD names (place names p) (counted pool 0)
+    = ap (counted pool) (sym (getD-take c places (place names p) 0 b)) ∙ sym (List·getD-map (counted pool) (take c places) (place names p) 0)
+    ∙ ap (λ (l : List Principal). getD l (place names p) (counted pool 0)) a in
+    rw (lt-leb (length places) (place names p) (omega (arith, holds .inTable)), g)
+    (sym (same-left p (getD names (place names p) (counted pool 0)) policy (place-same names p (counted pool 0) m)))
 
--- a principal that the index has: its number, and the index as it was
-module _ (s consts constants pool places : List ℕ) (count end : ℕ) (l : List Attribute) (lie : Lie (AttributeAt consts) constants l)
-    (names : List Principal) (holds : Holds pool places count end names) (t : Token) (f : identifierFault s l t ≡ 0) (m : member (identified s l t) names ≡ true) where
-  abbrev number : ℕ
-  number = place (enter names (identified s l t)) (identified s l t)
+module _ (s : List ℕ) (standing : ℕ) (pool places : List ℕ) (count end : ℕ) (names : List Principal) (holds : Holds pool places count end names) (t : Token) (id : Principal) where
+  module _ (c e : ℕ) (pool′ places′ : List ℕ) (new : Holds pool′ places′ c e (enter names id)) (low : e ≤ 258 * c)
+      (samePool : length pool′ ≡ length pool) (samePlaces : length places′ ≡ length places) where
+    set-aside : (r p : ℕ) → (r ≡ 0 → ⊥) → AuthorRead s pool places count end names (aside r p) (made (Aside r p) pool′ places′)
+    set-aside r p h = author-aside r p pool′ places′ h samePool samePlaces (holds-before names (fresh names id) holds (rw (enter-is names id) at new))
 
-  pub author-known : (standing : ℕ) → (standing ≡ verified → ⊥)
-      → authorizerIn s standing consts constants pool places count end t ≡ made (authorizerEnd number count end (behind s Kind.IN-FIELD t)) pool places
-  unfolding authorizerIn barredAt
-  author-known standing h =
-      rw (
-        fault-is s consts constants l lie t,
-        f,
-        token-is s consts constants pool places count end l lie t f,
-        enter-known pool places count end names holds (identified s l t) m,
-        ne-eqb standing verified h,
-      )
+    end-read : (n : Token) → Stood s n → AuthorRead s pool places count end names (ended id n) (made (authorizerEnd (place (enter names id) id) c e n) pool′ places′)
+    unfolding authorizerEnd
+    end-read n sn =
+        split (ending (n .kind))
+        (λ f. rw f (author-on id (place (enter names id) id) c e n pool′ places′ sn refl new low samePool samePlaces))
+        (λ f. rw f (set-aside (refusal (n .kind)) (n .start) (refusal-some (n .kind))))
 
-  pub author-meant : (standing : ℕ) → (standing ≡ verified → ⊥) → authorizer s standing l t ≡ ended (identified s l t) (behind s Kind.IN-FIELD t)
-  unfolding authorizer identifier authorized
-  author-meant standing h = rw (f, ne-eqb standing verified h)
+    barred-read : AuthorRead s pool places count end names (authorized standing t id (behind s Kind.IN-FIELD t)) (onEntry s standing t (entry (At (place (enter names id) id) c e) pool′ places′))
+    unfolding authorized barredAt
+    barred-read =
+        let q : policyAt pool′ places′ (place (enter names id) id) ≡ same id policy = policy-is new id (enter-member names id) in
+        split (eqb standing verified)
+        (λ f. split (same id policy)
+        (λ g. rw (f, q, g) (set-aside 9 (t .start) (λ z. omega (arith, z))))
+        (λ g. rw (f, q, g) (end-read (behind s Kind.IN-FIELD t) (stood-at s Kind.IN-FIELD (t .end)))))
+        (λ f. rw f (end-read (behind s Kind.IN-FIELD t) (stood-at s Kind.IN-FIELD (t .end))))
+
+  entered-read : (k : Kept) → EntryRead pool places count end names id k
+      → AuthorRead s pool places count end names (authorized standing t id (behind s Kind.IN-FIELD t)) (onEntry s standing t k)
+  entered-read _ (entry-at c e pool′ places′ new low few near samePool samePlaces) = barred-read c e pool′ places′ new low samePool samePlaces
+
+-- what is read by the tables is what the meaning reads
+pub author-read : (s : List ℕ) (standing : ℕ) (consts constants pool places : List ℕ) (count end : ℕ) (l : List Attribute) (names : List Principal) (t : Token)
+    → Lie (AttributeAt consts) constants l → Stood s t → Holds pool places count end names → end ≤ 258 * count → count < length places → end + 258 ≤ length pool
+    → AuthorRead s pool places count end names (authorizer s standing l t) (authorizerIn s standing consts constants pool places count end t)
+unfolding authorizer identifier authorizerIn
+author-read s standing consts constants pool places count end l names t lie st holds low room fits =
+    split (eqb (identifierFault s l t) 0)
+    (λ f. let z : identifierFault s l t ≡ 0 = eqb-true _ _ f in
+    rw (fault-is s consts constants l lie t, f, token-is s consts constants pool places count end l lie t z)
+    (entered-read s standing pool places count end names holds t (identified s l t) _
+    (entry-read pool places count end names holds low (identified s l t) (identified-few s l t z) room fits)))
+    (λ f. rw (fault-is s consts constants l lie t, f)
+    (author-aside (identifierFault s l t) (t .start) pool places (eqb-false _ _ f) refl refl holds))

@@ -1,14 +1,15 @@
 -- An identifier read by the tables is the one that the meaning reads, and the index holds it afterwards. Assumes nothing.
-use mathlib.Core.Path.{_≡_, refl, sym, ap, _∙_}
-use mathlib.Core.Bool.{Bool, true, false}
+use mathlib.Core.Path.{_≡_, refl, ap, _∙_}
+use mathlib.Core.Bool.{true, false}
 use mathlib.Core.List.{List, [], _∷_, _++_}
-use Prim.Native.Nat.{ℕ, suc, _+_, _≤_, _<_}
+use Prim.Native.Nat.{ℕ, suc, _+_, _*_, _≤_, _<_}
 use native.Mathlib.Omega.{arith}
 use lib.Dec.{eqb, leb, ltb}
-use lib.ListN.{length, set}
-use borrow.Author.Tests.{le-leb, lt-leb, lt-ltb, le-ltb, leb-true, leb-false}
-use Rattle.text.specs.Choice.{pick, split, clash}
+use lib.ListN.{length, set, length-set}
+use borrow.Author.Tests.{le-leb, lt-leb, lt-ltb, le-ltb, leb-true, leb-false, ltb-false}
+use Rattle.text.specs.Choice.{pick, split}
 use Rattle.text.specs.Copy.{put}
+use Rattle.text.specs.CopyLaws.{put-length}
 use Rattle.text.specs.Counted.{counted}
 use Rattle.text.specs.Equal.{equal}
 use Rattle.record.specs.Encode.{stringBytes}
@@ -19,20 +20,21 @@ use Rattle.lexical.specs.Literal.{decodedAt}
 use Rattle.lexical.specs.declared.token.Token.{Token}
 use Rattle.fields.specs.Limits.{mostIdentifier}
 use Rattle.principal.specs.Principal.{Principal, same}
-use Rattle.principal.specs.Members.{member, member-here, member-there, member-cases}
+use Rattle.principal.specs.Members.{member}
 use Rattle.compliance.specs.Tables.{place}
 use Rattle.compliance.specs.Theorems.Fill.{place-absent, place-added}
 use Rattle.index.specs.Index.{enter, Holds}
-use Rattle.index.specs.IndexLaws.{names-are, add-gives, add-holds}
-use Rattle.index.specs.Working.Finding.{namesOf}
+use Rattle.index.specs.IndexLaws.{names-are, add-gives, add-holds, holds-front}
+use Rattle.index.specs.EnterLaws.{place-below}
 use Rattle.expression.specs.Names.{settingOr}
-use Rattle.expression.specs.Tables.{firstFrom, settingIn}
+use Rattle.expression.specs.Tables.{firstFrom}
 use Rattle.expression.specs.Theorems.Shown.{setting-is}
 use Rattle.fields.specs.Parsed.{wordOf}
 use Rattle.fields.specs.Constants.{isSet}
 use Rattle.fields.specs.Identifier.{sizeFault, nameFault, identifierFault, identified}
 use Rattle.fields.specs.Working.Identifying.{Kept, entry, nameFaultIn, faultIn, literalIn, tokenIn, enterIn}
 use Rattle.fields.specs.declared.identifier.Entry.the-variants.{At}
+use Rattle.fields.specs.Theorems.Together.{refusal-some}
 
 first-suc : (s name : List ℕ) (i : ℕ) (ps : List ℕ) → firstFrom s name (suc i) ps ≡ suc (firstFrom s name i ps)
 unfolding firstFrom
@@ -40,7 +42,7 @@ first-suc s name i [] = refl
 first-suc s name i (p ∷ ps) = split (equal (counted s p) name) (λ e. rw e) (λ e. rw e (first-suc s name (suc i) ps))
 
 -- a name is unset where none of the places has it
-unset-is : (s ps name : List ℕ) {l : List Attribute} → Lie (AttributeAt s) ps l → {A : Type 0} (x y : A) → pick (leb (length ps) (firstFrom s name 0 ps)) x y ≡ pick (isSet l name) y x
+pub unset-is : (s ps name : List ℕ) {l : List Attribute} → Lie (AttributeAt s) ps l → {A : Type 0} (x y : A) → pick (leb (length ps) (firstFrom s name 0 ps)) x y ≡ pick (isSet l name) y x
 unfolding firstFrom isSet
 unset-is s ps name lie[] x y = refl
 unset-is s ps name (lie∷ {v = p} {vs = vs} {a = a} {l = l} at t) x y =
@@ -63,12 +65,6 @@ module _ (s consts places : List ℕ) (l : List Attribute) (lie : Lie (Attribute
   pub fault-is : (t : Token) → faultIn s consts places t ≡ identifierFault s l t
   unfolding faultIn identifierFault
   fault-is t = rw (name-fault-is (wordOf s t))
-
-place-below : (names : List Principal) (p : Principal) → member p names ≡ true → place names p < length names
-unfolding place member
-place-below [] p e = clash e refl
-place-below (q ∷ names) p e =
-    split (same p q) (λ h. rw h (omega arith)) (λ h. rw h (let k : member p names ≡ true = rw h at e in omega (arith, place-below names p k)))
 
 module _ (pool places : List ℕ) (count end : ℕ) (names : List Principal) (holds : Holds pool places count end names) (id : Principal) where
   -- a principal that is there keeps its number
@@ -110,3 +106,42 @@ token-is s consts constants pool places count end l lie t f =
     split (eqb (t .kind) Kind.LITERAL)
     (λ e. let z : sizeFault (length (decodedAt s (t .start))) ≡ 0 = rw e at f in rw (e, seven (length (decodedAt s (t .start))) z))
     (λ e. rw (e, setting-is consts constants (wordOf s t) [] lie))
+
+-- an identifier without fault has at most 256 bytes
+name-few : (l : List Attribute) (name : List ℕ) → nameFault l name ≡ 0 → length (settingOr l name []) ≤ 256
+unfolding nameFault
+name-few l name h =
+    split (isSet l name)
+    (λ e. ltb-false _ _ (seven (length (settingOr l name [])) (rw e at h)))
+    (λ e. let z : _≡_ {A = ℕ} 4 0 = rw e at h in let no : ⊥ = omega (arith, z) in absurd no)
+
+pub identified-few : (s : List ℕ) (l : List Attribute) (t : Token) → identifierFault s l t ≡ 0 → length (identified s l t) ≤ 256
+unfolding identifierFault identified
+identified-few s l t h =
+    split (eqb (t .kind) Kind.LITERAL)
+    (λ e. rw e (ltb-false _ _ (seven (length (decodedAt s (t .start))) (rw e at h))))
+    (λ e. rw e (split (eqb (t .kind) Kind.NAME) (λ f. name-few l (wordOf s t) (rw (e, f) at h)) (λ f. absurd (refusal-some (t .kind) (rw (e, f) at h)))))
+
+-- what the index held it still holds, where it holds one more
+pub holds-before : {pool places pool′ places′ : List ℕ} {count end c e : ℕ} (names more : List Principal) → Holds pool places count end names
+    → Holds pool′ places′ c e (names ++ more) → Holds pool′ places′ count end names
+holds-before {pool} {places} {pool′} {places′} {count} {end} names more old new =
+    rw (old .counted, old .ends) (holds-front names more new)
+
+-- an identifier entered: its number, and the index with it
+pub data EntryRead (pool places : List ℕ) (count end : ℕ) (names : List Principal) (id : Principal) : Kept → Type 0 where
+  entry-at : (c e : ℕ) (pool′ places′ : List ℕ) → Holds pool′ places′ c e (enter names id) → e ≤ 258 * c → c ≤ count + 1 → e ≤ end + 258
+      → length pool′ ≡ length pool → length places′ ≡ length places → EntryRead pool places count end names id (entry (At (place (enter names id) id) c e) pool′ places′)
+
+module _ (pool places : List ℕ) (count end : ℕ) (names : List Principal) (holds : Holds pool places count end names) (low : end ≤ 258 * count) (id : Principal)
+    (short : length id ≤ 256) (room : count < length places) (fits : end + 258 ≤ length pool) where
+  pub entry-read : EntryRead pool places count end names id (enterIn pool places count end id)
+  unfolding enter stringBytes
+  entry-read =
+      split (member id names)
+      (λ m. rw (enter-known pool places count end names holds id m)
+      (entry-at count end pool places (let h : Holds pool places count end names = holds in rw m h) low (omega arith) (omega arith) refl refl))
+      (λ m. rw (enter-new pool places count end names holds id m (omega (arith, short)) room (omega (arith, short, fits)))
+      (entry-at (count + 1) (end + 2 + length id) (put pool end (stringBytes id)) (set places count (end + 2))
+      (enter-new-holds pool places count end names holds id m (omega (arith, short)) room (omega (arith, short, fits)))
+      (omega (arith, low, short)) (omega arith) (omega (arith, short)) (put-length pool end (stringBytes id) (omega (arith, short, fits))) (length-set places count (end + 2))))
