@@ -1,0 +1,2 @@
+-- The working definitions, which judge as the program does.
+pub mod Judging
