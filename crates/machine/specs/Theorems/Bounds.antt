@@ -19,13 +19,13 @@ either true = omega arith
 either false = omega arith
 
 some-entry : {s : List ℕ} {e : Expr} {c : List ℕ} → Codes s e c → 1 ≤ length c
-some-entry (code-literal at) = omega arith
-some-entry (code-name at) = omega arith
-some-entry (code-number at) = omega arith
+some-entry (code-literal at p) = omega arith
+some-entry (code-name at p) = omega arith
+some-entry (code-number at p) = omega arith
 some-entry code-true = omega arith
 some-entry code-false = omega arith
-some-entry (code-unary {op = op} {c = c} k) = rw (length-append c (entry op 0 ∷ [])) (omega arith)
-some-entry (code-binary {op = op} {c = c} {d = d} k l) = rw (append-two c d (entry op 0)) (omega arith)
+some-entry (code-unary {op = op} {c = c} i j k) = rw (length-append c (entry op 0 ∷ [])) (omega arith)
+some-entry (code-binary {op = op} {c = c} {d = d} i j k l) = rw (append-two c d (entry op 0)) (omega arith)
 
 program-some : {s : List ℕ} (p : Program) {c : List ℕ} → ProgramCodes s p c → 1 ≤ length c
 program-some none code-none = omega arith
@@ -43,13 +43,13 @@ need-some (binary op e f) = omega arith
 -- no more operands than entries
 pub need-code : {s : List ℕ} {e : Expr} {c : List ℕ} → Codes s e c → need e ≤ length c
 unfolding need
-need-code (code-literal at) = omega arith
-need-code (code-name at) = omega arith
-need-code (code-number at) = omega arith
+need-code (code-literal at p) = omega arith
+need-code (code-name at p) = omega arith
+need-code (code-number at p) = omega arith
 need-code code-true = omega arith
 need-code code-false = omega arith
-need-code (code-unary {op = op} {c = c} k) = rw (length-append c (entry op 0 ∷ [])) (omega (arith, need-code k))
-need-code (code-binary {op = op} {c = c} {d = d} k l) = rw (append-two c d (entry op 0)) (omega (arith, need-code k, need-code l, some-entry k))
+need-code (code-unary {op = op} {c = c} i j k) = rw (length-append c (entry op 0 ∷ [])) (omega (arith, need-code k))
+need-code (code-binary {op = op} {c = c} {d = d} i j k l) = rw (append-two c d (entry op 0)) (omega (arith, need-code k, need-code l, some-entry k))
 
 mutual
   unfolding programNeed clauseNeed
