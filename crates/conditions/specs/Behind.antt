@@ -4,7 +4,7 @@ use mathlib.Core.List.{List}
 use Prim.Native.Nat.{ℕ, zero, suc, _+_, _-_, _<_}
 use lib.Dec.{eqb, leb}
 use lib.ListN.{length}
-use Rattle.text.specs.Loop.{Step, next, done, loop-ind}
+use Rattle.text.specs.Loop.{Step}
 use Rattle.lexical.specs.Kind
 use Rattle.lexical.specs.Bounds.{chosen}
 use Rattle.lexical.specs.declared.token.Token.{Token}
@@ -15,6 +15,7 @@ use Rattle.conditions.specs.Table.{ANY, TEST, TEXT, fits, stops}
 use Rattle.conditions.specs.Parsed.{Part, part, onPart}
 use Rattle.conditions.specs.Word.{nextAt}
 use Rattle.conditions.specs.Expression.{readExpression}
+use Rattle.conditions.specs.Working.Keeping.{Kept, kept-next, kept-done, loop-keeps}
 use Rattle.conditions.specs.Program.{State, ending, valuing, stopping, onClause, clausesTurn, readClause, readTested, readValue, readNested, readBlock, readClauses, readProgram, DEPTH}
 
 -- a fault, or a token of the text behind what was read
@@ -66,46 +67,33 @@ module _ (s : List ℕ) where
 
   -- the clauses of a program, one after the other
   module _ (d nest : ℕ) where
-    abbrev Ends : State → Parsed Program → Type 0
-    Ends x r = Stood s (x .0) → Behind s r
+    abbrev Stands : State → Type 0
+    Stands x = Stood s (x .0)
+
+    abbrev Turned : Step State (Parsed Program) → Type 0
+    Turned = Kept Stands (Behind s)
 
     abbrev turn : State → Step State (Parsed Program)
     turn = clausesTurn (λ nest t. readClause d s nest t) s nest
 
-    data Turned (x : State) : Step State (Parsed Program) → Type 0 where
-      turned-next : (y : State) → Stood s (y .0) → Turned x (next y)
-      turned-done : (r : Parsed Program) → Behind s r → Turned x (done r)
-
-    on-clause : (x : State) (q : Parsed Clause) → Behind s q → Turned x (onClause (x .0) (x .1) q)
-    on-clause x _ (behind-aside r p) = turned-done (aside r p) (behind-aside r p)
+    on-clause : (x : State) (q : Parsed Clause) → Behind s q → Turned (onClause (x .0) (x .1) q)
+    on-clause x _ (behind-aside r p) = kept-done (aside r p) (behind-aside r p)
     on-clause x _ (behind-ok c n h) =
-        chosen (Turned x) (leb (n .start) (x .0 .start)) _ _ (λ e. turned-done (aside 0 (x .0 .start)) (behind-aside 0 (x .0 .start))) (λ e. turned-next (n, also (x .1) c) h)
+        chosen Turned (leb (n .start) (x .0 .start)) _ _ (λ e. kept-done (aside 0 (x .0 .start)) (behind-aside 0 (x .0 .start))) (λ e. kept-next (n, also (x .1) c) h)
 
     stopped : (p : Program) (t : Token) → Stood s t → Behind s (stopping nest p t)
     unfolding stopping
     stopped p t h = chosen (Behind s) (stops nest (t .kind)) _ _ (λ e. behind-ok p t h) (λ e. behind-aside _ _)
 
-    turns-behind : (x : State) → Stood s (x .0) → Turned x (turn x)
-    turns-behind x h =
-        chosen (Turned x) (leb (length s) (x .0 .start)) _ _ (λ e. turned-done _ (stopped (x .1) (x .0) h))
-        (λ e. chosen (Turned x) (stops nest (x .0 .kind)) _ _ (λ f. turned-done _ (behind-ok (x .1) (x .0) h)) (λ f. on-clause x _ (clause-behind d nest (x .0))))
+    turn-behind : (x : State) → Stands x → Turned (turn x)
+    turn-behind x h =
+        chosen Turned (leb (length s) (x .0 .start)) _ _ (λ e. kept-done _ (stopped (x .1) (x .0) h))
+        (λ e. chosen Turned (stops nest (x .0 .kind)) _ _ (λ f. kept-done _ (behind-ok (x .1) (x .0) h)) (λ f. on-clause x _ (clause-behind d nest (x .0))))
 
-    turned-at : {x y : State} → Turned x (next y) → Stood s (y .0)
-    turned-at (turned-next _ h) = h
-
-    turned-with : {x : State} {r : Parsed Program} → Turned x (done r) → Behind s r
-    turned-with (turned-done _ h) = h
-
-    done-ends : (x : State) (r : Parsed Program) → turn x ≡ done r → Ends x r
-    done-ends x r e h = let k : Turned x (turn x) = turns-behind x h in turned-with (rw e at k)
-
-    next-ends : (x y : State) (r : Parsed Program) → turn x ≡ next y → length s - y .0 .start < length s - x .0 .start → Ends y r → Ends x r
-    next-ends x y r e l f h = let k : Turned x (turn x) = turns-behind x h in f (turned-at (rw e at k))
-
-    clauses-behind : (t : Token) → Ends (t, none) (readClauses (suc d) s nest t)
+    clauses-behind : (t : Token) → Stood s t → Behind s (readClauses (suc d) s nest t)
     unfolding readClauses
-    clauses-behind t =
-        loop-ind (λ x. length s - x .0 .start) (λ x. aside 0 (x .0 .start)) turn Ends (λ x h. behind-aside _ _) done-ends next-ends (t, none)
+    clauses-behind t h =
+        loop-keeps (λ x. length s - x .0 .start) (λ x. aside 0 (x .0 .start)) turn Stands (Behind s) (λ x. behind-aside _ _) turn-behind (t, none) h
 
   block-behind : (d nest : ℕ) (t : Token) → Stood s t → Behind s (readBlock d s nest t)
   unfolding readBlock

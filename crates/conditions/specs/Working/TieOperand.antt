@@ -52,7 +52,7 @@ prefix-before k =
     (λ e. chosen Before (eqb k Kind.NOT) _ _ (λ e n. (omega arith, omega arith)) (λ e n. absurd (n refl)))))
 
 -- a name is a string or a bare word
-name-cases : (s : List ℕ) (want start end : ℕ) → (wordSort s want start end ≡ Table.TEXT → ⊥) → Table.TRUE ≤ wordSort s want start end
+pub name-cases : (s : List ℕ) (want start end : ℕ) → (wordSort s want start end ≡ Table.TEXT → ⊥) → Table.TRUE ≤ wordSort s want start end
 unfolding wordSort
 name-cases s want start end =
     chosen (λ (w : ℕ). (w ≡ Table.TEXT → ⊥) → Table.TRUE ≤ w) (eqb want Table.ANY) _ Table.TEXT

@@ -14,7 +14,7 @@ use Rattle.machine.specs.Need.{need, programNeed, clauseNeed, span, room
 append-two : (c d : List ℕ) (x : ℕ) → length (c ++ d ++ (x ∷ [])) ≡ length c + length d + 1
 append-two c d x = rw (length-append (c ++ d) (x ∷ []), length-append c d)
 
-either : (t : Bool) → pick t 4096 0 ≤ 4096
+pub either : (t : Bool) → pick t 4096 0 ≤ 4096
 either true = omega arith
 either false = omega arith
 
@@ -64,7 +64,7 @@ mutual
   clause-need (nested e p) (code-nested {c = c} {d = d} k l) = rw (append-two c d (entry 33 0)) (omega (arith, need-code k, program-need p l, some-entry k))
 
 -- no more bytes than 4,096 for each operand
-span-least : (e : Expr) → span e ≤ 4096
+pub span-least : (e : Expr) → span e ≤ 4096
 unfolding span
 span-least (literal b) = omega arith
 span-least (name n) = omega arith
