@@ -1,2 +1,3 @@
 -- The working definitions, which judge as the program does.
 pub mod Judging
+pub mod Steep
