@@ -1,3 +1,4 @@
 -- The working definitions, which judge as the program does.
 pub mod Judging
 pub mod Steep
+pub mod Fit
