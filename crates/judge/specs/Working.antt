@@ -2,3 +2,4 @@
 pub mod Judging
 pub mod Steep
 pub mod Fit
+pub mod FitProgram

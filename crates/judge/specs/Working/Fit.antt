@@ -55,20 +55,20 @@ fit-more : (n r n′ r′ : ℕ) → n ≤ n′ → r ≤ r′ → (q : Parsed P
 fit-more n r n′ r′ h k _ (holds-aside a p) = holds-aside a p
 fit-more n r n′ r′ h k _ (holds-ok _ t (fit x e i j p)) = holds-ok (part x e) t (fit x e (omega (arith, h, i)) (omega (arith, k, j)) p)
 
--- a bracket has seven levels; a string at each bracket, and those of the level
+-- a bracket costs six operands, one for each level of operators; a string at each bracket, and those of the level
 abbrev pub deep : ℕ → ℕ → ℕ
-deep level nest = 7 * (16 - nest) + (6 - level) + 1
+deep level nest = 6 * (16 - nest) + (6 - level) + 1
 
 abbrev pub wide : ℕ → ℕ → ℕ
 wide level nest = 4096 * (17 - nest + lift level)
 
-add-deep : (n a b : ℕ) → a ≤ b → 7 * n + (6 - b) + 1 ≤ 7 * n + (6 - a) + 1
+add-deep : (n a b : ℕ) → a ≤ b → 6 * n + (6 - b) + 1 ≤ 6 * n + (6 - a) + 1
 add-deep n a b h = omega (arith, h)
 
 deep-more : (nest level l : ℕ) → level ≤ l → deep l nest ≤ deep level nest
 deep-more nest level l h = add-deep (16 - nest) level l h
 
-deep-step : (n level k : ℕ) → level ≤ k → k < 6 → 1 + (7 * n + (6 - (k + 1)) + 1) ≤ 7 * n + (6 - level) + 1
+deep-step : (n level k : ℕ) → level ≤ k → k < 6 → 1 + (6 * n + (6 - (k + 1)) + 1) ≤ 6 * n + (6 - level) + 1
 deep-step n level k h i = omega (arith, h, i)
 
 lift-more : (level l : ℕ) → level ≤ l → lift l ≤ lift level
