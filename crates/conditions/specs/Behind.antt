@@ -1,15 +1,15 @@
 -- The token behind a Conditions field is a token of its text. Assumes nothing.
 use mathlib.Core.Path.{_≡_}
 use mathlib.Core.List.{List}
-use Prim.Native.Nat.{ℕ, zero, suc, _+_, _-_, _<_}
+use Prim.Native.Nat.{ℕ, zero, suc, _+_, _-_}
 use lib.Dec.{eqb, leb}
 use lib.ListN.{length}
 use Rattle.text.specs.Loop.{Step}
 use Rattle.lexical.specs.Kind
 use Rattle.lexical.specs.Bounds.{chosen}
 use Rattle.lexical.specs.declared.token.Token.{Token}
-use Rattle.syntax.specs.Expr.{Expr, Program, none, also, Clause, plain, valued, nested}
-use Rattle.syntax.specs.Parsed.{Parsed, ok, aside, unexpected, andThen}
+use Rattle.syntax.specs.Expr.{Expr, Program, none, also, Clause, nested}
+use Rattle.syntax.specs.Parsed.{Parsed, ok, aside, andThen}
 use Rattle.syntax.specs.Stood.{Stood, stood-at}
 use Rattle.conditions.specs.Table.{ANY, TEST, TEXT, fits, stops}
 use Rattle.conditions.specs.Parsed.{Part, part, onPart}

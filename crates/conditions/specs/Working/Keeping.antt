@@ -1,5 +1,4 @@
 -- A loop whose turns keep what holds. Assumes nothing.
-use mathlib.Core.Path.{_≡_}
 use Prim.Native.Nat.{ℕ}
 use Rattle.text.specs.Loop.{Step, next, done, loop, loop-ind}
 

@@ -166,9 +166,10 @@ operator-between sort k =
 
 -- an operator that is one and not "~="
 pub binary-between : (op : ℕ) → Between op → (op ≡ 0 → ⊥) → (op ≡ Table.MATCH → ⊥) → (Op.JOIN ≤ op) × (op ≤ Op.EITHER)
-binary-between op b nz nm =
-    (split (ltb op 9) (λ e. absurd (nz (b .0 (ltb-true op 9 e)))) (λ e. ltb-false op 9 e),
-    split (ltb 29 op) (λ e. absurd (nm (b .1 (ltb-true 29 op e)))) (λ e. ltb-false 29 op e))
+binary-between op b nz nm = (
+  split (ltb op 9) (λ e. absurd (nz (b .0 (ltb-true op 9 e)))) (λ e. ltb-false op 9 e),
+  split (ltb 29 op) (λ e. absurd (nm (b .1 (ltb-true 29 op e)))) (λ e. ltb-false 29 op e),
+)
 
 below-both : (op : ℕ) → 27 < op → op ≤ 29 → (op ≡ Op.EITHER → ⊥) → op ≡ Op.BOTH
 below-both op h k n = split (eqb op Op.BOTH) (λ e. eqb-true op Op.BOTH e) (λ e. absurd (n (three op h k (eqb-false op Op.BOTH e))))

@@ -1,5 +1,4 @@
 -- Conditions are worth at most the top compliance value. Assumes nothing.
-use mathlib.Core.Path.{_≡_}
 use mathlib.Core.Bool.{Bool, true, false}
 use mathlib.Core.List.{List, [], _∷_}
 use Prim.Native.Nat.{ℕ, suc, _+_, _-_, _≤_}
@@ -7,7 +6,7 @@ use native.Mathlib.Omega.{arith}
 use lib.ListN.{length}
 use Rattle.text.specs.Choice.{pick}
 use Rattle.text.specs.Equal.{equal}
-use Rattle.syntax.specs.Expr.{Expr, Program, none, also, Clause, plain, valued, nested}
+use Rattle.syntax.specs.Expr.{Program, none, also, Clause, plain, valued, nested}
 use Rattle.expression.specs.Value.{Value, text, integer, test, rank, fault}
 use Rattle.expression.specs.Names.{Environment}
 use Rattle.expression.specs.Conditions.{evaluate, indexFrom, rankOf, top, gate, conditions, clause}

@@ -1,12 +1,10 @@
 -- What `judge` gives is what the Conditions field says. Assumes nothing.
-use mathlib.Core.Path.{_≡_, refl, sym, ap, _∙_}
-use mathlib.Core.List.{List, [], _∷_, _++_, map}
-use Prim.Native.Nat.{ℕ, _+_, _-_, _*_, _%_, _<_, _≤_}
+use mathlib.Core.Path.{_≡_, refl}
+use mathlib.Core.List.{List}
+use Prim.Native.Nat.{ℕ, _+_, _-_, _%_, _<_, _≤_}
 use native.Mathlib.Omega.{arith}
-use lib.Dec.{ltb}
 use lib.ListN.{length, take}
 use borrow.Author.Tests.{le-ltb}
-use Rattle.text.specs.Choice.{pick}
 use Rattle.lexical.specs.Kind.{IN-FIELD}
 use Rattle.lexical.specs.declared.token.Token.{Token}
 use Rattle.syntax.specs.Expr.{Program}
@@ -18,8 +16,6 @@ use Rattle.expression.specs.Operands.{rankIn}
 use Rattle.expression.specs.Conditions.{conditions, top}
 use Rattle.expression.specs.Tables.{Shows}
 use Rattle.expression.specs.Theorems.Topmost.{conditions-most}
-use Rattle.expression.specs.declared.value.Operand.{Operand}
-use Rattle.expression.specs.declared.value.Operand.the-variants.{Rank}
 use Rattle.machine.specs.Theorems.Runs.{run-conditions}
 use Rattle.conditions.specs.Word.{nextAt}
 use Rattle.conditions.specs.Program.{readProgram}

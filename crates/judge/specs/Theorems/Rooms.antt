@@ -6,7 +6,7 @@ use Prim.Native.Nat.{ℕ, _*_, _≤_}
 use native.Mathlib.Omega.{arith}
 use Rattle.lexical.specs.declared.token.Token.{Token}
 use Rattle.syntax.specs.Expr.{Program}
-use Rattle.syntax.specs.Parsed.{Parsed, ok}
+use Rattle.syntax.specs.Parsed.{ok}
 use Rattle.machine.specs.Need.{programNeed, programRoom}
 use Rattle.conditions.specs.Program.{DEPTH, readBlock, readProgram}
 use Rattle.judge.specs.Working.Fit.{Holds, holds-is}

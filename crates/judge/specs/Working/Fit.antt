@@ -1,8 +1,8 @@
 -- How much room an expression that was read needs to run, by its level and the brackets still to be opened. Assumes nothing.
-use mathlib.Core.Path.{_≡_, refl, sym}
-use mathlib.Core.Bool.{Bool, true, false}
+use mathlib.Core.Path.{_≡_, refl}
+use mathlib.Core.Bool.{true}
 use mathlib.Core.List.{List}
-use Prim.Native.Nat.{ℕ, zero, suc, _+_, _-_, _*_, _<_, _≤_, min, max}
+use Prim.Native.Nat.{ℕ, zero, suc, _+_, _-_, _*_, _<_, _≤_}
 use native.Mathlib.Omega.{arith}
 use lib.Dec.{eqb, ltb, leb}
 use lib.ListN.{length}
@@ -15,7 +15,7 @@ use Rattle.lexical.specs.Literal.{decodedAt}
 use Rattle.lexical.specs.Number as Number
 use Rattle.lexical.specs.declared.token.Token.{Token}
 use Rattle.syntax.specs.Op
-use Rattle.syntax.specs.Expr.{Expr, literal, name, number, truth, unary, binary}
+use Rattle.syntax.specs.Expr.{Expr, name, truth, unary, binary}
 use Rattle.syntax.specs.Code.{nameAt}
 use Rattle.syntax.specs.Parsed.{Parsed, ok, aside, andThen}
 use Rattle.machine.specs.Need.{need, span, room}
@@ -283,7 +283,7 @@ module _ (s : List ℕ) where
 
     pub expression-fits : (d level want row nest : ℕ) (t : Token) → nest ≤ 16 → level ≤ 6 → (want ≡ Table.ANY → level ≤ 2) → At level nest (readExpression d s level want row nest t)
     expression-fits zero level want row nest t few h w = holds-aside _ _
-    expression-fits (suc d) level want row nest t few h w = 
+    expression-fits (suc d) level want row nest t few h w =
         on-holds (deep level nest) (wide level nest) (Fits (deep level nest) (wide level nest)) (readOperand d s want row nest t) (λ sort e n. readChain d s level nest sort e n)
         (λ sort e n i j p. chain-at d level nest sort e n few i j p)
         (fit-more (deep (inner want) nest) (wide (inner want) nest) (deep level nest) (wide level nest) (deep-more nest level (inner want) (inner-level want level h w)) (wide-more nest level (inner want) (inner-level want level h w))

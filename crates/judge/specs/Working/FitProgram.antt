@@ -1,6 +1,5 @@
 -- How much room a program that was read needs to run, by the brackets still to be opened. Assumes nothing.
-use mathlib.Core.Path.{_≡_, refl}
-use mathlib.Core.Bool.{true}
+use mathlib.Core.Path.{_≡_}
 use mathlib.Core.List.{List}
 use Prim.Native.Nat.{ℕ, zero, suc, _+_, _-_, _*_, _<_, _≤_, max}
 use native.Mathlib.Omega.{arith}
@@ -12,7 +11,7 @@ use Rattle.lexical.specs.Kind
 use Rattle.lexical.specs.Bounds.{chosen}
 use Rattle.lexical.specs.declared.token.Token.{Token}
 use Rattle.syntax.specs.Expr.{Expr, Program, none, also, Clause, plain, valued, nested}
-use Rattle.syntax.specs.Parsed.{Parsed, ok, aside}
+use Rattle.syntax.specs.Parsed.{Parsed, aside}
 use Rattle.machine.specs.Need.{need, span, room, programNeed, clauseNeed, programRoom, clauseRoom}
 use Rattle.conditions.specs.Table.{ANY, TEST, TEXT, fits, stops}
 use Rattle.conditions.specs.Word.{nextAt}
