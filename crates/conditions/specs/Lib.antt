@@ -6,4 +6,5 @@ pub mod Expression
 pub mod Program
 pub mod Working
 pub mod Compiled
+pub mod Behind
 pub mod Examples

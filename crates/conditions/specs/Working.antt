@@ -12,3 +12,4 @@ pub mod Pace
 pub mod Reach
 pub mod PaceExpression
 pub mod PaceProgram
+pub mod Keeping

@@ -1,3 +1,4 @@
 pub mod Unread
 pub mod Shown
 pub mod Queried
+pub mod Topmost

@@ -1,6 +1,5 @@
 pub mod Machine
 pub mod Live
 pub mod Need
-pub mod Proper
 pub mod Working
 pub mod Theorems

@@ -164,6 +164,13 @@ operator-between sort k =
     (λ f. chosen Between (eqb (Table.testOperator k) Table.NONE) _ _
     (λ g. chosen Between (eqb sort Table.TEST) _ _ (λ h. ((λ i. omega arith), (λ i. omega (arith, i)))) (λ h. text-between k)) (λ g. test-between k)))
 
+-- an operator that is one and not "~="
+pub binary-between : (op : ℕ) → Between op → (op ≡ 0 → ⊥) → (op ≡ Table.MATCH → ⊥) → (Op.JOIN ≤ op) × (op ≤ Op.EITHER)
+binary-between op b nz nm = (
+  split (ltb op 9) (λ e. absurd (nz (b .0 (ltb-true op 9 e)))) (λ e. ltb-false op 9 e),
+  split (ltb 29 op) (λ e. absurd (nm (b .1 (ltb-true 29 op e)))) (λ e. ltb-false 29 op e),
+)
+
 below-both : (op : ℕ) → 27 < op → op ≤ 29 → (op ≡ Op.EITHER → ⊥) → op ≡ Op.BOTH
 below-both op h k n = split (eqb op Op.BOTH) (λ e. eqb-true op Op.BOTH e) (λ e. absurd (n (three op h k (eqb-false op Op.BOTH e))))
   where
@@ -189,8 +196,8 @@ takes-test op notto h =
 pub right-wanted : (op : ℕ) → Between op → (op ≡ 0 → ⊥) → (op ≡ Table.MATCH → ⊥) → Table.rightWant op ≡ Table.ANY → Table.rightLevel op ≤ 2
 unfolding Table.rightWant Table.rightLevel Table.levelOf
 right-wanted op b nz nm h =
-    let low : 9 ≤ op = split (ltb op 9) (λ e. absurd (nz (b .0 (ltb-true op 9 e)))) (λ e. ltb-false op 9 e) in
-    let high : op ≤ 29 = split (ltb 29 op) (λ e. absurd (nm (b .1 (ltb-true 29 op e)))) (λ e. ltb-false 29 op e) in
+    let low : 9 ≤ op = binary-between op b nz nm .0 in
+    let high : op ≤ 29 = binary-between op b nz nm .1 in
     split (ltb 27 op)
     (λ e. split (eqb op Op.EITHER) (λ f. rw f (omega arith))
     (λ f. rw (below-both op (ltb-true 27 op e) high (eqb-false op Op.EITHER f)) (omega arith)))

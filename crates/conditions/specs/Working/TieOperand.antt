@@ -39,37 +39,20 @@ unfolding Table.resultOf
 result-plain op =
     (pick-small 3 (ltb Op.MINUS op) _ _ (omega arith) (pick-small 3 (eqb op Op.OPPOSITE) _ _ (omega arith) (pick-small 3 (eqb op Op.LOOKUP) _ _ (omega arith) (pick-small 3 (eqb op Op.JOIN) _ _ (omega arith) (omega arith)))))
 
-pub prefix-small : (k : ℕ) → Table.prefixOperator k < 64
+-- an operator before an operand: none, or "$" and those behind it, up to "!"
+abbrev Before : ℕ → Type 0
+Before n = (n ≡ Table.NONE → ⊥) → (Op.LOOKUP ≤ n) × (n ≤ Op.OPPOSITE)
+
+pub prefix-before : (k : ℕ) → Before (Table.prefixOperator k)
 unfolding Table.prefixOperator
-prefix-small k =
-    (pick-small 64 (eqb k Kind.MINUS) _ _ (omega arith) (pick-small 64 (eqb k Kind.AT) _ _ (omega arith) (pick-small 64 (eqb k Kind.DOLLAR) _ _ (omega arith) (pick-small 64 (eqb k Kind.NOT) _ _ (omega arith) (omega arith)))))
-
-comparison-small : (k : ℕ) → Table.comparison k < 58
-unfolding Table.comparison
-comparison-small k =
-    (pick-small 58 (eqb k Kind.EQUAL) _ _ (omega arith) (pick-small 58 (eqb k Kind.UNEQUAL) _ _ (omega arith) (pick-small 58 (eqb k Kind.LESS) _ _ (omega arith) (pick-small 58 (eqb k Kind.GREATER) _ _ (omega arith) (pick-small 58 (eqb k Kind.AT-MOST) _ _ (omega arith) (pick-small 58 (eqb k Kind.AT-LEAST) _ _ (omega arith) (omega arith)))))))
-
-text-small : (k : ℕ) → Table.textOperator k < 64
-unfolding Table.textOperator
-text-small k =
-    (pick-small 64 (eqb k Kind.DOT) _ _ (omega arith) (pick-small 64 (eqb k Kind.MATCHES) _ _ (omega arith) (omega (arith, comparison-small k))))
-
-number-small : (k : ℕ) → Table.numberOperator k < 64
-unfolding Table.numberOperator
-number-small k =
-    (pick-small 64 (eqb k Kind.POWER) _ _ (omega arith) (pick-small 64 (eqb k Kind.TIMES) _ _ (omega arith) (pick-small 64 (eqb k Kind.DIVIDE) _ _ (omega arith) (pick-small 64 (eqb k Kind.REMAINDER) _ _ (omega arith) (pick-small 64 (eqb k Kind.PLUS) _ _ (omega arith) (pick-small 64 (eqb k Kind.MINUS) _ _ (omega arith) (pick-small 64 (eqb (Table.comparison k) Table.NONE) _ _ (omega arith) (omega (arith, comparison-small k)))))))))
-
-test-small : (k : ℕ) → Table.testOperator k < 64
-unfolding Table.testOperator
-test-small k = (pick-small 64 (eqb k Kind.AND) _ _ (omega arith) (pick-small 64 (eqb k Kind.OR) _ _ (omega arith) (omega arith)))
-
-pub operator-small : (sort k : ℕ) → Table.operator sort k < 64
-unfolding Table.operator
-operator-small sort k =
-    (pick-small 64 (eqb sort Table.NUMBER) _ _ (number-small k) (pick-small 64 (eqb sort Table.TEXT) _ _ (text-small k) (pick-small 64 (eqb (Table.testOperator k) Table.NONE) _ _ (pick-small 64 (eqb sort Table.TEST) _ _ (omega arith) (text-small k)) (test-small k))))
+prefix-before k =
+    chosen Before (eqb k Kind.MINUS) _ _ (λ e n. (omega arith, omega arith))
+    (λ e. chosen Before (eqb k Kind.AT) _ _ (λ e n. (omega arith, omega arith))
+    (λ e. chosen Before (eqb k Kind.DOLLAR) _ _ (λ e n. (omega arith, omega arith))
+    (λ e. chosen Before (eqb k Kind.NOT) _ _ (λ e n. (omega arith, omega arith)) (λ e n. absurd (n refl)))))
 
 -- a name is a string or a bare word
-name-cases : (s : List ℕ) (want start end : ℕ) → (wordSort s want start end ≡ Table.TEXT → ⊥) → Table.TRUE ≤ wordSort s want start end
+pub name-cases : (s : List ℕ) (want start end : ℕ) → (wordSort s want start end ≡ Table.TEXT → ⊥) → Table.TRUE ≤ wordSort s want start end
 unfolding wordSort
 name-cases s want start end =
     chosen (λ (w : ℕ). (w ≡ Table.TEXT → ⊥) → Table.TRUE ≤ w) (eqb want Table.ANY) _ Table.TEXT
@@ -91,19 +74,19 @@ module _ (s : List ℕ) (short : length s < 65536) (m : List ℕ) (top : ℕ) wh
     unfolding readLiteral literalRead
     literal-same =
         both (Same s m top) (ltb 2048 (length (decodedAt s (t .start)))) _ _ _ _ (λ h. same-aside 7 (t .start) m (keeps-self m top))
-        (λ h. entered Table.TEXT Op.LITERAL _ (omega arith) (omega arith) (code-literal (t .start)))
+        (λ h. entered Table.TEXT Op.LITERAL _ (omega arith) (omega arith) (code-literal (t .start) (omega (arith, within, short))))
 
     digits-same : Same s m top (readDigits s t) (digitsRead s m top t)
     unfolding readDigits digitsRead
     digits-same =
         both (Same s m top) (leb Number.LIMIT (Number.numberAt s (t .start) (t .end))) _ _ _ _ (λ h. same-aside 5 (t .start) m (keeps-self m top))
-        (λ h. entered Table.NUMBER Op.NUMBER _ (omega arith) (omega arith) (code-number (t .start)))
+        (λ h. entered Table.NUMBER Op.NUMBER _ (omega arith) (omega arith) (code-number (t .start) (omega (arith, within, short))))
 
     name-as : (w : ℕ) → ((w ≡ Table.TEXT → ⊥) → Table.TRUE ≤ w) → Same s m top (ok (part w (name (nameAt s (t .start)))) (nextAt s (t .end))) (nameAs s m top t w)
     name-as w h =
         chosen (λ (r : Ran). Same s m top (ok (part w (name (nameAt s (t .start)))) (nextAt s (t .end))) r) (eqb w Table.TEXT)
         (leafFound s m top Table.TEXT Op.NAME t) (ran (Found w (t .start) top (nextAt s (t .end))) m)
-        (λ e. rw (eqb-true w Table.TEXT e) (entered Table.TEXT Op.NAME (name (nameAt s (t .start))) (omega arith) (omega arith) (code-name (t .start))))
+        (λ e. rw (eqb-true w Table.TEXT e) (entered Table.TEXT Op.NAME (name (nameAt s (t .start))) (omega arith) (omega arith) (code-name (t .start) (omega (arith, within, short)))))
         (λ e. same-part w (t .start) top (name (nameAt s (t .start))) (nextAt s (t .end)) m (omega (arith, within, short)) (start-within s (t .end))
         (grown-none m top (PartCodes s w (t .start) (name (nameAt s (t .start)))) (bare (h (eqb-false w Table.TEXT e)) refl refl)))
 
@@ -149,7 +132,7 @@ module _ (s m : List ℕ) (top : ℕ) (b : List ℕ) (u x p : ℕ) (e : Expr) (n
       split (ltb x Table.TRUE)
       (λ h. rw h (grown-as m top b u (PartCodes s x p e) (Codes s e) (plain-codes (ltb-true x Table.TRUE h)) g))
       (λ h. split (eqb wanted Table.TEXT)
-      (λ k. rw (h, k) (bare-grown (ltb-false x Table.TRUE h) Op.NAME p e (omega arith) near (λ q. rw q (code-name p))))
+      (λ k. rw (h, k) (bare-grown (ltb-false x Table.TRUE h) Op.NAME p e (omega arith) near (λ q. rw q (code-name p near))))
       (λ k. split (eqb x Table.TRUE)
       (λ l. rw (h, k, l) (bare-grown (ltb-false x Table.TRUE h) Op.TRUE 0 (truth true) (omega arith) (omega arith) (λ q. code-true)))
       (λ l. rw (h, k, l) (bare-grown (ltb-false x Table.TRUE h) Op.FALSE 0 (truth false) (omega arith) (omega arith) (λ q. code-false)))))
@@ -170,27 +153,27 @@ module _ (s m : List ℕ) (top : ℕ) (b : List ℕ) (u x p : ℕ) (e : Expr) (n
         grown-then m top b₁ u₁ (put b₁ u₁ op 0) (above b₁ u₁) (Codes s f) (λ d. d ≡ entry op 0 ∷ []) (Then (Codes s f) (entry op 0))
         (λ c d q r. rw r (then c q)) (settle-grown (Table.operandOf op)) (grown-put b₁ u₁ op 0 small (omega arith))
 
-    unary-codes : (c : List ℕ) → Then (Codes s f) (entry op 0) c → Codes s (unary op f) c
-    unary-codes _ (then d q) = code-unary q
+    unary-codes : Op.LOOKUP ≤ op → op ≤ Op.OPPOSITE → (c : List ℕ) → Then (Codes s f) (entry op 0) c → Codes s (unary op f) c
+    unary-codes low high _ (then d q) = code-unary low high q
 
-    pub unary-same : Same s m top (applied (unary op) op x e n) (finishAt b u op x p n)
+    pub unary-same : Op.LOOKUP ≤ op → op ≤ Op.OPPOSITE → Same s m top (applied (unary op) op x e n) (finishAt b u op x p n)
     unfolding applied finishAt
-    unary-same =
+    unary-same low high =
         both (Same s m top) (Table.fits (Table.operandOf op) x) _ _ _ _
         (λ h. same-part (Table.resultOf op) 0 (above b₁ u₁) (unary op f) n (put b₁ u₁ op 0) (omega arith) within
         (grown-as m top (put b₁ u₁ op 0) (above b₁ u₁) (Then (Codes s f) (entry op 0)) (PartCodes s (Table.resultOf op) 0 (unary op f))
-        (λ c q. whole (result-plain op) (unary-codes c q)) taken))
+        (λ c q. whole (result-plain op) (unary-codes low high c q)) taken))
         (λ h. same-refused s m top n b (kept g))
 
-    binary-codes : (l : Expr) (c d : List ℕ) → Codes s l c → Then (Codes s f) (entry op 0) d → Codes s (binary op l f) (c ++ d)
-    binary-codes l c _ k (then d q) = rw (sym (append-assoc c d (entry op 0 ∷ []))) (code-binary k q)
+    binary-codes : Op.JOIN ≤ op → op ≤ Op.EITHER → (l : Expr) (c d : List ℕ) → Codes s l c → Then (Codes s f) (entry op 0) d → Codes s (binary op l f) (c ++ d)
+    binary-codes low high l c _ k (then d q) = rw (sym (append-assoc c d (entry op 0 ∷ []))) (code-binary low high k q)
 
     -- behind a left operand
-    pub binary-same : (m₀ : List ℕ) (top₀ : ℕ) (l : Expr) → Grown m₀ top₀ m top (Codes s l) → Same s m₀ top₀ (applied (binary op l) op x e n) (finishAt b u op x p n)
+    pub binary-same : Op.JOIN ≤ op → op ≤ Op.EITHER → (m₀ : List ℕ) (top₀ : ℕ) (l : Expr) → Grown m₀ top₀ m top (Codes s l) → Same s m₀ top₀ (applied (binary op l) op x e n) (finishAt b u op x p n)
     unfolding applied finishAt
-    binary-same m₀ top₀ l k =
+    binary-same low high m₀ top₀ l k =
         both (Same s m₀ top₀) (Table.fits (Table.operandOf op) x) _ _ _ _
         (λ h. same-part (Table.resultOf op) 0 (above b₁ u₁) (binary op l f) n (put b₁ u₁ op 0) (omega arith) within
         (grown-then m₀ top₀ m top (put b₁ u₁ op 0) (above b₁ u₁) (Codes s l) (Then (Codes s f) (entry op 0)) (PartCodes s (Table.resultOf op) 0 (binary op l f))
-        (λ c d q r. whole (result-plain op) (binary-codes l c d q r)) k taken))
+        (λ c d q r. whole (result-plain op) (binary-codes low high l c d q r)) k taken))
         (λ h. same-refused s m₀ top₀ n b (under k (kept g)))

@@ -14,18 +14,18 @@ use Rattle.machine.specs.Need.{need, programNeed, clauseNeed, span, room
 append-two : (c d : List ℕ) (x : ℕ) → length (c ++ d ++ (x ∷ [])) ≡ length c + length d + 1
 append-two c d x = rw (length-append (c ++ d) (x ∷ []), length-append c d)
 
-either : (t : Bool) → pick t 4096 0 ≤ 4096
+pub either : (t : Bool) → pick t 4096 0 ≤ 4096
 either true = omega arith
 either false = omega arith
 
 some-entry : {s : List ℕ} {e : Expr} {c : List ℕ} → Codes s e c → 1 ≤ length c
-some-entry (code-literal at) = omega arith
-some-entry (code-name at) = omega arith
-some-entry (code-number at) = omega arith
+some-entry (code-literal at p) = omega arith
+some-entry (code-name at p) = omega arith
+some-entry (code-number at p) = omega arith
 some-entry code-true = omega arith
 some-entry code-false = omega arith
-some-entry (code-unary {op = op} {c = c} k) = rw (length-append c (entry op 0 ∷ [])) (omega arith)
-some-entry (code-binary {op = op} {c = c} {d = d} k l) = rw (append-two c d (entry op 0)) (omega arith)
+some-entry (code-unary {op = op} {c = c} i j k) = rw (length-append c (entry op 0 ∷ [])) (omega arith)
+some-entry (code-binary {op = op} {c = c} {d = d} i j k l) = rw (append-two c d (entry op 0)) (omega arith)
 
 program-some : {s : List ℕ} (p : Program) {c : List ℕ} → ProgramCodes s p c → 1 ≤ length c
 program-some none code-none = omega arith
@@ -43,13 +43,13 @@ need-some (binary op e f) = omega arith
 -- no more operands than entries
 pub need-code : {s : List ℕ} {e : Expr} {c : List ℕ} → Codes s e c → need e ≤ length c
 unfolding need
-need-code (code-literal at) = omega arith
-need-code (code-name at) = omega arith
-need-code (code-number at) = omega arith
+need-code (code-literal at p) = omega arith
+need-code (code-name at p) = omega arith
+need-code (code-number at p) = omega arith
 need-code code-true = omega arith
 need-code code-false = omega arith
-need-code (code-unary {op = op} {c = c} k) = rw (length-append c (entry op 0 ∷ [])) (omega (arith, need-code k))
-need-code (code-binary {op = op} {c = c} {d = d} k l) = rw (append-two c d (entry op 0)) (omega (arith, need-code k, need-code l, some-entry k))
+need-code (code-unary {op = op} {c = c} i j k) = rw (length-append c (entry op 0 ∷ [])) (omega (arith, need-code k))
+need-code (code-binary {op = op} {c = c} {d = d} i j k l) = rw (append-two c d (entry op 0)) (omega (arith, need-code k, need-code l, some-entry k))
 
 mutual
   unfolding programNeed clauseNeed
@@ -64,7 +64,7 @@ mutual
   clause-need (nested e p) (code-nested {c = c} {d = d} k l) = rw (append-two c d (entry 33 0)) (omega (arith, need-code k, program-need p l, some-entry k))
 
 -- no more bytes than 4,096 for each operand
-span-least : (e : Expr) → span e ≤ 4096
+pub span-least : (e : Expr) → span e ≤ 4096
 unfolding span
 span-least (literal b) = omega arith
 span-least (name n) = omega arith

@@ -24,7 +24,6 @@ use Rattle.expression.specs.Theorems.Shown.{values-are, lookup-is as shown-is}
 use Rattle.expression.specs.declared.value.Operand.the-variants.{Rank}
 use Rattle.machine.specs.Machine.{State, on, raised, runAt, pushStep, clauseStep, stepOf, stepped, exec, resultOf}
 use Rattle.machine.specs.Need.{need, programNeed, clauseNeed, room, programRoom, clauseRoom}
-use Rattle.machine.specs.Proper.{Proper, ProgramProper, ClauseProper}
 use Rattle.machine.specs.Theorems.Bounds.{need-some}
 use Rattle.machine.specs.Working.Widths.{plain-rank, plain-ranged, within-span}
 use Rattle.machine.specs.Working.Stacking.{pair, topped, count-is, top-is, place-is, text-is, unary-is, lookup-is, binary-is}
@@ -125,28 +124,28 @@ module _ (depth space : ℕ) (s : List ℕ) (look : List ℕ → List ℕ) (env 
     raise-step r m = binary-is depth vs h (env .values) 34 bs (rank r) (rank m) ∙ ap (topped vs bs) (raise-is (env .values) r m)
 
   -- an expression's code leaves its value on top
-  pub run-expression : {e : Expr} {c : List ℕ} (k : Codes s e c) → Proper k → (rest vs bs : List ℕ) → length vs + 2 * need e ≤ depth → length bs + room e ≤ space
+  pub run-expression : {e : Expr} {c : List ℕ} → Codes s e c → (rest vs bs : List ℕ) → length vs + 2 * need e ≤ depth → length bs + room e ≤ space
       → run (c ++ rest) (on vs bs) ≡ run rest (topped vs bs (evaluate env e))
-  unfolding Proper evaluate need room topped
-  run-expression (code-literal at) p rest vs bs h k = enter 0 at p rest vs bs _ (literal-step vs bs (omega arith) at k)
-  run-expression (code-name at) p rest vs bs h k = enter 1 at p rest vs bs _ (name-step vs bs (omega arith) at k)
-  run-expression (code-number at) p rest vs bs h k = enter 2 at p rest vs bs _ (number-step vs bs (omega arith) at)
-  run-expression code-true p rest vs bs h k = enter 3 0 (omega arith) rest vs bs _ (true-step vs bs (omega arith))
-  run-expression code-false p rest vs bs h k = enter 4 0 (omega arith) rest vs bs _ (false-step vs bs (omega arith))
-  run-expression (code-unary {op = op} {e = e} {c = c} k) p rest vs bs h m =
+  unfolding evaluate need room topped
+  run-expression (code-literal at p) rest vs bs h k = enter 0 at p rest vs bs _ (literal-step vs bs (omega arith) at k)
+  run-expression (code-name at p) rest vs bs h k = enter 1 at p rest vs bs _ (name-step vs bs (omega arith) at k)
+  run-expression (code-number at p) rest vs bs h k = enter 2 at p rest vs bs _ (number-step vs bs (omega arith) at)
+  run-expression code-true rest vs bs h k = enter 3 0 (omega arith) rest vs bs _ (true-step vs bs (omega arith))
+  run-expression code-false rest vs bs h k = enter 4 0 (omega arith) rest vs bs _ (false-step vs bs (omega arith))
+  run-expression (code-unary {op = op} {e = e} {c = c} low high k) rest vs bs h m =
       let v : Value = evaluate env e in
       let q : op ≡ 5 → length bs + 4096 ≤ space = λ o. (let m′ : length bs + max (room e) 4096 ≤ space = rw (eq-eqb op 5 o) at m in omega arith) in
       ap (λ (l : List ℕ). run l (on vs bs)) (append-assoc c (entry op 0 ∷ []) rest)
-      ∙ run-expression k (p .1 .1) (entry op 0 ∷ rest) vs bs h (omega arith)
-      ∙ enter op 0 (omega arith) rest (vs ++ pair v) (bs ++ bytesOf v) _ (unary-step vs bs (omega (arith, need-some e)) op v (p .0) (p .1 .0) q)
-  run-expression (code-binary {op = op} {e = e} {f = f} {c = c} {d = d} k l) p rest vs bs h m =
+      ∙ run-expression k (entry op 0 ∷ rest) vs bs h (omega arith)
+      ∙ enter op 0 (omega arith) rest (vs ++ pair v) (bs ++ bytesOf v) _ (unary-step vs bs (omega (arith, need-some e)) op v low high q)
+  run-expression (code-binary {op = op} {e = e} {f = f} {c = c} {d = d} low high k l) rest vs bs h m =
       let v : Value = evaluate env e in
       let w : Value = evaluate env f in
       ap (λ (l : List ℕ). run l (on vs bs)) (append-assoc (c ++ d) (entry op 0 ∷ []) rest ∙ append-assoc c d (entry op 0 ∷ rest))
-      ∙ run-expression k (p .1 .1 .0) (d ++ (entry op 0 ∷ rest)) vs bs (omega arith) (omega arith)
-      ∙ run-expression l (p .1 .1 .1) (entry op 0 ∷ rest) (vs ++ pair v) (bs ++ bytesOf v) (rw (count-is vs v) (omega arith))
+      ∙ run-expression k (d ++ (entry op 0 ∷ rest)) vs bs (omega arith) (omega arith)
+      ∙ run-expression l (entry op 0 ∷ rest) (vs ++ pair v) (bs ++ bytesOf v) (rw (count-is vs v) (omega arith))
       (rw (length-append bs (bytesOf v)) (omega (arith, within-span env e)))
-      ∙ enter op 0 (omega arith) rest ((vs ++ pair v) ++ pair w) ((bs ++ bytesOf v) ++ bytesOf w) _ (binary-step vs bs (omega (arith, need-some e)) op v w (p .0) (p .1 .0))
+      ∙ enter op 0 (omega arith) rest ((vs ++ pair v) ++ pair w) ((bs ++ bytesOf v) ++ bytesOf w) _ (binary-step vs bs (omega (arith, need-some e)) op v w low high)
 
   -- the entries that end a clause, above the rank r of the program so far
   module _ (vs bs : List ℕ) (h : length vs + 4 ≤ depth) (r : ℕ) where
@@ -183,53 +182,53 @@ module _ (depth space : ℕ) (s : List ℕ) (look : List ℕ → List ℕ) (env 
   flat bs r = rw (plain-rank r .none, append-nil bs)
 
   mutual
-    unfolding ProgramProper ClauseProper conditions clause programNeed clauseNeed programRoom clauseRoom topped
+    unfolding conditions clause programNeed clauseNeed programRoom clauseRoom topped
 
     -- a program's code leaves its rank on top
-    pub run-program : (p : Program) {c : List ℕ} (k : ProgramCodes s p c) → ProgramProper p k → (rest vs bs : List ℕ)
+    pub run-program : (p : Program) {c : List ℕ} → ProgramCodes s p c → (rest vs bs : List ℕ)
         → length vs + 2 * programNeed p ≤ depth → length bs + programRoom p ≤ space → run (c ++ rest) (on vs bs) ≡ run rest (topped vs bs (rank (conditions env p)))
-    run-program none code-none q rest vs bs h m = enter 30 0 (omega arith) rest vs bs _ (begin-step vs bs (omega arith))
-    run-program (also p q) (code-also {c = c} {d = d} k l) pr rest vs bs h m =
+    run-program none code-none rest vs bs h m = enter 30 0 (omega arith) rest vs bs _ (begin-step vs bs (omega arith))
+    run-program (also p q) (code-also {c = c} {d = d} k l) rest vs bs h m =
         ap (λ (x : List ℕ). run x (on vs bs)) (append-assoc c d rest)
-        ∙ run-program p k (pr .0) (d ++ rest) vs bs (omega arith) (omega arith)
-        ∙ run-clause q l (pr .1) rest vs bs (conditions env p) (omega arith) (omega arith)
+        ∙ run-program p k (d ++ rest) vs bs (omega arith) (omega arith)
+        ∙ run-clause q l rest vs bs (conditions env p) (omega arith) (omega arith)
 
-    run-clause : (q : Clause) {c : List ℕ} (k : ClauseCodes s q c) → ClauseProper q k → (rest vs bs : List ℕ) (r : ℕ)
+    run-clause : (q : Clause) {c : List ℕ} → ClauseCodes s q c → (rest vs bs : List ℕ) (r : ℕ)
         → length vs + 2 * (1 + clauseNeed q) ≤ depth → length bs + clauseRoom q ≤ space
         → run (c ++ rest) (topped vs bs (rank r)) ≡ run rest (topped vs bs (rank (max r (clause env q))))
-    run-clause (plain e) (code-plain {c = c} k) pr rest vs bs r h m =
+    run-clause (plain e) (code-plain {c = c} k) rest vs bs r h m =
         let v : Value = evaluate env e in
         ap (λ (x : List ℕ). run x (topped vs bs (rank r))) (append-assoc c (entry 31 0 ∷ []) rest)
-        ∙ run-expression k pr (entry 31 0 ∷ rest) (vs ++ pair (rank r)) (bs ++ bytesOf (rank r)) (rw (count-is vs (rank r)) (omega arith)) (rw (flat bs r) m)
+        ∙ run-expression k (entry 31 0 ∷ rest) (vs ++ pair (rank r)) (bs ++ bytesOf (rank r)) (rw (count-is vs (rank r)) (omega arith)) (rw (flat bs r) m)
         ∙ enter 31 0 (omega arith) rest ((vs ++ pair (rank r)) ++ pair v) ((bs ++ bytesOf (rank r)) ++ bytesOf v) _ (plain-step vs bs (omega (arith, need-some e)) r v)
-    run-clause (valued e f) (code-valued {c = c} {d = d} k l) pr rest vs bs r h m =
+    run-clause (valued e f) (code-valued {c = c} {d = d} k l) rest vs bs r h m =
         let v : Value = evaluate env e in
         let w : Value = evaluate env f in
         let vs1 : List ℕ = vs ++ pair (rank r) in
         let bs1 : List ℕ = bs ++ bytesOf (rank r) in
         ap (λ (x : List ℕ). run x (topped vs bs (rank r))) (append-assoc (c ++ d) (entry 32 0 ∷ []) rest ∙ append-assoc c d (entry 32 0 ∷ rest))
-        ∙ run-expression k (pr .0) (d ++ (entry 32 0 ∷ rest)) vs1 bs1 (rw (count-is vs (rank r)) (omega arith)) (rw (flat bs r) (omega arith))
-        ∙ run-expression l (pr .1) (entry 32 0 ∷ rest) (vs1 ++ pair v) (bs1 ++ bytesOf v) (rw (count-is vs1 v, count-is vs (rank r)) (omega arith))
+        ∙ run-expression k (d ++ (entry 32 0 ∷ rest)) vs1 bs1 (rw (count-is vs (rank r)) (omega arith)) (rw (flat bs r) (omega arith))
+        ∙ run-expression l (entry 32 0 ∷ rest) (vs1 ++ pair v) (bs1 ++ bytesOf v) (rw (count-is vs1 v, count-is vs (rank r)) (omega arith))
         (rw (length-append bs1 (bytesOf v), flat bs r) (omega (arith, within-span env e)))
         ∙ enter 32 0 (omega arith) rest ((vs1 ++ pair v) ++ pair w) ((bs1 ++ bytesOf v) ++ bytesOf w) _ (valued-step vs bs (omega (arith, need-some e)) r v w)
-    run-clause (nested e p) (code-nested {c = c} {d = d} k l) pr rest vs bs r h m =
+    run-clause (nested e p) (code-nested {c = c} {d = d} k l) rest vs bs r h m =
         let v : Value = evaluate env e in
         let n : ℕ = conditions env p in
         let vs1 : List ℕ = vs ++ pair (rank r) in
         let bs1 : List ℕ = bs ++ bytesOf (rank r) in
         ap (λ (x : List ℕ). run x (topped vs bs (rank r))) (append-assoc (c ++ d) (entry 33 0 ∷ []) rest ∙ append-assoc c d (entry 33 0 ∷ rest))
-        ∙ run-expression k (pr .0) (d ++ (entry 33 0 ∷ rest)) vs1 bs1 (rw (count-is vs (rank r)) (omega arith)) (rw (flat bs r) (omega arith))
-        ∙ run-program p l (pr .1) (entry 33 0 ∷ rest) (vs1 ++ pair v) (bs1 ++ bytesOf v) (rw (count-is vs1 v, count-is vs (rank r)) (omega arith))
+        ∙ run-expression k (d ++ (entry 33 0 ∷ rest)) vs1 bs1 (rw (count-is vs (rank r)) (omega arith)) (rw (flat bs r) (omega arith))
+        ∙ run-program p l (entry 33 0 ∷ rest) (vs1 ++ pair v) (bs1 ++ bytesOf v) (rw (count-is vs1 v, count-is vs (rank r)) (omega arith))
         (rw (length-append bs1 (bytesOf v), flat bs r) (omega (arith, within-span env e)))
         ∙ enter 33 0 (omega arith) rest ((vs1 ++ pair v) ++ pair (rank n)) ((bs1 ++ bytesOf v) ++ bytesOf (rank n)) _ (nested-step vs bs (omega (arith, need-some e)) r v n)
 
 -- "Conditions": in buffers large enough the machine's result is the program's rank
 module _ {rec consts values names constants : List ℕ} {env : Environment} (shows : Shows rec consts values names constants env) (depth space : ℕ) where
-  pub run-conditions : (s : List ℕ) (p : Program) (code : List ℕ) (k : ProgramCodes s p code) → ProgramProper p k → 2 * programNeed p ≤ depth → programRoom p ≤ space
+  pub run-conditions : (s : List ℕ) (p : Program) (code : List ℕ) → ProgramCodes s p code → 2 * programNeed p ≤ depth → programRoom p ≤ space
       → resultOf (exec depth space s (lookupIn rec consts values names constants) (map (counted rec) values) code (on [] [])) ≡ Rank (conditions env p)
   unfolding resultOf exec topped operand
-  run-conditions s p code k pr h m =
+  run-conditions s p code k h m =
       rw (values-are shows)
       (ap (λ (c : List ℕ). resultOf (exec depth space s (lookupIn rec consts values names constants) (env .values) c (on [] []))) (sym (append-nil code))
-      ∙ ap resultOf (run-program depth space s (lookupIn rec consts values names constants) env (shown-is shows) p k pr [] [] [] (omega arith) (omega arith))
+      ∙ ap resultOf (run-program depth space s (lookupIn rec consts values names constants) env (shown-is shows) p k [] [] [] (omega arith) (omega arith))
       ∙ top-is [] (rank (conditions env p)))

@@ -1,0 +1,5 @@
+-- The working definitions, which judge as the program does.
+pub mod Judging
+pub mod Steep
+pub mod Fit
+pub mod FitProgram

@@ -1,0 +1,64 @@
+-- Conditions read into code that is run, as the program does it; and the ways out of its functions. Assumes nothing.
+use mathlib.Core.Path.{_≡_, sym}
+use mathlib.Core.List.{List, [], map}
+use Prim.Native.Nat.{ℕ, _%_, _<_, _≤_}
+use lib.Dec.{ltb}
+use lib.ListN.{length, take}
+use borrow.Author.Tests.{lt-ltb, le-ltb}
+use Rattle.text.specs.Choice.{pick}
+use Rattle.text.specs.Counted.{counted}
+use Rattle.lexical.specs.declared.token.Token.{Token}
+use Rattle.expression.specs.Operands.{rankIn}
+use Rattle.expression.specs.Tables.{lookupIn}
+use Rattle.expression.specs.declared.value.Operand.{Operand}
+use Rattle.machine.specs.Machine.{on, exec, resultOf}
+use Rattle.conditions.specs.Working.Emit.{Ran, ran}
+use Rattle.conditions.specs.Working.Program.{conditionsAt}
+use Rattle.conditions.specs.declared.emit.Out.{Out}
+use Rattle.conditions.specs.declared.emit.Out.the-variants.{Found, Aside as Refused}
+use Rattle.judge.specs.declared.Judged.{Judged}
+use Rattle.judge.specs.declared.Judged.the-variants.{On, Aside}
+
+-- the operand that the code leaves
+unfoldable pub leftBy : List ℕ → List ℕ → List ℕ → List ℕ → List ℕ → List ℕ → List ℕ → ℕ → ℕ → Operand
+leftBy code s rec consts values names constants depth space =
+    resultOf (exec depth space s (lookupIn rec consts values names constants) (map (counted rec) values) code (on [] []))
+
+-- the rank that the code up to top gives, in a byte; 0 where the code is shorter
+unfoldable pub rankAt : List ℕ → ℕ → List ℕ → List ℕ → List ℕ → List ℕ → List ℕ → List ℕ → ℕ → ℕ → ℕ
+rankAt code top s rec consts values names constants depth space =
+    pick (ltb (length code) top) 0 (rankIn (leftBy (take top code) s rec consts values names constants depth space) % 256)
+
+-- the rank of what was read, or its fault
+abbrev pub judgedOf : (List ℕ → ℕ → ℕ) → Ran → Judged
+judgedOf f (ran (Refused r p) b) = Aside r p
+judgedOf f (ran (Found x p u n) b) = On (f b u) n
+
+-- a field in the text s whose first token is t; the code is written to m
+unfoldable pub judgedIn : List ℕ → Token → List ℕ → List ℕ → List ℕ → List ℕ → List ℕ → List ℕ → ℕ → ℕ → Judged
+judgedIn s t rec consts values names constants m depth space =
+    judgedOf (λ b u. rankAt b u s rec consts values names constants depth space) (conditionsAt s m 0 t)
+
+module _ (s rec consts values names constants : List ℕ) (depth space : ℕ) where
+  -- `rank_at`
+  module _ (code : List ℕ) (top : ℕ) where
+    pub rank-short : length code < top → 0 ≡ rankAt code top s rec consts values names constants depth space
+    unfolding rankAt
+    rank-short h = simp (lt-ltb _ _ h)
+
+    pub rank-run : top ≤ length code → (part : List ℕ) → part ≡ take top code → (v : Operand)
+        → v ≡ resultOf (exec depth space s (lookupIn rec consts values names constants) (map (counted rec) values) part (on [] []))
+        → (k : ℕ) → k ≡ rankIn v → (r : ℕ) → r ≡ k % 256 → r ≡ rankAt code top s rec consts values names constants depth space
+    unfolding rankAt leftBy
+    rank-run h part pe v ve k ke r re = simp (le-ltb _ _ h, re, ke, ve, pe)
+
+  -- `judge`
+  module _ (t : Token) (m b : List ℕ) (o : Out) (oe : ran o b ≡ conditionsAt s m 0 t) where
+    pub judge-aside : (r p : ℕ) → o ≡ Refused r p → Aside r p ≡ judgedIn s t rec consts values names constants m depth space
+    unfolding judgedIn
+    judge-aside r p e = simp (sym oe, e)
+
+    pub judge-on : (x p u : ℕ) (n : Token) → o ≡ Found x p u n → (k : ℕ) → k ≡ rankAt b u s rec consts values names constants depth space
+        → On k n ≡ judgedIn s t rec consts values names constants m depth space
+    unfolding judgedIn
+    judge-on x p u n e k ke = simp (sym oe, e, ke)
