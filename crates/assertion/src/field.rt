@@ -258,7 +258,17 @@ pub fn field(
     }
     if k == kind::CONDITIONS {
         return conditions_field(
-            s, query, values, names, consts, constants, program, stack, bytes, d, t,
+            s,
+            query,
+            values,
+            names,
+            consts,
+            constants,
+            program,
+            stack,
+            bytes,
+            d,
+            t,
         );
     }
     passed(d, ended(t))

@@ -150,8 +150,23 @@ fn next_field(
     use_label(free, t.kind);
     let n = token_at(s, kind::mode_of(t.kind), t.end);
     field(
-        t.kind, s, standing, query, values, names, consts, start, constants, pool, places, code,
-        program, stack, bytes, d, n,
+        t.kind,
+        s,
+        standing,
+        query,
+        values,
+        names,
+        consts,
+        start,
+        constants,
+        pool,
+        places,
+        code,
+        program,
+        stack,
+        bytes,
+        d,
+        n,
     )
 }
 
@@ -184,8 +199,23 @@ fn fields(
             return last(s, free, code, d, t);
         }
         match next_field(
-            free, s, standing, query, values, names, consts, start, constants, pool, places, code,
-            program, stack, bytes, d, t,
+            free,
+            s,
+            standing,
+            query,
+            values,
+            names,
+            consts,
+            start,
+            constants,
+            pool,
+            places,
+            code,
+            program,
+            stack,
+            bytes,
+            d,
+            t,
         ) {
             Went::Aside { reason, place } => {
                 return Reading::Dropped { reason, place };
@@ -241,7 +271,22 @@ pub fn read(
     };
     let t = token_at(s, kind::BEFORE, 0);
     fields(
-        &mut free, s, standing, query, values, names, consts, start, constants, pool, places, code,
-        program, stack, bytes, d, t,
+        &mut free,
+        s,
+        standing,
+        query,
+        values,
+        names,
+        consts,
+        start,
+        constants,
+        pool,
+        places,
+        code,
+        program,
+        stack,
+        bytes,
+        d,
+        t,
     )
 }

@@ -7,7 +7,7 @@ use machine::run;
 ghost use mathlib.Core.Path.{_≡_};
 ghost use Prim.Native.Nat.{_%_};
 ghost use lib.ListN.{length};
-ghost use Rattle.judge.specs.Working.Judging.{judgedIn, rankAt};
+ghost use Rattle.judge.specs.Working.Judging.{judgedIn, rankAt, writtenIn};
 
 // The rank and the token behind the field; or the first fault: reason 0 is that of buffers that are too small.
 pub enum Judged {
@@ -68,6 +68,7 @@ pub fn judge<'a>(
     bytes: &mut [u8],
 ) -> Judged
     ensures { λ r. ⌜ r ≡ judgedIn (now (s .entry)) t (now (query .entry)) (now (consts .entry)) (now (values .entry)) (now (names .entry)) (now (constants .entry)) (now (code .entry)) (length (now (stack .entry))) (length (now (bytes .entry))) ⌝ }
+    ensures { λ _. ⌜ now (code .exit) ≡ writtenIn (now (s .entry)) t (now (code .entry)) ⌝ }
 {
     match conditions(s, code, 0, t) {
         Out::Aside { reason, at } => Judged::Aside { reason, place: at },

@@ -131,9 +131,9 @@ module _ (s free code : List ℕ) (d : Partial) (t : Token) where
       last-signed mode n r h me nt e = e ∙ rw (nt, me, ne-eqb _ _ ne, ← be, y, ← fe, h)
 
 -- `next_field`
-pub next-is : (s : List ℕ) (g : Given) (x : Tables) (d : Partial) (t : Token) (mode : ℕ) (n : Token) (r : Moved) → mode ≡ Kind.opened (t .kind) → n ≡ tokenAt s mode (t .end)
-    → r ≡ fieldAt g (t .kind) x d n → r ≡ fieldAt g (t .kind) x d (first s t)
-next-is s g x d t mode n r me nt e = e ∙ rw (nt, me)
+pub next-is : (s : List ℕ) (g : Given) (x : Tables) (d : Partial) (kind end mode : ℕ) (n : Token) (r : Moved) → mode ≡ Kind.opened kind → n ≡ tokenAt s mode end
+    → r ≡ fieldAt g kind x d n → r ≡ fieldAt g kind x d (tokenAt s (Kind.opened kind) end)
+next-is s g x d kind end mode n r me nt e = e ∙ rw (nt, me)
 
 -- the loop, with the invariant `fieldsIn .. ≡ a`
 module _ (s : List ℕ) (standing : ℕ) (query values names : List ℕ) (start depth space : ℕ) (free consts constants pool places code program : List ℕ) (d : Partial) (t : Token) (a : Result)

@@ -1,4 +1,4 @@
-use Rattle.judge.specs.Working.Judging.{judge-aside, judge-on}
+use Rattle.judge.specs.Working.Judging.{judge-aside, judge-on, written-is}
 use borrow.Author.Needs.{needs}
 use Rattle.judge.proofs.judge.Statement.{statement}
 use Rattle.judge.proofs.judge.Tie as tie
@@ -29,7 +29,7 @@ same-length c = search needs
 
 -- src/lib.rt:57:1
 returns : tie.Need-returns
-returns c = search judge-aside
+returns c = search (judge-aside, written-is)
 
 -- src/lib.rt:57:1
 same-length-2 : tie.Need-same-length-2
@@ -45,7 +45,7 @@ same-length-4 c = search needs
 
 -- src/lib.rt:57:1
 returns-2 : tie.Need-returns-2
-returns-2 c = search judge-on
+returns-2 c = search (judge-on, written-is)
 
 pub judge-spec : {M : Type 1} → statement M
 judge-spec =

@@ -39,6 +39,17 @@ unfoldable pub judgedIn : List ℕ → Token → List ℕ → List ℕ → List 
 judgedIn s t rec consts values names constants m depth space =
     judgedOf (λ b u. rankAt b u s rec consts values names constants depth space) (conditionsAt s m 0 t)
 
+-- the code that is written
+abbrev pub writtenBy : Ran → List ℕ
+writtenBy (ran o b) = b
+
+unfoldable pub writtenIn : List ℕ → Token → List ℕ → List ℕ
+writtenIn s t m = writtenBy (conditionsAt s m 0 t)
+
+pub written-is : (s : List ℕ) (t : Token) (m b : List ℕ) (o : Out) → ran o b ≡ conditionsAt s m 0 t → b ≡ writtenIn s t m
+unfolding writtenIn
+written-is s t m b o e = rw (← e)
+
 module _ (s rec consts values names constants : List ℕ) (depth space : ℕ) where
   -- `rank_at`
   module _ (code : List ℕ) (top : ℕ) where
