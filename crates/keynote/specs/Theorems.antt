@@ -1,3 +1,4 @@
 pub mod Report
+pub mod Answered
 pub mod Demand2
 pub mod Demand3
