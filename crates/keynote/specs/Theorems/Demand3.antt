@@ -9,6 +9,7 @@ use Rattle.record.specs.Query.{Query, Attribute}
 use Rattle.record.specs.Read.{accepted}
 use Rattle.record.specs.Record.{readRecord}
 use Rattle.principal.specs.Principal.{Principal}
+use Rattle.principal.specs.Members.{member}
 use Rattle.compliance.specs.Reach.{InReach, reach}
 use Rattle.compliance.specs.Theorems.Alike.{Alike, a[], a∷, AlikeIn, reach-same, rounds-same, reached-same, policy-same}
 use Rattle.expression.specs.Names.{Environment}
@@ -93,6 +94,23 @@ module _ (q q′ : Query) (k : AlikeWhere (Dereferenced q) q q′) where
   pub needed-same : needed q ≡ needed q′
   unfolding needed
   needed-same = ap (λ l. reportSize (length l)) (k .assertions)
+
+  -- the second query's reached assertions dereference the same names
+  pub dereferenced-same : (n : List ℕ) → Dereferenced q n → Dereferenced q′ n
+  dereferenced-same n d = record {
+    by = d .by;
+    kept = subst (λ (l : List Assertion). Mem (d .by) l) (ap keptOf (readings-same k)) (d .kept);
+    reached = sym (ap (member (d .by .authorizer)) (reach-same systems-alike)) ∙ d .reached;
+    does = d .does;
+  }
+
+  pub dereferenced-back : (n : List ℕ) → Dereferenced q′ n → Dereferenced q n
+  dereferenced-back n d = record {
+    by = d .by;
+    kept = subst (λ (l : List Assertion). Mem (d .by) l) (sym (ap keptOf (readings-same k))) (d .kept);
+    reached = ap (member (d .by .authorizer)) (reach-same systems-alike) ∙ d .reached;
+    does = d .does;
+  }
 
 -- what is equal of two records on two pages
 pub record SameAnswer (s s′ page page′ : List ℕ) (size : ℕ) : Type 0 where
