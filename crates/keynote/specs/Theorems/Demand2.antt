@@ -1,20 +1,21 @@
 -- Demand 2, of the definition: an answer is the least solution, its rounds and reached are those of the rounds and of the reach; every
 -- kept assertion takes part and no other does; every dropped one is reported. Assumes nothing.
-use mathlib.Core.Path.{_≡_, refl, sym, ap, _∙_}
+use mathlib.Core.Path.{_≡_, refl, sym, ap, _∙_, subst}
 use mathlib.Core.Bool.{true, false}
 use mathlib.Core.Option.{Option, some}
 use mathlib.Core.Logic.{_⊎_, inl, inr, ⊎-elim}
 use mathlib.Core.List.{List, [], _∷_, _++_, map, List·Memᴰ as Mem, List·Memᴰ·head as here, List·Memᴰ·tail as there, List·Memᴰ·cases-cons as mem-∷, Memᴰ·map}
 use Prim.Native.Nat.{ℕ, zero, suc, _+_, _*_, _-_, _≤_, _<_}
 use native.Mathlib.Omega.{arith}
-use lib.ListN.{length, getD, getElem?, drop}
+use lib.ListN.{length, getD, getElem?, drop, length-append, length-map, length-drop}
+use lib.Seq.{drop-append-seam}
 use Rattle.text.specs.Choice.{clash}
 use Rattle.text.specs.Counted.{pairAt}
 use Rattle.record.specs.Query.{Query, Supplied}
 use Rattle.record.specs.Read.{accepted}
 use Rattle.record.specs.Record.{readRecord}
 use Rattle.principal.specs.Principal.{Principal, policy}
-use Rattle.principal.specs.Members.{member, Distinct}
+use Rattle.principal.specs.Members.{member, Distinct, distinct-le}
 use Rattle.compliance.specs.Licensees.{Rank}
 use Rattle.compliance.specs.System.{Assertion, System, equations, round, Solves, Least}
 use Rattle.compliance.specs.Reach.{reach, InReach, Reachable}
@@ -26,8 +27,9 @@ use Rattle.expression.specs.Conditions.{top}
 use Rattle.assertion.specs.Assertion.{Assertion as Said}
 use Rattle.assertion.specs.Read.{Read, kept, dropped, readAssertion}
 use Rattle.keynote.specs.Answer.{ranked, reading, readings, keptOf, system, classOf, roundsOf, reachedOf}
-use Rattle.keynote.specs.Report.{reasonOf, placeOf, report}
+use Rattle.keynote.specs.Report.{report, reportSize}
 use Rattle.keynote.specs.Outcome.{answer, needed, outcome, pageAfter}
+use Rattle.keynote.specs.declared.Outcome.{Outcome}
 use Rattle.keynote.specs.Theorems.Report.{Entry, report-head, report-entry, report-needed}
 use Rattle.keynote.specs.Theorems.Answered.{outcome-answered, page-answered}
 
@@ -74,21 +76,31 @@ rounds-solve q p i = rounds-rank (system q) p (reach-complete (system q) i)
 
 -- ---- the reach
 
--- "Reached is that number of principals": a list of those that can be reached, each once
-pub record Reached (q : Query) (l : List Principal) : Type 0 where
-  pub sound : (p : Principal) → member p l ≡ true → Reachable (system q) p
-  pub complete : (p : Principal) → Reachable (system q) p → member p l ≡ true
-  pub distinct : Distinct l
-  pub number : length l ≡ reachedOf q
+-- "Reached is that number of principals": so many can be reached, each counted once
+pub record Reached (q : Query) (n : ℕ) : Type 0 where
+  pub those : List Principal
+  pub sound : (p : Principal) → member p those ≡ true → Reachable (system q) p
+  pub complete : (p : Principal) → Reachable (system q) p → member p those ≡ true
+  pub distinct : Distinct those
+  pub number : length those ≡ n
 
-pub reached-is : (q : Query) → Reached q (reach (system q))
+pub reached-is : (q : Query) → Reached q (reachedOf q)
 unfolding reachedOf reached
 reached-is q = record {
+  those = reach (system q);
   sound = reach-sound (system q);
   complete = λ p i. reach-complete (system q) i;
   distinct = reach-distinct (system q);
   number = refl;
 }
+
+-- no other number is
+pub reached-only : (q : Query) (n : ℕ) → Reached q n → n ≡ reachedOf q
+reached-only q n r =
+    let o : Reached q (reachedOf q) = reached-is q in
+    let a = distinct-le (r .distinct) (o .those) (λ p m. o .complete p (r .sound p m)) in
+    let b = distinct-le (o .distinct) (r .those) (λ p m. r .complete p (o .sound p m)) in
+    omega (arith, r .number, o .number)
 
 -- ---- kept and dropped assertions
 
@@ -133,3 +145,85 @@ reading-at q i a e = map-at reading (q .assertions) i a e
 -- every assertion stands in the report: 0 and 0 where it is kept, else the reason against it and its place
 pub reported : (q : Query) (i : ℕ) (a : Supplied) → getElem? (q .assertions) i ≡ some a → Entry (report (readings q)) i (readAssertion (a .standing) (a .text))
 reported q i a e = report-entry (readings q) i _ (reading-at q i a e)
+
+-- ---- the report at the front of a page
+
+front-at : (l m : List ℕ) (i : ℕ) → i < length l → getD (l ++ m) i 0 ≡ getD l i 0
+front-at [] m i h = absurd (omega arith)
+front-at (x ∷ l) m zero h = refl
+front-at (x ∷ l) m (suc i) h = front-at l m i (omega arith)
+
+front-pair : (l m : List ℕ) (i : ℕ) → i + 1 < length l → pairAt (l ++ m) i ≡ pairAt l i
+unfolding pairAt
+front-pair l m i h = omega (arith, front-at l m i (omega arith), front-at l m (i + 1) h)
+
+found-below : {A : Type 0} (l : List A) (i : ℕ) (a : A) → getElem? l i ≡ some a → i < length l
+found-below [] i a e = let z : _≡_ {A = ℕ} 0 1 = cc in absurd (omega arith)
+found-below (x ∷ l) zero a e = omega arith
+found-below (x ∷ l) (suc i) a e = omega (arith, found-below l i a e)
+
+module _ (q : Query) (rest : List ℕ) where
+  long : length (report (readings q)) ≡ 3 + 3 * length (q .assertions)
+  unfolding needed reportSize
+  long = report-needed q
+
+  many : length (readings q) ≡ length (q .assertions)
+  unfolding readings
+  many = length-map (q .assertions) reading
+
+  page-head : (getD (report (readings q) ++ rest) 0 0 ≡ 1) × (pairAt (report (readings q) ++ rest) 1 ≡ 3 * length (q .assertions))
+  page-head =
+      let (f, g) = report-head (readings q) in
+      (front-at (report (readings q)) rest 0 (omega (arith, long)) ∙ f, omega (arith, front-pair (report (readings q)) rest 1 (omega (arith, long)), g, many))
+
+  page-entry : (i : ℕ) (a : Supplied) → getElem? (q .assertions) i ≡ some a → Entry (report (readings q) ++ rest) i (readAssertion (a .standing) (a .text))
+  page-entry i a e =
+      let x : Entry (report (readings q)) i (readAssertion (a .standing) (a .text)) = reported q i a e in
+      let b : i < length (q .assertions) = found-below (q .assertions) i a e in
+      record {
+        reason = front-at (report (readings q)) rest (3 + 3 * i) (omega (arith, long)) ∙ x .reason;
+        place = front-pair (report (readings q)) rest (3 + 3 * i + 1) (omega (arith, long)) ∙ x .place;
+      }
+
+  page-beyond : drop (needed q) (report (readings q) ++ rest) ≡ rest
+  page-beyond = ap (λ (n : ℕ). drop n (report (readings q) ++ rest)) (sym (report-needed q)) ∙ drop-append-seam (report (readings q)) rest
+
+page-size : (q : Query) (page : List ℕ) → needed q ≤ length page → length (report (readings q) ++ drop (needed q) page) ≡ length page
+page-size q page h = omega (arith, length-append (report (readings q)) (drop (needed q) page), report-needed q, length-drop (needed q) page)
+
+-- ---- the whole
+
+-- what an answer to a query tells, with the page after it
+pub record Answered (q : Query) (o : Outcome) (page after : List ℕ) : Type 0 where
+  pub number : o .number ≡ 0
+  pub place : o .place ≡ 0
+  pub solution : Least (system q) (rank (system q))
+  pub class : (r : Rank) → Least (system q) r → o .rank ≡ r policy
+  pub settled : EqualOnReach q (o .rounds) (suc (o .rounds))
+  pub first : (n : ℕ) → n < o .rounds → EqualOnReach q n (suc n) → ⊥
+  pub reached : Reached q (o .reached)
+  pub head : (getD after 0 0 ≡ 1) × (pairAt after 1 ≡ 3 * length (q .assertions))
+  pub entries : (i : ℕ) (a : Supplied) → getElem? (q .assertions) i ≡ some a → Entry after i (readAssertion (a .standing) (a .text))
+  pub beyond : drop (needed q) after ≡ drop (needed q) page
+  pub size : length after ≡ length page
+
+told : (q : Query) (page : List ℕ) → needed q ≤ length page → (o : Outcome) (after : List ℕ) → o ≡ answer q → after ≡ report (readings q) ++ drop (needed q) page → Answered q o page after
+unfolding answer
+told q page h o after oe ae = record {
+  number = ap (λ (x : Outcome). x .number) oe;
+  place = ap (λ (x : Outcome). x .place) oe;
+  solution = rank-least (system q);
+  class = λ r l. ap (λ (x : Outcome). x .rank) oe ∙ class-is q r l;
+  settled = subst (λ (n : ℕ). EqualOnReach q n (suc n)) (sym (ap (λ (x : Outcome). x .rounds) oe)) (rounds-equal q);
+  first = λ n l. rounds-least q n (subst (λ (m : ℕ). n < m) (ap (λ (x : Outcome). x .rounds) oe) l);
+  reached = subst (Reached q) (sym (ap (λ (x : Outcome). x .reached) oe)) (reached-is q);
+  head = subst (λ (x : List ℕ). (getD x 0 0 ≡ 1) × (pairAt x 1 ≡ 3 * length (q .assertions))) (sym ae) (page-head q (drop (needed q) page));
+  entries = λ i a g. subst (λ (x : List ℕ). Entry x i (readAssertion (a .standing) (a .text))) (sym ae) (page-entry q (drop (needed q) page) i a g);
+  beyond = ap (drop (needed q)) ae ∙ page-beyond q (drop (needed q) page);
+  size = ap length ae ∙ page-size q page h;
+}
+
+-- Demand 2: a record that is accepted is answered, on every page that is large enough
+pub demand-2 : (s : List ℕ) (q : Query) → readRecord s ≡ accepted q → (page : List ℕ) → needed q ≤ length page
+    → Answered q (outcome s (length page)) page (pageAfter s page)
+demand-2 s q e page h = told q page h (outcome s (length page)) (pageAfter s page) (outcome-answered s q e (length page) h) (page-answered s q e page h)
