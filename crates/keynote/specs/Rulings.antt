@@ -1,13 +1,23 @@
--- The starred rulings of 01, computed from the definitions as a single table: the texts are read, the answers given. Assumes nothing.
+-- The starred rulings of 01, and a few others, computed from the definitions as a single table: texts are read, answers given. Assumes nothing.
 use mathlib.Core.Path.{_≡_, refl}
 use mathlib.Core.List.{List, [], _∷_, _++_, map}
 use Prim.Native.Nat.{ℕ}
 use Prim.Native.Char.{code}
 use Prim.Native.String.{String, [] as nothing, _∷_ as _then_}
+use lib.ListN.{length, replicate}
 use Rattle.record.specs.Query.{Query, Supplied}
+use Rattle.record.specs.Encode.{stringBytes, assertionBytes, itemsBytes, groupBytes, encode}
+use Rattle.record.specs.Field as RecordField
+use Rattle.record.specs.Item as RecordItem
+use Rattle.record.specs.Record as RecordRecord
+use Rattle.text.specs.Counted as TextCounted
+use Rattle.assertion.specs.Read.{dropped}
+use Rattle.syntax.specs.Parsed as SyntaxParsed
 use Rattle.compliance.specs.Highest.{highest}
 use Rattle.keynote.specs.Answer.{worth, ranked, reading, readings, keptOf, system, classOf, roundsOf, reachedOf}
-use Rattle.keynote.specs.Report.{reasonOf}
+use Rattle.keynote.specs.Report.{reasonOf, placeOf, pairBytes, entryBytes, entriesBytes, report, reportSize}
+use Rattle.keynote.specs.Outcome.{answer, needed, judged, outcome, written, pageAfter}
+use Rattle.keynote.specs.declared.Outcome.{Outcome}
 use Rattle.text.specs.Class as TextClass
 use Rattle.text.specs.Decimal as TextDecimal
 use Rattle.text.specs.Digits as TextDigits
@@ -21,6 +31,7 @@ use Rattle.lexical.specs.Line as LexicalLine
 use Rattle.lexical.specs.Literal as LexicalLiteral
 use Rattle.lexical.specs.Number as LexicalNumber
 use Rattle.lexical.specs.Operator as LexicalOperator
+use Rattle.lexical.specs.Reason as LexicalReason
 use Rattle.lexical.specs.Run as LexicalRun
 use Rattle.lexical.specs.Token as LexicalToken
 use Rattle.lexical.specs.Unit as LexicalUnit
@@ -88,6 +99,10 @@ holds = (0 ∷ [], 1)
 abbrev pub fails : List ℕ × ℕ
 fails = (0 ∷ [], 0)
 
+-- POLICY licenses a
+abbrev pub first : Query
+first = desk ("a" ∷ []) ("Authorizer: \"POLICY\"\nLicensees: \"a\"" ∷ [])
+
 -- POLICY to a, a to b, b to a
 abbrev pub ring : List String
 ring =
@@ -109,7 +124,7 @@ five =
 
 pub record Rulings : Type 0 where
   -- "POLICY licenses "a", requester a: rank 1, rounds 2, reached 2."
-  pub licence : told (desk ("a" ∷ []) ("Authorizer: \"POLICY\"\nLicensees: \"a\"" ∷ [])) ≡ (0 ∷ [], 1 ∷ 2 ∷ 2 ∷ [])
+  pub licence : told first ≡ (0 ∷ [], 1 ∷ 2 ∷ 2 ∷ [])
   -- "POLICY to a, a to b, b to a: requester c gives 0, 0, 3; requester b gives 1, 3, 3."
   pub ring-c : told (desk ("c" ∷ []) ring) ≡ (0 ∷ 0 ∷ 0 ∷ [], 0 ∷ 0 ∷ 3 ∷ [])
   pub ring-b : told (desk ("b" ∷ []) ring) ≡ (0 ∷ 0 ∷ 0 ∷ [], 1 ∷ 3 ∷ 3 ∷ [])
@@ -135,9 +150,16 @@ pub record Rulings : Type 0 where
   pub rounds-down : tested "@\"-1.5\" == -2" ≡ holds
   pub no-exponent : tested "@\"1e3\" == 0" ≡ holds
   pub out-of-range : tested "@\"2147483648\" == 0" ≡ holds
+  -- not starred: "Text `Licensees: "a"`: reason 3 at 14. `Authorizer: "POLICY"`, newline, `Licensees: "a" &&`: reason 2 at 38."
+  pub no-authorizer : reading (supplied (bytes "Licensees: \"a\"")) ≡ dropped 3 14
+  pub no-licensee : reading (supplied (bytes "Authorizer: \"POLICY\"\nLicensees: \"a\" &&")) ≡ dropped 2 38
+  -- not starred: "The first ruling [..] is a record of 63 bytes", here with a page of 8 bytes that are 7
+  pub first-long : length (encode first) ≡ 63
+  pub first-outcome : outcome (encode first) 8 ≡ record { number = 0; place = 0; rank = 1; rounds = 2; reached = 2 }
+  pub first-page : pageAfter (encode first) (replicate 8 7) ≡ 1 ∷ 0 ∷ 3 ∷ 0 ∷ 0 ∷ 0 ∷ 7 ∷ 7 ∷ []
 
 pub rulings : Rulings
-unfolding bytes supplied query reasons told class tested worth ranked reading readings keptOf system classOf roundsOf reachedOf reasonOf highest TextClass.isDigit TextClass.inClass TextDecimal.inRange TextDecimal.roundedDown TextDecimal.withFraction TextDecimal.unsigned TextDecimal.decimal TextDigits.valueFrom TextDigits.value TextEqual.equal TextLoop.turns TextLoop.loop TextScan.past LexicalClass.classOf LexicalKind.opened LexicalLabel.labelKind LexicalLine.visible LexicalLine.inLine LexicalLine.blankTo LexicalLine.lineAt LexicalLine.linesFrom LexicalLine.tokenAt LexicalLiteral.units LexicalLiteral.unitsAt LexicalLiteral.literalEnd LexicalLiteral.decodedAt LexicalNumber.decimal LexicalNumber.held LexicalNumber.numberAt LexicalOperator.equalPair LexicalOperator.pairOf LexicalOperator.markKind LexicalOperator.isOf LexicalOperator.operatorKind LexicalRun.hasClass LexicalRun.inRun LexicalToken.widthOf LexicalToken.operatorAt LexicalToken.operatorToken LexicalToken.literalToken LexicalToken.floatEnd LexicalToken.numberToken LexicalToken.tokenFrom LexicalUnit.barred LexicalUnit.unitAt LexicalWord.lower LexicalWord.stands LexicalWord.spells FieldsAuthorizer.authorized FieldsAuthorizer.authorizer FieldsIdentifier.sizeFault FieldsIdentifier.identifierFault FieldsIdentifier.identified FieldsIdentifier.identifier FieldsLicensees.licensee FieldsLicensees.listed FieldsLicensees.listFrom FieldsLicensees.listOpened FieldsLicensees.ofRead FieldsLicensees.threshold FieldsLicensees.primary FieldsLicensees.expression FieldsLicensees.licensees FieldsParsed.ending AssertionDraft.without AssertionDraft.total AssertionRead.finished AssertionRead.field AssertionRead.fieldsFrom AssertionRead.readAssertion ConditionsExpression.readExpression ConditionsOperand.readLiteral ConditionsOperand.readName ConditionsOperand.readDigits ConditionsOperand.readLeaf ConditionsOperand.settledTree ConditionsOperand.applied ConditionsProgram.ending ConditionsProgram.valuing ConditionsProgram.stopping ConditionsProgram.readProgram ConditionsProgram.readBlock ConditionsTable.beginsString ConditionsTable.beginsNumber ConditionsTable.beginsFloat ConditionsTable.allows ConditionsTable.comparison ConditionsTable.numberOperator ConditionsTable.textOperator ConditionsTable.testOperator ConditionsTable.operator ConditionsTable.prefixOperator ConditionsTable.levelOf ConditionsTable.operandOf ConditionsTable.resultOf ConditionsTable.operandLevel ConditionsTable.operandWant ConditionsTable.rightWant ConditionsTable.rightLevel ConditionsTable.binds ConditionsTable.insideLevel ConditionsTable.fits ConditionsTable.stops ConditionsWord.wordSort SyntaxCode.numberAt ComplianceLicensees.value ComplianceLicensees.licensed ComplianceLicensees.named ComplianceLicensees.licensees ComplianceReach.licenseesOf ComplianceReach.reachFrom ComplianceReach.namings ComplianceReach.reach ComplianceRounds.equalOn ComplianceRounds.settled ComplianceRounds.reached ComplianceRounds.firstSettled ComplianceRounds.rounds ComplianceRounds.mentioned ComplianceRounds.rank ComplianceSystem.direct ComplianceSystem.asserted ComplianceSystem.delegated ComplianceSystem.equations ComplianceSystem.round PrincipalMembers.member PrincipalPrincipal.same PrincipalPrincipal.policy ExpressionConditions.evaluate ExpressionConditions.indexFrom ExpressionConditions.rankOf ExpressionConditions.top ExpressionConditions.clause ExpressionIntegers.ranged ExpressionIntegers.negated ExpressionIntegers.differ ExpressionIntegers.over ExpressionIntegers.raisedTo ExpressionIntegers.odd ExpressionIntegers.signOfPower ExpressionIntegers.power ExpressionIntegers.sizes ExpressionIntegers.compared ExpressionOperations.held ExpressionOperations.relates ExpressionOperations.arithmetic ExpressionOperations.logical ExpressionOperations.ofTexts ExpressionOperations.ofIntegers ExpressionOperations.ofTests ExpressionOperations.isTextual ExpressionOperations.binaryOf ExpressionOperations.converted ExpressionOperations.negative ExpressionOperations.opposite ExpressionOperations.unaryOf ExpressionQueried.environment
+unfolding bytes supplied query reasons told class tested worth ranked reading readings keptOf system classOf roundsOf reachedOf reasonOf highest TextClass.isDigit TextClass.inClass TextDecimal.inRange TextDecimal.roundedDown TextDecimal.withFraction TextDecimal.unsigned TextDecimal.decimal TextDigits.valueFrom TextDigits.value TextEqual.equal TextLoop.turns TextLoop.loop TextScan.past LexicalClass.classOf LexicalKind.opened LexicalLabel.labelKind LexicalLine.visible LexicalLine.inLine LexicalLine.blankTo LexicalLine.lineAt LexicalLine.linesFrom LexicalLine.tokenAt LexicalLiteral.units LexicalLiteral.unitsAt LexicalLiteral.literalEnd LexicalLiteral.decodedAt LexicalNumber.decimal LexicalNumber.held LexicalNumber.numberAt LexicalOperator.equalPair LexicalOperator.pairOf LexicalOperator.markKind LexicalOperator.isOf LexicalOperator.operatorKind LexicalRun.hasClass LexicalRun.inRun LexicalToken.widthOf LexicalToken.operatorAt LexicalToken.operatorToken LexicalToken.literalToken LexicalToken.floatEnd LexicalToken.numberToken LexicalToken.tokenFrom LexicalUnit.barred LexicalUnit.unitAt LexicalWord.lower LexicalWord.stands LexicalWord.spells FieldsAuthorizer.authorized FieldsAuthorizer.authorizer FieldsIdentifier.sizeFault FieldsIdentifier.identifierFault FieldsIdentifier.identified FieldsIdentifier.identifier FieldsLicensees.licensee FieldsLicensees.listed FieldsLicensees.listFrom FieldsLicensees.listOpened FieldsLicensees.ofRead FieldsLicensees.threshold FieldsLicensees.primary FieldsLicensees.expression FieldsLicensees.licensees FieldsParsed.ending AssertionDraft.without AssertionDraft.total AssertionRead.finished AssertionRead.field AssertionRead.fieldsFrom AssertionRead.readAssertion ConditionsExpression.readExpression ConditionsOperand.readLiteral ConditionsOperand.readName ConditionsOperand.readDigits ConditionsOperand.readLeaf ConditionsOperand.settledTree ConditionsOperand.applied ConditionsProgram.ending ConditionsProgram.valuing ConditionsProgram.stopping ConditionsProgram.readProgram ConditionsProgram.readBlock ConditionsTable.beginsString ConditionsTable.beginsNumber ConditionsTable.beginsFloat ConditionsTable.allows ConditionsTable.comparison ConditionsTable.numberOperator ConditionsTable.textOperator ConditionsTable.testOperator ConditionsTable.operator ConditionsTable.prefixOperator ConditionsTable.levelOf ConditionsTable.operandOf ConditionsTable.resultOf ConditionsTable.operandLevel ConditionsTable.operandWant ConditionsTable.rightWant ConditionsTable.rightLevel ConditionsTable.binds ConditionsTable.insideLevel ConditionsTable.fits ConditionsTable.stops ConditionsWord.wordSort SyntaxCode.numberAt ComplianceLicensees.value ComplianceLicensees.licensed ComplianceLicensees.named ComplianceLicensees.licensees ComplianceReach.licenseesOf ComplianceReach.reachFrom ComplianceReach.namings ComplianceReach.reach ComplianceRounds.equalOn ComplianceRounds.settled ComplianceRounds.reached ComplianceRounds.firstSettled ComplianceRounds.rounds ComplianceRounds.mentioned ComplianceRounds.rank ComplianceSystem.direct ComplianceSystem.asserted ComplianceSystem.delegated ComplianceSystem.equations ComplianceSystem.round PrincipalMembers.member PrincipalPrincipal.same PrincipalPrincipal.policy ExpressionConditions.evaluate ExpressionConditions.indexFrom ExpressionConditions.rankOf ExpressionConditions.top ExpressionConditions.clause ExpressionIntegers.ranged ExpressionIntegers.negated ExpressionIntegers.differ ExpressionIntegers.over ExpressionIntegers.raisedTo ExpressionIntegers.odd ExpressionIntegers.signOfPower ExpressionIntegers.power ExpressionIntegers.sizes ExpressionIntegers.compared ExpressionOperations.held ExpressionOperations.relates ExpressionOperations.arithmetic ExpressionOperations.logical ExpressionOperations.ofTexts ExpressionOperations.ofIntegers ExpressionOperations.ofTests ExpressionOperations.isTextual ExpressionOperations.binaryOf ExpressionOperations.converted ExpressionOperations.negative ExpressionOperations.opposite ExpressionOperations.unaryOf ExpressionQueried.environment stringBytes assertionBytes itemsBytes groupBytes encode placeOf pairBytes entryBytes entriesBytes report reportSize answer needed judged outcome written pageAfter TextCounted.part TextCounted.pairAt SyntaxParsed.refusal LexicalReason.reasonOf TextClass.isPlain RecordField.countAt RecordField.lengthAt RecordField.contentAt RecordField.fieldAt RecordField.nameFront RecordField.among RecordItem.plainAt RecordItem.valueAt RecordItem.requesterAt RecordItem.nameAt RecordItem.attributeAt RecordItem.assertionAt RecordItem.itemsAt RecordItem.groupAt RecordRecord.queryAt RecordRecord.readRecord
 rulings = record {
   licence = refl;
   ring-c = refl;
@@ -157,4 +179,9 @@ rulings = record {
   rounds-down = refl;
   no-exponent = refl;
   out-of-range = refl;
+  no-authorizer = refl;
+  no-licensee = refl;
+  first-long = refl;
+  first-outcome = refl;
+  first-page = refl;
 }
