@@ -1,4 +1,5 @@
 pub mod Report
 pub mod Answered
+pub mod Numbers
 pub mod Demand2
 pub mod Demand3
