@@ -3,3 +3,4 @@ pub mod Answered
 pub mod Numbers
 pub mod Demand2
 pub mod Demand3
+pub mod Few
