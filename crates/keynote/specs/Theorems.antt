@@ -4,3 +4,4 @@ pub mod Numbers
 pub mod Demand2
 pub mod Demand3
 pub mod Few
+pub mod Bounds
