@@ -32,6 +32,7 @@ use Rattle.keynote.specs.Outcome.{answer, needed, outcome, pageAfter}
 use Rattle.keynote.specs.declared.Outcome.{Outcome}
 use Rattle.keynote.specs.Theorems.Report.{Entry, report-head, report-entry, report-needed}
 use Rattle.keynote.specs.Theorems.Answered.{outcome-answered, page-answered}
+use Rattle.keynote.specs.Theorems.Numbers.{Accepted, answered-is}
 
 -- ---- the class
 
@@ -227,3 +228,10 @@ told q page h o after oe ae = record {
 pub demand-2 : (s : List ℕ) (q : Query) → readRecord s ≡ accepted q → (page : List ℕ) → needed q ≤ length page
     → Answered q (outcome s (length page)) page (pageAfter s page)
 demand-2 s q e page h = told q page h (outcome s (length page)) (pageAfter s page) (outcome-answered s q e (length page) h) (page-answered s q e page h)
+
+-- so it is wherever the number is 0
+pub demand-2-accepted : (s page : List ℕ) → outcome s (length page) .number ≡ 0
+    → (q : Query) × ((readRecord s ≡ accepted q) × Answered q (outcome s (length page)) page (pageAfter s page))
+demand-2-accepted s page h =
+    let a : Accepted s (length page) = answered-is s (length page) h in
+    (a .query, (a .read, demand-2 s (a .query) (a .read) page (a .fits)))

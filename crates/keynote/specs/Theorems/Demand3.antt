@@ -23,6 +23,7 @@ use Rattle.keynote.specs.Report.{report, reportSize}
 use Rattle.keynote.specs.Outcome.{answer, needed, outcome, pageAfter}
 use Rattle.keynote.specs.Secrets.{dereferences, Dereferenced, AlikeWhere, AlikeBut}
 use Rattle.keynote.specs.Theorems.Answered.{outcome-answered, report-written}
+use Rattle.keynote.specs.Theorems.Numbers.{answered-fits}
 
 -- assertions alike in standing and text are read alike
 pub readings-same : {R : List ℕ → Type 0} {q q′ : Query} → AlikeWhere R q q′ → readings q ≡ readings q′
@@ -143,3 +144,13 @@ pub demand-3-secrets : (S : List ℕ → Type 0) (s s′ : List ℕ) (q q′ : Q
     → SameAnswer s s′ page page′ (needed q)
 demand-3-secrets S s s′ q q′ e e′ k free =
     demand-3 s s′ q q′ e e′ (record { values = k .values; requesters = k .requesters; attributes = weaker (λ n d z. free n z d) (k .attributes); assertions = k .assertions })
+
+-- and for any two pages on which both are answered: "accepted is number 0"
+pub demand-3-accepted : (S : List ℕ → Type 0) (s s′ : List ℕ) (q q′ : Query) → readRecord s ≡ accepted q → readRecord s′ ≡ accepted q′
+    → AlikeBut S q q′ → ((n : List ℕ) → S n → Dereferenced q n → ⊥)
+    → (page page′ : List ℕ) → outcome s (length page) .number ≡ 0 → outcome s′ (length page′) .number ≡ 0
+    → SameAnswer s s′ page page′ (needed q)
+unfolding needed
+demand-3-accepted S s s′ q q′ e e′ k free page page′ h h′ =
+    let same : needed q′ ≡ needed q = ap (λ l. reportSize (length l)) (sym (k .assertions)) in
+    demand-3-secrets S s s′ q q′ e e′ k free page page′ (answered-fits s q e (length page) h) (rw (← same) (answered-fits s′ q′ e′ (length page′) h′))

@@ -1,6 +1,6 @@
 -- "Numbers are given only as tabled": a record is refused with 1 to 8, so that number 0 is an answer and 9 a page that is too small.
 -- Assumes nothing.
-use mathlib.Core.Path.{_≡_, refl, sym, ap, _∙_}
+use mathlib.Core.Path.{_≡_, refl, sym, ap, _∙_, subst}
 use mathlib.Core.Bool.{Bool, true, false}
 use mathlib.Core.List.{List, [], _∷_, _++_, map}
 use Prim.Native.Nat.{ℕ, zero, suc, _+_, _≤_, _<_}
@@ -159,3 +159,13 @@ from-case {s} {room} e (is-answered q r h o) = record { query = q; read = r; fit
 
 pub answered-is : (s : List ℕ) (room : ℕ) → outcome s room .number ≡ 0 → Accepted s room
 answered-is s room e = from-case e (cases s room)
+
+-- the query of an answered record is the one that it says
+pub answered-fits : (s : List ℕ) (q : Query) → readRecord s ≡ accepted q → (room : ℕ) → outcome s room .number ≡ 0 → needed q ≤ room
+answered-fits s q e room h =
+    let a : Accepted s room = answered-is s room h in
+    let z : a .query ≡ q = same-query (sym (a .read) ∙ e) in
+    subst (λ (x : Query). needed x ≤ room) z (a .fits)
+  where
+    same-query : {q q′ : Query} → accepted q ≡ accepted q′ → q ≡ q′
+    same-query e = cc

@@ -43,10 +43,13 @@ unfolding entriesBytes entryBytes pairBytes
 entry-at [] i r e = let z : _≡_ {A = ℕ} 0 1 = cc in absurd (omega arith)
 entry-at (x ∷ l) zero r e = let z : x ≡ r = cc in (ap reasonOf z, (ap (λ y. placeOf y / 256) z, ap (λ y. placeOf y % 256) z))
 entry-at (x ∷ l) (suc i) r e =
-    let (f, (g, h)) = entry-at l i r e in
-    (at-behind (entriesBytes l) _ _ _ _ (3 * i) (3 * suc i) refl (omega arith) ∙ f,
-    (at-behind (entriesBytes l) _ _ _ _ (3 * i + 1) (3 * suc i + 1) refl (omega arith) ∙ g,
-    at-behind (entriesBytes l) _ _ _ _ (3 * i + 2) (3 * suc i + 2) refl (omega arith) ∙ h))
+    let (f, (g, h)) = entry-at l i r e in (
+      at-behind (entriesBytes l) _ _ _ _ (3 * i) (3 * suc i) refl (omega arith) ∙ f,
+      (
+        at-behind (entriesBytes l) _ _ _ _ (3 * i + 1) (3 * suc i + 1) refl (omega arith) ∙ g,
+        at-behind (entriesBytes l) _ _ _ _ (3 * i + 2) (3 * suc i + 2) refl (omega arith) ∙ h,
+      ),
+    )
 
 -- entry i: "a reason byte and a two-byte place"
 pub record Entry (bytes : List ℕ) (i : ℕ) (r : Read) : Type 0 where
