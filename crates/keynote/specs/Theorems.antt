@@ -5,3 +5,4 @@ pub mod Demand2
 pub mod Demand3
 pub mod Few
 pub mod Bounds
+pub mod Places

@@ -50,8 +50,8 @@ module _ {X R : Type 0} (I : X → Type 0) (Q : R → Type 0) where
   keeps-next (k-next y′ i) y e = let z : y′ ≡ y = cc in subst I z i
   keeps-next (k-done r q) y e = let z : _≡_ {A = ℕ} 0 1 = cc in absurd (omega arith)
 
-  pub loop-keeps : (μ : X → ℕ) (out : X → R) (f : X → Step X R) → ((x : X) → Q (out x)) → ((x : X) → I x → Keeps (f x)) → (x : X) → I x → Q (loop μ out f x)
-  loop-keeps μ out f o k = loop-ind μ out f (λ x r. I x → Q r) (λ x i. o x) (λ x r e i. keeps-done (k x i) r e) (λ x y r e l h i. h (keeps-next (k x i) y e))
+  pub loop-keeps : (μ : X → ℕ) (out : X → R) (f : X → Step X R) → ((x : X) → I x → Q (out x)) → ((x : X) → I x → Keeps (f x)) → (x : X) → I x → Q (loop μ out f x)
+  loop-keeps μ out f o k = loop-ind μ out f (λ x r. I x → Q r) o (λ x r e i. keeps-done (k x i) r e) (λ x y r e l h i. h (keeps-next (k x i) y e))
 
 -- ---- what holds of what was read
 
@@ -103,7 +103,7 @@ module _ (s : List ℕ) (constants : List Attribute) where
 
   list-few : (n k : ℕ) (ps : List Principal) (t : Token) → n + length ps ≤ mostLicensees → Reads (Few n) (listFrom s constants n k ps t)
   unfolding listFrom
-  list-few n k ps t h = loop-keeps (ListIn n) (Reads (Few n)) _ _ (listTurn s constants n k) (λ x. r-aside _ _)
+  list-few n k ps t h = loop-keeps (ListIn n) (Reads (Few n)) _ _ (listTurn s constants n k) (λ x i. r-aside _ _)
       (λ x i. on-listed-few n k (x .0) (licensee-few (n + length (x .0)) (x .1))) (ps, t) h
 
   threshold-few : (left n : ℕ) (t : Token) (k : ℕ) → n ≤ mostLicensees → Reads (Few n) (threshold s constants left n t k)
@@ -134,7 +134,7 @@ module _ (s : List ℕ) (constants : List Attribute) where
 
   chain-from-few : (joint : ℕ) (join : Expression → Expression → Expression) → Joins join → (operand : Reader) → Good operand
       → (n : ℕ) (e : Expression) (t : Token) → Few n e → Reads (Few n) (chainFrom s joint join operand n e t)
-  chain-from-few joint join j operand g n e t h = loop-keeps (ChainIn n) (Reads (Few n)) _ _ (chainTurn s joint join operand n) (λ x. r-aside _ _)
+  chain-from-few joint join j operand g n e t h = loop-keeps (ChainIn n) (Reads (Few n)) _ _ (chainTurn s joint join operand n) (λ x i. r-aside _ _)
       (λ x i. keeps-pick _ _ (eqb (x .1 .kind) joint) (operand-few joint join j n (x .0) (g (n + length (named (x .0))) (after s (x .1)) (few-is n (x .0) i))) (k-done _ (r-ok (x .0) (x .1) i))) (e, t) h
 
   chain-few : (joint : ℕ) (join : Expression → Expression → Expression) → Joins join → (operand : Reader) → Good operand → Good (chain s joint join operand)
@@ -240,4 +240,4 @@ pub assertion-few : (standing : ℕ) (s : List ℕ) → FewRead (readAssertion s
 unfolding readAssertion fieldsFrom
 assertion-few standing s = split (eqb standing 0)
     (λ e. rw e (few-dropped 9 0))
-    (λ e. rw e (loop-keeps FewState FewRead _ _ (turn standing s) (λ x. few-dropped _ _) (turn-few standing s) _ blank-few))
+    (λ e. rw e (loop-keeps FewState FewRead _ _ (turn standing s) (λ x i. few-dropped _ _) (turn-few standing s) _ blank-few))
