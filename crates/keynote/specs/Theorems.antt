@@ -6,3 +6,5 @@ pub mod Demand3
 pub mod Few
 pub mod Bounds
 pub mod Places
+pub mod PlacesConditions
+pub mod PlacesAssertion

@@ -63,7 +63,7 @@ pub data Placed (s : List ℕ) {A : Type 0} : Parsed A → Type 0 where
   p-ok : (a : A) (t : Token) → In s t → Placed s (ok a t)
   p-aside : (r p : ℕ) → r ≤ 9 → p ≤ length s → Placed s (aside r p)
 
-refusal-small : (kind : ℕ) → refusal kind ≤ 9
+pub refusal-small : (kind : ℕ) → refusal kind ≤ 9
 unfolding refusal
 refusal-small kind = split (eqb kind Kind.ILLEGAL) (λ e. rw e (omega arith)) (λ e. rw e (split (eqb kind Kind.BAD-LINE) (λ f. rw f (omega arith)) (λ f. rw f (omega arith))))
 
@@ -109,7 +109,7 @@ module _ (s : List ℕ) where
   unfolding identifier
   identifier-placed mode constants t i = placed-pick (eqb (identifierFault s constants t) 0) (p-ok _ _ (token-in s mode (t .end))) (at-token _ t i (fault-small constants t))
 
-  version-placed : (t : Token) → In s t → Placed s (version s t)
+  pub version-placed : (t : Token) → In s t → Placed s (version s t)
   unfolding version versionNumber versionLiteral
   version-placed t i =
       placed-pick (eqb (t .kind) Kind.DIGITS)
@@ -118,11 +118,11 @@ module _ (s : List ℕ) where
       (placed-pick (equal (decodedAt s (t .start)) two) (ended-placed 2 _ (token-in s Kind.IN-FIELD (t .end))) (at-token 6 t i (omega arith)))
       (not-here t i))
 
-  signature-placed : (t : Token) → In s t → Placed s (signature s t)
+  pub signature-placed : (t : Token) → In s t → Placed s (signature s t)
   unfolding signature
   signature-placed t i = placed-pick (eqb (t .kind) Kind.LITERAL) (placed-pick (ltb mostLiteral (length (decodedAt s (t .start)))) (at-token 7 t i (omega arith)) (p-ok _ t i)) (not-here t i)
 
-  authorizer-placed : (standing : ℕ) (constants : List Attribute) (t : Token) → In s t → Placed s (authorizer s standing constants t)
+  pub authorizer-placed : (standing : ℕ) (constants : List Attribute) (t : Token) → In s t → Placed s (authorizer s standing constants t)
   unfolding authorizer authorized
   authorizer-placed standing constants t i = placed-then _ (identifier-placed Kind.IN-FIELD constants t i)
       (λ p n k. placed-pick (eqb standing verified) (placed-pick (same p policy) (at-token 9 t i (omega arith)) (ended-placed p n k)) (ended-placed p n k))
@@ -151,7 +151,7 @@ module _ (s : List ℕ) where
   on-constant constants (p-ok a t i) = k-next (constants ++ (a ∷ []), t) i
   on-constant constants (p-aside r p h l) = k-done (aside r p) (p-aside r p h l)
 
-  constants-placed : (constants : List Attribute) (t : Token) → In s t → Placed s (constantsFrom s constants t)
+  pub constants-placed : (constants : List Attribute) (t : Token) → In s t → Placed s (constantsFrom s constants t)
   unfolding constantsFrom
   constants-placed constants t i = loop-keeps ConstantsIn (Placed s) _ _ (constantsTurn s) (λ x k. not-here (x .1) k)
       (λ x k. keeps-pick _ _ (ending (x .1 .kind)) (k-done _ (p-ok (x .0) (x .1) k)) (on-constant (x .0) (constant-placed (x .0) (x .1) k))) (constants, t) i
