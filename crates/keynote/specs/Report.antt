@@ -2,7 +2,6 @@
 use mathlib.Core.List.{List, [], _∷_, _++_}
 use Prim.Native.Nat.{ℕ, _+_, _*_, _/_, _%_}
 use lib.ListN.{length}
-use Rattle.assertion.specs.Assertion.{Assertion}
 use Rattle.assertion.specs.Read.{Read, kept, dropped}
 
 -- "Reasons (0 is kept [..] with place 0)"

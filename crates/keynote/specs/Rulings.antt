@@ -17,7 +17,6 @@ use Rattle.compliance.specs.Highest.{highest}
 use Rattle.keynote.specs.Answer.{worth, ranked, reading, readings, keptOf, system, classOf, roundsOf, reachedOf}
 use Rattle.keynote.specs.Report.{reasonOf, placeOf, pairBytes, entryBytes, entriesBytes, report, reportSize}
 use Rattle.keynote.specs.Outcome.{answer, needed, judged, outcome, written, pageAfter}
-use Rattle.keynote.specs.declared.Outcome.{Outcome}
 use Rattle.text.specs.Class as TextClass
 use Rattle.text.specs.Decimal as TextDecimal
 use Rattle.text.specs.Digits as TextDigits

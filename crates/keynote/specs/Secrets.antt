@@ -10,7 +10,8 @@ use Rattle.expression.specs.Reads.{programReads, isSet, Alike}
 use Rattle.assertion.specs.Assertion.{Assertion, Conditions, absent, stated}
 use Rattle.keynote.specs.Answer.{readings, keptOf, system}
 
--- "dereferences a name from the query in its Conditions when the name stands there as a string and no Local-Constants field earlier in the text sets it"
+-- "dereferences a name from the query in its Conditions when the name stands there as a string and no Local-Constants field earlier in the text sets it";
+-- Conditions with a "$" dereference every name that isn't set
 unfoldable pub dereferences : Conditions → List ℕ → Bool
 dereferences absent n = false
 dereferences (stated cs p) n = pick (isSet cs n) false (programReads p n)

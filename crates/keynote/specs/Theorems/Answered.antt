@@ -1,12 +1,10 @@
 -- What a record gives: one that is refused, one whose page is too small, one that is answered. Assumes nothing.
-use mathlib.Core.Path.{_≡_, refl, sym, ap, _∙_}
+use mathlib.Core.Path.{_≡_, sym, ap, _∙_}
 use mathlib.Core.List.{List, _++_}
 use Prim.Native.Nat.{ℕ, _≤_, _<_}
-use lib.Dec.{ltb}
 use lib.ListN.{length, take, drop}
 use lib.Seq.{take-append-seam}
 use borrow.Author.Tests.{le-ltb, lt-ltb}
-use Rattle.text.specs.Choice.{pick}
 use Rattle.record.specs.Query.{Query}
 use Rattle.record.specs.Read.{accepted, refused}
 use Rattle.record.specs.Record.{readRecord}

@@ -1,10 +1,9 @@
 -- How large an answer's numbers can be. Assumes nothing.
 use mathlib.Core.Path.{_≡_, refl, sym, ap, _∙_}
 use mathlib.Core.Bool.{true}
-use mathlib.Core.Logic.{_⊎_, inl, inr, ⊎-elim}
+use mathlib.Core.Logic.{⊎-elim}
 use mathlib.Core.List.{List, [], _∷_, _++_, map, List·Memᴰ as Mem, List·Memᴰ·head as here, List·Memᴰ·tail as there, List·Memᴰ·cases-cons as mem-∷}
-use Prim.Native.Nat.{ℕ, suc, _+_, _*_, _-_, _≤_, zero-le}
-use native.Mathlib.Nat.{le-trans}
+use Prim.Native.Nat.{ℕ, _+_, _*_, _-_, _≤_, zero-le}
 use native.Mathlib.Omega.{arith}
 use lib.ListN.{length, length-append, length-map}
 use Rattle.record.specs.Query.{Query, Supplied}
@@ -13,12 +12,11 @@ use Rattle.record.specs.Record.{readRecord}
 use Rattle.record.specs.Valid.{Valid}
 use Rattle.record.specs.RoundTrip.{Bytes, read-back}
 use Rattle.limits.specs.Limits.{mostLicensees}
-use Rattle.principal.specs.Principal.{Principal, policy, same}
+use Rattle.principal.specs.Principal.{Principal, policy}
 use Rattle.principal.specs.Members.{member, member-here, member-there, member-left, member-right, distinct-le}
 use Rattle.compliance.specs.Licensees.{licensees}
-use Rattle.compliance.specs.Limits.{principalsMost}
-use Rattle.compliance.specs.System.{Assertion, System, round}
-use Rattle.compliance.specs.Reach.{reach, Reachable, root, licensee, namings}
+use Rattle.compliance.specs.System.{Assertion, System}
+use Rattle.compliance.specs.Reach.{Reachable, root, licensee, namings}
 use Rattle.compliance.specs.Rounds.{rank, reached}
 use Rattle.compliance.specs.Theorems.Monotone.{round-le}
 use Rattle.compliance.specs.Theorems.Reach.{reach-sound, reach-distinct}

@@ -1,9 +1,9 @@
 -- Demand 2, of the definition: an answer is the least solution, its rounds and reached are those of the rounds and of the reach; every
 -- kept assertion takes part and no other does; every dropped one is reported. Assumes nothing.
 use mathlib.Core.Path.{_≡_, refl, sym, ap, _∙_, subst}
-use mathlib.Core.Bool.{true, false}
-use mathlib.Core.Option.{Option, some}
-use mathlib.Core.Logic.{_⊎_, inl, inr, ⊎-elim}
+use mathlib.Core.Bool.{true}
+use mathlib.Core.Option.{some}
+use mathlib.Core.Logic.{⊎-elim}
 use mathlib.Core.List.{List, [], _∷_, _++_, map, List·Memᴰ as Mem, List·Memᴰ·head as here, List·Memᴰ·tail as there, List·Memᴰ·cases-cons as mem-∷, Memᴰ·map}
 use Prim.Native.Nat.{ℕ, zero, suc, _+_, _*_, _-_, _≤_, _<_}
 use native.Mathlib.Omega.{arith}
@@ -17,12 +17,11 @@ use Rattle.record.specs.Record.{readRecord}
 use Rattle.principal.specs.Principal.{Principal, policy}
 use Rattle.principal.specs.Members.{member, Distinct, distinct-le}
 use Rattle.compliance.specs.Licensees.{Rank}
-use Rattle.compliance.specs.System.{Assertion, System, equations, round, Solves, Least}
-use Rattle.compliance.specs.Reach.{reach, InReach, Reachable}
+use Rattle.compliance.specs.System.{Assertion, round, Least}
+use Rattle.compliance.specs.Reach.{reach, Reachable}
 use Rattle.compliance.specs.Rounds.{settled, rank, rounds, reached}
-use Rattle.compliance.specs.Theorems.Monotone.{EqOn}
 use Rattle.compliance.specs.Theorems.Reach.{reach-sound, reach-complete, reach-distinct}
-use Rattle.compliance.specs.Theorems.Settle.{rank-least, least-unique, settled-equal, equal-settled, rounds-settled, rounds-first, rounds-unique, rounds-bound, rounds-times, rounds-rank}
+use Rattle.compliance.specs.Theorems.Settle.{rank-least, least-unique, settled-equal, equal-settled, rounds-settled, rounds-first, rounds-bound, rounds-times, rounds-rank}
 use Rattle.expression.specs.Conditions.{top}
 use Rattle.assertion.specs.Assertion.{Assertion as Said}
 use Rattle.assertion.specs.Read.{Read, kept, dropped, readAssertion}
@@ -203,6 +202,8 @@ pub record Answered (q : Query) (o : Outcome) (page after : List ℕ) : Type 0 w
   pub settled : EqualOnReach q (o .rounds) (suc (o .rounds))
   pub first : (n : ℕ) → n < o .rounds → EqualOnReach q n (suc n) → ⊥
   pub reached : Reached q (o .reached)
+  pub each : (a : Said) → Mem (kept a) (readings q) → Mem (ranked q a) (system q .assertions)
+  pub only : (b : Assertion) → Mem b (system q .assertions) → (a : Said) × (Mem (kept a) (readings q) × (b ≡ ranked q a))
   pub head : (getD after 0 0 ≡ 1) × (pairAt after 1 ≡ 3 * length (q .assertions))
   pub entries : (i : ℕ) (a : Supplied) → getElem? (q .assertions) i ≡ some a → Entry after i (readAssertion (a .standing) (a .text))
   pub beyond : drop (needed q) after ≡ drop (needed q) page
@@ -218,6 +219,8 @@ told q page h o after oe ae = record {
   settled = subst (λ (n : ℕ). EqualOnReach q n (suc n)) (sym (ap (λ (x : Outcome). x .rounds) oe)) (rounds-equal q);
   first = λ n l. rounds-least q n (subst (λ (m : ℕ). n < m) (ap (λ (x : Outcome). x .rounds) oe) l);
   reached = subst (Reached q) (sym (ap (λ (x : Outcome). x .reached) oe)) (reached-is q);
+  each = kept-takes-part q;
+  only = only-kept-take-part q;
   head = subst (λ (x : List ℕ). (getD x 0 0 ≡ 1) × (pairAt x 1 ≡ 3 * length (q .assertions))) (sym ae) (page-head q (drop (needed q) page));
   entries = λ i a g. subst (λ (x : List ℕ). Entry x i (readAssertion (a .standing) (a .text))) (sym ae) (page-entry q (drop (needed q) page) i a g);
   beyond = ap (drop (needed q)) ae ∙ page-beyond q (drop (needed q) page);

@@ -1,8 +1,8 @@
 -- Demand 3, of the definition: values of attributes that no kept assertion of a reached principal dereferences have no effect on
 -- rank, rounds, reached and the report. Assumes nothing.
 use mathlib.Core.Path.{_≡_, refl, sym, ap, _∙_, subst}
-use mathlib.Core.Bool.{Bool, true, false}
-use mathlib.Core.List.{List, [], _∷_, _++_, map, List·Memᴰ as Mem, List·Memᴰ·head as here, List·Memᴰ·tail as there}
+use mathlib.Core.Bool.{true, false}
+use mathlib.Core.List.{List, [], _∷_, map, List·Memᴰ as Mem, List·Memᴰ·head as here, List·Memᴰ·tail as there}
 use Prim.Native.Nat.{ℕ, _≤_}
 use lib.ListN.{length, take}
 use Rattle.record.specs.Query.{Query, Attribute}
@@ -10,7 +10,7 @@ use Rattle.record.specs.Read.{accepted}
 use Rattle.record.specs.Record.{readRecord}
 use Rattle.principal.specs.Principal.{Principal}
 use Rattle.principal.specs.Members.{member}
-use Rattle.compliance.specs.Reach.{InReach, reach}
+use Rattle.compliance.specs.Reach.{InReach}
 use Rattle.compliance.specs.Theorems.Alike.{Alike, a[], a∷, AlikeIn, reach-same, rounds-same, reached-same, policy-same}
 use Rattle.expression.specs.Names.{Environment}
 use Rattle.expression.specs.Conditions.{top, conditions}

@@ -1,13 +1,13 @@
 -- A kept assertion names at most 16 licensees. Assumes nothing.
-use mathlib.Core.Path.{_≡_, refl, sym, ap, _∙_, subst}
+use mathlib.Core.Path.{_≡_, subst}
 use mathlib.Core.Bool.{Bool, true, false}
 use mathlib.Core.Option.{Option, none, some}
 use mathlib.Core.List.{List, [], _∷_, _++_}
-use Prim.Native.Nat.{ℕ, zero, suc, _+_, _-_, _≤_, _<_, zero-le}
+use Prim.Native.Nat.{ℕ, zero, suc, _+_, _≤_, _<_, zero-le}
 use native.Mathlib.Omega.{arith}
 use lib.Dec.{eqb, leb, ltb}
 use lib.ListN.{length, getD, length-append}
-use borrow.Author.Tests.{leb-true, leb-false}
+use borrow.Author.Tests.{leb-false}
 use Rattle.text.specs.Choice.{pick, split}
 use Rattle.text.specs.Loop.{Step, next, done, loop, loop-ind}
 use Rattle.record.specs.Query.{Attribute}
@@ -16,10 +16,10 @@ use Rattle.lexical.specs.Kind
 use Rattle.lexical.specs.Number.{numberAt}
 use Rattle.lexical.specs.declared.token.Token.{Token}
 use Rattle.principal.specs.Principal.{Principal}
-use Rattle.compliance.specs.Licensees.{Expression, name, and, or, kOf, named, Licensees, missing, empty, given, licensees as licenseesIn}
+use Rattle.compliance.specs.Licensees.{Expression, name, and, or, kOf, named, empty, given, licensees as licenseesIn}
 use Rattle.syntax.specs.Parsed.{Parsed, ok, aside, andThen, unexpected}
 use Rattle.fields.specs.Limits.{mostBrackets}
-use Rattle.fields.specs.Parsed.{ending, ended}
+use Rattle.fields.specs.Parsed.{ending}
 use Rattle.fields.specs.Identifier.{identifier}
 use Rattle.fields.specs.Version.{version}
 use Rattle.fields.specs.Constants.{constantsFrom}

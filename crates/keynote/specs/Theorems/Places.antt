@@ -1,17 +1,15 @@
 -- A reason is at most 9, and its place lies in the text or at its end. Assumes nothing.
-use mathlib.Core.Path.{_≡_, refl, sym, ap, _∙_, subst}
+use mathlib.Core.Path.{_≡_, refl, sym, subst}
 use mathlib.Core.Bool.{Bool, true, false}
-use mathlib.Core.Option.{Option, none, some}
 use mathlib.Core.List.{List, [], _∷_, _++_}
-use Prim.Native.Nat.{ℕ, zero, suc, _+_, _≤_, _<_, zero-le}
-use native.Mathlib.Nat.{le-refl, le-trans}
+use Prim.Native.Nat.{ℕ, zero, suc, _+_, _≤_, _<_}
+use native.Mathlib.Nat.{le-refl}
 use native.Mathlib.Omega.{arith}
 use lib.Dec.{eqb, leb, ltb}
-use lib.ListN.{length, getD}
+use lib.ListN.{length}
 use borrow.Author.Tests.{eqb-true, eqb-false, leb-true, leb-false}
 use Rattle.text.specs.Choice.{pick, split}
 use Rattle.text.specs.Equal.{equal}
-use Rattle.text.specs.Loop.{Step, next, done, loop}
 use Rattle.record.specs.Query.{Attribute}
 use Rattle.limits.specs.Limits.{mostLicensees}
 use Rattle.lexical.specs.Kind
@@ -22,17 +20,16 @@ use Rattle.lexical.specs.Number.{numberAt, LIMIT}
 use Rattle.lexical.specs.Token.{endOf}
 use Rattle.lexical.specs.declared.token.Token.{Token}
 use Rattle.principal.specs.Principal.{Principal, same, policy}
-use Rattle.compliance.specs.Licensees.{Expression, name, and, or, kOf, named, empty, given}
-use Rattle.syntax.specs.Expr.{Expr, Program, Clause, plain, valued, nested, also, unary, binary}
+use Rattle.compliance.specs.Licensees.{Expression, name, and, or, named, empty, given}
 use Rattle.syntax.specs.Parsed.{Parsed, ok, aside, andThen, refusal, unexpected}
 use Rattle.fields.specs.Limits.{mostBrackets, mostConstants, mostLiteral}
 use Rattle.fields.specs.Parsed.{behind, wordOf, ending, ended}
-use Rattle.fields.specs.Identifier.{sizeFault, nameFault, identifierFault, identified, identifier}
+use Rattle.fields.specs.Identifier.{sizeFault, nameFault, identifierFault, identifier}
 use Rattle.fields.specs.Version.{two, versionNumber, versionLiteral, version}
 use Rattle.fields.specs.Constants.{isSet, reserved, constantValue, assigned, nameFault as constantFault, constant, onConstant, constantsTurn, constantsFrom}
 use Rattle.fields.specs.Authorizer.{verified, authorized, authorizer}
 use Rattle.fields.specs.Signature.{signature}
-use Rattle.fields.specs.Licensees.{after, licensee, listed, onListed, listTurn, listFrom, listOpened, ofRead, threshold, closed, Reader, onOperand, chainTurn, chainFrom, chain, expressionOf, primaryBody, primary, expression, licensees}
+use Rattle.fields.specs.Licensees.{after, licensee, listed, onListed, listTurn, listFrom, listOpened, ofRead, threshold, closed, Reader, onOperand, chainTurn, chain, expressionOf, primaryBody, primary, expression, licensees}
 use Rattle.keynote.specs.Theorems.Few.{Keeps, k-next, k-done, keeps-pick, loop-keeps}
 
 -- ---- tokens

@@ -1,36 +1,34 @@
 -- What becomes of an assertion that is dropped has a reason from 1 to 9 and a place in its text or at its end: so the report is bytes. Assumes nothing.
-use mathlib.Core.Path.{_≡_, refl, sym, ap, _∙_, subst}
+use mathlib.Core.Path.{_≡_, refl, sym, subst}
 use mathlib.Core.Bool.{true}
 use mathlib.Core.Option.{Option, none, some}
 use mathlib.Core.List.{List, [], _∷_, _++_, map}
-use Prim.Native.Nat.{ℕ, zero, suc, _+_, _*_, _/_, _%_, _≤_, _<_, zero-le}
+use Prim.Native.Nat.{ℕ, zero, suc, _*_, _/_, _%_, _≤_, _<_, zero-le}
 use native.Mathlib.Omega.{arith}
 use lib.Dec.{eqb}
 use lib.ListN.{length, getD, length-map}
 use borrow.Author.Tests.{eqb-true}
-use Rattle.text.specs.Choice.{pick, split}
-use Rattle.text.specs.Loop.{loop}
-use Rattle.limits.specs.Limits.{mostText, leastText, mostStanding}
+use Rattle.text.specs.Choice.{split}
+use Rattle.limits.specs.Limits.{mostText}
 use Rattle.record.specs.Query.{Query, Supplied}
 use Rattle.record.specs.Read.{accepted}
 use Rattle.record.specs.Record.{readRecord}
-use Rattle.record.specs.Valid.{Valid, Each, each[], each∷, SuppliedOk}
+use Rattle.record.specs.Valid.{Each, each∷, SuppliedOk}
 use Rattle.record.specs.RoundTrip.{Bytes, read-back}
 use Rattle.lexical.specs.Kind
 use Rattle.lexical.specs.declared.token.Token.{Token}
 use Rattle.principal.specs.Principal.{Principal}
-use Rattle.syntax.specs.Parsed.{Parsed, ok, aside, refusal}
-use Rattle.fields.specs.Parsed.{ending, ended}
-use Rattle.fields.specs.Signature.{signature}
+use Rattle.syntax.specs.Parsed.{Parsed, refusal}
+use Rattle.fields.specs.Parsed.{ending}
 use Rattle.conditions.specs.Word.{nextAt}
 use Rattle.conditions.specs.Program.{readProgram}
 use Rattle.assertion.specs.Assertion.{Assertion, stated}
-use Rattle.assertion.specs.Draft.{Draft, blank, labelled, withConstants, withAuthorizer, withLicensees, withConditions}
-use Rattle.assertion.specs.Read.{Read, kept, dropped, first, signedBy, finished, onSignature, field, State, onField, onLabel, turn, fieldsFrom, readAssertion}
+use Rattle.assertion.specs.Draft.{Draft, labelled, withConstants, withAuthorizer, withLicensees, withConditions}
+use Rattle.assertion.specs.Read.{Read, kept, dropped, first, signedBy, finished, onSignature, field, State, onField, turn, fieldsFrom, readAssertion}
 use Rattle.keynote.specs.Answer.{reading, readings}
 use Rattle.keynote.specs.Report.{reasonOf, placeOf, pairBytes, entryBytes, entriesBytes, report}
 use Rattle.keynote.specs.Theorems.Few.{Keeps, k-next, k-done, keeps-pick, loop-keeps}
-use Rattle.keynote.specs.Theorems.Places.{In, token-in, Placed, p-ok, p-aside, placed-pick, placed-then, ended-placed, not-here, refusal-small, refusal-some, version-placed, signature-placed, authorizer-placed, constants-placed, licensees-placed}
+use Rattle.keynote.specs.Theorems.Places.{In, token-in, Placed, p-ok, p-aside, placed-pick, placed-then, ended-placed, refusal-small, refusal-some, version-placed, signature-placed, authorizer-placed, constants-placed, licensees-placed}
 use Rattle.keynote.specs.Theorems.PlacesConditions.{program-reasoned}
 
 -- a reading of a text

@@ -1,20 +1,17 @@
 -- A reason against Conditions is at most 9, and its place lies in the text or at its end. Assumes nothing.
 use mathlib.Core.Path.{_≡_, refl}
-use mathlib.Core.Bool.{Bool, true, false}
-use mathlib.Core.List.{List, [], _∷_}
+use mathlib.Core.List.{List}
 use Prim.Native.Nat.{ℕ, zero, suc, _+_, _-_, _≤_, _<_, zero-le}
 use native.Mathlib.Omega.{arith}
 use lib.Dec.{eqb, leb, ltb}
 use lib.ListN.{length, replicate, length-replicate}
 use borrow.Author.Tests.{le-ltb}
-use Rattle.text.specs.Choice.{pick}
-use Rattle.text.specs.Loop.{Step, next, done, loop}
 use Rattle.lexical.specs.Kind
 use Rattle.lexical.specs.Literal.{decodedAt}
 use Rattle.lexical.specs.Number as Number
 use Rattle.lexical.specs.declared.token.Token.{Token}
-use Rattle.syntax.specs.Expr.{Expr, Program, none, also, Clause, plain, valued, nested, unary, binary}
-use Rattle.syntax.specs.Parsed.{Parsed, ok, aside, andThen, refusal, unexpected}
+use Rattle.syntax.specs.Expr.{Expr, Program, none, also, Clause, nested, unary, binary}
+use Rattle.syntax.specs.Parsed.{Parsed, ok, aside, refusal, unexpected}
 use Rattle.conditions.specs.Table
 use Rattle.conditions.specs.Word.{nextAt}
 use Rattle.conditions.specs.Parsed.{Part, part, onPart}

@@ -1,13 +1,13 @@
 -- How long the report is, and what stands where. Assumes nothing.
-use mathlib.Core.Path.{_≡_, refl, sym, ap, _∙_}
-use mathlib.Core.Option.{Option, some, none}
-use mathlib.Core.List.{List, [], _∷_, _++_, map}
-use Prim.Native.Nat.{ℕ, zero, suc, _+_, _*_, _/_, _%_, _<_, _≤_}
+use mathlib.Core.Path.{_≡_, refl, ap, _∙_}
+use mathlib.Core.Option.{some}
+use mathlib.Core.List.{List, [], _∷_, map}
+use Prim.Native.Nat.{ℕ, zero, suc, _+_, _*_, _/_, _%_}
 use native.Mathlib.Omega.{arith}
-use lib.ListN.{length, getD, getElem?, length-append, length-map}
+use lib.ListN.{length, getD, getElem?, length-map}
 use Rattle.text.specs.Counted.{pairAt}
 use Rattle.record.specs.Query.{Query}
-use Rattle.assertion.specs.Read.{Read, kept, dropped}
+use Rattle.assertion.specs.Read.{Read}
 use Rattle.keynote.specs.Answer.{reading, readings}
 use Rattle.keynote.specs.Outcome.{needed}
 use Rattle.keynote.specs.Report.{reasonOf, placeOf, pairBytes, entryBytes, entriesBytes, report, reportSize}
