@@ -1,0 +1,6 @@
+pub mod Answer
+pub mod Report
+pub mod Outcome
+pub mod Secrets
+pub mod Theorems
+pub mod Rulings

@@ -1,0 +1,186 @@
+-- The starred rulings of 01, and a few others, computed from the definitions as a single table: texts are read, answers given. Assumes nothing.
+use mathlib.Core.Path.{_≡_, refl}
+use mathlib.Core.List.{List, [], _∷_, _++_, map}
+use Prim.Native.Nat.{ℕ}
+use Prim.Native.Char.{code}
+use Prim.Native.String.{String, [] as nothing, _∷_ as _then_}
+use lib.ListN.{length, replicate}
+use Rattle.record.specs.Query.{Query, Supplied}
+use Rattle.record.specs.Encode.{stringBytes, assertionBytes, itemsBytes, groupBytes, encode}
+use Rattle.record.specs.Field as RecordField
+use Rattle.record.specs.Item as RecordItem
+use Rattle.record.specs.Record as RecordRecord
+use Rattle.text.specs.Counted as TextCounted
+use Rattle.assertion.specs.Read.{dropped}
+use Rattle.syntax.specs.Parsed as SyntaxParsed
+use Rattle.compliance.specs.Highest.{highest}
+use Rattle.keynote.specs.Answer.{worth, ranked, reading, readings, keptOf, system, classOf, roundsOf, reachedOf}
+use Rattle.keynote.specs.Report.{reasonOf, placeOf, pairBytes, entryBytes, entriesBytes, report, reportSize}
+use Rattle.keynote.specs.Outcome.{answer, needed, judged, outcome, written, pageAfter}
+use Rattle.text.specs.Class as TextClass
+use Rattle.text.specs.Decimal as TextDecimal
+use Rattle.text.specs.Digits as TextDigits
+use Rattle.text.specs.Equal as TextEqual
+use Rattle.text.specs.Loop as TextLoop
+use Rattle.text.specs.Scan as TextScan
+use Rattle.lexical.specs.Class as LexicalClass
+use Rattle.lexical.specs.Kind as LexicalKind
+use Rattle.lexical.specs.Label as LexicalLabel
+use Rattle.lexical.specs.Line as LexicalLine
+use Rattle.lexical.specs.Literal as LexicalLiteral
+use Rattle.lexical.specs.Number as LexicalNumber
+use Rattle.lexical.specs.Operator as LexicalOperator
+use Rattle.lexical.specs.Reason as LexicalReason
+use Rattle.lexical.specs.Run as LexicalRun
+use Rattle.lexical.specs.Token as LexicalToken
+use Rattle.lexical.specs.Unit as LexicalUnit
+use Rattle.lexical.specs.Word as LexicalWord
+use Rattle.fields.specs.Authorizer as FieldsAuthorizer
+use Rattle.fields.specs.Identifier as FieldsIdentifier
+use Rattle.fields.specs.Licensees as FieldsLicensees
+use Rattle.fields.specs.Parsed as FieldsParsed
+use Rattle.assertion.specs.Draft as AssertionDraft
+use Rattle.assertion.specs.Read as AssertionRead
+use Rattle.conditions.specs.Expression as ConditionsExpression
+use Rattle.conditions.specs.Operand as ConditionsOperand
+use Rattle.conditions.specs.Program as ConditionsProgram
+use Rattle.conditions.specs.Table as ConditionsTable
+use Rattle.conditions.specs.Word as ConditionsWord
+use Rattle.syntax.specs.Code as SyntaxCode
+use Rattle.compliance.specs.Licensees as ComplianceLicensees
+use Rattle.compliance.specs.Reach as ComplianceReach
+use Rattle.compliance.specs.Rounds as ComplianceRounds
+use Rattle.compliance.specs.System as ComplianceSystem
+use Rattle.principal.specs.Members as PrincipalMembers
+use Rattle.principal.specs.Principal as PrincipalPrincipal
+use Rattle.expression.specs.Conditions as ExpressionConditions
+use Rattle.expression.specs.Integers as ExpressionIntegers
+use Rattle.expression.specs.Operations as ExpressionOperations
+use Rattle.expression.specs.Theorems.Queried as ExpressionQueried
+
+-- the bytes of a text
+unfoldable pub bytes : String → List ℕ
+bytes nothing = []
+bytes (c then s) = code c ∷ bytes s
+
+-- "every standing is 1"
+unfoldable pub supplied : List ℕ → Supplied
+supplied t = record { standing = 1; text = t }
+
+-- compliance values, requesters, and the texts of assertions
+unfoldable pub query : List String → List String → List (List ℕ) → Query
+query values requesters texts = record { values = map bytes values; requesters = map bytes requesters; attributes = []; assertions = map supplied texts }
+
+-- "The compliance values are "hold" and "immediate", weakest first, unless said"
+abbrev pub desk : List String → List String → Query
+desk requesters texts = query ("hold" ∷ "immediate" ∷ []) requesters (map bytes texts)
+
+-- the reason of each assertion; 0 is kept
+unfoldable pub reasons : Query → List ℕ
+reasons q = map reasonOf (readings q)
+
+-- reasons, then rank, rounds and reached
+unfoldable pub told : Query → List ℕ × List ℕ
+told q = (reasons q, classOf q ∷ roundsOf q ∷ reachedOf q ∷ [])
+
+-- reasons, then the rank
+unfoldable pub class : Query → List ℕ × ℕ
+class q = (reasons q, classOf q)
+
+-- what a test is worth as POLICY's Conditions: 1 where it is true
+unfoldable pub tested : String → List ℕ × ℕ
+tested t = class (query ("hold" ∷ "immediate" ∷ []) ("a" ∷ []) ((bytes "Authorizer: \"POLICY\"\nConditions: " ++ bytes t ++ bytes ";") ∷ []))
+
+-- kept, and true or false
+abbrev pub holds : List ℕ × ℕ
+holds = (0 ∷ [], 1)
+
+abbrev pub fails : List ℕ × ℕ
+fails = (0 ∷ [], 0)
+
+-- POLICY licenses a
+abbrev pub first : Query
+first = desk ("a" ∷ []) ("Authorizer: \"POLICY\"\nLicensees: \"a\"" ∷ [])
+
+-- POLICY to a, a to b, b to a
+abbrev pub ring : List String
+ring =
+    "Authorizer: \"POLICY\"\nLicensees: \"a\""
+    ∷ "Authorizer: \"a\"\nLicensees: \"b\""
+    ∷ "Authorizer: \"b\"\nLicensees: \"a\""
+    ∷ []
+
+-- five principals that give their ranks to the requester, and POLICY that asks for three of them
+abbrev pub five : List String
+five =
+    "Authorizer: \"POLICY\"\nLicensees: 3-of(\"a\",\"b\",\"c\",\"d\",\"e\")"
+    ∷ "Authorizer: \"a\"\nLicensees: \"r\"\nConditions: true -> \"none\";"
+    ∷ "Authorizer: \"b\"\nLicensees: \"r\"\nConditions: true -> \"low\";"
+    ∷ "Authorizer: \"c\"\nLicensees: \"r\"\nConditions: true -> \"high\";"
+    ∷ "Authorizer: \"d\"\nLicensees: \"r\"\nConditions: true -> \"high\";"
+    ∷ "Authorizer: \"e\"\nLicensees: \"r\"\nConditions: true -> \"full\";"
+    ∷ []
+
+pub record Rulings : Type 0 where
+  -- "POLICY licenses "a", requester a: rank 1, rounds 2, reached 2."
+  pub licence : told first ≡ (0 ∷ [], 1 ∷ 2 ∷ 2 ∷ [])
+  -- "POLICY to a, a to b, b to a: requester c gives 0, 0, 3; requester b gives 1, 3, 3."
+  pub ring-c : told (desk ("c" ∷ []) ring) ≡ (0 ∷ 0 ∷ 0 ∷ [], 0 ∷ 0 ∷ 3 ∷ [])
+  pub ring-b : told (desk ("b" ∷ []) ring) ≡ (0 ∷ 0 ∷ 0 ∷ [], 1 ∷ 3 ∷ 3 ∷ [])
+  -- "No assertions, requester a: 0, 0, 1."
+  pub no-assertions : told (desk ("a" ∷ []) []) ≡ ([], 0 ∷ 0 ∷ 1 ∷ [])
+  -- "2-of("a","b","c"), requesters a and c: 1. 3-of: 0."
+  pub two-of : class (desk ("a" ∷ "c" ∷ []) ("Authorizer: \"POLICY\"\nLicensees: 2-of(\"a\",\"b\",\"c\")" ∷ [])) ≡ (0 ∷ [], 1)
+  pub three-of : class (desk ("a" ∷ "c" ∷ []) ("Authorizer: \"POLICY\"\nLicensees: 3-of(\"a\",\"b\",\"c\")" ∷ [])) ≡ (0 ∷ [], 0)
+  -- "2-of("a","a"), requester a: 1."
+  pub twice : class (desk ("a" ∷ []) ("Authorizer: \"POLICY\"\nLicensees: 2-of(\"a\",\"a\")" ∷ [])) ≡ (0 ∷ [], 1)
+  -- "Ranks 0, 1, 2, 2, 3 with K = 3: 2.", of the definition and of a query
+  pub third : highest 3 (0 ∷ 1 ∷ 2 ∷ 2 ∷ 3 ∷ []) ≡ 2
+  pub third-asked : class (query ("none" ∷ "low" ∷ "high" ∷ "full" ∷ []) ("r" ∷ []) (map bytes five)) ≡ (0 ∷ 0 ∷ 0 ∷ 0 ∷ 0 ∷ 0 ∷ [], 2)
+  -- "Tests: `1/0 == 1 || true` and `!(1/0 == 1)` false; `true || 1/0 == 1` true."
+  pub error-first : tested "1/0 == 1 || true" ≡ fails
+  pub error-opposite : tested "!(1/0 == 1)" ≡ fails
+  pub error-unmet : tested "true || 1/0 == 1" ≡ holds
+  -- "`-2^2 == 4`, `2^3^2 == 64`, `-7/2 == -3` true."
+  pub minus-power : tested "-2^2 == 4" ≡ holds
+  pub power-power : tested "2^3^2 == 64" ≡ holds
+  pub toward-zero : tested "-7/2 == -3" ≡ holds
+  -- "@ of "-1.5" is -2; of "1e3" 0; of "2147483648" 0."
+  pub rounds-down : tested "@\"-1.5\" == -2" ≡ holds
+  pub no-exponent : tested "@\"1e3\" == 0" ≡ holds
+  pub out-of-range : tested "@\"2147483648\" == 0" ≡ holds
+  -- not starred: "Text `Licensees: "a"`: reason 3 at 14. `Authorizer: "POLICY"`, newline, `Licensees: "a" &&`: reason 2 at 38."
+  pub no-authorizer : reading (supplied (bytes "Licensees: \"a\"")) ≡ dropped 3 14
+  pub no-licensee : reading (supplied (bytes "Authorizer: \"POLICY\"\nLicensees: \"a\" &&")) ≡ dropped 2 38
+  -- not starred: "The first ruling [..] is a record of 63 bytes", here with a page of 8 bytes that are 7
+  pub first-long : length (encode first) ≡ 63
+  pub first-outcome : outcome (encode first) 8 ≡ record { number = 0; place = 0; rank = 1; rounds = 2; reached = 2 }
+  pub first-page : pageAfter (encode first) (replicate 8 7) ≡ 1 ∷ 0 ∷ 3 ∷ 0 ∷ 0 ∷ 0 ∷ 7 ∷ 7 ∷ []
+
+pub rulings : Rulings
+unfolding bytes supplied query reasons told class tested worth ranked reading readings keptOf system classOf roundsOf reachedOf reasonOf highest TextClass.isDigit TextClass.inClass TextDecimal.inRange TextDecimal.roundedDown TextDecimal.withFraction TextDecimal.unsigned TextDecimal.decimal TextDigits.valueFrom TextDigits.value TextEqual.equal TextLoop.turns TextLoop.loop TextScan.past LexicalClass.classOf LexicalKind.opened LexicalLabel.labelKind LexicalLine.visible LexicalLine.inLine LexicalLine.blankTo LexicalLine.lineAt LexicalLine.linesFrom LexicalLine.tokenAt LexicalLiteral.units LexicalLiteral.unitsAt LexicalLiteral.literalEnd LexicalLiteral.decodedAt LexicalNumber.decimal LexicalNumber.held LexicalNumber.numberAt LexicalOperator.equalPair LexicalOperator.pairOf LexicalOperator.markKind LexicalOperator.isOf LexicalOperator.operatorKind LexicalRun.hasClass LexicalRun.inRun LexicalToken.widthOf LexicalToken.operatorAt LexicalToken.operatorToken LexicalToken.literalToken LexicalToken.floatEnd LexicalToken.numberToken LexicalToken.tokenFrom LexicalUnit.barred LexicalUnit.unitAt LexicalWord.lower LexicalWord.stands LexicalWord.spells FieldsAuthorizer.authorized FieldsAuthorizer.authorizer FieldsIdentifier.sizeFault FieldsIdentifier.identifierFault FieldsIdentifier.identified FieldsIdentifier.identifier FieldsLicensees.licensee FieldsLicensees.listed FieldsLicensees.listFrom FieldsLicensees.listOpened FieldsLicensees.ofRead FieldsLicensees.threshold FieldsLicensees.primary FieldsLicensees.expression FieldsLicensees.licensees FieldsParsed.ending AssertionDraft.without AssertionDraft.total AssertionRead.finished AssertionRead.field AssertionRead.fieldsFrom AssertionRead.readAssertion ConditionsExpression.readExpression ConditionsOperand.readLiteral ConditionsOperand.readName ConditionsOperand.readDigits ConditionsOperand.readLeaf ConditionsOperand.settledTree ConditionsOperand.applied ConditionsProgram.ending ConditionsProgram.valuing ConditionsProgram.stopping ConditionsProgram.readProgram ConditionsProgram.readBlock ConditionsTable.beginsString ConditionsTable.beginsNumber ConditionsTable.beginsFloat ConditionsTable.allows ConditionsTable.comparison ConditionsTable.numberOperator ConditionsTable.textOperator ConditionsTable.testOperator ConditionsTable.operator ConditionsTable.prefixOperator ConditionsTable.levelOf ConditionsTable.operandOf ConditionsTable.resultOf ConditionsTable.operandLevel ConditionsTable.operandWant ConditionsTable.rightWant ConditionsTable.rightLevel ConditionsTable.binds ConditionsTable.insideLevel ConditionsTable.fits ConditionsTable.stops ConditionsWord.wordSort SyntaxCode.numberAt ComplianceLicensees.value ComplianceLicensees.licensed ComplianceLicensees.named ComplianceLicensees.licensees ComplianceReach.licenseesOf ComplianceReach.reachFrom ComplianceReach.namings ComplianceReach.reach ComplianceRounds.equalOn ComplianceRounds.settled ComplianceRounds.reached ComplianceRounds.firstSettled ComplianceRounds.rounds ComplianceRounds.mentioned ComplianceRounds.rank ComplianceSystem.direct ComplianceSystem.asserted ComplianceSystem.delegated ComplianceSystem.equations ComplianceSystem.round PrincipalMembers.member PrincipalPrincipal.same PrincipalPrincipal.policy ExpressionConditions.evaluate ExpressionConditions.indexFrom ExpressionConditions.rankOf ExpressionConditions.top ExpressionConditions.clause ExpressionIntegers.ranged ExpressionIntegers.negated ExpressionIntegers.differ ExpressionIntegers.over ExpressionIntegers.raisedTo ExpressionIntegers.odd ExpressionIntegers.signOfPower ExpressionIntegers.power ExpressionIntegers.sizes ExpressionIntegers.compared ExpressionOperations.held ExpressionOperations.relates ExpressionOperations.arithmetic ExpressionOperations.logical ExpressionOperations.ofTexts ExpressionOperations.ofIntegers ExpressionOperations.ofTests ExpressionOperations.isTextual ExpressionOperations.binaryOf ExpressionOperations.converted ExpressionOperations.negative ExpressionOperations.opposite ExpressionOperations.unaryOf ExpressionQueried.environment stringBytes assertionBytes itemsBytes groupBytes encode placeOf pairBytes entryBytes entriesBytes report reportSize answer needed judged outcome written pageAfter TextCounted.part TextCounted.pairAt SyntaxParsed.refusal LexicalReason.reasonOf TextClass.isPlain RecordField.countAt RecordField.lengthAt RecordField.contentAt RecordField.fieldAt RecordField.nameFront RecordField.among RecordItem.plainAt RecordItem.valueAt RecordItem.requesterAt RecordItem.nameAt RecordItem.attributeAt RecordItem.assertionAt RecordItem.itemsAt RecordItem.groupAt RecordRecord.queryAt RecordRecord.readRecord
+rulings = record {
+  licence = refl;
+  ring-c = refl;
+  ring-b = refl;
+  no-assertions = refl;
+  two-of = refl;
+  three-of = refl;
+  twice = refl;
+  third = refl;
+  third-asked = refl;
+  error-first = refl;
+  error-opposite = refl;
+  error-unmet = refl;
+  minus-power = refl;
+  power-power = refl;
+  toward-zero = refl;
+  rounds-down = refl;
+  no-exponent = refl;
+  out-of-range = refl;
+  no-authorizer = refl;
+  no-licensee = refl;
+  first-long = refl;
+  first-outcome = refl;
+  first-page = refl;
+}
