@@ -65,7 +65,7 @@ pub fn identifier_fault(s: &[u8], consts: &[u8], constants: &[usize], t: Token) 
 }
 
 // Enters an identifier into the index, unless it is there already.
-fn enter(pool: &mut [u8], places: &mut [usize], count: usize, end: usize, id: &[u8]) -> Entry
+pub fn enter(pool: &mut [u8], places: &mut [usize], count: usize, end: usize, id: &[u8]) -> Entry
     ensures { λ r. ⌜ entry r (now (pool .exit)) (now (places .exit)) ≡ enterIn (now (pool .entry)) (now (places .entry)) count end (now (id .entry)) ⌝ }
 {
     let i = index::find(pool, places, count, id);

@@ -1,0 +1,68 @@
+use borrow.Author.Needs.{needs}
+use Rattle.system.proofs.asked.ask.Statement.{statement}
+use Rattle.system.proofs.asked.ask.Tie as tie
+use Rattle.system.proofs.asked.ask.Reads as reads
+use Rattle.system.proofs.asked.ask.Lts as lts
+use Rattle.fields.proofs.identifier.enter.Reads as enter-reads
+use Rattle.system.proofs.asked.mark.Reads as mark-reads
+use Rattle.system.specs.Working.Asking.{ask-full, ask-at}
+
+-- src/asked.rt:33:11
+enter-requires : tie.Need-enter-requires
+enter-requires c κs = search needs
+
+-- src/asked.rt:34:24
+enum-told : tie.Need-enum-told
+enum-told c = search needs
+
+-- src/asked.rt:35:21
+enum-known-number : tie.Need-enum-known-number
+enum-known-number c = search needs
+
+-- src/asked.rt:36:13
+mark-requires : tie.Need-mark-requires
+mark-requires c κs = search needs
+
+-- src/asked.rt:24:1
+same-length : tie.Need-same-length
+same-length c = search needs
+
+-- src/asked.rt:24:1
+same-length-2 : tie.Need-same-length-2
+same-length-2 c = search needs
+
+-- src/asked.rt:24:1
+returns : tie.Need-returns
+returns c = search ask-full
+
+-- src/asked.rt:24:1
+same-length-3 : tie.Need-same-length-3
+same-length-3 c = search needs
+
+-- src/asked.rt:24:1
+same-length-4 : tie.Need-same-length-4
+same-length-4 c = search needs
+
+-- src/asked.rt:24:1
+same-length-5 : tie.Need-same-length-5
+same-length-5 c = search needs
+
+-- src/asked.rt:24:1
+returns-2 : tie.Need-returns-2
+returns-2 c = search ask-at
+
+pub ask-spec : {M : Type 1} → statement M
+ask-spec =
+    tie.close
+    (tie.spec
+    enter-requires
+    enum-told
+    enum-known-number
+    mark-requires
+    same-length
+    same-length-2
+    returns
+    same-length-3
+    same-length-4
+    same-length-5
+    returns-2)

@@ -1,0 +1,95 @@
+-- Working definitions: the assertions of a query read one after the other, and the ways out of the functions that do it. Assumes nothing.
+use mathlib.Core.Path.{_≡_, refl, sym, ap, _∙_}
+use mathlib.Core.List.{List, [], _∷_}
+use Prim.Native.Nat.{ℕ, zero, suc, _+_, _-_, _<_, _≤_}
+use native.Mathlib.Omega.{arith}
+use native.Mathlib.Numerals.{add-one}
+use lib.ListN.{length, getD, drop, replicate, drop-of-length-le, List·getD-eq-default}
+use lib.Seq.{drop-cons}
+use Rattle.text.specs.Counted.{counted}
+use Rattle.assertion.specs.Working.Field.{given, tabled}
+use Rattle.assertion.specs.Working.Reading.{Result, readBy, readIn}
+use Rattle.assertion.specs.declared.Reading.{Reading}
+use Rattle.system.specs.Working.Noting.{Noted, noted, noteIn}
+use Rattle.system.specs.declared.note.Ends.{Ends}
+
+-- what stays as it is: the record, the places of its values and attributes, the highest rank, where constants begin, and the room for strings
+pub record Fixed : Type 0 where
+  pub bytes : List ℕ
+  pub values : List ℕ
+  pub names : List ℕ
+  pub top : ℕ
+  pub start : ℕ
+  pub space : ℕ
+
+abbrev pub fixed : List ℕ → List ℕ → List ℕ → ℕ → ℕ → ℕ → Fixed
+fixed bytes values names top start space = record { bytes = bytes; values = values; names = names; top = top; start = start; space = space }
+
+-- constants, identifiers and their places, licensees' programs, and the code of Conditions
+pub record Store : Type 0 where
+  pub consts : List ℕ
+  pub pool : List ℕ
+  pub places : List ℕ
+  pub code : List ℕ
+  pub program : List ℕ
+
+abbrev pub store : List ℕ → List ℕ → List ℕ → List ℕ → List ℕ → Store
+store consts pool places code program = record { consts = consts; pool = pool; places = places; code = code; program = program }
+
+pub data One : Type 0 where
+  oneBy : Reading → Store → One
+
+abbrev pub oneOf : Result → One
+oneOf (readBy r x) = oneBy r (store (x .consts) (x .pool) (x .places) (x .code) (x .program))
+
+-- the assertion at a place: 16 entries for its constants, 208 numbers for its operands
+unfoldable pub oneIn : Fixed → ℕ → Store → ℕ → ℕ → ℕ → One
+oneIn f at x count end size =
+    oneOf (readIn (given (counted (f .bytes) at) (getD (f .bytes) (at - 3) 0) (f .bytes) (f .values) (f .names) (f .start) 208 (f .space)) (f .top)
+    (tabled (x .consts) (replicate 16 0) (x .pool) (x .places) (x .code) (x .program)) count end size)
+
+-- the ends, the tables, the rows and the page
+pub data Each : Type 0 where
+  eachBy : Ends → Store → List ℕ → List ℕ → List ℕ → List ℕ → Each
+
+abbrev pub onNoted : Store → Noted → Each
+onNoted x (noted e a c d page) = eachBy e x a c d page
+
+abbrev pub onOne : List ℕ → List ℕ → List ℕ → List ℕ → ℕ → Ends → One → Each
+onOne a c d page i e (oneBy r x) = onNoted x (noteIn a c d page i e r)
+
+-- the assertions at those places, the first of which has the number i
+unfoldable pub eachFrom : Fixed → List ℕ → ℕ → Each → Each
+eachFrom f [] i z = z
+eachFrom f (p ∷ ps) i (eachBy e x a c d page) = eachFrom f ps (suc i) (onOne a c d page i e (oneIn f p x (e .count) (e .end) (e .size)))
+
+-- `byte_at` and `standing_at`
+pub byte-past : (s : List ℕ) (at : ℕ) → length s ≤ at → 0 ≡ getD s at 0
+byte-past s at h = sym (List·getD-eq-default s 0 h)
+
+pub standing-low : (s : List ℕ) (at r : ℕ) → at < 3 → r ≡ getD s 0 0 → r ≡ getD s (at - 3) 0
+standing-low s at r h e = let z : at - 3 ≡ 0 = omega (arith, h) in e ∙ rw z
+
+-- `read_one`
+pub one-is : (bytes values names : List ℕ) (top start space at : ℕ) (x : Store) (count end size : ℕ) (text : List ℕ) (standing : ℕ) (r : Reading) (consts constants pool places code program : List ℕ)
+    → text ≡ counted bytes at → standing ≡ getD bytes (at - 3) 0
+    → readBy r (tabled consts constants pool places code program)
+    ≡ readIn (given text standing bytes values names start 208 space) top (tabled (x .consts) (replicate 16 0) (x .pool) (x .places) (x .code) (x .program)) count end size
+    → oneBy r (store consts pool places code program) ≡ oneIn (fixed bytes values names top start space) at x count end size
+unfolding oneIn
+one-is bytes values names top start space at x count end size text standing r consts constants pool places code program te se e = rw (← te, ← se, ← e)
+
+-- `read_each`, with the invariant `eachFrom f (drop i ps) i .. ≡ z`
+module _ (f : Fixed) (ps : List ℕ) (i : ℕ) (e : Ends) (x : Store) (a c d page : List ℕ) (z : Each) (inv : eachFrom f (drop i ps) i (eachBy e x a c d page) ≡ z) where
+  pub each-end : length ps ≤ i → eachBy e x a c d page ≡ z
+  unfolding eachFrom
+  each-end h = let w : eachFrom f [] i (eachBy e x a c d page) ≡ z = rw (drop-of-length-le ps h) at inv in w
+
+  pub each-more : i < length ps → (k : ℕ) → k ≡ getD ps i 0 → (r : Reading) (y : Store) → oneBy r y ≡ oneIn f k x (e .count) (e .end) (e .size)
+      → (u : Ends) (a′ c′ d′ page′ : List ℕ) → noted u a′ c′ d′ page′ ≡ noteIn a c d page i e r → eachFrom f (drop (i + 1) ps) (i + 1) (eachBy u y a′ c′ d′ page′) ≡ z
+  unfolding eachFrom
+  each-more h k ke r y re u a′ c′ d′ page′ ne =
+      let w : eachFrom f (drop (suc i) ps) (suc i) (onOne a c d page i e (oneIn f (getD ps i 0) x (e .count) (e .end) (e .size))) ≡ z = rw (drop-cons ps i 0 h) at inv in
+      let v : oneBy r y ≡ oneIn f (getD ps i 0) x (e .count) (e .end) (e .size) = re ∙ rw ke in
+      let t : eachFrom f (drop (suc i) ps) (suc i) (onNoted y (noteIn a c d page i e r)) ≡ z = rw (← v) at w in
+      rw (add-one i) (rw (← ne) at t)

@@ -1,0 +1,114 @@
+// The assertions of a query, one after the other.
+use crate::note::Ends;
+use crate::note::note;
+use assertion::Reading;
+use assertion::read;
+ghost use mathlib.Core.Path.{_≡_};
+ghost use lib.ListN.{length, getD};
+ghost use Prim.Native.Nat.{_-_};
+ghost use Rattle.system.specs.Working.Each.{fixed, store, oneBy, oneIn, eachBy, eachFrom};
+
+pub const MOST_CONSTANTS: usize = 16;
+
+pub const STACK: usize = 208;
+
+// The byte at a place, 0 past the end.
+fn byte_at(s: &[u8], at: usize) -> u8
+    ensures { λ r. ⌜ r ≡ getD (now (s .entry)) at 0 ⌝ }
+{
+    if s.len() <= at {
+        return 0;
+    }
+    s[at]
+}
+
+// The standing of the assertion whose text is at a place.
+fn standing_at(s: &[u8], at: usize) -> u8
+    ensures { λ r. ⌜ r ≡ getD (now (s .entry)) (at - 3) 0 ⌝ }
+{
+    if at < 3 {
+        return byte_at(s, 0);
+    }
+    byte_at(s, at - 3)
+}
+
+// The assertion at a place of the record.
+fn read_one(
+    query: &[u8],
+    values: &[usize],
+    names: &[usize],
+    top: u8,
+    start: usize,
+    at: usize,
+    consts: &mut [u8],
+    pool: &mut [u8],
+    places: &mut [usize],
+    code: &mut [u16],
+    program: &mut [u32],
+    bytes: &mut [u8],
+    count: usize,
+    end: usize,
+    size: usize,
+) -> Reading
+    ensures { λ r. ⌜ oneBy r (store (now (consts .exit)) (now (pool .exit)) (now (places .exit)) (now (code .exit)) (now (program .exit))) ≡ oneIn (fixed (now (query .entry)) (now (values .entry)) (now (names .entry)) top start (length (now (bytes .entry)))) at (store (now (consts .entry)) (now (pool .entry)) (now (places .entry)) (now (code .entry)) (now (program .entry))) count end size ⌝ }
+{
+    let mut constants = [0usize; MOST_CONSTANTS];
+    let mut stack = [0u64; STACK];
+    let standing = standing_at(query, at);
+    read(
+        text::counted_at(query, at),
+        standing,
+        top,
+        query,
+        values,
+        names,
+        consts,
+        start,
+        &mut constants,
+        pool,
+        places,
+        count,
+        end,
+        code,
+        size,
+        program,
+        &mut stack,
+        bytes,
+    )
+}
+
+// The assertions whose texts are at those places.
+pub fn read_each(
+    query: &[u8],
+    values: &[usize],
+    names: &[usize],
+    top: u8,
+    start: usize,
+    texts: &[usize],
+    consts: &mut [u8],
+    pool: &mut [u8],
+    places: &mut [usize],
+    code: &mut [u16],
+    program: &mut [u32],
+    bytes: &mut [u8],
+    authors: &mut [u16],
+    conds: &mut [u8],
+    ends: &mut [u16],
+    page: &mut [u8],
+    from: Ends,
+) -> Ends
+    ensures { λ r. ⌜ eachBy r (store (now (consts .exit)) (now (pool .exit)) (now (places .exit)) (now (code .exit)) (now (program .exit))) (now (authors .exit)) (now (conds .exit)) (now (ends .exit)) (now (page .exit)) ≡ eachFrom (fixed (now (query .entry)) (now (values .entry)) (now (names .entry)) top start (length (now (bytes .entry)))) (now (texts .entry)) 0 (eachBy from (store (now (consts .entry)) (now (pool .entry)) (now (places .entry)) (now (code .entry)) (now (program .entry))) (now (authors .entry)) (now (conds .entry)) (now (ends .entry)) (now (page .entry))) ⌝ }
+{
+    let mut e = from;
+    let mut i: usize = 0;
+    while i < texts.len() {
+        let at = texts[i];
+        let r = read_one(
+            query, values, names, top, start, at, consts, pool, places, code, program, bytes,
+            e.count, e.end, e.size,
+        );
+        e = note(authors, conds, ends, page, i, e, r);
+        i += 1;
+    }
+    e
+}

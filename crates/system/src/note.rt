@@ -1,0 +1,104 @@
+// What became of an assertion, noted in the tables and on the page.
+use assertion::Reading;
+ghost use mathlib.Core.Path.{_≡_};
+ghost use Prim.Native.Nat.{_%_};
+ghost use Rattle.system.specs.Working.Noting.{entryInto, rowed, rowInto, noted, noteIn};
+
+// The ends of the index and of the licensees' programs, and how many assertions are kept.
+pub struct Ends {
+    pub count: usize,
+    pub end: usize,
+    pub size: usize,
+    pub kept: usize,
+}
+
+fn low(n: usize) -> u8
+    ensures { λ r. ⌜ r ≡ n % 256 ⌝ }
+{
+    (n % 256) as u8
+}
+
+fn pair(n: usize) -> u16
+    ensures { λ r. ⌜ r ≡ n % 65536 ⌝ }
+{
+    (n % 65536) as u16
+}
+
+// The report's entry of assertion i.
+pub fn put_entry(page: &mut [u8], i: usize, reason: u8, place: usize)
+    ensures { λ _. ⌜ now (page .exit) ≡ entryInto (now (page .entry)) i reason place ⌝ }
+{
+    if page.len() < 6 {
+        return;
+    }
+    if (page.len() - 6) / 3 < i {
+        return;
+    }
+    let at = 3 + 3 * i;
+    page[at + 2] = low(place);
+    page[at + 1] = low(place / 256);
+    page[at] = reason;
+}
+
+// One row more, behind k.
+fn put_row(
+    authors: &mut [u16],
+    conds: &mut [u8],
+    ends: &mut [u16],
+    k: usize,
+    author: usize,
+    rank: u8,
+    size: usize,
+) -> usize
+    ensures { λ r. ⌜ rowed r (now (authors .exit)) (now (conds .exit)) (now (ends .exit)) ≡ rowInto (now (authors .entry)) (now (conds .entry)) (now (ends .entry)) k author rank size ⌝ }
+{
+    if authors.len() <= k {
+        return k;
+    }
+    if conds.len() <= k {
+        return k;
+    }
+    if ends.len() <= k {
+        return k;
+    }
+    authors[k] = pair(author);
+    conds[k] = rank;
+    ends[k] = pair(size);
+    k + 1
+}
+
+// Assertion i.
+pub fn note(
+    authors: &mut [u16],
+    conds: &mut [u8],
+    ends: &mut [u16],
+    page: &mut [u8],
+    i: usize,
+    e: Ends,
+    r: Reading,
+) -> Ends
+    ensures { λ u. ⌜ noted u (now (authors .exit)) (now (conds .exit)) (now (ends .exit)) (now (page .exit)) ≡ noteIn (now (authors .entry)) (now (conds .entry)) (now (ends .entry)) (now (page .entry)) i e r ⌝ }
+{
+    match r {
+        Reading::Dropped { reason, place } => {
+            put_entry(page, i, reason, place);
+            e
+        }
+        Reading::Kept {
+            author,
+            rank,
+            count,
+            end,
+            size,
+        } => {
+            put_entry(page, i, 0, 0);
+            let kept = put_row(authors, conds, ends, e.kept, author, rank, size);
+            Ends {
+                count,
+                end,
+                size,
+                kept,
+            }
+        }
+    }
+}
