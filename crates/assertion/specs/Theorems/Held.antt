@@ -102,12 +102,17 @@ pub record Held (q : Query) (g : Given) (top : ℕ) (x : Tables) (names : List P
   pub list : Listed (enterAll names ps) (take size (x .code)) size (getD free Kind.LICENSEES 0) (y .code) (d .licensees) (u .licensed) (u .size)
   pub rank : u .rank ≡ worth top q (d .conditions)
 
+-- an index with more principals holds the names
+pub names-before : {q : Query} {g : Given} {x : Tables} {names : List Principal} {count end size : ℕ} → Ready q g x names count end size
+    → (ps : List Principal) {pool places : List ℕ} {c e : ℕ} → Holds pool places c e (enterAll names ps) → Holds pool places count end names
+names-before {names = names} ready ps holds = holds-before names (freshAll names ps) (ready .holds) (rw (enter-all-is names ps) at holds)
+
 module _ {q : Query} {g : Given} {top : ℕ} {x : Tables} {names : List Principal} {count end size : ℕ} (ready : Ready q g x names count end size)
     {free : List ℕ} {d : Draft} {u : Partial} {t : Token} {y : Tables} (held : Held q g top x names end size free d u t y) where
   pub held-front : Front g x names count end size y
   held-front = record {
     after = held .after;
-    holds = holds-before names (freshAll names (held .ps)) (ready .holds) (rw (enter-all-is names (held .ps)) at (held .index .holds));
+    holds = names-before ready (held .ps) (held .index .holds);
     code = listed-front (x .code) size (y .code) (omega (arith, ready .code-room)) (held .list);
   }
 
