@@ -56,7 +56,7 @@ use Rattle.assertion.specs.Read.{field}
 use Rattle.assertion.specs.Working.Field.{Given, Tables, tabled, Moved, moved, knowing, authoredBy, licensedTo, rankedAt, passedOn, settledAs, madeAs, listedAs, onJudged, intoConstants, intoIndex, intoCode, known, judgedBy, constantsAt, authorizerAt, licenseesAt, conditionsAt, fieldAt}
 use Rattle.assertion.specs.declared.field.Partial.{Partial}
 use Rattle.assertion.specs.declared.field.Went.the-variants.{On, Aside}
-use Rattle.assertion.specs.Theorems.Left.{without-most, without-none}
+use Rattle.assertion.specs.Theorems.Left.{without-most, without-none, enter-all-length}
 use Rattle.assertion.specs.Theorems.Ready.{Ready, After, worth}
 use Rattle.assertion.specs.Theorems.Held.{Authored, authored, Listed, listed, Indexed, author-more, listed-more, listed-less, listed-front, listed-none, index-less, names-before, Front, Held, held-front, held-used, held-count}
 
@@ -114,6 +114,10 @@ written-length s m at short room = kept (readProgram s (nextAt s at)) (codedAt s
     kept : (p : Parsed Program) (r : Ran) → Compiled s m 0 p r → length (writtenBy r) ≡ length m
     kept _ _ (refused r p b k i) = keeping b i
     kept _ _ (compiled q x p u n b c stop l h k codes) = l
+
+opened-conditions : (k : ℕ) → k ≡ Kind.CONDITIONS → Kind.opened k ≡ Kind.IN-FIELD
+unfolding Kind.opened
+opened-conditions k e = rw e
 
 -- the index with the Authorizer behind, and with the licensees
 enter-one : (l : List Principal) (p : Principal) → enterAll l (p ∷ []) ≡ enter l p
@@ -265,3 +269,68 @@ module _ {q : Query} {g : Given} {top : ℕ} {x : Tables} {names : List Principa
         list = less k;
         rank = refl;
       })
+
+  few-values : length (environment q (d .constants) .values) ≤ 256
+  unfolding environment
+  few-values = ready .few
+
+  conditions-field : (k at : ℕ) → Reads k (andThen (readProgram (g .text) (nextAt (g .text) at)) (λ p n. ok (withConditions (labelled d k) (stated (d .constants) p)) n))
+      (conditionsAt g y u (nextAt (g .text) at))
+  unfolding conditionsAt
+  conditions-field k at =
+      judged-field k _ _ (writtenIn (g .text) (nextAt (g .text) at) (y .program))
+      (judge-read shown few-values (g .text) (omega (arith, ready .short)) (g .depth) (g .space) (ready .depth) (ready .space) at (y .program) room)
+      (written-length (g .text) (y .program) at (omega (arith, ready .short)) room)
+    where
+      room : length (g .text) + 2 ≤ length (y .program)
+      room = omega (arith, ready .short, ready .program-room, held .after .program)
+
+  conditions-here : (k : ℕ) → k ≡ Kind.CONDITIONS → (at : ℕ)
+      → Reads k (andThen (readProgram (g .text) (tokenAt (g .text) (Kind.opened k) at)) (λ p n. ok (withConditions (labelled d k) (stated (d .constants) p)) n))
+      (conditionsAt g y u (tokenAt (g .text) (Kind.opened k) at))
+  conditions-here k ke at = rw (opened-conditions k ke) (conditions-field k at)
+
+  constants-here : (k : ℕ) (n : Token) → Stood (g .text) n → Reads k (andThen (constantsFrom (g .text) [] n) (λ cs n. ok (withConstants (labelled d k) cs) n)) (constantsAt g y u n)
+  unfolding constantsAt
+  constants-here k n sn =
+      constants-field k _ _ (constants-read (g .text) (y .consts) (y .constants) (g .start) n sn (omega (arith, ready .short))
+      (omega (arith, held .after .constants, ready .constants-room)) (omega (arith, held .after .consts, ready .consts-room, ready .short)))
+
+  author-here : (k : ℕ) → k ≡ Kind.AUTHORIZER → getD free Kind.AUTHORIZER 0 ≡ 1 → (n : Token) → Stood (g .text) n
+      → Reads k (andThen (authorizer (g .text) (g .standing) (d .constants) n) (λ p n. ok (withAuthorizer (labelled d k) p) n)) (authorizerAt g y u n)
+  unfolding authorizerAt
+  author-here k ke one n sn =
+      author-field k ke one _ _ (author-read (g .text) (g .standing) (y .consts) (known u y) (y .pool) (y .places) (u .count) (u .end) (d .constants) (enterAll names (held .ps)) n
+      (held .constants) sn (held .index .holds) (held .index .low)
+      (omega (arith, held-count ready held, held .index .room, one, ready .places-room, held .after .places))
+      (omega (arith, held .index .near, held .index .room, one, ready .pool-room, held .after .pool)))
+
+  list-here : (k : ℕ) → k ≡ Kind.LICENSEES → getD free Kind.LICENSEES 0 ≡ 1 → (n : Token) → Stood (g .text) n
+      → Reads k (andThen (licensees (g .text) (d .constants) n) (λ l n. ok (withLicensees (labelled d k) l) n)) (licenseesAt g y u n)
+  unfolding licenseesAt
+  list-here k ke one n sn =
+      list-field k ke one _ _ (licensees-read (g .text) (y .consts) (known u y) (y .pool) (y .places) (y .code) (u .count) (u .end) (u .size) (d .constants) (enterAll names (held .ps)) n
+      (held .constants) sn (held .index .holds) (held .index .low)
+      (omega (arith, held-count ready held, held .index .room, one, ready .places-room, held .after .places))
+      (omega (arith, enter-all-length names (held .ps), held .index .room, one, ready .numbers))
+      (omega (arith, held .index .near, held .index .room, one, ready .pool-room, held .after .pool))
+      (omega (arith, listed-none one (held .list), ready .code-room, held .after .code)))
+
+  free-one : (k j : ℕ) → k ≡ j → eqb (getD free k 0) 1 ≡ true → getD free j 0 ≡ 1
+  free-one k j ke e = let z : getD free k 0 ≡ 1 = eqb-true _ _ e in rw ke at z
+
+  -- the field whose label is of that kind
+  field-from : (k at : ℕ) → eqb (getD free k 0) 1 ≡ true → (n : Token) → n ≡ tokenAt (g .text) (Kind.opened k) at → Stood (g .text) n
+      → Reads k (field (g .standing) (g .text) k (labelled d k) n) (fieldAt g k y u n)
+  unfolding field fieldAt
+  field-from k at one n ne sn =
+      both (Reads k) (eqb k Kind.KEYNOTE-VERSION) _ _ _ _ (λ f. version-field k _ (version-read (g .text) n))
+      (λ f. both (Reads k) (eqb k Kind.LOCAL-CONSTANTS) _ _ _ _ (λ h. constants-here k n sn)
+      (λ h. both (Reads k) (eqb k Kind.AUTHORIZER) _ _ _ _ (λ i. author-here k (eqb-true _ _ i) (free-one k Kind.AUTHORIZER (eqb-true _ _ i) one) n sn)
+      (λ i. both (Reads k) (eqb k Kind.LICENSEES) _ _ _ _ (λ j. list-here k (eqb-true _ _ j) (free-one k Kind.LICENSEES (eqb-true _ _ j) one) n sn)
+      (λ j. both (Reads k) (eqb k Kind.CONDITIONS) _ _ _ _ (λ l. rw ne (conditions-here k (eqb-true _ _ l) at)) (λ l. comment-field k n sn)))))
+
+  pub field-read : (k at : ℕ) → eqb (getD free k 0) 1 ≡ true
+      → FieldRead q g top x names count end size (without free k) (field (g .standing) (g .text) k (labelled d k) (tokenAt (g .text) (Kind.opened k) at))
+      (fieldAt g k y u (tokenAt (g .text) (Kind.opened k) at))
+  field-read k at one = field-from k at one (tokenAt (g .text) (Kind.opened k) at) refl (stood-at (g .text) (Kind.opened k) at)
