@@ -2,3 +2,4 @@ pub mod Left
 pub mod Ready
 pub mod Held
 pub mod Fielded
+pub mod Reads

@@ -1,5 +1,5 @@
 -- A field read into the tables is what the meaning reads. Assumes nothing.
-use mathlib.Core.Path.{_≡_, refl, sym, ap, _∙_}
+use mathlib.Core.Path.{_≡_, refl, ap, _∙_}
 use mathlib.Core.Bool.{true}
 use mathlib.Core.List.{List, [], _∷_, _++_}
 use Prim.Native.Nat.{ℕ, _+_, _*_, _<_, _≤_}
@@ -7,7 +7,7 @@ use native.Mathlib.Omega.{arith}
 use lib.Dec.{eqb}
 use lib.ListN.{length, getD, take, length-append}
 use borrow.Author.Tests.{eqb-true}
-use Rattle.text.specs.Choice.{pick, split}
+use Rattle.text.specs.Choice.{split}
 use Rattle.record.specs.Query.{Query, Attribute}
 use Rattle.lexical.specs.Kind
 use Rattle.lexical.specs.Line.{tokenAt}
@@ -20,7 +20,6 @@ use Rattle.index.specs.EnterLaws.{fresh, freshAll, enter-is, enter-all-is, ente
 use Rattle.syntax.specs.Expr.{Program}
 use Rattle.syntax.specs.Parsed.{Parsed, ok, aside, andThen, refusal}
 use Rattle.syntax.specs.Stood.{Stood, stood-at}
-use Rattle.expression.specs.Names.{Environment}
 use Rattle.expression.specs.Conditions.{conditions}
 use Rattle.expression.specs.Tables.{Shows}
 use Rattle.expression.specs.Theorems.Queried.{environment}
@@ -31,20 +30,17 @@ use Rattle.conditions.specs.Compiled.{Compiled, refused, compiled, conditions-c
 use Rattle.conditions.specs.Working.Emit.{Ran}
 use Rattle.conditions.specs.Working.Program.{conditionsAt as codedAt}
 use Rattle.conditions.specs.Working.Written.{Keeps, keeps}
-use Rattle.judge.specs.Working.Judging.{judgedIn, writtenBy, writtenIn}
+use Rattle.judge.specs.Working.Judging.{writtenBy, writtenIn}
 use Rattle.judge.specs.Theorems.Judges.{Judging, judged-aside, judged-on, judge-read}
 use Rattle.judge.specs.declared.Judged.{Judged}
 use Rattle.fields.specs.Parsed.{ending, ended}
-use Rattle.fields.specs.Version.{version}
 use Rattle.fields.specs.Constants.{constantsFrom}
 use Rattle.fields.specs.Authorizer.{authorizer}
 use Rattle.fields.specs.Licensees.{licensees}
 use Rattle.fields.specs.Working.Outs.{outOf, endedOut}
-use Rattle.fields.specs.Working.Setting.{Stored, constantsIn}
-use Rattle.fields.specs.Working.Authorizing.{Made, authorizerIn}
+use Rattle.fields.specs.Working.Setting.{Stored}
+use Rattle.fields.specs.Working.Authorizing.{Made}
 use Rattle.fields.specs.Working.List.{Ran as Listing}
-use Rattle.fields.specs.Working.Chain.{fieldIn}
-use Rattle.fields.specs.declared.list.State.{State}
 use Rattle.fields.specs.Theorems.Together.{both, refusal-some}
 use Rattle.fields.specs.Theorems.Versioned.{VersionRead, version-aside, version-on, version-read}
 use Rattle.fields.specs.Theorems.Constanted.{ConstantsRead, constants-aside, constants-on, constants-read}
@@ -53,12 +49,12 @@ use Rattle.fields.specs.Theorems.Licensed.{LicenseesRead, licensees-aside, lice
 use Rattle.assertion.specs.Assertion.{stated}
 use Rattle.assertion.specs.Draft.{Draft, without, labelled, withConstants, withAuthorizer, withLicensees, withConditions}
 use Rattle.assertion.specs.Read.{field}
-use Rattle.assertion.specs.Working.Field.{Given, Tables, tabled, Moved, moved, knowing, authoredBy, licensedTo, rankedAt, passedOn, settledAs, madeAs, listedAs, onJudged, intoConstants, intoIndex, intoCode, known, judgedBy, constantsAt, authorizerAt, licenseesAt, conditionsAt, fieldAt}
+use Rattle.assertion.specs.Working.Field.{Given, Tables, tabled, Moved, moved, knowing, authoredBy, licensedTo, rankedAt, passedOn, settledAs, madeAs, listedAs, onJudged, intoConstants, intoIndex, intoCode, known, constantsAt, authorizerAt, licenseesAt, conditionsAt, fieldAt}
 use Rattle.assertion.specs.declared.field.Partial.{Partial}
 use Rattle.assertion.specs.declared.field.Went.the-variants.{On, Aside}
 use Rattle.assertion.specs.Theorems.Left.{without-most, without-none, enter-all-length}
 use Rattle.assertion.specs.Theorems.Ready.{Ready, After, worth}
-use Rattle.assertion.specs.Theorems.Held.{Authored, authored, Listed, listed, Indexed, author-more, listed-more, listed-less, listed-front, listed-none, index-less, names-before, Front, Held, held-front, held-used, held-count}
+use Rattle.assertion.specs.Theorems.Held.{authored, Listed, listed, Indexed, author-more, listed-more, listed-less, listed-none, index-less, names-before, Front, Held, held-front, held-used, held-count}
 
 -- the same fault; or the same draft and token behind, as the tables hold it
 pub data FieldRead (q : Query) (g : Given) (top : ℕ) (x : Tables) (names : List Principal) (count end size : ℕ) (free : List ℕ) : Parsed Draft → Moved → Type 0 where
@@ -80,7 +76,7 @@ module _ {g : Given} {x y : Tables} (after : After g x y) where
     begun = e ∙ after .begun;
   }
 
-  after-code : (p l m : List ℕ) → length p ≡ length (y .pool) → length l ≡ length (y .places) → length m ≡ length (y .code)
+  pub after-code : (p l m : List ℕ) → length p ≡ length (y .pool) → length l ≡ length (y .places) → length m ≡ length (y .code)
       → After g x (tabled (y .consts) (y .constants) p l m (y .program))
   after-code p l m hp hl hm = record {
     consts = after .consts;
@@ -239,7 +235,7 @@ module _ {q : Query} {g : Given} {top : ℕ} {x : Tables} {names : List Principa
         };
         author = rw (all-behind names (held .ps) (licenseesOf f)) (author-more (enterAll names (held .ps)) (freshAll (enterAll names (held .ps)) (licenseesOf f)) (held .author));
         list = rw e (listed f (st .size) (rw ke (without-none free Kind.LICENSEES)) ((rw (z, front .code) at wrote)) (rw z at ends) (rw z at most)
-        (enter-all-member (enterAll names (held .ps)) (licenseesOf f)) formed few);
+            (enter-all-member (enterAll names (held .ps)) (licenseesOf f)) formed few);
         rank = held .rank;
       })
 
