@@ -72,7 +72,7 @@ total-less [] k e = let no : ⊥ = omega (arith, e) in absurd no
 total-less (x ∷ l) zero e = omega (arith, e)
 total-less (x ∷ l) (suc k) e = omega (arith, total-less l k e)
 
-without-less : (l : List ℕ) (k : ℕ) → eqb (getD l k 0) 1 ≡ true → total (without l k) < total l
+pub without-less : (l : List ℕ) (k : ℕ) → eqb (getD l k 0) 1 ≡ true → total (without l k) < total l
 unfolding without
 without-less l k e =
     let one : getD l k 0 ≡ 1 = eqb-true _ _ e in
@@ -102,7 +102,7 @@ module _ (free : List ℕ) (k : ℕ) where
       last-label h = rw (ne-eqb _ _ ne, ← be, y, ← fe, h)
 
 -- a label that is not the last is free
-last-free : (free : List ℕ) (k : ℕ) → lastAt free k ≡ false → eqb (getD free k 0) 1 ≡ true
+pub last-free : (free : List ℕ) (k : ℕ) → lastAt free k ≡ false → eqb (getD free k 0) 1 ≡ true
 unfolding lastAt
 last-free free k h =
     split (eqb (getD free k 0) 1) (λ e. e)

@@ -38,7 +38,7 @@ pub data AuthorRead (s pool places : List ℕ) (count end : ℕ) (names : List P
   author-aside : (r p : ℕ) (pool′ places′ : List ℕ) → (r ≡ 0 → ⊥) → length pool′ ≡ length pool → length places′ ≡ length places → Holds pool′ places′ count end names
       → AuthorRead s pool places count end names (aside r p) (made (Aside r p) pool′ places′)
   author-on : (p : Principal) (i c e : ℕ) (n : Token) (pool′ places′ : List ℕ) → Stood s n → i ≡ place (enter names p) p → Holds pool′ places′ c e (enter names p) → e ≤ 258 * c
-      → length pool′ ≡ length pool → length places′ ≡ length places → AuthorRead s pool places count end names (ok p n) (made (On i c e n) pool′ places′)
+      → e ≤ end + 258 → length pool′ ≡ length pool → length places′ ≡ length places → AuthorRead s pool places count end names (ok p n) (made (On i c e n) pool′ places′)
 
 -- is the principal at a member's number POLICY? as the member is
 policy-is : {pool places : List ℕ} {c e : ℕ} {names : List Principal} → Holds pool places c e names → (p : Principal) → member p names ≡ true
@@ -54,7 +54,7 @@ policy-is {pool} {places} {c} {e} {names} holds p m =
     (sym (same-left p (getD names (place names p) (counted pool 0)) policy (place-same names p (counted pool 0) m)))
 
 module _ (s : List ℕ) (standing : ℕ) (pool places : List ℕ) (count end : ℕ) (names : List Principal) (holds : Holds pool places count end names) (t : Token) (id : Principal) where
-  module _ (c e : ℕ) (pool′ places′ : List ℕ) (new : Holds pool′ places′ c e (enter names id)) (low : e ≤ 258 * c)
+  module _ (c e : ℕ) (pool′ places′ : List ℕ) (new : Holds pool′ places′ c e (enter names id)) (low : e ≤ 258 * c) (near : e ≤ end + 258)
       (samePool : length pool′ ≡ length pool) (samePlaces : length places′ ≡ length places) where
     set-aside : (r p : ℕ) → (r ≡ 0 → ⊥) → AuthorRead s pool places count end names (aside r p) (made (Aside r p) pool′ places′)
     set-aside r p h = author-aside r p pool′ places′ h samePool samePlaces (holds-before names (fresh names id) holds (rw (enter-is names id) at new))
@@ -63,7 +63,7 @@ module _ (s : List ℕ) (standing : ℕ) (pool places : List ℕ) (count end : �
     unfolding authorizerEnd
     end-read n sn =
         split (ending (n .kind))
-        (λ f. rw f (author-on id (place (enter names id) id) c e n pool′ places′ sn refl new low samePool samePlaces))
+        (λ f. rw f (author-on id (place (enter names id) id) c e n pool′ places′ sn refl new low near samePool samePlaces))
         (λ f. rw f (set-aside (refusal (n .kind)) (n .start) (refusal-some (n .kind))))
 
     barred-read : AuthorRead s pool places count end names (authorized standing t id (behind s Kind.IN-FIELD t)) (onEntry s standing t (entry (At (place (enter names id) id) c e) pool′ places′))
@@ -78,7 +78,7 @@ module _ (s : List ℕ) (standing : ℕ) (pool places : List ℕ) (count end : �
 
   entered-read : (k : Kept) → EntryRead pool places count end names id k
       → AuthorRead s pool places count end names (authorized standing t id (behind s Kind.IN-FIELD t)) (onEntry s standing t k)
-  entered-read _ (entry-at c e pool′ places′ new low few near samePool samePlaces) = barred-read c e pool′ places′ new low samePool samePlaces
+  entered-read _ (entry-at c e pool′ places′ new low few near samePool samePlaces) = barred-read c e pool′ places′ new low near samePool samePlaces
 
 -- what is read by the tables is what the meaning reads
 pub author-read : (s : List ℕ) (standing : ℕ) (consts constants pool places : List ℕ) (count end : ℕ) (l : List Attribute) (names : List Principal) (t : Token)

@@ -36,6 +36,7 @@ pub data LicenseesRead (s pool places code : List ℕ) (count end size : ℕ) (n
       → LicenseesRead s pool places code count end size names (aside r p) (ran (Aside r p) pool′ places′ code′)
   licensees-on : (f : Licensees) (u : State) (n : Token) (pool′ places′ code′ : List ℕ) → Stood s n
       → Holds pool′ places′ (u .count) (u .end) (enterAll names (licensees f)) → u .end ≤ 258 * u .count
+      → u .end ≤ end + 258 * length (licensees f)
       → take (u .size) code′ ≡ take size code ++ compiled (enterAll names (licensees f)) f
       → u .size ≡ size + length (compiled (enterAll names (licensees f)) f) → u .size ≤ size + 48
       → length (licensees f) ≤ 16 → ((e : Expression) → f ≡ given e → Formed e) → (f ≡ missing → ⊥)
@@ -64,7 +65,7 @@ module _ (s pool places code : List ℕ) (count end size : ℕ) (names : List Pr
       → length (compiled (enterAll names (licensees f)) f) ≤ 48 → ((e : Expression) → f ≡ given e → Formed e) → (f ≡ missing → ⊥)
       → LicenseesRead s pool places code count end size names (ok f n) (ran (On u n) pool′ places′ code′)
   set-down f u n pool′ places′ code′ sn grown short formed some =
-      licensees-on f u n pool′ places′ code′ sn (grown .holds) (grown .low) (grown .wrote) (grown .size) (omega (arith, grown .size, short)) (omega (arith, grown .listed, grown .few))
+      licensees-on f u n pool′ places′ code′ sn (grown .holds) (grown .low) (grown .endUp) (grown .wrote) (grown .size) (omega (arith, grown .size, short)) (omega (arith, grown .listed, grown .few))
       formed some (grown .stays .samePool) (grown .stays .samePlaces) (grown .stays .sameCode)
 
   -- "an empty one 0"

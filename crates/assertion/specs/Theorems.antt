@@ -1,0 +1,5 @@
+pub mod Left
+pub mod Ready
+pub mod Held
+pub mod Fielded
+pub mod Reads
