@@ -2,3 +2,4 @@ pub mod Asking
 pub mod Noting
 pub mod NotingWays
 pub mod Each
+pub mod Solving

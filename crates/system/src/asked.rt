@@ -3,7 +3,7 @@ use fields::identifier::Entry;
 use fields::identifier::enter;
 ghost use mathlib.Core.Path.{_≡_};
 ghost use lib.ListN.{set};
-ghost use Rattle.system.specs.Working.Asking.{asked, askIn, allFrom};
+ghost use Rattle.system.specs.Working.Asking.{asked, askIn, allFrom, begun, beginIn};
 
 // How many principals there are, and where the pool's front ends.
 pub struct Index {
@@ -58,4 +58,18 @@ pub fn ask_all(
         i += 1;
     }
     index
+}
+
+// The index with POLICY alone.
+pub fn begin(pool: &mut [u8], places: &mut [usize]) -> Index
+    ensures { λ r. ⌜ begun r (now (pool .exit)) (now (places .exit)) ≡ beginIn (now (pool .entry)) (now (places .entry)) ⌝ }
+{
+    match enter(pool, places, 0, 0, b"POLICY") {
+        Entry::Full => Index { count: 0, end: 0 },
+        Entry::At {
+            number: _,
+            count,
+            end,
+        } => Index { count, end },
+    }
 }

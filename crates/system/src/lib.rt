@@ -2,3 +2,4 @@
 pub mod asked;
 pub mod each;
 pub mod note;
+pub mod solved;

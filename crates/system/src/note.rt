@@ -2,7 +2,7 @@
 use assertion::Reading;
 ghost use mathlib.Core.Path.{_≡_};
 ghost use Prim.Native.Nat.{_%_};
-ghost use Rattle.system.specs.Working.Noting.{entryInto, rowed, rowInto, noted, noteIn};
+ghost use Rattle.system.specs.Working.Noting.{entryInto, rowed, rowInto, noted, noteIn, headerInto};
 
 // The ends of the index and of the licensees' programs, and how many assertions are kept.
 pub struct Ends {
@@ -101,4 +101,17 @@ pub fn note(
             }
         }
     }
+}
+
+// The report's first three bytes.
+pub fn put_header(page: &mut [u8], n: usize)
+    ensures { λ _. ⌜ now (page .exit) ≡ headerInto (now (page .entry)) n ⌝ }
+{
+    if page.len() < 3 {
+        return;
+    }
+    let size = 3 * (n % 65536);
+    page[2] = low(size);
+    page[1] = low(size / 256);
+    page[0] = 1;
 }

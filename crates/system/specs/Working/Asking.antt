@@ -7,6 +7,7 @@ use native.Mathlib.Numerals.{add-one}
 use lib.ListN.{length, getD, drop, set, drop-of-length-le}
 use lib.Seq.{drop-cons}
 use Rattle.text.specs.Counted.{counted}
+use Rattle.principal.specs.Principal.{policy}
 use Rattle.fields.specs.Working.Identifying.{Kept, entry, enterIn}
 use Rattle.fields.specs.declared.identifier.Entry.{Entry}
 use Rattle.fields.specs.declared.identifier.Entry.the-variants.{At, Full}
@@ -64,3 +65,24 @@ module _ (s ps : List ℕ) (i : ℕ) (x : Index) (pool places direct : List ℕ)
   unfolding allFrom
   all-more h y p l d id k ke ie e =
       rw (add-one i, e, ie, ke) (let z : allFrom s (getD ps i 0 ∷ drop (suc i) ps) (asked x pool places direct) ≡ a = rw (drop-cons ps i 0 h) at inv in z)
+
+-- the index with POLICY alone
+pub data Begun : Type 0 where
+  begun : Index → List ℕ → List ℕ → Begun
+
+abbrev pub onBegun : Kept → Begun
+onBegun (entry Full p l) = begun (indexed 0 0) p l
+onBegun (entry (At i c e) p l) = begun (indexed c e) p l
+
+unfoldable pub beginIn : List ℕ → List ℕ → Begun
+beginIn pool places = onBegun (enterIn pool places 0 0 policy)
+
+-- `begin`
+module _ (pool places : List ℕ) (r : Entry) (p l : List ℕ) (e : entry r p l ≡ enterIn pool places 0 0 (80 ∷ 79 ∷ 76 ∷ 73 ∷ 67 ∷ 89 ∷ [])) where
+  pub begin-full : r ≡ Full → begun (indexed 0 0) p l ≡ beginIn pool places
+  unfolding beginIn policy
+  begin-full k = rw (← e, k)
+
+  pub begin-at : (i c m : ℕ) → r ≡ At i c m → begun (indexed c m) p l ≡ beginIn pool places
+  unfolding beginIn policy
+  begin-at i c m k = rw (← e, k)

@@ -40,3 +40,7 @@ onRowed count end size page (rowed k a c d) = noted (endsOf count end size k) a 
 unfoldable pub noteIn : List ℕ → List ℕ → List ℕ → List ℕ → ℕ → Ends → Reading → Noted
 noteIn a c d page i e (Dropped r p) = noted e a c d (entryInto page i r p)
 noteIn a c d page i e (Kept author rank count end size) = onRowed count end size (entryInto page i 0 0) (rowInto a c d (e .kept) author rank size)
+
+-- the report's first three bytes, where the page has room for them
+unfoldable pub headerInto : List ℕ → ℕ → List ℕ
+headerInto page n = pick (ltb (length page) 3) page (put page 0 (1 ∷ 3 * (n % 65536) / 256 % 256 ∷ 3 * (n % 65536) % 256 ∷ []))
