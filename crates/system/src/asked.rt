@@ -21,13 +21,7 @@ fn mark(direct: &mut [u8], i: usize)
 }
 
 // One requester more.
-fn ask(
-    pool: &mut [u8],
-    places: &mut [usize],
-    direct: &mut [u8],
-    index: Index,
-    id: &[u8],
-) -> Index
+fn ask(pool: &mut [u8], places: &mut [usize], direct: &mut [u8], index: Index, id: &[u8]) -> Index
     ensures { λ r. ⌜ asked r (now (pool .exit)) (now (places .exit)) (now (direct .exit)) ≡ askIn (now (pool .entry)) (now (places .entry)) (now (direct .entry)) index (now (id .entry)) ⌝ }
 {
     match enter(pool, places, index.count, index.end, id) {

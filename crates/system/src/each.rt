@@ -5,7 +5,9 @@ use assertion::Reading;
 use assertion::read;
 ghost use mathlib.Core.Path.{_≡_};
 ghost use lib.ListN.{length, getD};
-ghost use Prim.Native.Nat.{_-_};
+ghost use Prim.Native.Nat.{_+_, _-_};
+ghost use lib.Dec.{ltb};
+ghost use Rattle.text.specs.Choice.{pick};
 ghost use Rattle.system.specs.Working.Each.{fixed, store, oneBy, oneIn, eachBy, eachFrom};
 
 pub const MOST_CONSTANTS: usize = 16;
@@ -77,6 +79,16 @@ fn read_one(
     )
 }
 
+// The number behind i, up to n.
+fn behind(i: usize, n: usize) -> usize
+    ensures { λ r. ⌜ r ≡ pick (ltb i n) (i + 1) i ⌝ }
+{
+    if i < n {
+        return i + 1;
+    }
+    i
+}
+
 // The assertions whose texts are at those places.
 pub fn read_each(
     query: &[u8],
@@ -104,11 +116,24 @@ pub fn read_each(
     while i < texts.len() {
         let at = texts[i];
         let r = read_one(
-            query, values, names, top, start, at, consts, pool, places, code, program, bytes,
-            e.count, e.end, e.size,
+            query,
+            values,
+            names,
+            top,
+            start,
+            at,
+            consts,
+            pool,
+            places,
+            code,
+            program,
+            bytes,
+            e.count,
+            e.end,
+            e.size,
         );
         e = note(authors, conds, ends, page, i, e, r);
-        i += 1;
+        i = behind(i, texts.len());
     }
     e
 }

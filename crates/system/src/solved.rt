@@ -91,8 +91,23 @@ fn fill(
         kept: 0,
     };
     let e = read_each(
-        query, values, names, top, start, texts, consts, pool, places, &mut code, &mut program,
-        &mut bytes, &mut authors, &mut conds, &mut ends, page, from,
+        query,
+        values,
+        names,
+        top,
+        start,
+        texts,
+        consts,
+        pool,
+        places,
+        &mut code,
+        &mut program,
+        &mut bytes,
+        &mut authors,
+        &mut conds,
+        &mut ends,
+        page,
+        from,
     );
     solve(
         front_pairs(&authors, e.kept),
@@ -121,9 +136,25 @@ pub fn solved(
     let mut direct = [0u8; PRINCIPALS];
     let start = begin_constants(&mut consts, query, values, requesters);
     let alone = begin_index(&mut pool, &mut places);
-    let index = ask_all(query, requesters, &mut pool, &mut places, &mut direct, alone);
+    let index = ask_all(
+        query,
+        requesters,
+        &mut pool,
+        &mut places,
+        &mut direct,
+        alone,
+    );
     fill(
-        query, values, names, texts, start, &mut consts, &mut pool, &mut places, &direct, index,
+        query,
+        values,
+        names,
+        texts,
+        start,
+        &mut consts,
+        &mut pool,
+        &mut places,
+        &direct,
+        index,
         page,
     )
 }

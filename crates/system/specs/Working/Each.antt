@@ -6,6 +6,9 @@ use native.Mathlib.Omega.{arith}
 use native.Mathlib.Numerals.{add-one}
 use lib.ListN.{length, getD, drop, replicate, drop-of-length-le, List·getD-eq-default}
 use lib.Seq.{drop-cons}
+use lib.Dec.{ltb}
+use borrow.Author.Tests.{lt-ltb, le-ltb}
+use Rattle.text.specs.Choice.{pick}
 use Rattle.text.specs.Counted.{counted}
 use Rattle.assertion.specs.Working.Field.{given, tabled}
 use Rattle.assertion.specs.Working.Reading.{Result, readBy, readIn}
@@ -79,17 +82,40 @@ pub one-is : (bytes values names : List ℕ) (top start space at : ℕ) (x : Sto
 unfolding oneIn
 one-is bytes values names top start space at x count end size text standing r consts constants pool places code program te se e = rw (← te, ← se, ← e)
 
+-- `behind`
+pub behind-on : (i n : ℕ) → i < n → i + 1 ≡ pick (ltb i n) (i + 1) i
+behind-on i n h = rw (lt-ltb _ _ h)
+
+pub behind-all : (i n : ℕ) → n ≤ i → i ≡ pick (ltb i n) (i + 1) i
+behind-all i n h = rw (le-ltb _ _ h)
+
 -- `read_each`, with the invariant `eachFrom f (drop i ps) i .. ≡ z`
 module _ (f : Fixed) (ps : List ℕ) (i : ℕ) (e : Ends) (x : Store) (a c d page : List ℕ) (z : Each) (inv : eachFrom f (drop i ps) i (eachBy e x a c d page) ≡ z) where
   pub each-end : length ps ≤ i → eachBy e x a c d page ≡ z
   unfolding eachFrom
   each-end h = let w : eachFrom f [] i (eachBy e x a c d page) ≡ z = rw (drop-of-length-le ps h) at inv in w
 
-  pub each-more : i < length ps → (k : ℕ) → k ≡ getD ps i 0 → (r : Reading) (y : Store) → oneBy r y ≡ oneIn f k x (e .count) (e .end) (e .size)
+  each-next : i < length ps → (k : ℕ) → k ≡ getD ps i 0 → (r : Reading) (y : Store) → oneBy r y ≡ oneIn f k x (e .count) (e .end) (e .size)
       → (u : Ends) (a′ c′ d′ page′ : List ℕ) → noted u a′ c′ d′ page′ ≡ noteIn a c d page i e r → eachFrom f (drop (i + 1) ps) (i + 1) (eachBy u y a′ c′ d′ page′) ≡ z
   unfolding eachFrom
-  each-more h k ke r y re u a′ c′ d′ page′ ne =
+  each-next h k ke r y re u a′ c′ d′ page′ ne =
       let w : eachFrom f (drop (suc i) ps) (suc i) (onOne a c d page i e (oneIn f (getD ps i 0) x (e .count) (e .end) (e .size))) ≡ z = rw (drop-cons ps i 0 h) at inv in
       let v : oneBy r y ≡ oneIn f (getD ps i 0) x (e .count) (e .end) (e .size) = re ∙ rw ke in
       let t : eachFrom f (drop (suc i) ps) (suc i) (onNoted y (noteIn a c d page i e r)) ≡ z = rw (← v) at w in
       rw (add-one i) (rw (← ne) at t)
+
+pub each-less : (n i j : ℕ) → i < n → j ≡ pick (ltb i n) (i + 1) i → n - j < n - i
+each-less n i j h je = let z : j ≡ i + 1 = je ∙ rw (lt-ltb _ _ h) in omega (arith, h, z)
+
+-- one turn; the room for strings is as it was
+module _ (bytes values names : List ℕ) (top start space : ℕ) (ps : List ℕ) (i : ℕ) (e : Ends) (x : Store) (a c d page : List ℕ) (z : Each)
+    (inv : eachFrom (fixed bytes values names top start space) (drop i ps) i (eachBy e x a c d page) ≡ z) (h : i < length ps) (j : ℕ) (je : j ≡ pick (ltb i (length ps)) (i + 1) i) where
+  is : j ≡ i + 1
+  is = je ∙ rw (lt-ltb _ _ h)
+
+  pub each-more : (k wide : ℕ) → k ≡ getD ps i 0 → wide ≡ space → (r : Reading) (y : Store)
+      → oneBy r y ≡ oneIn (fixed bytes values names top start wide) k x (e .count) (e .end) (e .size)
+      → (u : Ends) (a′ c′ d′ page′ : List ℕ) → noted u a′ c′ d′ page′ ≡ noteIn a c d page i e r
+      → eachFrom (fixed bytes values names top start space) (drop j ps) j (eachBy u y a′ c′ d′ page′) ≡ z
+  each-more k wide ke we r y re u a′ c′ d′ page′ ne =
+      rw is (each-next (fixed bytes values names top start space) ps i e x a c d page z inv h k ke r y (re ∙ rw we) u a′ c′ d′ page′ ne)

@@ -11,7 +11,7 @@ use Rattle.text.specs.Copy.{put}
 use Rattle.text.specs.CopyLaws.{put-front, put-nil}
 use Rattle.assertion.specs.declared.Reading.{Reading}
 use Rattle.assertion.specs.declared.Reading.the-variants.{Kept, Dropped}
-use Rattle.system.specs.Working.Noting.{entryInto, Rowed, rowed, rowInto, Noted, noted, endsOf, noteIn}
+use Rattle.system.specs.Working.Noting.{entryInto, headerInto, Rowed, rowed, rowInto, Noted, noted, endsOf, noteIn}
 use Rattle.system.specs.declared.note.Ends.{Ends}
 
 -- `put_entry`
@@ -40,6 +40,24 @@ module _ (page : List ℕ) (i reason place : ℕ) where
         let one : set page (at + 2) y ≡ put page (at + 2) (y ∷ []) = ap (λ (m : List ℕ). set m (at + 2) y) (sym (put-nil page (at + 2 + 1))) ∙ put-front page (at + 2) y [] (omega arith) in
         let two : set (put page (at + 2) (y ∷ [])) (at + 1) x ≡ put page (at + 1) (x ∷ y ∷ []) = ap (λ (n : ℕ). set (put page n (y ∷ [])) (at + 1) x) (sym z2) ∙ put-front page (at + 1) x (y ∷ []) (omega arith) in
         rw (le-ltb (length page) (3 * i + 6) (omega arith), ← xe, ← ye) (rw (one, two) (put-front page at reason (x ∷ y ∷ []) (omega arith)))
+
+-- `put_header`
+pub header-none : (page : List ℕ) (n : ℕ) → length page < 3 → page ≡ headerInto page n
+unfolding headerInto
+header-none page n h = rw (lt-ltb _ _ h)
+
+pub header-second : (page : List ℕ) (n y : ℕ) → 3 ≤ length page → 1 < length (set page n y)
+header-second page n y h = rw (length-set page n y) (omega (arith, h))
+
+pub header-third : (page : List ℕ) (n y m x : ℕ) → 3 ≤ length page → 0 < length (set (set page n y) m x)
+header-third page n y m x h = rw (length-set (set page n y) m x, length-set page n y) (omega (arith, h))
+
+pub header-in : (page : List ℕ) (n size x y : ℕ) → 3 ≤ length page → size ≡ 3 * (n % 65536) → x ≡ size / 256 % 256 → y ≡ size % 256 → set (set (set page 2 y) 1 x) 0 1 ≡ headerInto page n
+unfolding headerInto
+header-in page n size x y h se xe ye =
+    let one : set page 2 y ≡ put page 2 (y ∷ []) = ap (λ (m : List ℕ). set m 2 y) (sym (put-nil page 3)) ∙ put-front page 2 y [] (omega (arith, h)) in
+    let two : set (put page 2 (y ∷ [])) 1 x ≡ put page 1 (x ∷ y ∷ []) = put-front page 1 x (y ∷ []) (omega (arith, h)) in
+    rw (le-ltb _ _ h, ← se, ← xe, ← ye) (rw (one, two) (put-front page 0 1 (x ∷ y ∷ []) (omega (arith, h))))
 
 -- `put_row`
 module _ (a c d : List ℕ) (k author rank size : ℕ) where

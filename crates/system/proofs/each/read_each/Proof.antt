@@ -3,17 +3,13 @@ use Rattle.system.proofs.each.read_each.Statement.{statement}
 use Rattle.system.proofs.each.read_each.Tie as tie
 use Rattle.system.proofs.each.read_each.Reads as reads
 use Rattle.system.proofs.each.read_each.Lts as lts
+use Rattle.system.proofs.each.behind.Reads as behind-reads
 use Rattle.system.proofs.each.read_one.Reads as read-one-reads
 use Rattle.system.proofs.note.note.Reads as note-reads
-use Rattle.system.specs.Working.Each.{fixed, store, eachBy, eachFrom, each-end, each-more}
+use Rattle.system.specs.Working.Each.{fixed, store, eachBy, eachFrom, each-end, each-more, each-less}
 use lib.ListN.{length, drop}
 use mathlib.Core.Path.{_≡_, refl, _∙_}
 use Prim.Native.Nat.{_-_}
-use native.Mathlib.Nat.{lt-of-le-of-lt}
-use native.Mathlib.Nat.{lt-of-le-of-lt}
-use native.Mathlib.Nat.{lt-of-le-of-lt}
-use native.Mathlib.Nat.{lt-of-le-of-lt}
-use native.Mathlib.Nat.{lt-of-le-of-lt}
 
 abbrev Inv-loop : tie.InvT-loop
 Inv-loop query values names top start texts consts₀ pool₀ places₀ code₀ program₀ bytes₀ authors₀ conds₀ ends₀ page₀ e₀ i₀ consts pool places code program bytes authors conds ends page e i = (length consts ≡ length consts₀) × (length pool ≡ length pool₀) × (length places ≡ length places₀) × (length code ≡ length code₀) × (length program ≡ length program₀) × (length bytes ≡ length bytes₀) × (length authors ≡ length authors₀) × (length conds ≡ length conds₀) × (length ends ≡ length ends₀) × (length page ≡ length page₀) × (eachFrom (fixed query values names top start (length bytes₀)) (drop i texts) i (eachBy e (store consts pool places code program) authors conds ends page) ≡ eachFrom (fixed query values names top start (length bytes₀)) texts 0 (eachBy e₀ (store consts₀ pool₀ places₀ code₀ program₀) authors₀ conds₀ ends₀ page₀))
@@ -21,79 +17,79 @@ Inv-loop query values names top start texts consts₀ pool₀ places₀ code₀ 
 abbrev μ-loop : tie.MeasureT-loop
 μ-loop query values names top start texts consts₀ pool₀ places₀ code₀ program₀ bytes₀ authors₀ conds₀ ends₀ page₀ e₀ i₀ consts pool places code program bytes authors conds ends page e i = length texts - i
 
--- src/each.rt:104:5
+-- src/each.rt:116:5
 loop-holds : tie.Need-loop-holds Inv-loop μ-loop
 loop-holds c = search needs
 
--- src/each.rt:105:18
+-- src/each.rt:117:18
 mul-at : tie.Need-mul-at Inv-loop μ-loop
 mul-at c = search needs
 
--- src/each.rt:105:18
+-- src/each.rt:117:18
 shared-slice-read-at : tie.Need-shared-slice-read-at Inv-loop μ-loop
 shared-slice-read-at c = search needs
 
--- src/each.rt:106:13
+-- src/each.rt:118:13
 read-one-requires : tie.Need-read-one-requires Inv-loop μ-loop
 read-one-requires c κs = search needs
 
--- src/each.rt:110:9
+-- src/each.rt:122:9
 note-requires : tie.Need-note-requires Inv-loop μ-loop
 note-requires c κs = search needs
 
--- src/each.rt:111:9
-add-i : tie.Need-add-i Inv-loop μ-loop
-add-i c = let w = c .before .before .before .before .before .before .before .before .before .before .before .before .before .before .before .before .before .before .before .before .before .before .before .before .before .before .before .before .before .before .before .before .before .before .before .before .before .before .before .before .before .before .before .before .before .shared-slice-known4 .given in record { fits = lt-of-le-of-lt (c .before .before .before .before .before .before .before .before .before .before .before .before .before .before .before .before .before .before .before .before .before .before .before .before .before .before .before .before .before .before .before .before .before .loop-test .taken) (w .1) }
+-- src/each.rt:123:9
+behind-requires : tie.Need-behind-requires Inv-loop μ-loop
+behind-requires c κs = search needs
 
--- src/each.rt:104:5
+-- src/each.rt:116:5
 loop-less : tie.Need-loop-less Inv-loop μ-loop
-loop-less c = search needs
+loop-less c = each-less _ _ _ (c .before .before .before .before .before .before .before .before .before .before .before .before .before .before .before .before .before .before .before .before .before .before .before .before .before .before .before .before .before .before .before .before .before .before .loop-test .taken) (c .behind .ensures)
 
--- src/each.rt:104:5
+-- src/each.rt:116:5
 loop-again : tie.Need-loop-again Inv-loop μ-loop
-loop-again c = search needs
+loop-again c = (c .before .before .before .before .before .before .before .before .before .before .before .before .before .before .before .before .before .before .before .before .before .before .before .before .before .before .read-one .kept .1 .1 .1 .1 .1 .1 .0 ∙ c .before .before .before .before .before .before .before .before .before .before .before .before .before .before .before .before .before .before .before .before .before .before .before .before .before .before .before .before .before .before .before .before .before .before .before .loop .inv .0, c .before .before .before .before .before .before .before .before .before .before .before .before .before .before .before .before .before .before .before .before .before .before .before .before .before .before .read-one .kept .1 .1 .1 .1 .1 .1 .1 .0 ∙ c .before .before .before .before .before .before .before .before .before .before .before .before .before .before .before .before .before .before .before .before .before .before .before .before .before .before .before .before .before .before .before .before .before .before .before .loop .inv .1, c .before .before .before .before .before .before .before .before .before .before .before .before .before .before .before .before .before .before .before .before .before .before .before .before .before .before .read-one .kept .1 .1 .1 .1 .1 .1 .1 .1 .0 ∙ c .before .before .before .before .before .before .before .before .before .before .before .before .before .before .before .before .before .before .before .before .before .before .before .before .before .before .before .before .before .before .before .before .before .before .before .loop .inv .2, c .before .before .before .before .before .before .before .before .before .before .before .before .before .before .before .before .before .before .before .before .before .before .before .before .before .before .read-one .kept .1 .1 .1 .1 .1 .1 .1 .1 .1 .0 ∙ c .before .before .before .before .before .before .before .before .before .before .before .before .before .before .before .before .before .before .before .before .before .before .before .before .before .before .before .before .before .before .before .before .before .before .before .loop .inv .3, c .before .before .before .before .before .before .before .before .before .before .before .before .before .before .before .before .before .before .before .before .before .before .before .before .before .before .read-one .kept .1 .1 .1 .1 .1 .1 .1 .1 .1 .1 .0 ∙ c .before .before .before .before .before .before .before .before .before .before .before .before .before .before .before .before .before .before .before .before .before .before .before .before .before .before .before .before .before .before .before .before .before .before .before .loop .inv .4, c .before .before .before .before .before .before .before .before .before .before .before .before .before .before .before .before .before .before .before .before .before .before .before .before .before .before .read-one .kept .1 .1 .1 .1 .1 .1 .1 .1 .1 .1 .1 .0 ∙ c .before .before .before .before .before .before .before .before .before .before .before .before .before .before .before .before .before .before .before .before .before .before .before .before .before .before .before .before .before .before .before .before .before .before .before .loop .inv .5, c .before .before .before .before .before .before .before .before .before .note .kept .0 ∙ c .before .before .before .before .before .before .before .before .before .before .before .before .before .before .before .before .before .before .before .before .before .before .before .before .before .before .before .before .before .before .before .before .before .before .before .loop .inv .6, c .before .before .before .before .before .before .before .before .before .note .kept .1 .0 ∙ c .before .before .before .before .before .before .before .before .before .before .before .before .before .before .before .before .before .before .before .before .before .before .before .before .before .before .before .before .before .before .before .before .before .before .before .loop .inv .7, c .before .before .before .before .before .before .before .before .before .note .kept .1 .1 .0 ∙ c .before .before .before .before .before .before .before .before .before .before .before .before .before .before .before .before .before .before .before .before .before .before .before .before .before .before .before .before .before .before .before .before .before .before .before .loop .inv .8, c .before .before .before .before .before .before .before .before .before .note .kept .1 .1 .1 .0 ∙ c .before .before .before .before .before .before .before .before .before .before .before .before .before .before .before .before .before .before .before .before .before .before .before .before .before .before .before .before .before .before .before .before .before .before .before .loop .inv .9, each-more _ _ _ _ _ _ _ _ _ _ _ _ _ _ _ (c .before .before .before .before .before .before .before .before .before .before .before .before .before .before .before .before .before .before .before .before .before .before .before .before .before .before .before .before .before .before .before .before .before .before .before .loop .inv .10) (c .before .before .before .before .before .before .before .before .before .before .before .before .before .before .before .before .before .before .before .before .before .before .before .before .before .before .before .before .before .before .before .before .before .before .loop-test .taken) _ (c .behind .ensures) _ _ refl (c .before .before .before .before .before .before .before .before .before .before .before .before .before .before .before .before .before .before .before .before .before .before .before .before .before .before .before .before .before .before .before .before .before .before .before .loop .inv .5) _ _ (c .before .before .before .before .before .before .before .before .before .before .before .before .before .before .before .before .before .before .before .before .before .before .before .before .before .before .read-one .ensures) _ _ _ _ _ (c .before .before .before .before .before .before .before .before .before .note .ensures))
 
--- src/each.rt:81:1
+-- src/each.rt:93:1
 same-length : tie.Need-same-length Inv-loop μ-loop
 same-length c = search needs
 
--- src/each.rt:81:1
+-- src/each.rt:93:1
 same-length-2 : tie.Need-same-length-2 Inv-loop μ-loop
 same-length-2 c = search needs
 
--- src/each.rt:81:1
+-- src/each.rt:93:1
 same-length-3 : tie.Need-same-length-3 Inv-loop μ-loop
 same-length-3 c = search needs
 
--- src/each.rt:81:1
+-- src/each.rt:93:1
 same-length-4 : tie.Need-same-length-4 Inv-loop μ-loop
 same-length-4 c = search needs
 
--- src/each.rt:81:1
+-- src/each.rt:93:1
 same-length-5 : tie.Need-same-length-5 Inv-loop μ-loop
 same-length-5 c = search needs
 
--- src/each.rt:81:1
+-- src/each.rt:93:1
 same-length-6 : tie.Need-same-length-6 Inv-loop μ-loop
 same-length-6 c = search needs
 
--- src/each.rt:81:1
+-- src/each.rt:93:1
 same-length-7 : tie.Need-same-length-7 Inv-loop μ-loop
 same-length-7 c = search needs
 
--- src/each.rt:81:1
+-- src/each.rt:93:1
 same-length-8 : tie.Need-same-length-8 Inv-loop μ-loop
 same-length-8 c = search needs
 
--- src/each.rt:81:1
+-- src/each.rt:93:1
 same-length-9 : tie.Need-same-length-9 Inv-loop μ-loop
 same-length-9 c = search needs
 
--- src/each.rt:81:1
+-- src/each.rt:93:1
 same-length-10 : tie.Need-same-length-10 Inv-loop μ-loop
 same-length-10 c = search needs
 
--- src/each.rt:81:1
+-- src/each.rt:93:1
 returns : tie.Need-returns Inv-loop μ-loop
 returns c = search each-end
 
@@ -108,7 +104,7 @@ read-each-spec =
     shared-slice-read-at
     read-one-requires
     note-requires
-    add-i
+    behind-requires
     loop-less
     loop-again
     same-length
