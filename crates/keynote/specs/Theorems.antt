@@ -8,3 +8,5 @@ pub mod Bounds
 pub mod Places
 pub mod PlacesConditions
 pub mod PlacesAssertion
+pub mod Started
+pub mod Marked
