@@ -10,3 +10,4 @@ pub mod PlacesConditions
 pub mod PlacesAssertion
 pub mod Started
 pub mod Marked
+pub mod Starting
