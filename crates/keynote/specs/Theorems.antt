@@ -11,3 +11,4 @@ pub mod PlacesAssertion
 pub mod Started
 pub mod Marked
 pub mod Starting
+pub mod Solved

@@ -80,11 +80,11 @@ requesters-joined q v = omega (arith, joined-256 (requesters-few (v .requesters 
 
 -- ---- the buffer of constants
 
-string-length : (a : List ℕ) → length (stringBytes a) ≡ 2 + length a
+pub string-length : (a : List ℕ) → length (stringBytes a) ≡ 2 + length a
 unfolding stringBytes
 string-length a = omega arith
 
-abbrev beginning : List ℕ → List ℕ → List ℕ → List ℕ
+abbrev pub beginning : List ℕ → List ℕ → List ℕ → List ℕ
 beginning d a b = put (put d 0 (stringBytes a)) (2 + length a) (stringBytes b)
 
 -- where both texts fit they are written
