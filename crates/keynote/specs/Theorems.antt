@@ -12,3 +12,4 @@ pub mod Started
 pub mod Marked
 pub mod Starting
 pub mod Solved
+pub mod Parts
