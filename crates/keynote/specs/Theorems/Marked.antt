@@ -5,25 +5,22 @@ use mathlib.Core.Logic.{⊎-elim}
 use mathlib.Core.List.{List, [], _∷_, _++_, map, append-assoc, append-nil}
 use Prim.Native.Nat.{ℕ, zero, suc, _+_, _-_, _*_, _≤_, _<_}
 use native.Mathlib.Omega.{arith}
-use lib.ListN.{length, set, replicate, length-append, length-map, length-replicate, length-set}
+use lib.ListN.{length, set, replicate, length-append, length-map}
 use lib.Seq.{set-at}
-use Rattle.text.specs.Choice.{pick, split, clash, bool-iff}
+use Rattle.text.specs.Choice.{split, clash, bool-iff}
 use Rattle.text.specs.Counted.{counted}
-use Rattle.record.specs.Encode.{stringBytes, itemsBytes}
-use Rattle.record.specs.Places.{placesFrom}
 use Rattle.record.specs.Lies.{Lie, lie[], lie∷, StringAt}
-use Rattle.record.specs.Valid.{Each, each[], each∷, RequesterOk}
-use Rattle.principal.specs.Principal.{Principal, policy, same, same-sym, same-refl}
+use Rattle.record.specs.Valid.{Each, each∷, RequesterOk}
+use Rattle.principal.specs.Principal.{Principal, same, same-sym, same-refl}
 use Rattle.principal.specs.Members.{member, Distinct, d[], d∷, member-none, member-here, member-there, member-cases, member-left, member-right, member-either, member-same}
 use Rattle.index.specs.Index.{enter, enterAll, Holds}
 use Rattle.compliance.specs.Tables.{place}
-use Rattle.compliance.specs.Theorems.Fill.{place-absent, place-added}
-use Rattle.compliance.specs.Theorems.Filling.{asking, Filling, fill-start, fill-name}
-use Rattle.fields.specs.Working.Identifying.{Kept, entry, enterIn}
+use Rattle.compliance.specs.Theorems.Fill.{place-added}
+use Rattle.compliance.specs.Theorems.Filling.{asking, Filling, fill-name}
+use Rattle.fields.specs.Working.Identifying.{Kept}
 use Rattle.fields.specs.Theorems.Identified.{EntryRead, entry-at, entry-read}
-use Rattle.fields.specs.declared.identifier.Entry.the-variants.{At}
 use Rattle.system.specs.declared.asked.Index.{Index}
-use Rattle.system.specs.Working.Asking.{Asked, asked, onEntered, askIn, allFrom, Begun, begun, onBegun, beginIn}
+use Rattle.system.specs.Working.Asking.{Asked, asked, onEntered, askIn, allFrom}
 
 map-snoc : (f : Principal → ℕ) (l : List Principal) (p : Principal) → map f (l ++ (p ∷ [])) ≡ map f l ++ (f p ∷ [])
 map-snoc f [] p = refl

@@ -8,14 +8,14 @@ use lib.Seq.{take-at, drop-at}
 use Rattle.text.specs.Copy.{put}
 use Rattle.text.specs.CopyLaws.{put-length}
 use Rattle.record.specs.Query.{Query}
-use Rattle.record.specs.Read.{accepted}
+use Rattle.record.specs.Read.{Verdict, accepted, refused}
 use Rattle.record.specs.Record.{readRecord}
 use Rattle.record.specs.Places.{stringSize, attributeSize, assertionSize, placesFrom, requestersStart, attributesStart, assertionsStart, places}
 use Rattle.record.specs.Reading.{told, groupEnds, leaves, readInto}
 use Rattle.record.specs.Valid.{Valid}
 use Rattle.record.specs.RoundTrip.{Bytes, read-back}
 use Rattle.record.specs.declared.Reading.{Reading}
-use Rattle.record.specs.declared.Reading.the-variants.{Accepted}
+use Rattle.record.specs.declared.Reading.the-variants.{Accepted, Refused}
 use Rattle.keynote.specs.Theorems.Solved.{valuesAt, requestersAt, attributesAt, assertionsAt}
 
 pub places-length : {A : Type 0} (size : A → ℕ) (lead at : ℕ) (l : List A) → length (placesFrom size lead at l) ≡ length l
@@ -83,8 +83,16 @@ all-length q =
     let b = places-length stringSize 2 (requestersStart q) (q .requesters) in
     let c = places-length attributeSize 2 (attributesStart q) (q .attributes) in
     let d = places-length assertionSize 3 (assertionsStart q) (q .assertions) in
-    omega (arith, a, b, c, d, length-append (valuesAt q ++ requestersAt q ++ attributesAt q) (assertionsAt q), length-append (valuesAt q ++ requestersAt q) (attributesAt q),
-    length-append (valuesAt q) (requestersAt q))
+    omega (
+      arith,
+      a,
+      b,
+      c,
+      d,
+      length-append (valuesAt q ++ requestersAt q ++ attributesAt q) (assertionsAt q),
+      length-append (valuesAt q ++ requestersAt q) (attributesAt q),
+      length-append (valuesAt q) (requestersAt q),
+    )
 
 accepted-is : {v n a c v′ n′ a′ c′ : ℕ} → Accepted v n a c ≡ Accepted v′ n′ a′ c′ → (v ≡ v′) × ((n ≡ n′) × ((a ≡ a′) × (c ≡ c′)))
 accepted-is e = (cc, (cc, (cc, cc)))
@@ -124,3 +132,30 @@ accepted-parts s q bytes e t table room values requesters attributes assertions 
       attributesPart = k .third;
       assertionsPart = k .fourth;
     }
+
+-- ---- what a reading says of the record
+
+no-mix : {P : Type 0} {v n a c r p : ℕ} → Accepted v n a c ≡ Refused r p → P
+no-mix e = let z : _≡_ {A = ℕ} 0 1 = cc in absurd (omega arith)
+
+refused-is : {n p m r : ℕ} → Refused n p ≡ Refused m r → (n ≡ m) × (p ≡ r)
+refused-is e = (cc, cc)
+
+accepted-by : (w : Verdict) (t table : List ℕ) (v n a c : ℕ) → told (Accepted v n a c) table ≡ leaves w t → (q : Query) × (w ≡ accepted q)
+unfolding leaves
+accepted-by (accepted q) t table v n a c e = (q, refl)
+accepted-by (refused m p) t table v n a c e = no-mix (told-is e .0)
+
+refused-by : (w : Verdict) (t table : List ℕ) (n p : ℕ) → told (Refused n p) table ≡ leaves w t → (w ≡ refused n p) × (table ≡ t)
+unfolding leaves groupEnds
+refused-by (accepted q) t table n p e = no-mix (sym (told-is e .0))
+refused-by (refused m r) t table n p e = let z = refused-is (told-is e .0) in (rw (z .0, z .1), told-is e .1)
+
+pub accepted-query : (s t table : List ℕ) (values requesters attributes assertions : ℕ) → told (Accepted values requesters attributes assertions) table ≡ readInto s t
+    → (q : Query) × (readRecord s ≡ accepted q)
+unfolding readInto
+accepted-query s t table v n a c e = accepted-by (readRecord s) t table v n a c e
+
+pub refused-record : (s t table : List ℕ) (n p : ℕ) → told (Refused n p) table ≡ readInto s t → (readRecord s ≡ refused n p) × (table ≡ t)
+unfolding readInto
+refused-record s t table n p e = refused-by (readRecord s) t table n p e

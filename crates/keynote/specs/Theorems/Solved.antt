@@ -1,11 +1,10 @@
 -- A query solved by the tables, from what its assertions fill them with. Assumes nothing.
-use mathlib.Core.Path.{_≡_, refl, sym, ap, _∙_}
-use mathlib.Core.List.{List, [], _∷_, _++_, map}
-use Prim.Native.Nat.{ℕ, _+_, _-_, _≤_}
+use mathlib.Core.Path.{_≡_, refl, _∙_}
+use mathlib.Core.List.{List, [], _++_}
+use Prim.Native.Nat.{ℕ, _+_, _≤_}
 use native.Mathlib.Omega.{arith}
 use lib.ListN.{length, take, drop, replicate, length-replicate}
 use Rattle.text.specs.CopyLaws.{put-length}
-use Rattle.text.specs.Counted.{counted}
 use Rattle.text.specs.Copy.{put}
 use Rattle.text.specs.Join.{joined}
 use Rattle.record.specs.Query.{Query}
@@ -17,12 +16,11 @@ use Rattle.record.specs.Lies.{Lies}
 use Rattle.record.specs.Located.{read-lies}
 use Rattle.record.specs.Valid.{Valid}
 use Rattle.record.specs.RoundTrip.{Bytes, read-back}
-use Rattle.compliance.specs.declared.Solution.{Solution}
 use Rattle.constants.specs.Constants.{Written, written, begunInto}
 use Rattle.constants.specs.Theorems.Begun.{begun-is}
 use Rattle.expression.specs.Conditions.{top}
 use Rattle.system.specs.declared.asked.Index.{Index}
-use Rattle.system.specs.Working.Asking.{Asked, asked, allFrom, Begun, begun, beginIn}
+use Rattle.system.specs.Working.Asking.{Asked, Begun, begun}
 use Rattle.system.specs.Working.Solving.{Solved, solvedBy, filledIn, onAsked, onBegun, onWritten, solvedIn}
 use Rattle.keynote.specs.Answer.{readings, classOf, roundsOf, reachedOf}
 use Rattle.keynote.specs.Report.{report}

@@ -1,4 +1,5 @@
--- What the tables hold before the assertions are read. Assumes nothing.
+-- What is there before the first assertion is read: POLICY and the requesters in the index, the requesters marked, the two joined texts.
+-- Assumes nothing.
 use mathlib.Core.Path.{_≡_}
 use mathlib.Core.List.{List, [], _∷_, _++_, map}
 use Prim.Native.Nat.{ℕ, _-_, _*_, _≤_}
@@ -7,16 +8,15 @@ use Rattle.text.specs.Join.{joined}
 use Rattle.record.specs.Query.{Query}
 use Rattle.record.specs.Encode.{stringBytes}
 use Rattle.principal.specs.Principal.{Principal, policy}
+use Rattle.compliance.specs.Theorems.Filling.{Filling, asking}
 use Rattle.index.specs.Index.{enterAll, Holds}
-use Rattle.compliance.specs.Theorems.Filling.{asking, Filling}
 use Rattle.expression.specs.Conditions.{top}
 use Rattle.system.specs.declared.asked.Index.{Index}
 
--- POLICY and the requesters, each once
+-- POLICY and the requesters
 abbrev pub startNames : Query → List Principal
 startNames q = enterAll (policy ∷ []) (q .requesters)
 
--- they are in the index, the requesters among them are marked, and the buffer of constants begins with the two joined texts
 pub record Started (s : List ℕ) (q : Query) (start : ℕ) (consts : List ℕ) (x : Index) (pool places direct : List ℕ) : Type 0 where
   pub holds : Holds pool places (x .count) (x .end) (startNames q)
   pub tight : x .end ≤ 258 * x .count

@@ -1,9 +1,9 @@
 -- The tables begun with a query's values and requesters are as they have to be before its assertions are read. Assumes nothing.
-use mathlib.Core.Path.{_≡_, refl, sym, ap, _∙_}
+use mathlib.Core.Path.{_≡_, refl, _∙_}
 use mathlib.Core.List.{List, [], _∷_, _++_, map}
-use Prim.Native.Nat.{ℕ, suc, _+_, _-_, _*_, _≤_, _<_}
+use Prim.Native.Nat.{ℕ, suc, _+_, _-_, _*_, _≤_}
 use native.Mathlib.Omega.{arith}
-use lib.ListN.{length, take, set, replicate, length-append, length-replicate}
+use lib.ListN.{length, replicate, length-append}
 use borrow.Author.Tests.{le-leb, le-ltb, ne-eqb}
 use Rattle.text.specs.Copy.{put}
 use Rattle.text.specs.CopyLaws.{put-length}
@@ -11,26 +11,20 @@ use Rattle.text.specs.Counted.{counted}
 use Rattle.text.specs.Join.{followed, joined}
 use Rattle.record.specs.Query.{Query}
 use Rattle.record.specs.Encode.{stringBytes, itemsBytes}
-use Rattle.record.specs.Places.{stringSize, placesFrom, requestersStart}
-use Rattle.record.specs.Read.{accepted}
-use Rattle.record.specs.Record.{readRecord}
-use Rattle.record.specs.Lies.{Lie, lie[], lie∷, StringAt, Lies}
-use Rattle.record.specs.Located.{read-lies}
+use Rattle.record.specs.Places.{placesFrom}
+use Rattle.record.specs.Lies.{Lie, lie[], lie∷, StringAt}
 use Rattle.record.specs.Valid.{Each, each[], each∷, Valid, ValueOk, RequesterOk}
-use Rattle.record.specs.RoundTrip.{Bytes, read-back}
 use Rattle.principal.specs.Principal.{Principal, policy}
 use Rattle.principal.specs.Members.{member}
-use Rattle.index.specs.Index.{enter, enterAll, Holds}
-use Rattle.compliance.specs.Theorems.Filling.{asking, Filling, fill-start}
+use Rattle.index.specs.Index.{enter, Holds}
+use Rattle.compliance.specs.Theorems.Filling.{asking, fill-start}
 use Rattle.constants.specs.Constants.{written, countedInto, begunInto}
-use Rattle.constants.specs.Theorems.Begun.{begun-is}
 use Rattle.expression.specs.Conditions.{top}
-use Rattle.fields.specs.Working.Identifying.{Kept, enterIn}
+use Rattle.fields.specs.Working.Identifying.{Kept}
 use Rattle.fields.specs.Theorems.Identified.{EntryRead, entry-at, entry-read}
 use Rattle.system.specs.declared.asked.Index.{Index}
-use Rattle.system.specs.Working.Asking.{Asked, asked, allFrom, Begun, begun, onBegun, beginIn}
-use Rattle.keynote.specs.Theorems.Started.{startNames, Started}
-use Rattle.keynote.specs.Theorems.Marked.{Stage, Staged, staged, all-staged}
+use Rattle.system.specs.Working.Asking.{Begun, begun, onBegun, beginIn}
+use Rattle.keynote.specs.Theorems.Marked.{Stage}
 
 -- ---- the joined texts
 
@@ -94,8 +88,13 @@ unfolding begunInto countedInto
 begun-fits d a b ha hb h =
     let l : length (put d 0 (stringBytes a)) ≡ length d = put-length d 0 (stringBytes a) (omega (arith, string-length a, h)) in
     let z : 0 + 2 + length a ≡ 2 + length a = refl in
-    rw (le-ltb 65535 (length a) ha, le-leb (2 + length a) (length d) (omega (arith, h)), ne-eqb (2 + length a) 0 (λ e. omega arith), le-ltb 65535 (length b) hb,
-    le-leb (2 + length a + 2 + length b) (length (put d 0 (stringBytes a))) (omega (arith, h, l)))
+    rw (
+      le-ltb 65535 (length a) ha,
+      le-leb (2 + length a) (length d) (omega (arith, h)),
+      ne-eqb (2 + length a) 0 (λ e. omega arith),
+      le-ltb 65535 (length b) hb,
+      le-leb (2 + length a + 2 + length b) (length (put d 0 (stringBytes a))) (omega (arith, h, l)),
+    )
 
 -- ---- POLICY
 
