@@ -8,3 +8,8 @@ pub mod Bounds
 pub mod Places
 pub mod PlacesConditions
 pub mod PlacesAssertion
+pub mod Started
+pub mod Marked
+pub mod Starting
+pub mod Solved
+pub mod Parts
