@@ -8,3 +8,7 @@ pub mod Bounds
 pub mod Places
 pub mod PlacesConditions
 pub mod PlacesAssertion
+pub mod Started
+pub mod Stocked
+pub mod Paged
+pub mod Made
