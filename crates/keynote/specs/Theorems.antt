@@ -12,3 +12,4 @@ pub mod Started
 pub mod Stocked
 pub mod Paged
 pub mod Made
+pub mod Filled
