@@ -1,7 +1,7 @@
 -- The assertions of a query, read one after the other into the tables, give its answer and its report. Assumes nothing.
 use mathlib.Core.Path.{_≡_, refl, sym, ap, _∙_, subst}
 use mathlib.Core.List.{List, [], _∷_, _++_, map, append-assoc, append-nil}
-use Prim.Native.Nat.{ℕ, suc, _+_, _-_, _*_, _%_, _≤_, _<_, zero-le}
+use Prim.Native.Nat.{ℕ, suc, _+_, _-_, _*_, _≤_, _<_}
 use native.Mathlib.Omega.{arith}
 use native.Mathlib.Nat.{add-zero}
 use lib.ListN.{length, getD, take, drop, replicate, length-replicate, length-map}
@@ -11,20 +11,18 @@ use Rattle.text.specs.Counted.{counted}
 use Rattle.record.specs.Query.{Query, Supplied}
 use Rattle.record.specs.Read.{accepted}
 use Rattle.record.specs.Record.{readRecord}
-use Rattle.record.specs.Encode.{stringBytes}
 use Rattle.record.specs.Lies.{Lie, lie[], lie∷, StringAt, AttributeAt, AssertionAt, Lies}
 use Rattle.record.specs.Located.{read-lies}
 use Rattle.record.specs.Places.{stringSize, attributeSize, assertionSize, placesFrom, attributesStart, assertionsStart}
 use Rattle.record.specs.Valid.{Valid, SuppliedOk}
 use Rattle.record.specs.Valid.{Each as All, each[], each∷}
 use Rattle.record.specs.RoundTrip.{Bytes, read-back}
-use Rattle.principal.specs.Principal.{Principal, policy}
+use Rattle.principal.specs.Principal.{policy}
 use Rattle.compliance.specs.System.{Assertion}
 use Rattle.compliance.specs.Rounds.{rank, rounds, reached}
 use Rattle.compliance.specs.Theorems.Filling.{asking}
 use Rattle.compliance.specs.Theorems.Filling.{reading as systemOf}
 use Rattle.compliance.specs.Theorems.Represent.{represented}
-use Rattle.compliance.specs.Working.Solve.{solutionOf}
 use Rattle.compliance.specs.declared.Solution.{Solution}
 use Rattle.expression.specs.Conditions.{top}
 use Rattle.assertion.specs.Read.{Read, readAssertion}
@@ -34,15 +32,15 @@ use Rattle.assertion.specs.Theorems.Ready.{Ready, ReadAs}
 use Rattle.assertion.specs.Theorems.Reads.{read-as}
 use Rattle.system.specs.Working.Noting.{endsOf, headerInto}
 use Rattle.system.specs.Working.Each.{Fixed, fixed, Store, store, oneIn, Each, eachBy, onOne, eachFrom}
-use Rattle.system.specs.Working.Solving.{Solved, solvedBy, topOf, onEach, filledIn}
+use Rattle.system.specs.Working.Solving.{solvedBy, topOf, onEach, filledIn}
 use Rattle.system.specs.declared.asked.Index.{Index}
 use Rattle.system.specs.declared.note.Ends.{Ends}
 use Rattle.keynote.specs.Answer.{ranked, reading, readings, keptOf, system, classOf, roundsOf, reachedOf}
 use Rattle.keynote.specs.Report.{pairBytes, entryBytes, entriesBytes, report, reportSize}
 use Rattle.keynote.specs.Outcome.{needed}
-use Rattle.keynote.specs.Theorems.PlacesAssertion.{Small, AllSmall, small[], small∷, readings-small}
+use Rattle.keynote.specs.Theorems.PlacesAssertion.{Small, AllSmall, small∷, readings-small}
 use Rattle.keynote.specs.Theorems.Started.{Started, startNames}
-use Rattle.keynote.specs.Theorems.Stocked.{Stock, asked-covers}
+use Rattle.keynote.specs.Theorems.Stocked.{asked-covers}
 use Rattle.keynote.specs.Theorems.Paged.{header-is}
 use Rattle.keynote.specs.Theorems.Made.{Made, Reached, joining, joining-is, before, noted-made}
 use Rattle.keynote.specs.Theorems.Made.{reached as reached-at}
@@ -202,16 +200,16 @@ module _ (s : List ℕ) (q : Query) (page : List ℕ) (start : ℕ) (consts : Li
       → filledIn s values names texts start consts pool places direct x page
       ≡ solvedBy (record { rank = classOf q; rounds = roundsOf q; reached = reachedOf q }) (report (readings q) ++ drop (needed q) page)
   unfolding filledIn classOf roundsOf reachedOf system readings
-  filled-from vl nl tl oks smalls few32 few room =
+  filled-from vl nl tl oks smalls low few room =
       let n : length texts ≡ length (q .assertions) = lie-length tl in
-      let te : topOf values ≡ top (q .values) = top-same q values (lie-length vl) few32 in
+      let te : topOf values ≡ top (q .values) = top-same q values (lie-length vl) low in
       let fit : Fit s q values names start (topOf values) page (length (q .assertions)) = record {
         values-lie = vl;
         names-lie = nl;
         start-low = st .start-low;
         values-short = st .values-short;
         requesters-short = st .requesters-short;
-        few = few32;
+        few = low;
         top-is = te;
         at-most = few;
         room = room;

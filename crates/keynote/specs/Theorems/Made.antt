@@ -1,18 +1,17 @@
 -- One assertion more: the tables, the index and the page after it. Assumes nothing.
-use mathlib.Core.Path.{_≡_, refl, sym, ap, _∙_, subst}
-use mathlib.Core.Bool.{true, false}
+use mathlib.Core.Path.{_≡_, refl, sym, _∙_, subst}
+use mathlib.Core.Bool.{true}
 use mathlib.Core.List.{List, [], _∷_, _++_, map, List·Memᴰ as Mem}
 use Prim.Native.Nat.{ℕ, suc, _+_, _-_, _*_, _%_, _≤_, _<_}
 use native.Mathlib.Omega.{arith}
 use native.Mathlib.Numerals.{add-one}
-use lib.ListN.{length, getD, take, drop, set, replicate, length-set, length-replicate}
+use lib.ListN.{length, take, drop, set, replicate, length-set}
 use lib.Seq.{take-suc-set, length-take-le, append-snoc}
 use borrow.Author.Tests.{lt-leb}
 use Rattle.text.specs.Join.{joined}
 use Rattle.text.specs.Counted.{counted}
-use Rattle.record.specs.Query.{Query, Supplied}
+use Rattle.record.specs.Query.{Query}
 use Rattle.record.specs.Encode.{stringBytes}
-use Rattle.record.specs.Lies.{Lie, StringAt, AttributeAt}
 use Rattle.principal.specs.Principal.{Principal}
 use Rattle.principal.specs.Members.{member}
 use Rattle.compliance.specs.System.{Assertion}
@@ -23,14 +22,14 @@ use Rattle.index.specs.Index.{enterAll, Holds}
 use Rattle.index.specs.EnterLaws.{place-below}
 use Rattle.expression.specs.Conditions.{top}
 use Rattle.assertion.specs.Assertion.{Assertion as Said, Conditions, absent, stated}
-use Rattle.assertion.specs.Read.{Read, kept, dropped, readAssertion}
-use Rattle.assertion.specs.Working.Field.{Given, given, Tables, tabled}
-use Rattle.assertion.specs.Working.Reading.{Result, readBy, readIn}
-use Rattle.assertion.specs.Theorems.Ready.{Ready, After, ReadAs, as-dropped, as-kept}
+use Rattle.assertion.specs.Read.{Read, kept, dropped}
+use Rattle.assertion.specs.Working.Field.{Given, Tables, tabled}
+use Rattle.assertion.specs.Working.Reading.{Result}
+use Rattle.assertion.specs.Theorems.Ready.{After, ReadAs, as-dropped, as-kept}
 use Rattle.assertion.specs.Theorems.Ready.{worth as rankOf}
 use Rattle.assertion.specs.Theorems.Left.{enter-all-length}
-use Rattle.system.specs.Working.Noting.{entryInto, Rowed, rowed, rowInto, endsOf, noteIn}
-use Rattle.system.specs.Working.Each.{Store, store, One, oneBy, oneOf, Each, eachBy, onOne}
+use Rattle.system.specs.Working.Noting.{entryInto, rowed, rowInto, endsOf, noteIn}
+use Rattle.system.specs.Working.Each.{Store, store, oneOf, Each, eachBy, onOne}
 use Rattle.system.specs.declared.note.Ends.{Ends}
 use Rattle.keynote.specs.Answer.{worth, ranked, keptOf}
 use Rattle.keynote.specs.Report.{reasonOf, placeOf, entryBytes}

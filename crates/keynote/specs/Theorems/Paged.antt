@@ -1,9 +1,9 @@
 -- The report as it is written on the page: its first three bytes, then an entry for each assertion. Assumes nothing.
 use mathlib.Core.Path.{_≡_, refl, sym, ap, _∙_}
-use mathlib.Core.List.{List, [], _∷_, _++_, append-assoc}
+use mathlib.Core.List.{List, [], _∷_, _++_}
 use Prim.Native.Nat.{ℕ, suc, _+_, _*_, _/_, _%_, _≤_, _<_}
 use native.Mathlib.Omega.{arith}
-use lib.ListN.{length, take, drop, length-append, length-drop}
+use lib.ListN.{length, drop, length-append, length-drop}
 use lib.Seq.{take-at, drop-drop, drop-append-add}
 use borrow.Author.Tests.{le-ltb}
 use Rattle.text.specs.Copy.{put}

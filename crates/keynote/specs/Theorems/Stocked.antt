@@ -7,8 +7,8 @@ use native.Mathlib.Omega.{arith}
 use lib.ListN.{length, replicate, length-append}
 use lib.Seq.{append-snoc}
 use Rattle.limits.specs.Limits.{mostLicensees}
-use Rattle.text.specs.Choice.{pick, split, clash}
-use Rattle.principal.specs.Principal.{Principal, policy}
+use Rattle.text.specs.Choice.{split, clash}
+use Rattle.principal.specs.Principal.{Principal}
 use Rattle.principal.specs.Members.{member, member-left, member-find, member-same}
 use Rattle.compliance.specs.Licensees.{Expression, given, licensees}
 use Rattle.compliance.specs.System.{Assertion}
