@@ -100,7 +100,13 @@ pub extern "C" fn lampsickle_answer(query: &[u8], page: &mut [u8]) -> Outcome
             attributes,
             assertions,
         } => answered(
-            query, &table, values, requesters, attributes, assertions, page,
+            query,
+            &table,
+            values,
+            requesters,
+            attributes,
+            assertions,
+            page,
         ),
     }
 }

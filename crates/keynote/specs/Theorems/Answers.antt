@@ -68,3 +68,30 @@ answer-accepted s t table page m v n a c bytes h e k r out g =
     let (q, acc) = accepted-query s t table v n a c f in
     let ps : Parts q t table v n a c = accepted-parts s q bytes acc t table h v n a c f in
     parted-is s bytes q acc page r out (g ∙ rw (ps .valuesPart, ps .requestersPart, ps .attributesPart, ps .assertionsPart))
+
+-- the same for the function's four ways out, from an empty table
+module _ (s table : List ℕ) (m : Reading) (e : told m table ≡ readInto s (replicate 88 0)) where
+  module _ (page : List ℕ) (n p : ℕ) (k : m ≡ Refused n p) where
+    pub refused-outcome : (r : Outcome) → r ≡ refusal n p → r ≡ outcome s (length page)
+    refused-outcome r re = answer-refused s (replicate 88 0) table page m n p e k r re .0
+
+    pub refused-page : page ≡ pageAfter s page
+    refused-page = answer-refused s (replicate 88 0) table page m n p e k (refusal n p) refl .1
+
+  module _ (bytes : Bytes s) (v n a c : ℕ) (k : m ≡ Accepted v n a c) where
+    h : length (replicate {A = ℕ} 88 0) ≡ 88
+    h = length-replicate {A = ℕ} 88 0
+
+    pub accepted-table : 88 ≡ length table
+    accepted-table =
+        let f : told (Accepted v n a c) table ≡ readInto s (replicate 88 0) = ap (λ (x : Reading). told x table) (sym k) ∙ e in
+        let (q, acc) = accepted-query s (replicate 88 0) table v n a c f in
+        let ps : Parts q (replicate 88 0) table v n a c = accepted-parts s q bytes acc (replicate 88 0) table (omega (arith, h)) v n a c f in
+        sym (ps .long ∙ h)
+
+    module _ (page : List ℕ) (r : Outcome) (out : List ℕ) (g : givenBy r out ≡ answeredIn s table v n a c page) where
+      pub accepted-outcome : r ≡ outcome s (length page)
+      accepted-outcome = answer-accepted s (replicate 88 0) table page m v n a c bytes (omega (arith, h)) e k r out g .0
+
+      pub accepted-page : out ≡ pageAfter s page
+      accepted-page = answer-accepted s (replicate 88 0) table page m v n a c bytes (omega (arith, h)) e k r out g .1
