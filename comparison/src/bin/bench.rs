@@ -73,8 +73,8 @@ fn most_hostile(rows: &[Row]) {
 fn growth(rows: &[Row]) {
     println!("\n| Doubled | Library, time × | Second, time × |\n|---|--:|--:|");
     for pair in rows.windows(2) {
-        let of_one = |start: &&str| pair.iter().all(|row| row.name.starts_with(*start));
-        if GROWTH.iter().any(|start| of_one(&start)) {
+        let of_one = |start: &str| pair.iter().all(|row| row.name.starts_with(start));
+        if GROWTH.iter().any(|start| of_one(start)) {
             let [small, large] = [&pair[0].medians, &pair[1].medians];
             let (library, second) = (large.library / small.library, large.second / small.second);
             println!("| {} to {} | {library:.2} | {second:.2} |", pair[0].name, pair[1].name);

@@ -33,7 +33,7 @@ fn task() -> Option<Task> {
 }
 
 fn progress(done: u64, count: u64) {
-    if done % 10_000 == 0 && stderr().is_terminal() {
+    if done.is_multiple_of(10_000) && stderr().is_terminal() {
         eprint!("\r{done} of {count}");
         let _ = stderr().flush();
     }
