@@ -90,6 +90,11 @@ fn check(page: &str, folder: &str) {
 }
 
 #[test]
+fn readme() {
+    check("README.md", ".");
+}
+
+#[test]
 fn using() {
     check("docs/USING.md", ".");
 }
