@@ -8,12 +8,16 @@ const POLICY: &str = "Authorizer: \"POLICY\"\n";
 
 pub fn record(random: &mut Random) -> Vec<u8> {
     let text = text(random);
-    let standing = random.between(1, 2) as u8;
+    // Most texts speak for POLICY, which a credential may not.
+    let standing = if random.once_in(5) { 2 } else { 1 };
     let draft = Draft::plain().attribute("x", "1").attribute("v", vec![b'v'; limits::ATTRIBUTE_BYTES.most]);
     if random.once_in(40) {
         return full(random, draft);
     }
-    draft.assertion(standing, text).local(POLICY).record()
+    let draft = draft.assertion(standing, text);
+    // A licence without conditions hides the rank that the text gives.
+    let hidden = random.once_in(6);
+    if hidden { draft.local(POLICY) } else { draft }.record()
 }
 
 /// At a limit, one below or one above.
