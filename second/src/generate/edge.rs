@@ -29,13 +29,21 @@ fn text(random: &mut Random) -> String {
     match random.below(19) {
         0 => {
             let count = near(random, limits::CONSTANTS);
-            let names: Vec<String> = (0..count).map(|index| format!("c{index}=\"{index}\"")).collect();
+            let mut names: Vec<String> = (0..count).map(|index| format!("c{index}=\"{index}\"")).collect();
+            // The last may have another fault as well.
+            if random.once_in(3) {
+                names[count - 1] = random.pick(&["c0=\"\"", "_c=\"\"", "true=\"\""]).to_string();
+            }
             format!("Local-Constants: {}\n{POLICY}", names.join(" "))
         }
         1 => {
             let count = near(random, limits::LICENSEES);
             let operator = *random.pick(&[" && ", "||", "\n || "]);
-            format!("{POLICY}Licensees: {}", vec!["\"a\""; count].join(operator))
+            let mut names = vec!["\"a\""; count];
+            if random.once_in(3) {
+                names[count - 1] = *random.pick(&["unset", "\"\"", "true"]);
+            }
+            format!("{POLICY}Licensees: {}", names.join(operator))
         }
         2 => {
             let listed = near(random, limits::LICENSEES);
@@ -179,6 +187,13 @@ fn text(random: &mut Random) -> String {
                 "true -> 1.5",
                 "1.5 . x == x",
                 "\"1\".5 == x",
+                "1.x == x",
+                "1. == 1",
+                "1 . 5 < 2",
+                "1.5.5 < 2.5",
+                ".5 < 1",
+                "x.1.5 == x",
+                "1..5 < 2",
             ]);
             format!("{POLICY}Conditions: {test};")
         }

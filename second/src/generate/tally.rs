@@ -54,12 +54,13 @@ fn threshold(count: usize) -> String {
 }
 
 fn test(random: &mut Random, scene: &Scene, draft: &Draft) -> Vec<u8> {
-    match random.below(10) {
+    match random.below(11) {
         0..=3 => integers(random).into(),
         4 => converted(random).into(),
         5 => lengths(random).into(),
         6 => strings(random).into(),
         7 => joined_names(random, draft),
+        8 => spellings(random).into(),
         _ => any(random, scene),
     }
 }
@@ -183,6 +184,29 @@ fn strings(random: &mut Random) -> String {
     let (left, right) = (*random.pick(&STRINGS), *random.pick(&STRINGS));
     let joined = *random.pick(&["", " . \"a\"", " . \"\"", " . one"]);
     format!("{left}{joined} {} {right}", comparison(random))
+}
+
+/// Spellings of the same string, and of strings that look the same.
+fn spellings(random: &mut Random) -> String {
+    const ALIKE: [&[&str]; 14] = [
+        &["\\n", "\\012", "\\n\\\n \t\n"],
+        &["\\r", "\\015"],
+        &["\\t", "\\011", "\t"],
+        &["\\f", "\\014", "\x0c"],
+        &["\\0", "0", "\\060", "\\\n0"],
+        &["\\00", "00", "\\060\\060"],
+        &["\\000", "000", "0\\00"],
+        &["\\0000", "0000"],
+        &["\\1", "1", "\\061"],
+        &["\\18", "18", "1\\8", "\\061\\070"],
+        &["\\01", "\\001", "\x01"],
+        &["\\1018", "A8", "\\A8", "\\101\\8"],
+        &["\\377", "\\37\\7", "377", "\\0377"],
+        &["\\\\", "\\134", "\\\"", "\\042", "\\q", "q"],
+    ];
+    let same = *random.pick(&ALIKE);
+    let other = if random.once_in(4) { *random.pick(&ALIKE) } else { same };
+    format!("\"{}\" {} \"{}\"", random.pick(same), comparison(random), random.pick(other))
 }
 
 /// The two names that stand for lists, against the lists.
