@@ -9,6 +9,7 @@ pub mod edge;
 pub mod expression;
 pub mod scene;
 pub mod sketch;
+pub mod tally;
 pub mod web;
 
 use crate::draft::Draft;
@@ -29,9 +30,11 @@ pub enum Sort {
     Edge,
     /// A record that is damaged itself.
     DamagedRecord,
+    /// Many tests, and how many of them hold.
+    Tally,
 }
 
-const SORTS: [Sort; 8] = [
+const SORTS: [Sort; 9] = [
     Sort::Web,
     Sort::DamagedText,
     Sort::Rich,
@@ -40,6 +43,7 @@ const SORTS: [Sort; 8] = [
     Sort::Web,
     Sort::DamagedRecord,
     Sort::DamagedText,
+    Sort::Tally,
 ];
 
 /// The record of a number in the row that a seed begins.
@@ -59,6 +63,7 @@ pub fn of_sort(random: &mut Random, sort: Sort) -> Vec<u8> {
             rich(random, share).record()
         }
         Sort::Edge => edge::record(random),
+        Sort::Tally => tally::record(random),
         Sort::DamagedRecord => {
             let draft = if random.once_in(2) { web::draft(random) } else { rich(random, 4) };
             damage::record(random, draft)

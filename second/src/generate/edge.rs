@@ -8,12 +8,16 @@ const POLICY: &str = "Authorizer: \"POLICY\"\n";
 
 pub fn record(random: &mut Random) -> Vec<u8> {
     let text = text(random);
-    let standing = random.between(1, 2) as u8;
+    // Most texts speak for POLICY, which a credential may not.
+    let standing = if random.once_in(5) { 2 } else { 1 };
     let draft = Draft::plain().attribute("x", "1").attribute("v", vec![b'v'; limits::ATTRIBUTE_BYTES.most]);
     if random.once_in(40) {
         return full(random, draft);
     }
-    draft.assertion(standing, text).local(POLICY).record()
+    let draft = draft.assertion(standing, text);
+    // A licence without conditions hides the rank that the text gives.
+    let hidden = random.once_in(6);
+    if hidden { draft.local(POLICY) } else { draft }.record()
 }
 
 /// At a limit, one below or one above.
@@ -25,13 +29,21 @@ fn text(random: &mut Random) -> String {
     match random.below(19) {
         0 => {
             let count = near(random, limits::CONSTANTS);
-            let names: Vec<String> = (0..count).map(|index| format!("c{index}=\"{index}\"")).collect();
+            let mut names: Vec<String> = (0..count).map(|index| format!("c{index}=\"{index}\"")).collect();
+            // The last may have another fault as well.
+            if random.once_in(3) {
+                names[count - 1] = random.pick(&["c0=\"\"", "_c=\"\"", "true=\"\""]).to_string();
+            }
             format!("Local-Constants: {}\n{POLICY}", names.join(" "))
         }
         1 => {
             let count = near(random, limits::LICENSEES);
             let operator = *random.pick(&[" && ", "||", "\n || "]);
-            format!("{POLICY}Licensees: {}", vec!["\"a\""; count].join(operator))
+            let mut names = vec!["\"a\""; count];
+            if random.once_in(3) {
+                names[count - 1] = *random.pick(&["unset", "\"\"", "true"]);
+            }
+            format!("{POLICY}Licensees: {}", names.join(operator))
         }
         2 => {
             let listed = near(random, limits::LICENSEES);
@@ -175,6 +187,13 @@ fn text(random: &mut Random) -> String {
                 "true -> 1.5",
                 "1.5 . x == x",
                 "\"1\".5 == x",
+                "1.x == x",
+                "1. == 1",
+                "1 . 5 < 2",
+                "1.5.5 < 2.5",
+                ".5 < 1",
+                "x.1.5 == x",
+                "1..5 < 2",
             ]);
             format!("{POLICY}Conditions: {test};")
         }

@@ -123,3 +123,22 @@ fn sketches_are_well_formed() {
     assert_eq!(reasons[1..7], [0; 6]);
     assert_eq!(reasons[8], 0);
 }
+
+/// Every record of tests is answered with all its assertions kept, and the
+/// numbers of tests that hold differ.
+#[test]
+fn tallies_are_kept() {
+    use second::generate::{of_sort, Sort};
+    use second::random::Random;
+    let mut random = Random::new(7);
+    let mut ranks = std::collections::BTreeSet::new();
+    for _ in 0..2_000 {
+        let record = of_sort(&mut random, Sort::Tally);
+        let mut page = [0; second::print::PAGE];
+        let outcome = answer(&record, &mut page);
+        assert_eq!((outcome.number, outcome.reached), (0, 16));
+        assert_eq!(page[3..93].chunks(3).map(|entry| entry[0]).max(), Some(0));
+        ranks.insert(outcome.rank);
+    }
+    assert!(ranks.len() > 10, "{ranks:?}");
+}

@@ -1,0 +1,197 @@
+//! `explain`: a record decoded into readable form, for the eye alone. What the
+//! record comes to is the library's answer.
+
+use std::fmt::Write;
+
+use lampsickle::{Answer, Refusal};
+
+use crate::ask::{class_json, class_text, entry_json, refusal_json, refusal_text, set_aside};
+use crate::json::Object;
+use crate::source::{self, Source};
+use crate::text::{counted, quoted, shown};
+use crate::{written, End, Trouble};
+
+/// A part of a record, decoded.
+#[derive(Clone, Debug, PartialEq, Eq)]
+pub struct Part {
+    /// Its first byte, and the byte behind its last.
+    pub start: usize,
+    pub end: usize,
+    pub words: String,
+}
+
+/// What could be decoded of a record, from its beginning.
+#[derive(Default)]
+pub struct Decoded {
+    pub parts: Vec<Part>,
+    pub values: Vec<Vec<u8>>,
+    pub sources: Vec<Source>,
+}
+
+pub fn run(file: &[u8], json: bool) -> Result<End, Trouble> {
+    let record = source::read("", file)?;
+    let decoded = decode(&shown(file), &record);
+    let asked = lampsickle::ask(&record);
+    let text = match json {
+        true => in_json(&decoded, &asked),
+        false => in_words(&record, &decoded, &asked),
+    };
+    let end = if asked.is_ok() { End::Answered } else { End::Refused };
+    written(text.as_bytes()).map(|()| end)
+}
+
+fn in_words(record: &[u8], decoded: &Decoded, asked: &Result<Answer, Refusal>) -> String {
+    let mut text = format!("record of {}\n", counted(record.len(), "byte"));
+    let last = asked.as_ref().map_or_else(|refusal| refusal.place, |_| usize::MAX);
+    for part in decoded.parts.iter().filter(|part| part.start <= last) {
+        writeln!(text, "{:>6}  {}", part.start, part.words).expect("a string takes all");
+    }
+    match asked {
+        Ok(answer) => text + &class_text(&decoded.values, answer) + &all_set_aside(decoded, answer),
+        Err(refusal) => text + &drawn(record, refusal.place) + &refusal_text(*refusal, false),
+    }
+}
+
+fn all_set_aside(decoded: &Decoded, answer: &Answer) -> String {
+    let items = decoded.sources.iter().zip(&answer.entries).filter(|(_, entry)| entry.reason != 0);
+    items.map(|(source, entry)| set_aside(source, *entry)).collect()
+}
+
+fn in_json(decoded: &Decoded, asked: &Result<Answer, Refusal>) -> String {
+    let part = |part: &Part| {
+        Object::default()
+            .number("start", part.start)
+            .number("end", part.end)
+            .text("words", part.words.trim_start())
+            .done()
+    };
+    let parts: Vec<String> = decoded.parts.iter().map(part).collect();
+    let object = match asked {
+        Ok(answer) => {
+            let items = decoded.sources.iter().zip(&answer.entries);
+            let entries: Vec<String> = items.map(|(source, entry)| entry_json(source, None, *entry)).collect();
+            class_json(&decoded.values, answer).list("assertions", &entries)
+        }
+        Err(refusal) => refusal_json(*refusal),
+    };
+    object.list("parts", &parts).done() + "\n"
+}
+
+/// The bytes around a place, in hexadecimal digits, with a caret under it.
+fn drawn(record: &[u8], place: usize) -> String {
+    const AROUND: usize = 8;
+    if record.is_empty() {
+        return String::new();
+    }
+    let start = place.saturating_sub(AROUND).min(record.len());
+    let end = record.len().min(place + AROUND);
+    let digits: Vec<String> = record[start..end].iter().map(|byte| format!("{byte:02x}")).collect();
+    let under = " ".repeat(3 * (place - start));
+    format!("{start:>6} | {}\n       | {under}^^ {place}\n", digits.join(" "))
+}
+
+/// Decodes as far as the record goes. Ranges and bytes are the library's to judge.
+pub fn decode(file: &str, record: &[u8]) -> Decoded {
+    let mut reader = Reader { record, place: 0, decoded: Decoded::default() };
+    // Where a field is missing, what was decoded before it stays.
+    let _ = reader.all(file);
+    reader.decoded
+}
+
+struct Reader<'a> {
+    record: &'a [u8],
+    place: usize,
+    decoded: Decoded,
+}
+
+impl<'a> Reader<'a> {
+    fn all(&mut self, file: &str) -> Option<()> {
+        let version = self.take(1)?[0];
+        self.part(0, format!("version {version}"));
+        self.values()?;
+        for index in 0..self.count("requester")? {
+            self.item(|content| format!("  {index} {}", quoted(content)))?;
+        }
+        for index in 0..self.count("attribute")? {
+            let name = self.item(|content| format!("  {index} name {}", shown(content)))?;
+            let name = shown(name);
+            self.item(|content| format!("    value of {name} {}", quoted(content)))?;
+        }
+        for index in 0..self.count("assertion")? {
+            self.assertion(file, index)?;
+        }
+        if self.place < self.record.len() {
+            let left = self.record.len() - self.place;
+            self.part(self.place, format!("{} left over", counted(left, "byte")));
+        }
+        Some(())
+    }
+
+    fn values(&mut self) -> Option<()> {
+        let count = self.count("compliance value")?;
+        for index in 0..count {
+            let mark = match index {
+                0 => ", the weakest",
+                _ if index + 1 == count => ", the strongest",
+                _ => "",
+            };
+            let value = self.item(|content| format!("  {index} {}{mark}", quoted(content)))?;
+            self.decoded.values.push(value.to_vec());
+        }
+        Some(())
+    }
+
+    fn assertion(&mut self, file: &str, index: usize) -> Option<()> {
+        let start = self.place;
+        let standing = self.take(1)?[0];
+        let name = ["unverified", "local", "verified"].get(usize::from(standing)).copied();
+        self.part(start, format!("  {index} standing {standing}, {}", name.unwrap_or("which isn't known")));
+        let text =
+            self.item(|content| format!("    text of {}:\n{}", counted(content.len(), "byte"), lines(content)))?;
+        let file = format!("{file}, assertion {index}");
+        self.decoded.sources.push(Source { file, line: 1, text: text.to_vec() });
+        Some(())
+    }
+
+    fn count(&mut self, noun: &str) -> Option<usize> {
+        let start = self.place;
+        let count = usize::from(self.take(1)?[0]);
+        self.part(start, counted(count, noun));
+        Some(count)
+    }
+
+    /// A length and its content.
+    fn item(&mut self, words: impl FnOnce(&[u8]) -> String) -> Option<&'a [u8]> {
+        let start = self.place;
+        let length = self.take(2)?;
+        let length = usize::from(u16::from_be_bytes([length[0], length[1]]));
+        match self.take(length) {
+            Some(content) => {
+                self.part(start, words(content));
+                Some(content)
+            }
+            None => {
+                let left = counted(self.record.len() - self.place, "byte");
+                self.part(start, format!("    length {length}, but {left} left"));
+                None
+            }
+        }
+    }
+
+    fn take(&mut self, length: usize) -> Option<&'a [u8]> {
+        let content = self.record[self.place..].get(..length)?;
+        self.place += length;
+        Some(content)
+    }
+
+    fn part(&mut self, start: usize, words: String) {
+        self.decoded.parts.push(Part { start, end: self.place.max(start), words });
+    }
+}
+
+/// A text's lines, indented.
+fn lines(text: &[u8]) -> String {
+    let text = text.strip_suffix(b"\n").unwrap_or(text);
+    let line = |line: &[u8]| format!("          | {}", shown(line));
+    text.split(|byte| *byte == b'\n').map(line).collect::<Vec<_>>().join("\n")
+}

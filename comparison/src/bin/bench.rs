@@ -1,0 +1,99 @@
+//! Times of the proved library and of the second evaluator, as the tables of
+//! docs/BENCHMARKS.md. `bench [NAME...]` measures the workloads whose names
+//! hold one of the words.
+
+use comparison::library;
+use comparison::measure::{measure, Medians};
+use second::workload::{self, Workload};
+
+/// Workloads that differ in a size only, by the beginnings of their names.
+const GROWTH: [&str; 3] = ["assertions ", "text of ", "rounds "];
+
+/// Conditions made to take as long as the limits allow.
+const HOSTILE: [&str; 9] = [
+    "long literals joined",
+    "lookups of long names",
+    "integers",
+    "powers",
+    "tests",
+    "clauses",
+    "escapes",
+    "comments",
+    "wrong at the end",
+];
+
+/// What two measurements of the same may differ by.
+const ERROR: f64 = 0.05;
+
+struct Row {
+    name: String,
+    bytes: usize,
+    medians: Medians,
+}
+
+fn main() {
+    let wanted: Vec<String> = std::env::args().skip(1).collect();
+    println!("Machine: {}. Medians of 9 runs in turns; the page is not cleared between queries.\n", machine());
+    println!("| Query | Bytes | Library, µs | Second, µs | Library, answers/s | Second, answers/s | Ratio |");
+    println!("|---|--:|--:|--:|--:|--:|--:|");
+    let rows: Vec<Row> = workload::all().into_iter().filter(|item| named(item, &wanted)).map(row).collect();
+    most_hostile(&rows);
+    growth(&rows);
+    slower(&rows);
+}
+
+fn named(workload: &Workload, wanted: &[String]) -> bool {
+    wanted.is_empty() || wanted.iter().any(|part| workload.name.contains(part.as_str()))
+}
+
+fn row(workload: Workload) -> Row {
+    let medians = measure(library, second::answer, &workload.record);
+    let row = Row { name: workload.name, bytes: workload.record.len(), medians };
+    println!(
+        "| {} | {} | {:.2} | {:.2} | {:.0} | {:.0} | {:.2} |",
+        row.name,
+        row.bytes,
+        row.medians.library / 1e3,
+        row.medians.second / 1e3,
+        1e9 / row.medians.library,
+        1e9 / row.medians.second,
+        row.medians.ratio(),
+    );
+    row
+}
+
+fn most_hostile(rows: &[Row]) {
+    let hostile = rows.iter().filter(|row| HOSTILE.contains(&row.name.as_str()));
+    if let Some(row) = hostile.max_by(|a, b| a.medians.library.total_cmp(&b.medians.library)) {
+        println!("\nMost hostile Conditions for the library: {}.", row.name);
+    }
+}
+
+/// By what factor times grow from one size to the next.
+fn growth(rows: &[Row]) {
+    println!("\n| Doubled | Library, time × | Second, time × |\n|---|--:|--:|");
+    for pair in rows.windows(2) {
+        let of_one = |start: &str| pair.iter().all(|row| row.name.starts_with(start));
+        if GROWTH.iter().any(|start| of_one(start)) {
+            let [small, large] = [&pair[0].medians, &pair[1].medians];
+            let (library, second) = (large.library / small.library, large.second / small.second);
+            println!("| {} to {} | {library:.2} | {second:.2} |", pair[0].name, pair[1].name);
+        }
+    }
+}
+
+/// The workloads on which the library is slower by more than measuring errs.
+fn slower(rows: &[Row]) {
+    let slow = rows.iter().filter(|row| row.medians.ratio() < 1.0 - ERROR);
+    let slow: Vec<&str> = slow.map(|row| row.name.as_str()).collect();
+    match slow.is_empty() {
+        true => println!("\nThe library is as fast on every query, or faster, within 5 %."),
+        false => println!("\nThe library is slower by more than 5 % on: {}.", slow.join(", ")),
+    }
+}
+
+fn machine() -> String {
+    let information = std::fs::read_to_string("/proc/cpuinfo").unwrap_or_default();
+    let model = information.lines().find_map(|line| line.strip_prefix("model name")?.split_once(": "));
+    model.map_or("unknown".into(), |(_, name)| name.to_string())
+}

@@ -1,0 +1,56 @@
+//! Times of two implementations on the same records, taken in turns.
+
+use std::hint::black_box;
+use std::time::{Duration, Instant};
+
+use second::compare::Implementation;
+use second::print::PAGE;
+
+/// How often each is measured; odd, so that there is a median.
+const RUNS: usize = 9;
+const RUN_TIME: Duration = Duration::from_millis(20);
+
+/// Nanoseconds for one query: the medians of two implementations.
+#[derive(Clone, Copy, Debug)]
+pub struct Medians {
+    pub library: f64,
+    pub second: f64,
+}
+
+impl Medians {
+    /// How many times as fast as the second evaluator the library is.
+    pub fn ratio(&self) -> f64 {
+        self.second / self.library
+    }
+}
+
+/// Measures both in turns. Panics where they don't answer alike.
+pub fn measure(library: Implementation, second: Implementation, record: &[u8]) -> Medians {
+    let (mut one, mut other) = ([0; PAGE], [0; PAGE]);
+    assert_eq!(library(record, &mut one), second(record, &mut other));
+    assert_eq!(one, other);
+    let mut times = (Vec::with_capacity(RUNS), Vec::with_capacity(RUNS));
+    for _ in 0..RUNS {
+        times.0.push(time(library, record));
+        times.1.push(time(second, record));
+    }
+    Medians { library: median(times.0), second: median(times.1) }
+}
+
+fn median(mut times: Vec<f64>) -> f64 {
+    times.sort_by(f64::total_cmp);
+    times[times.len() / 2]
+}
+
+/// Nanoseconds for one query, averaged over a run. The page isn't cleared
+/// between queries.
+fn time(implementation: Implementation, record: &[u8]) -> f64 {
+    let mut page = [0; PAGE];
+    let mut queries = 0;
+    let start = Instant::now();
+    while start.elapsed() < RUN_TIME {
+        black_box(implementation(black_box(record), black_box(&mut page)));
+        queries += 1;
+    }
+    start.elapsed().as_nanos() as f64 / f64::from(queries)
+}

@@ -1,0 +1,5 @@
+//! The proved library beside the second evaluator.
+
+mod examples;
+mod fences;
+mod generated;

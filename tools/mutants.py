@@ -1,0 +1,449 @@
+#!/usr/bin/env python3
+"""Wrong evaluators that the comparison must find.
+
+Each edit makes the second evaluator wrong in one place; it is then compared with
+the right one on generated records. Prints what became of each, and fails where
+one isn't found. Takes a few minutes; `tools/mutants.py [WORD...]` tries those
+whose names hold one of the words.
+"""
+
+import os
+import shutil
+import subprocess
+import sys
+import tempfile
+
+SECOND = os.path.join(os.path.dirname(os.path.abspath(__file__)), "..", "second")
+SEED = 2704
+COUNT = 24_000
+
+# Name, file of second/src, what stands there, what takes its place.
+EDITS = [
+    (
+        '% sign',
+        'integer.rs',
+        'left.wrapping_rem(right)',
+        'left.wrapping_rem_euclid(right)',
+    ),
+    (
+        'MIN % -1 error',
+        'integer.rs',
+        'if right == 0 {\n        Err(Error)',
+        'if right == 0 || (left == i32::MIN && right == -1) {\n        Err(Error)',
+    ),
+    (
+        'MIN / -1 wraps',
+        'integer.rs',
+        'left.checked_div(right).ok_or(Error)',
+        'if right == 0 { Err(Error) } else { Ok(left.wrapping_div(right)) }',
+    ),
+    (
+        '1^-1',
+        'integer.rs',
+        'if exponent < 0 {\n        return Err(Error);',
+        'if exponent < 0 && base != 1 {\n        return Err(Error);',
+    ),
+    (
+        '@ rounds toward zero',
+        'integer.rs',
+        '-whole - part',
+        '-whole',
+    ),
+    (
+        '(-2)^31 an error',
+        'integer.rs',
+        '_ if exponent > 31',
+        '_ if exponent > 30',
+    ),
+    (
+        '-MIN wraps',
+        'integer.rs',
+        'number.checked_neg().ok_or(Error)',
+        'Ok(number.wrapping_neg())',
+    ),
+    (
+        'string limit off by one',
+        'eval.rs',
+        'if front + back > limits::STRING_BYTES',
+        'if front + back >= limits::STRING_BYTES',
+    ),
+    (
+        'rounds over unreached',
+        'compliance.rs',
+        'if reach.holds(authorizer) {',
+        'if true {',
+    ),
+    (
+        'missing Licensees 0',
+        'compliance.rs',
+        'None => top,',
+        'None => 0,',
+    ),
+    (
+        'unknown value top',
+        'environment.rs',
+        'unwrap_or(0) as u8',
+        'unwrap_or(self.query.values.len() - 1) as u8',
+    ),
+    (
+        '_VALUES without first',
+        'environment.rs',
+        "values.join(&b',')",
+        "values[1..].join(&b',')",
+    ),
+    (
+        '_ACTION_AUTHORIZERS first only',
+        'environment.rs',
+        "self.query.requesters.join(&b',')",
+        "self.query.requesters[..1].join(&b',')",
+    ),
+    (
+        'two-digit octal',
+        'literal.rs',
+        "let needed = if digits[0] == b'0' { 2 } else { 3 };",
+        'let needed = 3;',
+    ),
+    (
+        '\\000 gives NUL',
+        'literal.rs',
+        'if count < needed || value == 0 {',
+        'if count < needed {',
+    ),
+    (
+        '\\f',
+        'literal.rs',
+        "b'f' => 0x0c,",
+        "b'f' => 0x0b,",
+    ),
+    (
+        'octal above 377 wraps',
+        'literal.rs',
+        'let byte = u8::try_from(value).ok()?;',
+        'let byte = value as u8;',
+    ),
+    (
+        'K above list by one',
+        'check.rs',
+        'demand(threshold <= listed, NUMBER, token)?;',
+        'demand(threshold <= listed + 1, NUMBER, token)?;',
+    ),
+    (
+        'local POLICY refused',
+        'check.rs',
+        'standing == CREDENTIAL && literal_is',
+        'standing >= 1 && literal_is',
+    ),
+    (
+        'POLICY by name in credential',
+        'check.rs',
+        'demand(!policy, STANDING, token)',
+        'demand(!(policy && token.kind == Kind::Literal), STANDING, token)',
+    ),
+    (
+        'empty principal',
+        'check.rs',
+        'demand(limits::PRINCIPAL_BYTES.holds(literal.value as usize), LIMIT, token)?;',
+        'demand(literal.value as usize <= 256, LIMIT, token)?;',
+    ),
+    (
+        'reserved constant',
+        'check.rs',
+        "let reserved = token.spelling(settings.text)[0] == b'_';",
+        'let reserved = false;',
+    ),
+    (
+        '4 before 7 at one place',
+        'check.rs',
+        'demand(!reserved && settings.find(token).is_none(), NAME, token)?;\n                demand(settings.list.len() < limits::CONSTANTS, LIMIT, token)?;',
+        'demand(settings.list.len() < limits::CONSTANTS, LIMIT, token)?;\n                demand(!reserved && settings.find(token).is_none(), NAME, token)?;',
+    ),
+    (
+        'version late',
+        'line.rs',
+        'let late = label == Label::Version && !self.listing.fields.is_empty();',
+        'let late = false;',
+    ),
+    (
+        'reads after Signature',
+        'line.rs',
+        'if label == Label::Signature && token.kind == Kind::Literal {',
+        'if false {',
+    ),
+    (
+        'blank lines fine',
+        'line.rs',
+        "None | Some(b'\\n') => fault(LINE, self.place),",
+        "None => fault(LINE, self.place), Some(b'\\n') => Ok(()),",
+    ),
+    (
+        'NUL place in comment',
+        'line.rs',
+        'Some(index) if rest[index] == 0 => return fault(NO_TOKEN, self.place + index),',
+        'Some(index) if rest[index] == 0 => return fault(NO_TOKEN, self.place),',
+    ),
+    (
+        'TRUE in capitals',
+        'token.rs',
+        'name.eq_ignore_ascii_case(b"true")',
+        'name == b"true"',
+    ),
+    (
+        '1. as float',
+        'token.rs',
+        'if fraction > end + 1 {',
+        'if fraction > end {',
+    ),
+    (
+        '-of in Conditions',
+        'token.rs',
+        'let of = licensees && text[start..].starts_with(b"-of");',
+        'let of = text[start..].starts_with(b"-of");',
+    ),
+    (
+        'place of repetition',
+        'record.rs',
+        'if query.values.contains(&value) {\n            return refuse(REPEATED, start);',
+        'if query.values.contains(&value) {\n            return refuse(REPEATED, start - 2);',
+    ),
+    (
+        'names by case',
+        'record.rs',
+        'if query.attributes.iter().any(|earlier| earlier.name == name) {',
+        'if query.attributes.iter().any(|earlier| earlier.name.eq_ignore_ascii_case(name)) {',
+    ),
+    (
+        '^ with *',
+        'parse.rs',
+        'Kind::Caret => POWER,',
+        'Kind::Caret => PRODUCT,',
+    ),
+    (
+        '17 brackets',
+        'limits.rs',
+        'pub const BRACKETS: usize = 16;',
+        'pub const BRACKETS: usize = 17;',
+    ),
+    (
+        '17 prefixes',
+        'limits.rs',
+        'pub const PREFIXES: usize = 16;',
+        'pub const PREFIXES: usize = 17;',
+    ),
+    (
+        'literal of 2,049',
+        'limits.rs',
+        'pub const LITERAL_BYTES: usize = 2_048;',
+        'pub const LITERAL_BYTES: usize = 2_049;',
+    ),
+    (
+        '17 constants',
+        'limits.rs',
+        'pub const CONSTANTS: usize = 16;',
+        'pub const CONSTANTS: usize = 17;',
+    ),
+    (
+        'principal of 257',
+        'limits.rs',
+        'Range::new(1, 256);\npub const INTEGER',
+        'Range::new(1, 257);\npub const INTEGER',
+    ),
+    (
+        'string of 4,097',
+        'limits.rs',
+        'pub const STRING_BYTES: usize = 4_096;',
+        'pub const STRING_BYTES: usize = 4_097;',
+    ),
+    (
+        'literal 2^31',
+        'limits.rs',
+        'INTEGER_LITERAL: u32 = 2_147_483_647',
+        'INTEGER_LITERAL: u32 = 2_147_483_648',
+    ),
+    (
+        'name of 2,049',
+        'limits.rs',
+        'pub const NAME_BYTES: Range = Range::new(1, 2_048);',
+        'pub const NAME_BYTES: Range = Range::new(1, 2_049);',
+    ),
+    (
+        'attribute of 2,049',
+        'limits.rs',
+        'pub const ATTRIBUTE_BYTES: Range = Range::new(0, 2_048);',
+        'pub const ATTRIBUTE_BYTES: Range = Range::new(0, 2_049);',
+    ),
+    (
+        'requester of 257',
+        'limits.rs',
+        'pub const REQUESTER_BYTES: Range = Range::new(1, 256);',
+        'pub const REQUESTER_BYTES: Range = Range::new(1, 257);',
+    ),
+    (
+        'record of 65,535',
+        'limits.rs',
+        'pub const RECORD_BYTES: usize = 65_535;',
+        'pub const RECORD_BYTES: usize = 65_534;',
+    ),
+    (
+        'no value is top - 1',
+        'eval.rs',
+        '                Node::Top => rank = top,',
+        '                Node::Top => rank = rank.max(top - 1),',
+    ),
+    (
+        'last clause counts',
+        'eval.rs',
+        'rank = rank.max(self.environment.rank(self.bytes(&value)));',
+        'rank = self.environment.rank(self.bytes(&value));',
+    ),
+    (
+        'shorter string is less',
+        'eval.rs',
+        '_ => holds(comparison, first.cmp(second)),',
+        '_ => holds(comparison, first.len().min(9).cmp(&second.len().min(9)).then(first.cmp(second))),',
+    ),
+    (
+        'constants not seen in Conditions',
+        'assertion.rs',
+        '                    assertion.constants = constants;\n',
+        '',
+    ),
+    (
+        'empty constant does not hide',
+        'environment.rs',
+        'if show(constant.name) == name {',
+        'if show(constant.name) == name && !show(constant.value).is_empty() {',
+    ),
+    (
+        'digits wrap',
+        'token.rs',
+        'value.saturating_mul(10).saturating_add',
+        'value.wrapping_mul(10).wrapping_add',
+    ),
+    (
+        'place of text before labels',
+        'line.rs',
+        'Some(_) if self.open_label().is_none() => fault(LINE, self.place),',
+        'Some(_) if self.open_label().is_none() => fault(LINE, self.place + indent),',
+    ),
+    (
+        'K above 16',
+        'check.rs',
+        'demand(limits::THRESHOLD.holds(token.value as usize), NUMBER, token)?;',
+        'demand(token.value >= 1, NUMBER, token)?;',
+    ),
+    (
+        'K-th lowest',
+        'compliance.rs',
+        'right.cmp(left)',
+        'left.cmp(right)',
+    ),
+    (
+        'stops at 12 rounds',
+        'compliance.rs',
+        'if next == ranks {',
+        'if rounds >= 12 || next == ranks {',
+    ),
+    (
+        'POLICY as requester',
+        'compliance.rs',
+        'Some(number) if reach.holds(number)',
+        'Some(number) if number != policy && reach.holds(number)',
+    ),
+    (
+        'requesters in round 1 only',
+        'compliance.rs',
+        'next.copy_from_slice(direct);',
+        'next.fill(0);',
+    ),
+    (
+        'reach by the first licensee only',
+        'compliance.rs',
+        'for &licensee in fields.principals.of(licensees) {',
+        'for &licensee in fields.principals.of(licensees).iter().take(1) {',
+    ),
+    (
+        'first clause with a value counts',
+        'eval.rs',
+        'while at < last && rank < top {',
+        'while at < last && rank == 0 {',
+    ),
+    (
+        '- binds as *',
+        'parse.rs',
+        'Kind::Plus | Kind::Minus | Kind::Dot => SUM,',
+        'Kind::Plus | Kind::Dot => SUM,\n        Kind::Minus => PRODUCT,',
+    ),
+]
+
+HARNESS = """
+fn wrong(record: &[u8], page: &mut [u8]) -> second::Outcome {
+    let o = mutant::answer(record, page);
+    second::Outcome { number: o.number, place: o.place, rank: o.rank, rounds: o.rounds, reached: o.reached }
+}
+
+fn main() {
+    let found = second::compare::run(second::answer, wrong, SEED, COUNT).is_err();
+    std::process::exit(if found { 0 } else { 3 });
+}
+"""
+
+
+def manifest(name, dependencies):
+    lines = ["[package]", f'name = "{name}"', 'version = "0.1.0"', 'edition = "2021"', "[dependencies]"]
+    lines += [f'{crate} = {{ path = "{path}" }}' for crate, path in dependencies]
+    return "\n".join(lines + ["[profile.release]", "opt-level = 1", "incremental = true", ""])
+
+
+def write(path, text):
+    os.makedirs(os.path.dirname(path), exist_ok=True)
+    with open(path, "w", encoding="utf-8") as file:
+        file.write(text)
+
+
+def prepare(folder):
+    """A crate that compares the second evaluator with an edited copy."""
+    shutil.copytree(os.path.join(SECOND, "src"), os.path.join(folder, "mutant", "src"))
+    shutil.rmtree(os.path.join(folder, "mutant", "src", "bin"))
+    os.remove(os.path.join(folder, "mutant", "src", "main.rs"))
+    write(os.path.join(folder, "mutant", "Cargo.toml"), manifest("mutant", []))
+    crates = [("second", os.path.abspath(SECOND)), ("mutant", "../mutant")]
+    write(os.path.join(folder, "harness", "Cargo.toml"), manifest("harness", crates))
+    harness = HARNESS.replace("SEED", str(SEED)).replace("COUNT", str(COUNT))
+    write(os.path.join(folder, "harness", "src", "main.rs"), harness)
+
+
+def tried(folder, file, old, new):
+    """What became of an edit; the file is put back."""
+    path = os.path.join(folder, "mutant", "src", file)
+    with open(path, encoding="utf-8") as source:
+        text = source.read()
+    if old not in text:
+        return "has no place"
+    write(path, text.replace(old, new, 1))
+    command = ["cargo", "run", "--offline", "--release", "--quiet"]
+    folder = os.path.join(folder, "harness")
+    built = subprocess.run(command[:1] + ["build"] + command[2:], cwd=folder, capture_output=True, text=True)
+    done = built if built.returncode else subprocess.run(command, cwd=folder, capture_output=True, text=True)
+    write(path, text)
+    if built.returncode:
+        return "doesn't compile"
+    # A wrong evaluator that panics is found as well.
+    return "survives" if done.returncode == 3 else "found"
+
+
+def main():
+    words = sys.argv[1:]
+    failed = 0
+    with tempfile.TemporaryDirectory() as folder:
+        prepare(folder)
+        for name, file, old, new in EDITS:
+            if words and not any(word in name for word in words):
+                continue
+            outcome = tried(folder, file, old, new)
+            failed += outcome != "found"
+            print(f"{outcome}: {name}", flush=True)
+    sys.exit(1 if failed else 0)
+
+
+if __name__ == "__main__":
+    main()
