@@ -4,3 +4,4 @@ pub mod Outcome
 pub mod Secrets
 pub mod Theorems
 pub mod Rulings
+pub mod Working

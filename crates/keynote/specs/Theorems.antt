@@ -11,5 +11,10 @@ pub mod PlacesAssertion
 pub mod Started
 pub mod Marked
 pub mod Starting
-pub mod Solved
 pub mod Parts
+pub mod Stocked
+pub mod Paged
+pub mod Made
+pub mod Filled
+pub mod Solved
+pub mod Answers

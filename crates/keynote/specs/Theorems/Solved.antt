@@ -25,6 +25,7 @@ use Rattle.system.specs.Working.Solving.{Solved, solvedBy, filledIn, onAsked, o
 use Rattle.keynote.specs.Answer.{readings, classOf, roundsOf, reachedOf}
 use Rattle.keynote.specs.Report.{report}
 use Rattle.keynote.specs.Outcome.{needed}
+use Rattle.keynote.specs.Theorems.Filled.{filled-is}
 use Rattle.keynote.specs.Theorems.Started.{startNames, Started}
 use Rattle.keynote.specs.Theorems.Marked.{Stage, Staged, staged, all-staged}
 use Rattle.keynote.specs.Theorems.Starting.{lie-strings, values-joined, requesters-joined, string-length, beginning, begun-fits, Rooted, rooted, begin-rooted}
@@ -119,10 +120,7 @@ module _ (s : List ℕ) (q : Query) (b : Bytes s) (e : readRecord s ≡ accepted
   solved-by =
       rw (lie-strings s (lies .values), lie-strings s (lies .requesters)) (on-written (begun-opened q valid (replicate 11400 0) (length-replicate {A = ℕ} 11400 0)))
 
--- with what is proved of all queries' assertions
-module _ (filled-is : (s : List ℕ) (q : Query) → Bytes s → readRecord s ≡ accepted q → (page : List ℕ) → needed q ≤ length page → Filled s q page) where
-  pub solved-is : (s : List ℕ) (q : Query) → Bytes s → readRecord s ≡ accepted q → (page : List ℕ) → needed q ≤ length page
-      → solvedIn s (placesFrom stringSize 2 2 (q .values)) (placesFrom stringSize 2 (requestersStart q) (q .requesters)) (placesFrom attributeSize 2 (attributesStart q) (q .attributes))
-      (placesFrom assertionSize 3 (assertionsStart q) (q .assertions)) page
-      ≡ solvedBy (record { rank = classOf q; rounds = roundsOf q; reached = reachedOf q }) (report (readings q) ++ drop (needed q) page)
-  solved-is s q b e page h = solved-by s q b e page (filled-is s q b e page h)
+-- an accepted query solved by the tables is what the definition answers
+pub solved-is : (s : List ℕ) (q : Query) → Bytes s → readRecord s ≡ accepted q → (page : List ℕ) → needed q ≤ length page
+    → solvedIn s (valuesAt q) (requestersAt q) (attributesAt q) (assertionsAt q) page ≡ solvedAs q page
+solved-is s q b e page h = solved-by s q b e page (λ start consts x pool places direct st. filled-is s q b e page h start consts x pool places direct st)
