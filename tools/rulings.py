@@ -250,7 +250,7 @@ with open(os.path.join(ROOT, 'second', 'data', 'open-points.tsv')) as f:
         ruling(name, bytes.fromhex(text), expected.split('|')[:-1])
 
 file = b''.join(counted(name) + counted(bytes_) for name, bytes_, _ in rulings)
-assert 65535 < len(file) <= 262144
+assert 65535 < len(file) <= 131072
 rulings.append((b'too-long', file, refused(1, 0)))
 
 

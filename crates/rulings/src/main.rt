@@ -4,7 +4,7 @@ use printed::print_answer;
 use text::counted_at;
 
 // Room for the file.
-const ROOM: usize = 262144;
+const ROOM: usize = 131072;
 
 fn put_ruling(name: &[u8], record: &[u8]) {
     io::write_all(STDOUT_FILENO, name);
