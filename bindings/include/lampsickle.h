@@ -2,7 +2,8 @@
  * Lampsickle: the answer to a KeyNote (RFC 2704) query.
  *
  * Link with -lkeynote from target/staticlib, which `rt staticlib keynote` writes, for Linux on x86-64. The library allocates nothing, reads
- * and writes no file, and keeps no state between calls, so it may be called from many threads at once.
+ * and writes no file, and keeps no state between calls, so it may be called from many threads at once. Its tables lie on the stack: a thread
+ * that calls it needs 512 KiB (docs/ARCHITECTURE.md has what was measured).
  */
 #ifndef LAMPSICKLE_H
 #define LAMPSICKLE_H

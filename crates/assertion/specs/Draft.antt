@@ -5,9 +5,10 @@ use Prim.Native.Nat.{ℕ, _+_}
 use lib.ListN.{set}
 use Rattle.record.specs.Query.{Attribute}
 use Rattle.lexical.specs.Kind
+use Rattle.syntax.specs.Expr.{Program}
 use Rattle.principal.specs.Principal.{Principal}
 use Rattle.compliance.specs.Licensees.{Licensees, missing}
-use Rattle.assertion.specs.Assertion.{Assertion, Conditions, absent}
+use Rattle.assertion.specs.Assertion.{Conditions, absent, stated}
 
 -- what the fields say; and for each kind of token, 1 where it is a label that may still stand
 pub record Draft : Type 0 where
@@ -47,5 +48,6 @@ withAuthorizer d p = record { free = d .free; constants = d .constants; authoriz
 abbrev pub withLicensees : Draft → Licensees → Draft
 withLicensees d l = record { free = d .free; constants = d .constants; authorizer = d .authorizer; licensees = l; conditions = d .conditions }
 
-abbrev pub withConditions : Draft → Conditions → Draft
-withConditions d c = record { free = d .free; constants = d .constants; authorizer = d .authorizer; licensees = d .licensees; conditions = c }
+-- Conditions see the constants of a field that stands "earlier in the text"
+abbrev pub withProgram : Draft → Program → Draft
+withProgram d p = record { free = d .free; constants = d .constants; authorizer = d .authorizer; licensees = d .licensees; conditions = stated (d .constants) p }

@@ -19,8 +19,8 @@ use Rattle.fields.specs.Constants.{constantsFrom}
 use Rattle.fields.specs.Authorizer.{authorizer}
 use Rattle.fields.specs.Licensees.{licensees}
 use Rattle.fields.specs.Signature.{signature}
-use Rattle.assertion.specs.Assertion.{Assertion, stated}
-use Rattle.assertion.specs.Draft.{Draft, total, blank, labelled, withConstants, withAuthorizer, withLicensees, withConditions}
+use Rattle.assertion.specs.Assertion.{Assertion}
+use Rattle.assertion.specs.Draft.{Draft, total, blank, labelled, withConstants, withAuthorizer, withLicensees, withProgram}
 
 -- "Reasons (0 is kept [..])": the assertion, or the reason against it and its place
 pub data Read : Type 0 where
@@ -51,7 +51,7 @@ field standing s kind d t =
     (pick (eqb kind Kind.LOCAL-CONSTANTS) (andThen (constantsFrom s [] t) (λ cs n. ok (withConstants d cs) n))
     (pick (eqb kind Kind.AUTHORIZER) (andThen (authorizer s standing (d .constants) t) (λ p n. ok (withAuthorizer d p) n))
     (pick (eqb kind Kind.LICENSEES) (andThen (licensees s (d .constants) t) (λ l n. ok (withLicensees d l) n))
-    (pick (eqb kind Kind.CONDITIONS) (andThen (readProgram s t) (λ p n. ok (withConditions d (stated (d .constants) p)) n)) (ended d t)))))
+    (pick (eqb kind Kind.CONDITIONS) (andThen (readProgram s t) (λ p n. ok (withProgram d p) n)) (ended d t)))))
 
 -- what is read so far, and the token behind it
 abbrev pub State : Type 0

@@ -46,8 +46,7 @@ use Rattle.fields.specs.Theorems.Versioned.{VersionRead, version-aside, version
 use Rattle.fields.specs.Theorems.Constanted.{ConstantsRead, constants-aside, constants-on, constants-read}
 use Rattle.fields.specs.Theorems.Authorized.{AuthorRead, author-aside, author-on, author-read}
 use Rattle.fields.specs.Theorems.Licensed.{LicenseesRead, licensees-aside, licensees-on, licensees-read}
-use Rattle.assertion.specs.Assertion.{stated}
-use Rattle.assertion.specs.Draft.{Draft, without, labelled, withConstants, withAuthorizer, withLicensees, withConditions}
+use Rattle.assertion.specs.Draft.{Draft, without, labelled, withConstants, withAuthorizer, withLicensees, withProgram}
 use Rattle.assertion.specs.Read.{field}
 use Rattle.assertion.specs.Working.Field.{Given, Tables, tabled, Moved, moved, knowing, authoredBy, licensedTo, rankedAt, passedOn, settledAs, madeAs, listedAs, onJudged, intoConstants, intoIndex, intoCode, known, constantsAt, authorizerAt, licenseesAt, conditionsAt, fieldAt}
 use Rattle.assertion.specs.declared.field.Partial.{Partial}
@@ -247,14 +246,14 @@ module _ {q : Query} {g : Given} {top : ℕ} {x : Tables} {names : List Principa
       record { values-lie = ready .values; attributes-lie = ready .attributes; constants-lie = held .constants; values-joined = b .0; requesters-joined = b .1 }
 
   judged-field : (k : ℕ) (p : Parsed Program) (r : Judged) (m : List ℕ) → Judging (g .text) (environment q (d .constants)) p r → length m ≡ length (y .program)
-      → Reads k (andThen p (λ p n. ok (withConditions (labelled d k) (stated (d .constants) p)) n))
+      → Reads k (andThen p (λ p n. ok (withProgram (labelled d k) p) n))
       (moved (onJudged u r) (tabled (y .consts) (y .constants) (y .pool) (y .places) (y .code) m))
   unfolding worth
   judged-field k _ _ m (judged-aside r p h) hm =
       field-aside r p (tabled (y .consts) (y .constants) (y .pool) (y .places) (y .code) m) h
       (record { after = after-program (held .after) m hm; holds = front .holds; code = front .code })
   judged-field k _ _ m (judged-on p n sn) hm =
-      field-on (withConditions (labelled d k) (stated (d .constants) p)) (rankedAt u (conditions (environment q (d .constants)) p)) n (tabled (y .consts) (y .constants) (y .pool) (y .places) (y .code) m) (left k)
+      field-on (withProgram (labelled d k) p) (rankedAt u (conditions (environment q (d .constants)) p)) n (tabled (y .consts) (y .constants) (y .pool) (y .places) (y .code) m) (left k)
       (record {
         ps = held .ps;
         after = after-program (held .after) m hm;
@@ -270,7 +269,7 @@ module _ {q : Query} {g : Given} {top : ℕ} {x : Tables} {names : List Principa
   unfolding environment
   few-values = ready .few
 
-  conditions-field : (k at : ℕ) → Reads k (andThen (readProgram (g .text) (nextAt (g .text) at)) (λ p n. ok (withConditions (labelled d k) (stated (d .constants) p)) n))
+  conditions-field : (k at : ℕ) → Reads k (andThen (readProgram (g .text) (nextAt (g .text) at)) (λ p n. ok (withProgram (labelled d k) p) n))
       (conditionsAt g y u (nextAt (g .text) at))
   unfolding conditionsAt
   conditions-field k at =
@@ -282,7 +281,7 @@ module _ {q : Query} {g : Given} {top : ℕ} {x : Tables} {names : List Principa
       room = omega (arith, ready .short, ready .program-room, held .after .program)
 
   conditions-here : (k : ℕ) → k ≡ Kind.CONDITIONS → (at : ℕ)
-      → Reads k (andThen (readProgram (g .text) (tokenAt (g .text) (Kind.opened k) at)) (λ p n. ok (withConditions (labelled d k) (stated (d .constants) p)) n))
+      → Reads k (andThen (readProgram (g .text) (tokenAt (g .text) (Kind.opened k) at)) (λ p n. ok (withProgram (labelled d k) p) n))
       (conditionsAt g y u (tokenAt (g .text) (Kind.opened k) at))
   conditions-here k ke at = rw (opened-conditions k ke) (conditions-field k at)
 

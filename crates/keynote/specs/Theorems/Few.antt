@@ -26,8 +26,8 @@ use Rattle.fields.specs.Constants.{constantsFrom}
 use Rattle.fields.specs.Authorizer.{authorizer}
 use Rattle.fields.specs.Signature.{signature}
 use Rattle.conditions.specs.Program.{readProgram}
-use Rattle.assertion.specs.Assertion.{Assertion, stated}
-use Rattle.assertion.specs.Draft.{Draft, blank, labelled, withConstants, withAuthorizer, withLicensees, withConditions}
+use Rattle.assertion.specs.Assertion.{Assertion}
+use Rattle.assertion.specs.Draft.{Draft, blank, labelled, withConstants, withAuthorizer, withLicensees, withProgram}
 use Rattle.assertion.specs.Read.{Read, kept, dropped, first, signedBy, finished, onSignature, field, State, onField, onLabel, turn, fieldsFrom, readAssertion}
 use Rattle.fields.specs.Licensees.{after, licensee, listed, onListed, listTurn, listFrom, listOpened, ofRead, threshold, closed, Reader, onOperand, chainTurn, chainFrom, chain, expressionOf, primaryBody, primary, expression, licensees}
 
@@ -210,7 +210,7 @@ field-few standing s kind d t h =
     (reads-pick (eqb kind Kind.LOCAL-CONSTANTS) (reads-then _ (reads-any (constantsFrom s [] t)) (λ cs n u. r-ok (withConstants d cs) n h))
     (reads-pick (eqb kind Kind.AUTHORIZER) (reads-then _ (reads-any (authorizer s standing (d .constants) t)) (λ p n u. r-ok (withAuthorizer d p) n h))
     (reads-pick (eqb kind Kind.LICENSEES) (reads-then _ (licensees-few s (d .constants) t) (λ l n u. r-ok (withLicensees d l) n u))
-    (reads-pick (eqb kind Kind.CONDITIONS) (reads-then _ (reads-any (readProgram s t)) (λ p n u. r-ok (withConditions d (stated (d .constants) p)) n h))
+    (reads-pick (eqb kind Kind.CONDITIONS) (reads-then _ (reads-any (readProgram s t)) (λ p n u. r-ok (withProgram d p) n h))
     (reads-pick (ending (t .kind)) (r-ok d t h) (r-aside _ _))))))
 
 abbrev FewState : State → Type 0

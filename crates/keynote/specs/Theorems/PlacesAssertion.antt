@@ -22,8 +22,8 @@ use Rattle.syntax.specs.Parsed.{Parsed, refusal}
 use Rattle.fields.specs.Parsed.{ending}
 use Rattle.conditions.specs.Word.{nextAt}
 use Rattle.conditions.specs.Program.{readProgram}
-use Rattle.assertion.specs.Assertion.{Assertion, stated}
-use Rattle.assertion.specs.Draft.{Draft, labelled, withConstants, withAuthorizer, withLicensees, withConditions}
+use Rattle.assertion.specs.Assertion.{Assertion}
+use Rattle.assertion.specs.Draft.{Draft, labelled, withConstants, withAuthorizer, withLicensees, withProgram}
 use Rattle.assertion.specs.Read.{Read, kept, dropped, first, signedBy, finished, onSignature, field, State, onField, turn, fieldsFrom, readAssertion}
 use Rattle.keynote.specs.Answer.{reading, readings}
 use Rattle.keynote.specs.Report.{reasonOf, placeOf, pairBytes, entryBytes, entriesBytes, report}
@@ -62,7 +62,7 @@ module _ (standing : ℕ) (s : List ℕ) (short : length s < 65536) where
       (placed-pick (eqb kind Kind.AUTHORIZER) (placed-then _ (authorizer-placed s standing (d .constants) t i) (λ p n k. p-ok (withAuthorizer d p) n k))
       (placed-pick (eqb kind Kind.LICENSEES) (placed-then _ (licensees-placed s (d .constants) t i) (λ l n k. p-ok (withLicensees d l) n k))
       (split (eqb kind Kind.CONDITIONS)
-      (λ e. rw e (placed-then _ (program e) (λ p n k. p-ok (withConditions d (stated (d .constants) p)) n k)))
+      (λ e. rw e (placed-then _ (program e) (λ p n k. p-ok (withProgram d p) n k)))
       (λ e. rw e (ended-placed d t i))))))
 
   abbrev StateIn : State → Type 0
