@@ -5,3 +5,4 @@ pub mod Parts
 pub mod Joining
 pub mod Holding
 pub mod Deciding
+pub mod Backward

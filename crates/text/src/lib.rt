@@ -66,12 +66,15 @@ fn agreement(a: &[u8], b: &[u8]) -> usize
 pub fn same_bytes(a: &[u8], b: &[u8]) -> bool
     ensures { λ r. ⌜ r ≡ equal (now (a .entry)) (now (b .entry)) ⌝ }
 {
-    let i = agreement(a, b);
-    if i < a.len() {
+    if a.len() != b.len() {
         return false;
     }
-    if i < b.len() {
-        return false;
+    let mut i = a.len();
+    while 0 < i {
+        if a[i - 1] != b[i - 1] {
+            return false;
+        }
+        i -= 1;
     }
     true
 }

@@ -1,20 +1,17 @@
 -- Working definition: how far two byte strings agree. The code compares by one scan; these laws turn its stop into equality and order.
 -- Assumes nothing.
-use mathlib.Core.Path.{_≡_, refl, sym, ap, _∙_}
-use mathlib.Core.Bool.{Bool, true, false}
+use mathlib.Core.Path.{_≡_, refl, sym, _∙_}
 use mathlib.Core.List.{List, [], _∷_}
-use Prim.Native.Nat.{ℕ, zero, suc, _+_, _<_, _≤_}
+use Prim.Native.Nat.{ℕ, suc, _+_, _<_, _≤_}
 use native.Mathlib.Omega.{arith}
 use native.Mathlib.Numerals.{add-one}
 use native.Mathlib.Nat.{add-zero, not-suc-le-zero, le-of-suc-le-suc}
-use lib.Dec.{eqb, ltb}
+use lib.Dec.{eqb}
 use lib.ListN.{length, getD, drop, drop-of-length-le}
 use lib.Seq.{drop-cons}
 use borrow.Author.Tests.{lt-ltb, le-ltb, eq-eqb, ne-eqb, eqb-true, eqb-false}
 use Rattle.text.specs.Choice.{pick, split}
-use Rattle.text.specs.Equal.{equal}
 use Rattle.text.specs.Order.{order}
-use Rattle.text.specs.declared.Order.{Order}
 use Rattle.text.specs.declared.Order.the-variants.{Less, Equal, Greater}
 
 -- the length of the longest front that both share
@@ -54,41 +51,6 @@ module _ (a b : List ℕ) (i r : ℕ) (inv : commonFrom a b i ≡ r) where
     pub common-more : getD a i 0 ≡ getD b i 0 → commonFrom a b (i + 1) ≡ r
     unfolding commonFrom common
     common-more e = rw (add-one i) (omega (arith, rw (drop-cons a i 0 h, drop-cons b i 0 k, eq-eqb _ _ e) at inv))
-
--- equality from where the scan stops
-differs-left : (a b : List ℕ) → common a b < length a → equal a b ≡ false
-unfolding common equal
-differs-left [] b h = absurd (not-suc-le-zero h)
-differs-left (x ∷ xs) [] h = refl
-differs-left (x ∷ xs) (y ∷ ys) h =
-    split (eqb x y) (λ e. rw e (differs-left xs ys (le-of-suc-le-suc (rw e at h)))) (λ e. rw e)
-
-differs-right : (a b : List ℕ) → common a b < length b → equal a b ≡ false
-unfolding common equal
-differs-right [] [] h = absurd (not-suc-le-zero h)
-differs-right [] (y ∷ ys) h = refl
-differs-right (x ∷ xs) [] h = refl
-differs-right (x ∷ xs) (y ∷ ys) h =
-    split (eqb x y) (λ e. rw e (differs-right xs ys (le-of-suc-le-suc (rw e at h)))) (λ e. rw e)
-
-agrees : (a b : List ℕ) → length a ≤ common a b → length b ≤ common a b → equal a b ≡ true
-unfolding common equal
-agrees [] [] h k = refl
-agrees [] (y ∷ ys) h k = absurd (not-suc-le-zero k)
-agrees (x ∷ xs) [] h k = absurd (not-suc-le-zero h)
-agrees (x ∷ xs) (y ∷ ys) h k =
-    split (eqb x y) (λ e. rw e (agrees xs ys (le-of-suc-le-suc (rw e at h)) (le-of-suc-le-suc (rw e at k))))
-    (λ e. absurd (not-suc-le-zero (rw e at h)))
-
-module _ (a b : List ℕ) (i : ℕ) (is : i ≡ common a b) where
-  pub equal-left : i < length a → false ≡ equal a b
-  equal-left h = sym (differs-left a b (rw is at h))
-
-  pub equal-right : i < length b → false ≡ equal a b
-  equal-right h = sym (differs-right a b (rw is at h))
-
-  pub equal-both : length a ≤ i → length b ≤ i → true ≡ equal a b
-  equal-both h k = sym (agrees a b (rw is at h) (rw is at k))
 
 -- order from where the scan stops
 order-less : (a b : List ℕ) → common a b < length a → common a b < length b → getD a (common a b) 0 < getD b (common a b) 0 → order a b ≡ Less
