@@ -1,5 +1,5 @@
 -- The ways out of the functions of `token`. Assumes nothing.
-use mathlib.Core.Path.{_≡_, refl, sym, ap, _∙_}
+use mathlib.Core.Path.{_≡_, refl, sym, _∙_}
 use mathlib.Core.List.{List}
 use Prim.Native.Nat.{ℕ, _+_, _-_, _≤_, _<_, _^_}
 use native.Mathlib.Omega.{arith}
@@ -29,11 +29,10 @@ wide-fits s i k w h e l f =
     (λ t. let m : i + w ≤ length s = omega (arith, e, h (ltb-true _ _ t)) in record { fits = lt-of-le-of-lt m l })
     (λ t. let n : k < 4 = omega (arith, ltb-false Kind.BAD-LINE k t) in let z : w ≡ 0 = e ∙ simp (lt-ltb k 4 n) in rw (z, add-zero i) f)
 
-pub operator-here : (s : List ℕ) (mode i a b c d r : ℕ) → r ≡ operatorKind mode c b d → c ≡ classOf a
-    → a ≡ getD s (i + 0) 0 → b ≡ getD s (i + 1) 0 → d ≡ getD s (i + 2) 0 → r ≡ operatorAt s mode i
+pub operator-here : (s : List ℕ) (mode i b c d r : ℕ) → r ≡ operatorKind mode c b d → c ≡ classOf (getD s i 0)
+    → b ≡ getD s (i + 1) 0 → d ≡ getD s (i + 2) 0 → r ≡ operatorAt s mode i
 unfolding operatorAt
-operator-here s mode i a b c d r e ce ae be de =
-    simp (sym (ce ∙ ap classOf (ae ∙ ap (λ (j : ℕ). getD s j 0) (add-zero i))), sym be, sym de) e
+operator-here s mode i b c d r e ce be de = simp (sym ce, sym be, sym de) e
 
 module _ (s : List ℕ) (mode i k w : ℕ) (ke : k ≡ operatorAt s mode i) (we : w ≡ widthOf k) where
   pub operator-fits : length s < 2 ^ 64 → Fits w64 i → Fits w64 (i + w)
@@ -43,27 +42,24 @@ module _ (s : List ℕ) (mode i k w : ℕ) (ke : k ≡ operatorAt s mode i) (we 
   unfolding operatorToken
   operator-made = simp (sym ke, we)
 
-module _ (s : List ℕ) (mode i : ℕ) (a : ℕ) (ae : a ≡ getD s (i + 0) 0) (c : ℕ) (ce : c ≡ classOf a) where
-  class-here : c ≡ classOf (getD s i 0)
-  class-here = ce ∙ ap classOf (ae ∙ ap (λ (j : ℕ). getD s j 0) (add-zero i))
-
+module _ (s : List ℕ) (mode i c : ℕ) (ce : c ≡ classOf (getD s i 0)) where
   pub from-name : (e : ℕ) → c ≡ LETTER → e ≡ past (inRun WORD) s i → token Kind.NAME i e ≡ tokenFrom s mode i
   unfolding tokenFrom
-  from-name e h ee = simp (sym class-here, eq-eqb _ _ h, sym ee)
+  from-name e h ee = simp (sym ce, eq-eqb _ _ h, sym ee)
 
   module _ (nl : c ≡ LETTER → ⊥) where
     pub from-number : (r : Token) → c ≡ DIGIT → r ≡ numberToken s i → r ≡ tokenFrom s mode i
     unfolding tokenFrom
-    from-number r h re = simp (sym class-here, ne-eqb _ _ nl, eq-eqb _ _ h) re
+    from-number r h re = simp (sym ce, ne-eqb _ _ nl, eq-eqb _ _ h) re
 
     module _ (nd : c ≡ DIGIT → ⊥) where
       pub from-literal : (r : Token) → c ≡ QUOTE → r ≡ literalToken s i → r ≡ tokenFrom s mode i
       unfolding tokenFrom
-      from-literal r h re = simp (sym class-here, ne-eqb _ _ nl, ne-eqb _ _ nd, eq-eqb _ _ h) re
+      from-literal r h re = simp (sym ce, ne-eqb _ _ nl, ne-eqb _ _ nd, eq-eqb _ _ h) re
 
       pub from-operator : (r : Token) → (c ≡ QUOTE → ⊥) → r ≡ operatorToken s mode i → r ≡ tokenFrom s mode i
       unfolding tokenFrom
-      from-operator r h re = simp (sym class-here, ne-eqb _ _ nl, ne-eqb _ _ nd, ne-eqb _ _ h) re
+      from-operator r h re = simp (sym ce, ne-eqb _ _ nl, ne-eqb _ _ nd, ne-eqb _ _ h) re
 
 module _ (s : List ℕ) (i : ℕ) where
   pub literal-past : length s ≤ i → illegalAt i ≡ literalToken s i

@@ -1,6 +1,7 @@
 // The class of each of the 256 byte values.
 ghost use mathlib.Core.Path.{_≡_};
-ghost use Rattle.lexical.specs.Class.{classOf};
+ghost use Rattle.lexical.specs.Class.{classOf, within};
+ghost use Rattle.lexical.specs.Runs.{blank, letter, numeral};
 
 pub const OTHER: u8 = 0;
 
@@ -282,9 +283,63 @@ const CLASS: [u8; 256] = [
     0,
 ];
 
+fn is_within(lo: u8, hi: u8, b: u8) -> bool
+    ensures { λ r. ⌜ r ≡ within lo hi b ⌝ }
+{
+    if b < lo {
+        return false;
+    }
+    b <= hi
+}
+
+// Is it a space or a tab?
+pub fn is_blank(b: u8) -> bool
+    ensures { λ r. ⌜ r ≡ blank b ⌝ }
+{
+    if b == b' ' {
+        return true;
+    }
+    b == b'\t'
+}
+
+// Is it a letter or the underscore?
+pub fn is_letter(b: u8) -> bool
+    ensures { λ r. ⌜ r ≡ letter b ⌝ }
+{
+    if is_within(b'a', b'z', b) {
+        return true;
+    }
+    if is_within(b'A', b'Z', b) {
+        return true;
+    }
+    b == b'_'
+}
+
+pub fn is_numeral(b: u8) -> bool
+    ensures { λ r. ⌜ r ≡ numeral b ⌝ }
+{
+    is_within(b'0', b'9', b)
+}
+
+// The commonest bytes are tested before the table, which is copied where it is read.
 pub fn class_of(b: u8) -> u8
     ensures { λ r. ⌜ r ≡ classOf b ⌝ }
 {
+    if is_blank(b) {
+        return BLANK;
+    }
+    if b == b'\n' {
+        return NEWLINE;
+    }
+    if is_letter(b) {
+        return LETTER;
+    }
+    if is_numeral(b) {
+        return DIGIT;
+    }
+    if b == b'"' {
+        return QUOTE;
+    }
     let i = b as usize;
     CLASS[i]
 }

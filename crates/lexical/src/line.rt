@@ -63,7 +63,7 @@ fn visible_at(s: &[u8], mode: u8, i: usize) -> Token
     if c == class::HASH {
         return rest_of_line(s, i);
     }
-    token_from(s, mode, i)
+    token_from(s, mode, i, c)
 }
 
 // What comes next inside a line.

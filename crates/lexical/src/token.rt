@@ -1,6 +1,5 @@
 // The token that starts at a place.
 use crate::class;
-use crate::class::class_of;
 use crate::kind;
 use crate::literal::literal_end;
 use crate::operator::operator_kind;
@@ -9,6 +8,8 @@ use crate::scan::WORD;
 use crate::scan::byte_at;
 use crate::scan::skip;
 ghost use mathlib.Core.Path.{_≡_};
+ghost use lib.ListN.{getD};
+ghost use Rattle.lexical.specs.Class.{classOf};
 ghost use Rattle.lexical.specs.Token.{widthOf, operatorAt, operatorToken, literalToken, floatEnd, numberToken, tokenFrom};
 
 // A token of the text: its kind, its first byte, and the place behind its last byte. At the end and at a fault the two places are one.
@@ -52,18 +53,19 @@ pub fn width(k: u8) -> usize
     1
 }
 
-// The kind of the operator that stands at i, or ILLEGAL.
-fn operator_at(s: &[u8], mode: u8, i: usize) -> u8
+// The kind of the operator that stands at i, where a byte of class c stands, or ILLEGAL.
+fn operator_at(s: &[u8], mode: u8, i: usize, c: u8) -> u8
+    requires { ⌜ c ≡ classOf (getD (now s) i 0) ⌝ }
     ensures { λ r. ⌜ r ≡ operatorAt (now (s .entry)) mode i ⌝ }
 {
-    let c = class_of(byte_at(s, i, 0));
     operator_kind(mode, c, byte_at(s, i, 1), byte_at(s, i, 2))
 }
 
-fn operator_token(s: &[u8], mode: u8, i: usize) -> Token
+fn operator_token(s: &[u8], mode: u8, i: usize, c: u8) -> Token
+    requires { ⌜ c ≡ classOf (getD (now s) i 0) ⌝ }
     ensures { λ r. ⌜ r ≡ operatorToken (now (s .entry)) mode i ⌝ }
 {
-    let k = operator_at(s, mode, i);
+    let k = operator_at(s, mode, i, c);
     Token {
         kind: k,
         start: i,
@@ -134,11 +136,11 @@ fn number_token(s: &[u8], i: usize) -> Token
     }
 }
 
-// The token that starts at i, by the class of its first byte.
-pub fn token_from(s: &[u8], mode: u8, i: usize) -> Token
+// The token that starts at i, by the class c of its first byte.
+pub fn token_from(s: &[u8], mode: u8, i: usize, c: u8) -> Token
+    requires { ⌜ c ≡ classOf (getD (now s) i 0) ⌝ }
     ensures { λ r. ⌜ r ≡ tokenFrom (now (s .entry)) mode i ⌝ }
 {
-    let c = class_of(byte_at(s, i, 0));
     if c == class::LETTER {
         let e = skip(s, i, WORD);
         return Token {
@@ -153,5 +155,5 @@ pub fn token_from(s: &[u8], mode: u8, i: usize) -> Token
     if c == class::QUOTE {
         return literal_token(s, i);
     }
-    operator_token(s, mode, i)
+    operator_token(s, mode, i, c)
 }

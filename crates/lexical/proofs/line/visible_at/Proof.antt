@@ -8,43 +8,43 @@ use Rattle.lexical.proofs.class.class_of.Reads as class-of-reads
 use Rattle.lexical.proofs.line.rest_of_line.Reads as rest-of-line-reads
 use Rattle.lexical.proofs.token.token_from.Reads as token-from-reads
 
--- src/line.rt:44:9
+-- src/line.rt:49:9
 returns : tie.Need-returns
 returns c = search visible-end
 
--- src/line.rt:50:22
+-- src/line.rt:55:22
 shared-slice-read-class-of : tie.Need-shared-slice-read-class-of
 shared-slice-read-class-of c = search needs
 
--- src/line.rt:50:9
+-- src/line.rt:55:9
 class-of-requires : tie.Need-class-of-requires
 class-of-requires c κs = search needs
 
--- src/line.rt:54:20
+-- src/line.rt:59:20
 add-t11 : tie.Need-add-t11
 add-t11 c = search needs
 
--- src/line.rt:55:18
+-- src/line.rt:60:18
 add-t12 : tie.Need-add-t12
 add-t12 c = search needs
 
--- src/line.rt:52:9
+-- src/line.rt:57:9
 returns-2 : tie.Need-returns-2
 returns-2 c = search visible-next
 
--- src/line.rt:59:9
+-- src/line.rt:64:9
 rest-of-line-requires : tie.Need-rest-of-line-requires
 rest-of-line-requires c κs = search needs
 
--- src/line.rt:59:9
+-- src/line.rt:64:9
 returns-3 : tie.Need-returns-3
 returns-3 c = search visible-hash
 
--- src/line.rt:61:5
+-- src/line.rt:66:5
 token-from-requires : tie.Need-token-from-requires
 token-from-requires c κs = search needs
 
--- src/line.rt:40:1
+-- src/line.rt:45:1
 returns-4 : tie.Need-returns-4
 returns-4 c = search visible-token
 
