@@ -4,7 +4,7 @@ use mathlib.Core.Bool.{Bool, true, false}
 use Prim.Native.Nat.{ℕ}
 use lib.Dec.{eqb}
 use borrow.Author.Tests.{eq-eqb, ne-eqb}
-use Rattle.lexical.specs.Class.{classOf, within, BLANK, NEWLINE, LETTER, DIGIT, QUOTE}
+use Rattle.lexical.specs.Class.{classOf, within, BLANK, NEWLINE, LETTER, DIGIT, QUOTE, HASH}
 use Rattle.lexical.specs.Runs.{blank, letter, numeral}
 
 module _ (b : ℕ) (t : Bool) (te : t ≡ within 97 122 b) where
@@ -46,6 +46,11 @@ module _ (b : ℕ) (t : Bool) (te : t ≡ blank b) where
         unfolding classOf blank letter numeral
         class-digit h = simp (sym te, tn, ne-eqb _ _ nn, sym ue, un, sym ve, h)
 
-        pub class-quote : v ≡ false → b ≡ 34 → QUOTE ≡ classOf b
-        unfolding classOf blank letter numeral
-        class-quote vn h = simp (sym te, tn, ne-eqb _ _ nn, sym ue, un, sym ve, vn, eq-eqb _ _ h)
+        module _ (vn : v ≡ false) where
+          pub class-quote : b ≡ 34 → QUOTE ≡ classOf b
+          unfolding classOf blank letter numeral
+          class-quote h = simp (sym te, tn, ne-eqb _ _ nn, sym ue, un, sym ve, vn, eq-eqb _ _ h)
+
+          pub class-hash : (b ≡ 34 → ⊥) → b ≡ 35 → HASH ≡ classOf b
+          unfolding classOf blank letter numeral
+          class-hash n h = simp (sym te, tn, ne-eqb _ _ nn, sym ue, un, sym ve, vn, ne-eqb _ _ n, eq-eqb _ _ h)

@@ -340,6 +340,9 @@ pub fn class_of(b: u8) -> u8
     if b == b'"' {
         return QUOTE;
     }
+    if b == b'#' {
+        return HASH;
+    }
     let i = b as usize;
     CLASS[i]
 }

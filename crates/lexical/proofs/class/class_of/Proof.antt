@@ -1,4 +1,4 @@
-use Rattle.lexical.proofs.ClassWays.{class-blank, class-newline, class-letter, class-digit, class-quote}
+use Rattle.lexical.proofs.ClassWays.{class-blank, class-newline, class-letter, class-digit, class-quote, class-hash}
 use Rattle.lexical.specs.Classes.{class-rule}
 use borrow.Author.Needs.{needs}
 use Rattle.lexical.proofs.class.class_of.Statement.{statement}
@@ -41,13 +41,17 @@ returns-4 c = search class-digit
 returns-5 : tie.Need-returns-5
 returns-5 c = search class-quote
 
+-- src/class.rt:346:9
+returns-6 : tie.Need-returns-6
+returns-6 c = search class-hash
+
 -- src/class.rt:344:5
 array-read-result : tie.Need-array-read-result
 array-read-result c = search (needs, class-rule)
 
 -- src/class.rt:325:1
-returns-6 : tie.Need-returns-6
-returns-6 c = search (needs, class-rule)
+returns-7 : tie.Need-returns-7
+returns-7 c = search (needs, class-rule)
 
 pub class-of-spec : {M : Type 1} → statement M
 class-of-spec =
@@ -61,5 +65,6 @@ class-of-spec =
     is-numeral-requires
     returns-4
     returns-5
+    returns-6
     array-read-result
-    returns-6)
+    returns-7)
