@@ -1,11 +1,10 @@
 -- The ways out of the functions of `class`. Assumes nothing.
-use mathlib.Core.Path.{_≡_, sym}
+use mathlib.Core.Path.{_≡_, sym, _∙_}
 use mathlib.Core.Bool.{Bool, true, false}
-use Prim.Native.Nat.{ℕ}
+use Prim.Native.Nat.{ℕ, _<_}
 use lib.Dec.{eqb}
-use borrow.Author.Tests.{eq-eqb, ne-eqb}
 use Rattle.lexical.specs.Class.{classOf, within, BLANK, NEWLINE, LETTER, DIGIT, QUOTE, HASH}
-use Rattle.lexical.specs.Runs.{blank, letter, numeral}
+use Rattle.lexical.specs.Runs.{blank, letter, numeral, blank-class, letter-class, numeral-class, newline-class, quote-class, hash-class}
 
 module _ (b : ℕ) (t : Bool) (te : t ≡ within 97 122 b) where
   pub letter-small : t ≡ true → true ≡ letter b
@@ -25,32 +24,23 @@ pub numeral-within : (b : ℕ) (r : Bool) → r ≡ within 48 57 b → r ≡ num
 unfolding numeral
 numeral-within b r e = e
 
--- in the order of the rule
-module _ (b : ℕ) (t : Bool) (te : t ≡ blank b) where
-  pub class-blank : t ≡ true → BLANK ≡ classOf b
-  unfolding classOf blank
-  class-blank h = simp (sym te, h)
+-- a class by comparisons
+module _ (b : ℕ) (h : b < 256) where
+  pub has-newline : eqb b 10 ≡ eqb (classOf b) NEWLINE
+  has-newline = newline-class b h
 
-  module _ (tn : t ≡ false) where
-    pub class-newline : b ≡ 10 → NEWLINE ≡ classOf b
-    unfolding classOf blank
-    class-newline h = simp (sym te, tn, eq-eqb _ _ h)
+  pub has-quote : eqb b 34 ≡ eqb (classOf b) QUOTE
+  has-quote = quote-class b h
 
-    module _ (nn : b ≡ 10 → ⊥) (u : Bool) (ue : u ≡ letter b) where
-      pub class-letter : u ≡ true → LETTER ≡ classOf b
-      unfolding classOf blank letter
-      class-letter h = simp (sym te, tn, ne-eqb _ _ nn, sym ue, h)
+  pub has-hash : eqb b 35 ≡ eqb (classOf b) HASH
+  has-hash = hash-class b h
 
-      module _ (un : u ≡ false) (v : Bool) (ve : v ≡ numeral b) where
-        pub class-digit : v ≡ true → DIGIT ≡ classOf b
-        unfolding classOf blank letter numeral
-        class-digit h = simp (sym te, tn, ne-eqb _ _ nn, sym ue, un, sym ve, h)
+  module _ (r : Bool) where
+    pub has-blank : r ≡ blank b → r ≡ eqb (classOf b) BLANK
+    has-blank e = e ∙ blank-class b h
 
-        module _ (vn : v ≡ false) where
-          pub class-quote : b ≡ 34 → QUOTE ≡ classOf b
-          unfolding classOf blank letter numeral
-          class-quote h = simp (sym te, tn, ne-eqb _ _ nn, sym ue, un, sym ve, vn, eq-eqb _ _ h)
+    pub has-letter : r ≡ letter b → r ≡ eqb (classOf b) LETTER
+    has-letter e = e ∙ letter-class b h
 
-          pub class-hash : (b ≡ 34 → ⊥) → b ≡ 35 → HASH ≡ classOf b
-          unfolding classOf blank letter numeral
-          class-hash n h = simp (sym te, tn, ne-eqb _ _ nn, sym ue, un, sym ve, vn, ne-eqb _ _ n, eq-eqb _ _ h)
+    pub has-digit : r ≡ numeral b → r ≡ eqb (classOf b) DIGIT
+    has-digit e = e ∙ numeral-class b h

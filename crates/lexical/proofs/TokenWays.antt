@@ -1,12 +1,13 @@
 -- The ways out of the functions of `token`. Assumes nothing.
-use mathlib.Core.Path.{_≡_, refl, sym, _∙_}
+use mathlib.Core.Path.{_≡_, refl, sym, ap, _∙_}
+use mathlib.Core.Bool.{Bool, true, false}
 use mathlib.Core.List.{List}
 use Prim.Native.Nat.{ℕ, _+_, _-_, _≤_, _<_, _^_}
 use native.Mathlib.Omega.{arith}
 use native.Mathlib.Nat.{add-zero, lt-of-le-of-lt}
 use mir.Syntax.{w64}
 use mir.Val.{Fits}
-use lib.Dec.{ltb}
+use lib.Dec.{eqb, ltb}
 use lib.ListN.{length, getD}
 use borrow.Author.Tests.{lt-ltb, le-leb, lt-leb, eq-eqb, ne-eqb, ltb-true, ltb-false}
 use Rattle.text.specs.Choice.{split}
@@ -42,24 +43,27 @@ module _ (s : List ℕ) (mode i k w : ℕ) (ke : k ≡ operatorAt s mode i) (we 
   unfolding operatorToken
   operator-made = simp (sym ke, we)
 
-module _ (s : List ℕ) (mode i c : ℕ) (ce : c ≡ classOf (getD s i 0)) where
-  pub from-name : (e : ℕ) → c ≡ LETTER → e ≡ past (inRun WORD) s i → token Kind.NAME i e ≡ tokenFrom s mode i
+pub class-passed : (s : List ℕ) (i b c : ℕ) → c ≡ classOf b → b ≡ getD s i 0 → c ≡ classOf (getD s i 0)
+class-passed s i b c ce be = ce ∙ ap classOf be
+
+module _ (s : List ℕ) (mode i b : ℕ) (be : b ≡ getD s i 0) (t : Bool) (te : t ≡ eqb (classOf b) LETTER) where
+  pub from-name : (e : ℕ) → t ≡ true → e ≡ past (inRun WORD) s i → token Kind.NAME i e ≡ tokenFrom s mode i
   unfolding tokenFrom
-  from-name e h ee = simp (sym ce, eq-eqb _ _ h, sym ee)
+  from-name e h ee = simp (sym be, sym te, h, sym ee)
 
-  module _ (nl : c ≡ LETTER → ⊥) where
-    pub from-number : (r : Token) → c ≡ DIGIT → r ≡ numberToken s i → r ≡ tokenFrom s mode i
+  module _ (tn : t ≡ false) (u : Bool) (ue : u ≡ eqb (classOf b) DIGIT) where
+    pub from-number : (r : Token) → u ≡ true → r ≡ numberToken s i → r ≡ tokenFrom s mode i
     unfolding tokenFrom
-    from-number r h re = simp (sym ce, ne-eqb _ _ nl, eq-eqb _ _ h) re
+    from-number r h re = simp (sym be, sym te, tn, sym ue, h) re
 
-    module _ (nd : c ≡ DIGIT → ⊥) where
-      pub from-literal : (r : Token) → c ≡ QUOTE → r ≡ literalToken s i → r ≡ tokenFrom s mode i
+    module _ (un : u ≡ false) (v : Bool) (ve : v ≡ eqb (classOf b) QUOTE) (r : Token) where
+      pub from-literal : v ≡ true → r ≡ literalToken s i → r ≡ tokenFrom s mode i
       unfolding tokenFrom
-      from-literal r h re = simp (sym ce, ne-eqb _ _ nl, ne-eqb _ _ nd, eq-eqb _ _ h) re
+      from-literal h re = simp (sym be, sym te, tn, sym ue, un, sym ve, h) re
 
-      pub from-operator : (r : Token) → (c ≡ QUOTE → ⊥) → r ≡ operatorToken s mode i → r ≡ tokenFrom s mode i
+      pub from-operator : v ≡ false → r ≡ operatorToken s mode i → r ≡ tokenFrom s mode i
       unfolding tokenFrom
-      from-operator r h re = simp (sym ce, ne-eqb _ _ nl, ne-eqb _ _ nd, ne-eqb _ _ h) re
+      from-operator h re = simp (sym be, sym te, tn, sym ue, un, sym ve, h) re
 
 module _ (s : List ℕ) (i : ℕ) where
   pub literal-past : length s ≤ i → illegalAt i ≡ literalToken s i

@@ -6,7 +6,7 @@ use lib.Dec.{T, eqb}
 use lib.ListN.{getD}
 use Rattle.text.specs.Choice.{pick}
 use Rattle.text.specs.Table.{at}
-use Rattle.lexical.specs.Class.{classOf, or, within}
+use Rattle.lexical.specs.Class.{classOf, or, within, BLANK, NEWLINE, LETTER, DIGIT, QUOTE, HASH}
 use Rattle.lexical.specs.Classes.{classes, class-rule}
 use Rattle.lexical.specs.Run.{BLANKS, WHITE, FREE, WORD, NUMERALS, hasClass, inRun}
 
@@ -45,12 +45,43 @@ same-eq true false t = absurd t
 same-eq false true t = absurd t
 same-eq false false t = refl
 
--- a test that agrees with the run k at each class of the table
 module _ (k : ℕ) (f : ℕ → Bool) where
+  -- a test that agrees with the run k at each class of the table
   agrees : ℕ → ℕ → Bool
   agrees b c = same (f b) (hasClass k c)
 
+  -- a test that holds at the bytes of class k, and at no others
+  alone : ℕ → ℕ → Bool
+  alone b c = same (f b) (eqb c k)
+
 module _ (b : ℕ) (h : b < 256) where
+  of-class : (k : ℕ) → eqb (getD classes b 0) k ≡ eqb (classOf b) k
+  of-class k = ap (λ (c : ℕ). eqb c k) (class-rule b h)
+
+  pub blank-class : blank b ≡ eqb (classOf b) BLANK
+  unfolding alone blank
+  blank-class = same-eq (blank b) _ (at (alone BLANK blank) classes tt b h) ∙ of-class BLANK
+
+  pub letter-class : letter b ≡ eqb (classOf b) LETTER
+  unfolding alone letter
+  letter-class = same-eq (letter b) _ (at (alone LETTER letter) classes tt b h) ∙ of-class LETTER
+
+  pub numeral-class : numeral b ≡ eqb (classOf b) DIGIT
+  unfolding alone numeral
+  numeral-class = same-eq (numeral b) _ (at (alone DIGIT numeral) classes tt b h) ∙ of-class DIGIT
+
+  pub newline-class : eqb b 10 ≡ eqb (classOf b) NEWLINE
+  unfolding alone
+  newline-class = same-eq (eqb b 10) _ (at (alone NEWLINE (λ (x : ℕ). eqb x 10)) classes tt b h) ∙ of-class NEWLINE
+
+  pub quote-class : eqb b 34 ≡ eqb (classOf b) QUOTE
+  unfolding alone
+  quote-class = same-eq (eqb b 34) _ (at (alone QUOTE (λ (x : ℕ). eqb x 34)) classes tt b h) ∙ of-class QUOTE
+
+  pub hash-class : eqb b 35 ≡ eqb (classOf b) HASH
+  unfolding alone
+  hash-class = same-eq (eqb b 35) _ (at (alone HASH (λ (x : ℕ). eqb x 35)) classes tt b h) ∙ of-class HASH
+
   by-class : (k : ℕ) → hasClass k (getD classes b 0) ≡ inRun k b
   unfolding inRun
   by-class k = ap (hasClass k) (class-rule b h)

@@ -1,5 +1,7 @@
 // The class of each of the 256 byte values.
 ghost use mathlib.Core.Path.{_≡_};
+ghost use lib.Dec.{eqb};
+ghost use Rattle.lexical.specs.Class;
 ghost use Rattle.lexical.specs.Class.{classOf, within};
 ghost use Rattle.lexical.specs.Runs.{blank, letter, numeral};
 
@@ -321,28 +323,46 @@ pub fn is_numeral(b: u8) -> bool
     is_within(b'0', b'9', b)
 }
 
-// The commonest bytes are tested before the table, which is copied where it is read.
+// Tests of a byte's class that need no table.
+pub fn is_indent(b: u8) -> bool
+    ensures { λ r. ⌜ r ≡ eqb (classOf b) Class.BLANK ⌝ }
+{
+    is_blank(b)
+}
+
+pub fn is_newline(b: u8) -> bool
+    ensures { λ r. ⌜ r ≡ eqb (classOf b) Class.NEWLINE ⌝ }
+{
+    b == b'\n'
+}
+
+pub fn begins_name(b: u8) -> bool
+    ensures { λ r. ⌜ r ≡ eqb (classOf b) Class.LETTER ⌝ }
+{
+    is_letter(b)
+}
+
+pub fn begins_number(b: u8) -> bool
+    ensures { λ r. ⌜ r ≡ eqb (classOf b) Class.DIGIT ⌝ }
+{
+    is_numeral(b)
+}
+
+pub fn is_quote(b: u8) -> bool
+    ensures { λ r. ⌜ r ≡ eqb (classOf b) Class.QUOTE ⌝ }
+{
+    b == b'"'
+}
+
+pub fn is_hash(b: u8) -> bool
+    ensures { λ r. ⌜ r ≡ eqb (classOf b) Class.HASH ⌝ }
+{
+    b == b'#'
+}
+
 pub fn class_of(b: u8) -> u8
     ensures { λ r. ⌜ r ≡ classOf b ⌝ }
 {
-    if is_blank(b) {
-        return BLANK;
-    }
-    if b == b'\n' {
-        return NEWLINE;
-    }
-    if is_letter(b) {
-        return LETTER;
-    }
-    if is_numeral(b) {
-        return DIGIT;
-    }
-    if b == b'"' {
-        return QUOTE;
-    }
-    if b == b'#' {
-        return HASH;
-    }
     let i = b as usize;
     CLASS[i]
 }

@@ -1,5 +1,8 @@
 // The token that starts at a place.
-use crate::class;
+use crate::class::begins_name;
+use crate::class::begins_number;
+use crate::class::class_of;
+use crate::class::is_quote;
 use crate::kind;
 use crate::literal::literal_end;
 use crate::operator::operator_kind;
@@ -136,12 +139,12 @@ fn number_token(s: &[u8], i: usize) -> Token
     }
 }
 
-// The token that starts at i, by the class c of its first byte.
-pub fn token_from(s: &[u8], mode: u8, i: usize, c: u8) -> Token
-    requires { ⌜ c ≡ classOf (getD (now s) i 0) ⌝ }
+// The token that starts at i with the byte b, by its class.
+pub fn token_from(s: &[u8], mode: u8, i: usize, b: u8) -> Token
+    requires { ⌜ b ≡ getD (now s) i 0 ⌝ }
     ensures { λ r. ⌜ r ≡ tokenFrom (now (s .entry)) mode i ⌝ }
 {
-    if c == class::LETTER {
+    if begins_name(b) {
         let e = skip(s, i, WORD);
         return Token {
             kind: kind::NAME,
@@ -149,11 +152,12 @@ pub fn token_from(s: &[u8], mode: u8, i: usize, c: u8) -> Token
             end: e,
         };
     }
-    if c == class::DIGIT {
+    if begins_number(b) {
         return number_token(s, i);
     }
-    if c == class::QUOTE {
+    if is_quote(b) {
         return literal_token(s, i);
     }
+    let c = class_of(b);
     operator_token(s, mode, i, c)
 }
