@@ -1,3 +1,4 @@
+pub mod ClassWays
 pub mod ScanWays
 pub mod WordWays
 pub mod LabelWays

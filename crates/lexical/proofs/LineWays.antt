@@ -42,19 +42,19 @@ module _ (s : List ℕ) (mode i : ℕ) where
   unfolding visible
   visible-end h = simp (le-leb _ _ h)
 
-  module _ (h : i < length s) (c : ℕ) (ce : c ≡ classOf (getD s i 0)) where
-    pub visible-next : c ≡ NEWLINE → nextLine (i + 1) ≡ visible s mode i
+  module _ (h : i < length s) (t : Bool) (te : t ≡ eqb (classOf (getD s i 0)) NEWLINE) where
+    pub visible-next : t ≡ true → nextLine (i + 1) ≡ visible s mode i
     unfolding visible
-    visible-next e = simp (lt-leb _ _ h, sym ce, eq-eqb _ _ e)
+    visible-next e = simp (lt-leb _ _ h, sym te, e)
 
-    module _ (n : c ≡ NEWLINE → ⊥) (r : Token) where
-      pub visible-hash : c ≡ HASH → r ≡ restOfLine s i → r ≡ visible s mode i
+    module _ (n : t ≡ false) (u : Bool) (ue : u ≡ eqb (classOf (getD s i 0)) HASH) (r : Token) where
+      pub visible-hash : u ≡ true → r ≡ restOfLine s i → r ≡ visible s mode i
       unfolding visible
-      visible-hash e re = simp (lt-leb _ _ h, sym ce, ne-eqb _ _ n, eq-eqb _ _ e) re
+      visible-hash e re = simp (lt-leb _ _ h, sym te, n, sym ue, e) re
 
-      pub visible-token : (c ≡ HASH → ⊥) → r ≡ tokenFrom s mode i → r ≡ visible s mode i
+      pub visible-token : u ≡ false → r ≡ tokenFrom s mode i → r ≡ visible s mode i
       unfolding visible
-      visible-token e re = simp (lt-leb _ _ h, sym ce, ne-eqb _ _ n, ne-eqb _ _ e) re
+      visible-token e re = simp (lt-leb _ _ h, sym te, n, sym ue, e) re
 
   module _ (r : Token) where
     pub in-comment : mode ≡ Kind.IN-COMMENT → r ≡ restOfLine s i → r ≡ inLine s mode i
@@ -69,26 +69,26 @@ pub blank-end : (s : List ℕ) (e : ℕ) → length s ≤ e → true ≡ blankTo
 unfolding blankTo
 blank-end s e h = simp (le-leb _ _ h)
 
-pub blank-line : (s : List ℕ) (e c : ℕ) → e < length s → c ≡ classOf (getD s e 0) → eqb c NEWLINE ≡ blankTo s e
+pub blank-line : (s : List ℕ) (e : ℕ) (r : Bool) → e < length s → r ≡ eqb (classOf (getD s e 0)) NEWLINE → r ≡ blankTo s e
 unfolding blankTo
-blank-line s e c h ce = simp (lt-leb _ _ h, sym ce)
+blank-line s e r h re = simp (lt-leb _ _ h) re
 
 module _ (s : List ℕ) (mode i e : ℕ) where
   pub indented-field : (r : Token) → (mode ≡ Kind.BEFORE → ⊥) → r ≡ inLine s mode i → r ≡ indented s mode i e
   unfolding indented
   indented-field r n re = simp (ne-eqb _ _ n) re
 
-  module _ (m : mode ≡ Kind.BEFORE) (b c : ℕ) (ce : c ≡ classOf b) (be : b ≡ getD s (e + 0) 0) where
-    here : c ≡ classOf (getD s e 0)
-    here = ce ∙ ap classOf (be ∙ ap (λ (j : ℕ). getD s j 0) (add-zero e))
+  module _ (m : mode ≡ Kind.BEFORE) (b : ℕ) (t : Bool) (te : t ≡ eqb (classOf b) HASH) (be : b ≡ getD s (e + 0) 0) where
+    here : t ≡ eqb (classOf (getD s e 0)) HASH
+    here = te ∙ ap (λ (x : ℕ). eqb (classOf x) HASH) (be ∙ ap (λ (j : ℕ). getD s j 0) (add-zero e))
 
-    pub indented-hash : (r : Token) → c ≡ HASH → r ≡ restOfLine s e → r ≡ indented s mode i e
+    pub indented-hash : (r : Token) → t ≡ true → r ≡ restOfLine s e → r ≡ indented s mode i e
     unfolding indented
-    indented-hash r h re = simp (eq-eqb _ _ m, sym here, eq-eqb _ _ h) re
+    indented-hash r h re = simp (eq-eqb _ _ m, sym here, h) re
 
-    pub indented-bad : (c ≡ HASH → ⊥) → badLine i ≡ indented s mode i e
+    pub indented-bad : t ≡ false → badLine i ≡ indented s mode i e
     unfolding indented
-    indented-bad h = simp (eq-eqb _ _ m, sym here, ne-eqb _ _ h)
+    indented-bad h = simp (eq-eqb _ _ m, sym here, h)
 
 module _ (s : List ℕ) (i k w : ℕ) (ke : k ≡ labelKind s i) (we : w ≡ widthOf k) where
   pub label-fits : length s < 2 ^ 64 → Fits w64 i → Fits w64 (i + w)
@@ -107,19 +107,19 @@ module _ (s : List ℕ) (mode i : ℕ) where
     unfolding lineAt
     line-blank t = simp (lt-leb _ _ h, sym ee, sym be, t)
 
-    module _ (bn : b ≡ false) (c : ℕ) (ce : c ≡ classOf (getD s i 0)) (r : Token) where
-      pub line-hash : c ≡ HASH → r ≡ restOfLine s i → r ≡ lineAt s mode i
+    module _ (bn : b ≡ false) (t : Bool) (te : t ≡ eqb (classOf (getD s i 0)) HASH) (r : Token) where
+      pub line-hash : t ≡ true → r ≡ restOfLine s i → r ≡ lineAt s mode i
       unfolding lineAt
-      line-hash f re = simp (lt-leb _ _ h, sym ee, sym be, bn, sym ce, eq-eqb _ _ f) re
+      line-hash f re = simp (lt-leb _ _ h, sym ee, sym be, bn, sym te, f) re
 
-      module _ (n : c ≡ HASH → ⊥) where
-        pub line-indented : c ≡ BLANK → r ≡ indented s mode i e → r ≡ lineAt s mode i
+      module _ (n : t ≡ false) (u : Bool) (ue : u ≡ eqb (classOf (getD s i 0)) BLANK) where
+        pub line-indented : u ≡ true → r ≡ indented s mode i e → r ≡ lineAt s mode i
         unfolding lineAt
-        line-indented f re = simp (lt-leb _ _ h, sym ee, sym be, bn, sym ce, ne-eqb _ _ n, eq-eqb _ _ f) re
+        line-indented f re = simp (lt-leb _ _ h, sym ee, sym be, bn, sym te, n, sym ue, f) re
 
-        pub line-label : (c ≡ BLANK → ⊥) → r ≡ fixed (labelKind s i) i → r ≡ lineAt s mode i
+        pub line-label : u ≡ false → r ≡ fixed (labelKind s i) i → r ≡ lineAt s mode i
         unfolding lineAt
-        line-label f re = simp (lt-leb _ _ h, sym ee, sym be, bn, sym ce, ne-eqb _ _ n, ne-eqb _ _ f) re
+        line-label f re = simp (lt-leb _ _ h, sym ee, sym be, bn, sym te, n, sym ue, f) re
 
 module _ (s : List ℕ) (mode i : ℕ) (r : Token) (inv : linesFrom s mode i ≡ r) where
   pub lines-end : length s ≤ i → endOf s ≡ r

@@ -1,12 +1,13 @@
 -- The ways out of the functions of `token`. Assumes nothing.
 use mathlib.Core.Path.{_≡_, refl, sym, ap, _∙_}
+use mathlib.Core.Bool.{Bool, true, false}
 use mathlib.Core.List.{List}
 use Prim.Native.Nat.{ℕ, _+_, _-_, _≤_, _<_, _^_}
 use native.Mathlib.Omega.{arith}
 use native.Mathlib.Nat.{add-zero, lt-of-le-of-lt}
 use mir.Syntax.{w64}
 use mir.Val.{Fits}
-use lib.Dec.{ltb}
+use lib.Dec.{eqb, ltb}
 use lib.ListN.{length, getD}
 use borrow.Author.Tests.{lt-ltb, le-leb, lt-leb, eq-eqb, ne-eqb, ltb-true, ltb-false}
 use Rattle.text.specs.Choice.{split}
@@ -29,11 +30,10 @@ wide-fits s i k w h e l f =
     (λ t. let m : i + w ≤ length s = omega (arith, e, h (ltb-true _ _ t)) in record { fits = lt-of-le-of-lt m l })
     (λ t. let n : k < 4 = omega (arith, ltb-false Kind.BAD-LINE k t) in let z : w ≡ 0 = e ∙ simp (lt-ltb k 4 n) in rw (z, add-zero i) f)
 
-pub operator-here : (s : List ℕ) (mode i a b c d r : ℕ) → r ≡ operatorKind mode c b d → c ≡ classOf a
-    → a ≡ getD s (i + 0) 0 → b ≡ getD s (i + 1) 0 → d ≡ getD s (i + 2) 0 → r ≡ operatorAt s mode i
+pub operator-here : (s : List ℕ) (mode i b c d r : ℕ) → r ≡ operatorKind mode c b d → c ≡ classOf (getD s i 0)
+    → b ≡ getD s (i + 1) 0 → d ≡ getD s (i + 2) 0 → r ≡ operatorAt s mode i
 unfolding operatorAt
-operator-here s mode i a b c d r e ce ae be de =
-    simp (sym (ce ∙ ap classOf (ae ∙ ap (λ (j : ℕ). getD s j 0) (add-zero i))), sym be, sym de) e
+operator-here s mode i b c d r e ce be de = simp (sym ce, sym be, sym de) e
 
 module _ (s : List ℕ) (mode i k w : ℕ) (ke : k ≡ operatorAt s mode i) (we : w ≡ widthOf k) where
   pub operator-fits : length s < 2 ^ 64 → Fits w64 i → Fits w64 (i + w)
@@ -43,27 +43,27 @@ module _ (s : List ℕ) (mode i k w : ℕ) (ke : k ≡ operatorAt s mode i) (we 
   unfolding operatorToken
   operator-made = simp (sym ke, we)
 
-module _ (s : List ℕ) (mode i : ℕ) (a : ℕ) (ae : a ≡ getD s (i + 0) 0) (c : ℕ) (ce : c ≡ classOf a) where
-  class-here : c ≡ classOf (getD s i 0)
-  class-here = ce ∙ ap classOf (ae ∙ ap (λ (j : ℕ). getD s j 0) (add-zero i))
+pub class-passed : (s : List ℕ) (i b c : ℕ) → c ≡ classOf b → b ≡ getD s i 0 → c ≡ classOf (getD s i 0)
+class-passed s i b c ce be = ce ∙ ap classOf be
 
-  pub from-name : (e : ℕ) → c ≡ LETTER → e ≡ past (inRun WORD) s i → token Kind.NAME i e ≡ tokenFrom s mode i
+module _ (s : List ℕ) (mode i b : ℕ) (be : b ≡ getD s i 0) (t : Bool) (te : t ≡ eqb (classOf b) LETTER) where
+  pub from-name : (e : ℕ) → t ≡ true → e ≡ past (inRun WORD) s i → token Kind.NAME i e ≡ tokenFrom s mode i
   unfolding tokenFrom
-  from-name e h ee = simp (sym class-here, eq-eqb _ _ h, sym ee)
+  from-name e h ee = simp (sym be, sym te, h, sym ee)
 
-  module _ (nl : c ≡ LETTER → ⊥) where
-    pub from-number : (r : Token) → c ≡ DIGIT → r ≡ numberToken s i → r ≡ tokenFrom s mode i
+  module _ (tn : t ≡ false) (u : Bool) (ue : u ≡ eqb (classOf b) DIGIT) where
+    pub from-number : (r : Token) → u ≡ true → r ≡ numberToken s i → r ≡ tokenFrom s mode i
     unfolding tokenFrom
-    from-number r h re = simp (sym class-here, ne-eqb _ _ nl, eq-eqb _ _ h) re
+    from-number r h re = simp (sym be, sym te, tn, sym ue, h) re
 
-    module _ (nd : c ≡ DIGIT → ⊥) where
-      pub from-literal : (r : Token) → c ≡ QUOTE → r ≡ literalToken s i → r ≡ tokenFrom s mode i
+    module _ (un : u ≡ false) (v : Bool) (ve : v ≡ eqb (classOf b) QUOTE) (r : Token) where
+      pub from-literal : v ≡ true → r ≡ literalToken s i → r ≡ tokenFrom s mode i
       unfolding tokenFrom
-      from-literal r h re = simp (sym class-here, ne-eqb _ _ nl, ne-eqb _ _ nd, eq-eqb _ _ h) re
+      from-literal h re = simp (sym be, sym te, tn, sym ue, un, sym ve, h) re
 
-      pub from-operator : (r : Token) → (c ≡ QUOTE → ⊥) → r ≡ operatorToken s mode i → r ≡ tokenFrom s mode i
+      pub from-operator : v ≡ false → r ≡ operatorToken s mode i → r ≡ tokenFrom s mode i
       unfolding tokenFrom
-      from-operator r h re = simp (sym class-here, ne-eqb _ _ nl, ne-eqb _ _ nd, ne-eqb _ _ h) re
+      from-operator h re = simp (sym be, sym te, tn, sym ue, un, sym ve, h) re
 
 module _ (s : List ℕ) (i : ℕ) where
   pub literal-past : length s ≤ i → illegalAt i ≡ literalToken s i

@@ -60,16 +60,16 @@ module _ (s : List ℕ) (i : ℕ) where
     unfolding unitAt
     unit-quote h = simp (lt-leb _ _ in-s, eq-eqb _ _ h)
 
+    module _ (bs : getD s i 0 ≡ 92) (b : ℕ) (be : b ≡ getD s (i + 1) 0) where
+      pub unit-drops : (e : ℕ) → b ≡ 10 → e ≡ past (inRun WHITE) s (i + 2) → drops (e - i) ≡ unitAt s i
+      unfolding unitAt
+      unit-drops e h ee = rw bs (simp (lt-leb _ _ in-s, sym be, eq-eqb _ _ h, sym ee))
+
+      pub unit-escape : (c d : ℕ) (r : Unit) → (b ≡ 10 → ⊥) → c ≡ getD s (i + 2) 0 → d ≡ getD s (i + 3) 0 → r ≡ escapeUnit b c d → r ≡ unitAt s i
+      unfolding unitAt
+      unit-escape c d r n ce de re = rw bs (simp (lt-leb _ _ in-s, sym be, ne-eqb _ _ n, sym ce, sym de) re)
+
     module _ (nq : getD s i 0 ≡ 34 → ⊥) where
-      module _ (bs : getD s i 0 ≡ 92) (b : ℕ) (be : b ≡ getD s (i + 1) 0) where
-        pub unit-drops : (e : ℕ) → b ≡ 10 → e ≡ past (inRun WHITE) s (i + 2) → drops (e - i) ≡ unitAt s i
-        unfolding unitAt
-        unit-drops e h ee = simp (lt-leb _ _ in-s, ne-eqb _ _ nq, eq-eqb _ _ bs, sym be, eq-eqb _ _ h, sym ee)
-
-        pub unit-escape : (c d : ℕ) (r : Unit) → (b ≡ 10 → ⊥) → c ≡ getD s (i + 2) 0 → d ≡ getD s (i + 3) 0 → r ≡ escapeUnit b c d → r ≡ unitAt s i
-        unfolding unitAt
-        unit-escape c d r n ce de re = simp (lt-leb _ _ in-s, ne-eqb _ _ nq, eq-eqb _ _ bs, sym be, ne-eqb _ _ n, sym ce, sym de) re
-
       module _ (nb : getD s i 0 ≡ 92 → ⊥) (t : Bool) (te : t ≡ barred (getD s i 0)) where
         pub unit-barred : t ≡ true → spoils ≡ unitAt s i
         unfolding unitAt

@@ -2,6 +2,7 @@ pub mod Kind
 pub mod Class
 pub mod Classes
 pub mod Run
+pub mod Runs
 pub mod Word
 pub mod Label
 pub mod Operator

@@ -1,6 +1,9 @@
 // The class of each of the 256 byte values.
 ghost use mathlib.Core.Path.{_≡_};
-ghost use Rattle.lexical.specs.Class.{classOf};
+ghost use lib.Dec.{eqb};
+ghost use Rattle.lexical.specs.Class;
+ghost use Rattle.lexical.specs.Class.{classOf, within};
+ghost use Rattle.lexical.specs.Runs.{blank, letter, numeral};
 
 pub const OTHER: u8 = 0;
 
@@ -281,6 +284,81 @@ const CLASS: [u8; 256] = [
     0,
     0,
 ];
+
+fn is_within(lo: u8, hi: u8, b: u8) -> bool
+    ensures { λ r. ⌜ r ≡ within lo hi b ⌝ }
+{
+    if b < lo {
+        return false;
+    }
+    b <= hi
+}
+
+// Is it a space or a tab?
+pub fn is_blank(b: u8) -> bool
+    ensures { λ r. ⌜ r ≡ blank b ⌝ }
+{
+    if b == b' ' {
+        return true;
+    }
+    b == b'\t'
+}
+
+// Is it a letter or the underscore?
+pub fn is_letter(b: u8) -> bool
+    ensures { λ r. ⌜ r ≡ letter b ⌝ }
+{
+    if is_within(b'a', b'z', b) {
+        return true;
+    }
+    if is_within(b'A', b'Z', b) {
+        return true;
+    }
+    b == b'_'
+}
+
+pub fn is_numeral(b: u8) -> bool
+    ensures { λ r. ⌜ r ≡ numeral b ⌝ }
+{
+    is_within(b'0', b'9', b)
+}
+
+// Tests of a byte's class that need no table.
+pub fn is_indent(b: u8) -> bool
+    ensures { λ r. ⌜ r ≡ eqb (classOf b) Class.BLANK ⌝ }
+{
+    is_blank(b)
+}
+
+pub fn is_newline(b: u8) -> bool
+    ensures { λ r. ⌜ r ≡ eqb (classOf b) Class.NEWLINE ⌝ }
+{
+    b == b'\n'
+}
+
+pub fn begins_name(b: u8) -> bool
+    ensures { λ r. ⌜ r ≡ eqb (classOf b) Class.LETTER ⌝ }
+{
+    is_letter(b)
+}
+
+pub fn begins_number(b: u8) -> bool
+    ensures { λ r. ⌜ r ≡ eqb (classOf b) Class.DIGIT ⌝ }
+{
+    is_numeral(b)
+}
+
+pub fn is_quote(b: u8) -> bool
+    ensures { λ r. ⌜ r ≡ eqb (classOf b) Class.QUOTE ⌝ }
+{
+    b == b'"'
+}
+
+pub fn is_hash(b: u8) -> bool
+    ensures { λ r. ⌜ r ≡ eqb (classOf b) Class.HASH ⌝ }
+{
+    b == b'#'
+}
 
 pub fn class_of(b: u8) -> u8
     ensures { λ r. ⌜ r ≡ classOf b ⌝ }

@@ -1,6 +1,7 @@
 // Lines, and the token that comes next in a text.
-use crate::class;
-use crate::class::class_of;
+use crate::class::is_hash;
+use crate::class::is_indent;
+use crate::class::is_newline;
 use crate::kind;
 use crate::label::label_kind;
 use crate::scan::BLANKS;
@@ -52,18 +53,18 @@ fn visible_at(s: &[u8], mode: u8, i: usize) -> Token
             end: s.len(),
         };
     }
-    let c = class_of(s[i]);
-    if c == class::NEWLINE {
+    let b = s[i];
+    if is_newline(b) {
         return Token {
             kind: kind::NEXT,
             start: i + 1,
             end: i + 1,
         };
     }
-    if c == class::HASH {
+    if is_hash(b) {
         return rest_of_line(s, i);
     }
-    token_from(s, mode, i)
+    token_from(s, mode, i, b)
 }
 
 // What comes next inside a line.
@@ -84,7 +85,7 @@ fn is_blank_to(s: &[u8], e: usize) -> bool
     if s.len() <= e {
         return true;
     }
-    class_of(s[e]) == class::NEWLINE
+    is_newline(s[e])
 }
 
 // A line that begins with blanks, which end at e.
@@ -95,7 +96,7 @@ fn indented_line(s: &[u8], mode: u8, i: usize, e: usize) -> Token
         return in_line(s, mode, i);
     }
     let b = byte_at(s, e, 0);
-    if class_of(b) == class::HASH {
+    if is_hash(b) {
         return rest_of_line(s, e);
     }
     Token {
@@ -136,11 +137,11 @@ fn line_at(s: &[u8], mode: u8, i: usize) -> Token
             end: i,
         };
     }
-    let c = class_of(s[i]);
-    if c == class::HASH {
+    let b = s[i];
+    if is_hash(b) {
         return rest_of_line(s, i);
     }
-    if c == class::BLANK {
+    if is_indent(b) {
         return indented_line(s, mode, i, e);
     }
     label_token(s, i)

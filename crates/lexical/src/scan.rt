@@ -1,11 +1,13 @@
 // Scanning by an index: the byte some way on, and the end of a run of bytes.
-use crate::class;
-use crate::class::class_of;
+use crate::class::is_blank;
+use crate::class::is_letter;
+use crate::class::is_numeral;
 ghost use mathlib.Core.Path.{_≡_};
 ghost use Prim.Native.Nat.{_+_};
 ghost use lib.ListN.{getD};
 ghost use Rattle.text.specs.Scan.{past};
-ghost use Rattle.lexical.specs.Run.{hasClass, inRun};
+ghost use Rattle.lexical.specs.Run.{inRun};
+ghost use Rattle.lexical.specs.Runs.{white, free, wordly};
 
 pub const BLANKS: u8 = 0;
 
@@ -30,40 +32,53 @@ pub fn byte_at(s: &[u8], i: usize, k: usize) -> u8
     s[i + k]
 }
 
-// Does a class belong to the run k?
-fn has(k: u8, c: u8) -> bool
-    ensures { λ r. ⌜ r ≡ hasClass k c ⌝ }
+// Is it a space, a tab or a newline?
+fn is_white(b: u8) -> bool
+    ensures { λ r. ⌜ r ≡ white b ⌝ }
 {
-    if k == BLANKS {
-        return c == class::BLANK;
+    if is_blank(b) {
+        return true;
     }
-    if k == WHITE {
-        if c == class::BLANK {
-            return true;
-        }
-        return c == class::NEWLINE;
+    b == b'\n'
+}
+
+// Is it neither newline nor NUL?
+fn is_free(b: u8) -> bool
+    ensures { λ r. ⌜ r ≡ free b ⌝ }
+{
+    if b == b'\n' {
+        return false;
     }
-    if k == FREE {
-        if c == class::NEWLINE {
-            return false;
-        }
-        return c != class::NUL;
+    b != 0
+}
+
+// Is it a letter, a digit or the underscore?
+fn is_wordly(b: u8) -> bool
+    ensures { λ r. ⌜ r ≡ wordly b ⌝ }
+{
+    if is_letter(b) {
+        return true;
     }
-    if k == WORD {
-        if c == class::LETTER {
-            return true;
-        }
-        return c == class::DIGIT;
-    }
-    c == class::DIGIT
+    is_numeral(b)
 }
 
 // Does a byte belong to the run k?
 pub fn in_run(k: u8, b: u8) -> bool
     ensures { λ r. ⌜ r ≡ inRun k b ⌝ }
 {
-    let c = class_of(b);
-    has(k, c)
+    if k == BLANKS {
+        return is_blank(b);
+    }
+    if k == WHITE {
+        return is_white(b);
+    }
+    if k == FREE {
+        return is_free(b);
+    }
+    if k == WORD {
+        return is_wordly(b);
+    }
+    is_numeral(b)
 }
 
 // The end of the run k that starts at `at`.

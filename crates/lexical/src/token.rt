@@ -1,6 +1,8 @@
 // The token that starts at a place.
-use crate::class;
+use crate::class::begins_name;
+use crate::class::begins_number;
 use crate::class::class_of;
+use crate::class::is_quote;
 use crate::kind;
 use crate::literal::literal_end;
 use crate::operator::operator_kind;
@@ -9,6 +11,8 @@ use crate::scan::WORD;
 use crate::scan::byte_at;
 use crate::scan::skip;
 ghost use mathlib.Core.Path.{_≡_};
+ghost use lib.ListN.{getD};
+ghost use Rattle.lexical.specs.Class.{classOf};
 ghost use Rattle.lexical.specs.Token.{widthOf, operatorAt, operatorToken, literalToken, floatEnd, numberToken, tokenFrom};
 
 // A token of the text: its kind, its first byte, and the place behind its last byte. At the end and at a fault the two places are one.
@@ -52,18 +56,19 @@ pub fn width(k: u8) -> usize
     1
 }
 
-// The kind of the operator that stands at i, or ILLEGAL.
-fn operator_at(s: &[u8], mode: u8, i: usize) -> u8
+// The kind of the operator that stands at i, where a byte of class c stands, or ILLEGAL.
+fn operator_at(s: &[u8], mode: u8, i: usize, c: u8) -> u8
+    requires { ⌜ c ≡ classOf (getD (now s) i 0) ⌝ }
     ensures { λ r. ⌜ r ≡ operatorAt (now (s .entry)) mode i ⌝ }
 {
-    let c = class_of(byte_at(s, i, 0));
     operator_kind(mode, c, byte_at(s, i, 1), byte_at(s, i, 2))
 }
 
-fn operator_token(s: &[u8], mode: u8, i: usize) -> Token
+fn operator_token(s: &[u8], mode: u8, i: usize, c: u8) -> Token
+    requires { ⌜ c ≡ classOf (getD (now s) i 0) ⌝ }
     ensures { λ r. ⌜ r ≡ operatorToken (now (s .entry)) mode i ⌝ }
 {
-    let k = operator_at(s, mode, i);
+    let k = operator_at(s, mode, i, c);
     Token {
         kind: k,
         start: i,
@@ -134,12 +139,12 @@ fn number_token(s: &[u8], i: usize) -> Token
     }
 }
 
-// The token that starts at i, by the class of its first byte.
-pub fn token_from(s: &[u8], mode: u8, i: usize) -> Token
+// The token that starts at i with the byte b, by its class.
+pub fn token_from(s: &[u8], mode: u8, i: usize, b: u8) -> Token
+    requires { ⌜ b ≡ getD (now s) i 0 ⌝ }
     ensures { λ r. ⌜ r ≡ tokenFrom (now (s .entry)) mode i ⌝ }
 {
-    let c = class_of(byte_at(s, i, 0));
-    if c == class::LETTER {
+    if begins_name(b) {
         let e = skip(s, i, WORD);
         return Token {
             kind: kind::NAME,
@@ -147,11 +152,12 @@ pub fn token_from(s: &[u8], mode: u8, i: usize) -> Token
             end: e,
         };
     }
-    if c == class::DIGIT {
+    if begins_number(b) {
         return number_token(s, i);
     }
-    if c == class::QUOTE {
+    if is_quote(b) {
         return literal_token(s, i);
     }
-    operator_token(s, mode, i)
+    let c = class_of(b);
+    operator_token(s, mode, i, c)
 }

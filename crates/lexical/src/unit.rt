@@ -4,6 +4,8 @@ use crate::scan::WHITE;
 use crate::scan::byte_at;
 use crate::scan::skip;
 ghost use mathlib.Core.Path.{_≡_};
+ghost use Prim.Native.Nat.{_<_};
+ghost use lib.ListN.{length, getD};
 ghost use Rattle.lexical.specs.Unit.{octal, control, coded, octalUnit, escapeUnit, barred, unitAt};
 
 pub const DROPS: u8 = 0;
@@ -138,6 +140,26 @@ fn is_barred(b: u8) -> bool
     b == 13
 }
 
+// The unit that the backslash at i begins.
+fn escaped_at(s: &[u8], i: usize) -> Unit
+    requires { ⌜ i < length (now s) ⌝ }
+    requires { ⌜ getD (now s) i 0 ≡ 92 ⌝ }
+    ensures { λ r. ⌜ r ≡ unitAt (now (s .entry)) i ⌝ }
+{
+    let b = byte_at(s, i, 1);
+    if b == b'\n' {
+        let e = skip(s, i + 2, WHITE);
+        return Unit {
+            kind: DROPS,
+            width: e - i,
+            byte: 0,
+        };
+    }
+    let c = byte_at(s, i, 2);
+    let d = byte_at(s, i, 3);
+    escape_unit(b, c, d)
+}
+
 // The unit at i.
 pub fn unit_at(s: &[u8], i: usize) -> Unit
     ensures { λ r. ⌜ r ≡ unitAt (now (s .entry)) i ⌝ }
@@ -154,18 +176,7 @@ pub fn unit_at(s: &[u8], i: usize) -> Unit
         };
     }
     if a == b'\\' {
-        let b = byte_at(s, i, 1);
-        if b == b'\n' {
-            let e = skip(s, i + 2, WHITE);
-            return Unit {
-                kind: DROPS,
-                width: e - i,
-                byte: 0,
-            };
-        }
-        let c = byte_at(s, i, 2);
-        let d = byte_at(s, i, 3);
-        return escape_unit(b, c, d);
+        return escaped_at(s, i);
     }
     if is_barred(a) {
         return SPOILED;

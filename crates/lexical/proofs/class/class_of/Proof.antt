@@ -5,11 +5,11 @@ use Rattle.lexical.proofs.class.class_of.Tie as tie
 use Rattle.lexical.proofs.class.class_of.Reads as reads
 use Rattle.lexical.proofs.class.class_of.Lts as lts
 
--- src/class.rt:40:5
+-- src/class.rt:366:5
 array-read-result : tie.Need-array-read-result
 array-read-result c = search (needs, class-rule)
 
--- src/class.rt:36:1
+-- src/class.rt:362:1
 returns : tie.Need-returns
 returns c = search (needs, class-rule)
 

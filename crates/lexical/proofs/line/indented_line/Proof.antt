@@ -4,36 +4,36 @@ use Rattle.lexical.proofs.line.indented_line.Statement.{statement}
 use Rattle.lexical.proofs.line.indented_line.Tie as tie
 use Rattle.lexical.proofs.line.indented_line.Reads as reads
 use Rattle.lexical.proofs.line.indented_line.Lts as lts
-use Rattle.lexical.proofs.class.class_of.Reads as class-of-reads
+use Rattle.lexical.proofs.class.is_hash.Reads as is-hash-reads
 use Rattle.lexical.proofs.line.in_line.Reads as in-line-reads
 use Rattle.lexical.proofs.line.rest_of_line.Reads as rest-of-line-reads
 use Rattle.lexical.proofs.scan.byte_at.Reads as byte-at-reads
 
--- src/line.rt:90:9
+-- src/line.rt:96:9
 in-line-requires : tie.Need-in-line-requires
 in-line-requires c κs = search needs
 
--- src/line.rt:90:9
+-- src/line.rt:96:9
 returns : tie.Need-returns
 returns c = search indented-field
 
--- src/line.rt:92:9
+-- src/line.rt:98:9
 byte-at-requires : tie.Need-byte-at-requires
 byte-at-requires c κs = search needs
 
--- src/line.rt:93:8
-class-of-requires : tie.Need-class-of-requires
-class-of-requires c κs = search needs
+-- src/line.rt:99:8
+is-hash-requires : tie.Need-is-hash-requires
+is-hash-requires c κs = search needs
 
--- src/line.rt:94:9
+-- src/line.rt:100:9
 rest-of-line-requires : tie.Need-rest-of-line-requires
 rest-of-line-requires c κs = search needs
 
--- src/line.rt:94:9
+-- src/line.rt:100:9
 returns-2 : tie.Need-returns-2
 returns-2 c = search indented-hash
 
--- src/line.rt:86:1
+-- src/line.rt:92:1
 returns-3 : tie.Need-returns-3
 returns-3 c = search indented-bad
 
@@ -44,7 +44,7 @@ indented-line-spec =
     in-line-requires
     returns
     byte-at-requires
-    class-of-requires
+    is-hash-requires
     rest-of-line-requires
     returns-2
     returns-3)

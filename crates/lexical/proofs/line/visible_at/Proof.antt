@@ -4,47 +4,52 @@ use Rattle.lexical.proofs.line.visible_at.Statement.{statement}
 use Rattle.lexical.proofs.line.visible_at.Tie as tie
 use Rattle.lexical.proofs.line.visible_at.Reads as reads
 use Rattle.lexical.proofs.line.visible_at.Lts as lts
-use Rattle.lexical.proofs.class.class_of.Reads as class-of-reads
+use Rattle.lexical.proofs.class.is_hash.Reads as is-hash-reads
+use Rattle.lexical.proofs.class.is_newline.Reads as is-newline-reads
 use Rattle.lexical.proofs.line.rest_of_line.Reads as rest-of-line-reads
 use Rattle.lexical.proofs.token.token_from.Reads as token-from-reads
 
--- src/line.rt:44:9
+-- src/line.rt:50:9
 returns : tie.Need-returns
 returns c = search visible-end
 
--- src/line.rt:50:22
-shared-slice-read-class-of : tie.Need-shared-slice-read-class-of
-shared-slice-read-class-of c = search needs
+-- src/line.rt:56:13
+shared-slice-read-b : tie.Need-shared-slice-read-b
+shared-slice-read-b c = search needs
 
--- src/line.rt:50:9
-class-of-requires : tie.Need-class-of-requires
-class-of-requires c κs = search needs
+-- src/line.rt:57:8
+is-newline-requires : tie.Need-is-newline-requires
+is-newline-requires c κs = search needs
 
--- src/line.rt:54:20
-add-t11 : tie.Need-add-t11
-add-t11 c = search needs
-
--- src/line.rt:55:18
+-- src/line.rt:60:20
 add-t12 : tie.Need-add-t12
 add-t12 c = search needs
 
--- src/line.rt:52:9
+-- src/line.rt:61:18
+add-t13 : tie.Need-add-t13
+add-t13 c = search needs
+
+-- src/line.rt:58:9
 returns-2 : tie.Need-returns-2
 returns-2 c = search visible-next
 
--- src/line.rt:59:9
+-- src/line.rt:64:8
+is-hash-requires : tie.Need-is-hash-requires
+is-hash-requires c κs = search needs
+
+-- src/line.rt:65:9
 rest-of-line-requires : tie.Need-rest-of-line-requires
 rest-of-line-requires c κs = search needs
 
--- src/line.rt:59:9
+-- src/line.rt:65:9
 returns-3 : tie.Need-returns-3
 returns-3 c = search visible-hash
 
--- src/line.rt:61:5
+-- src/line.rt:67:5
 token-from-requires : tie.Need-token-from-requires
 token-from-requires c κs = search needs
 
--- src/line.rt:40:1
+-- src/line.rt:46:1
 returns-4 : tie.Need-returns-4
 returns-4 c = search visible-token
 
@@ -53,11 +58,12 @@ visible-at-spec =
     tie.close
     (tie.spec
     returns
-    shared-slice-read-class-of
-    class-of-requires
-    add-t11
+    shared-slice-read-b
+    is-newline-requires
     add-t12
+    add-t13
     returns-2
+    is-hash-requires
     rest-of-line-requires
     returns-3
     token-from-requires

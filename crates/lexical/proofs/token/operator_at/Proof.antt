@@ -4,41 +4,25 @@ use Rattle.lexical.proofs.token.operator_at.Statement.{statement}
 use Rattle.lexical.proofs.token.operator_at.Tie as tie
 use Rattle.lexical.proofs.token.operator_at.Reads as reads
 use Rattle.lexical.proofs.token.operator_at.Lts as lts
-use Rattle.lexical.proofs.class.class_of.Reads as class-of-reads
 use Rattle.lexical.proofs.operator.operator_kind.Reads as operator-kind-reads
 use Rattle.lexical.proofs.scan.byte_at.Reads as byte-at-reads
 
--- src/token.rt:56:22
+-- src/token.rt:61:28
 byte-at-requires : tie.Need-byte-at-requires
 byte-at-requires c κs = search needs
 
--- src/token.rt:56:9
-class-of-requires : tie.Need-class-of-requires
-class-of-requires c κs = search needs
-
--- src/token.rt:57:28
+-- src/token.rt:61:46
 byte-at-requires-2 : tie.Need-byte-at-requires-2
 byte-at-requires-2 c κs = search needs
 
--- src/token.rt:57:46
-byte-at-requires-3 : tie.Need-byte-at-requires-3
-byte-at-requires-3 c κs = search needs
-
--- src/token.rt:57:5
+-- src/token.rt:61:5
 operator-kind-requires : tie.Need-operator-kind-requires
 operator-kind-requires c κs = search needs
 
--- src/token.rt:53:1
+-- src/token.rt:57:1
 returns : tie.Need-returns
 returns c = search operator-here
 
 pub operator-at-spec : {M : Type 1} → statement M
 operator-at-spec =
-    tie.close
-    (tie.spec
-    byte-at-requires
-    class-of-requires
-    byte-at-requires-2
-    byte-at-requires-3
-    operator-kind-requires
-    returns)
+    tie.close (tie.spec byte-at-requires byte-at-requires-2 operator-kind-requires returns)

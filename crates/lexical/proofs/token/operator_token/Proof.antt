@@ -7,21 +7,21 @@ use Rattle.lexical.proofs.token.operator_token.Lts as lts
 use Rattle.lexical.proofs.token.operator_at.Reads as operator-at-reads
 use Rattle.lexical.proofs.token.width.Reads as width-reads
 
--- src/token.rt:63:9
+-- src/token.rt:68:9
 operator-at-requires : tie.Need-operator-at-requires
 operator-at-requires c κs = search needs
 
--- src/token.rt:67:18
+-- src/token.rt:72:18
 width-requires : tie.Need-width-requires
 width-requires c κs = search needs
 
--- src/token.rt:67:14
-add-t6 : tie.Need-add-t6
-add-t6 c = search operator-fits
+-- src/token.rt:72:14
+add-t7 : tie.Need-add-t7
+add-t7 c = search operator-fits
 
--- src/token.rt:60:1
+-- src/token.rt:64:1
 returns : tie.Need-returns
 returns c = search operator-made
 
 pub operator-token-spec : {M : Type 1} → statement M
-operator-token-spec = tie.close (tie.spec operator-at-requires width-requires add-t6 returns)
+operator-token-spec = tie.close (tie.spec operator-at-requires width-requires add-t7 returns)

@@ -1,0 +1,20 @@
+use Rattle.text.specs.Choice.{tests}
+use Rattle.lexical.specs.Runs.{free}
+use borrow.Author.Needs.{needs}
+use Rattle.lexical.proofs.scan.is_free.Statement.{statement}
+use Rattle.lexical.proofs.scan.is_free.Tie as tie
+use Rattle.lexical.proofs.scan.is_free.Reads as reads
+use Rattle.lexical.proofs.scan.is_free.Lts as lts
+
+-- src/scan.rt:50:9
+returns : tie.Need-returns
+unfolding free
+returns c = search (needs, tests)
+
+-- src/scan.rt:46:1
+returns-2 : tie.Need-returns-2
+unfolding free
+returns-2 c = search (needs, tests)
+
+pub is-free-spec : {M : Type 1} → statement M
+is-free-spec = tie.close (tie.spec returns returns-2)
