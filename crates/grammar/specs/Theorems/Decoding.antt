@@ -31,13 +31,13 @@ pub octal-is : (b : ℕ) → U.octal b ≡ octal b
 unfolding octal U.octal
 octal-is b = refl
 
-octal-range : (b : ℕ) → octal b ≡ true → (48 ≤ b) × (b ≤ 55)
+pub octal-range : (b : ℕ) → octal b ≡ true → (48 ≤ b) × (b ≤ 55)
 unfolding octal
 octal-range b =
     chosen (λ (t : Bool). t ≡ true → (48 ≤ b) × (b ≤ 55)) (leb 48 b) (leb b 55) false
     (λ e h. (leb-true _ _ e, leb-true _ _ h)) (λ e h. clash h refl)
 
-octal-zero : octal 48 ≡ true
+pub octal-zero : octal 48 ≡ true
 unfolding octal
 octal-zero = refl
 
