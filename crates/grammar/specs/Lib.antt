@@ -1,2 +1,5 @@
 pub mod Escape
+pub mod Fields
+pub mod Viable
+pub mod Working
 pub mod Theorems
