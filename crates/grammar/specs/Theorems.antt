@@ -1,3 +1,4 @@
 pub mod Decoding
 pub mod Unique
 pub mod OneToken
+pub mod Assigning

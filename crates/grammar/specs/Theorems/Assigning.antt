@@ -1,0 +1,176 @@
+-- Local-Constants: its reader gives reason 2 where the grammar allows no continuation, and else reads a sentence. Assumes nothing.
+use mathlib.Core.Path.{_≡_, refl, sym, ap, _∙_, subst}
+use mathlib.Core.Bool.{Bool, true, false}
+use mathlib.Core.List.{List, [], _∷_, _++_, append-assoc, append-nil}
+use Prim.Native.Nat.{ℕ, _+_, _-_, _≤_, _<_}
+use native.Mathlib.Omega.{arith}
+use lib.Dec.{eqb, leb, ltb}
+use lib.ListN.{length, length-append}
+use borrow.Author.Tests.{eqb-true, eqb-false, leb-false, eq-eqb, ne-eqb}
+use Rattle.text.specs.Choice.{pick, split, clash}
+use Rattle.text.specs.Loop.{Step, next, done, loop}
+use Rattle.record.specs.Query.{Attribute}
+use Rattle.lexical.specs.Kind
+use Rattle.lexical.specs.Bounds.{chosen}
+use Rattle.lexical.specs.Literal.{decodedAt}
+use Rattle.lexical.specs.declared.token.Token.{Token}
+use Rattle.syntax.specs.Parsed.{Parsed, ok, aside, refusal, unexpected}
+use Rattle.fields.specs.Parsed.{behind, ending, wordOf}
+use Rattle.fields.specs.Constants.{isSet, reserved, constantValue, assigned, nameFault, constant, onConstant, constantsTurn, constantsFrom}
+use Rattle.fields.specs.Theorems.Together.{refusal-some}
+use Rattle.grammar.specs.Fields.{Ends, end-of-text, Field, field, Assignments, no-assignment, assignment}
+use Rattle.grammar.specs.Viable.{Viable, viable, Kinds, here, further, Judged, through, no-continuation, another}
+use Rattle.grammar.specs.Working.Automaton.{run, run-append, not-viable}
+use Rattle.grammar.specs.Working.Looping.{Turned, turned-next, turned-done, loop-turned, kinds-append, kinds-one}
+use Rattle.grammar.specs.Theorems.OneToken.{ends-ending, ending-ends, judged-stop}
+
+-- states: 1 before a name or the end, 2 before "=", 3 before a literal, 4 behind the token that ends the field, 0 none
+unfoldable setStep : ℕ → ℕ → ℕ
+setStep q k =
+    pick (eqb q 1) (pick (eqb k Kind.NAME) 2 (pick (ending k) 4 0))
+    (pick (eqb q 2) (pick (eqb k Kind.ASSIGN) 3 0) (pick (eqb q 3) (pick (eqb k Kind.LITERAL) 1 0) 0))
+
+set-stays : (k : ℕ) → setStep 0 k ≡ 0
+unfolding setStep
+set-stays k = refl
+
+set-name : setStep 1 Kind.NAME ≡ 2
+unfolding setStep
+set-name = refl
+
+set-assign : setStep 2 Kind.ASSIGN ≡ 3
+unfolding setStep
+set-assign = refl
+
+set-literal : setStep 3 Kind.LITERAL ≡ 1
+unfolding setStep
+set-literal = refl
+
+not-name : (k : ℕ) → ending k ≡ true → eqb k Kind.NAME ≡ false
+unfolding ending
+not-name k h = ne-eqb k Kind.NAME (λ e. let g : ending Kind.NAME ≡ true = rw e at h in clash g refl)
+
+set-end : (k : ℕ) → Ends k → setStep 1 k ≡ 4
+unfolding setStep
+set-end k e = rw (not-name k (ends-ending k e), ends-ending k e)
+
+set-wrong-1 : (k : ℕ) → eqb k Kind.NAME ≡ false → ending k ≡ false → setStep 1 k ≡ 0
+unfolding setStep
+set-wrong-1 k e f = rw (e, f)
+
+set-wrong-2 : (k : ℕ) → eqb k Kind.ASSIGN ≡ false → setStep 2 k ≡ 0
+unfolding setStep
+set-wrong-2 k e = rw e
+
+set-wrong-3 : (k : ℕ) → eqb k Kind.LITERAL ≡ false → setStep 3 k ≡ 0
+unfolding setStep
+set-wrong-3 k e = rw e
+
+set-run : (ks : List ℕ) → Assignments ks → run setStep 1 ks ≡ 1
+set-run _ no-assignment = refl
+set-run _ (assignment ks a) = rw (set-name, set-assign, set-literal) (set-run ks a)
+
+set-alive : (ks : List ℕ) → Field Assignments ks → run setStep 1 ks ≡ 0 → ⊥
+set-alive _ (field ks e g en) z =
+    let w : run setStep 1 (ks ++ e ∷ []) ≡ 4 = run-append setStep 1 ks (e ∷ []) ∙ ap (λ (q : ℕ). setStep q e) (set-run ks g) ∙ set-end e en in
+    omega (arith, w, z)
+
+set-dead : (ks : List ℕ) → run setStep 1 ks ≡ 0 → Viable (Field Assignments) ks → ⊥
+set-dead = not-viable setStep 0 set-stays (Field Assignments) 1 set-alive
+
+-- one assignment more
+set-more : (ks ls : List ℕ) → Assignments ks → Assignments ls → Assignments (ks ++ ls)
+set-more _ ls no-assignment b = b
+set-more _ ls (assignment ks a) b = assignment (ks ++ ls) (set-more ks ls a b)
+
+abbrev triple : List ℕ
+triple = Kind.NAME ∷ Kind.ASSIGN ∷ Kind.LITERAL ∷ []
+
+set-snoc : (ks : List ℕ) → Assignments ks → Assignments (ks ++ triple)
+set-snoc ks a = set-more ks triple a (assignment [] no-assignment)
+
+-- what begins a sentence
+set-viable : (ks ls rest : List ℕ) → Assignments ks → Assignments (ls ++ rest) → Viable (Field Assignments) (ks ++ ls)
+set-viable ks ls rest a b =
+    viable (rest ++ Kind.END ∷ [])
+    (subst (Field Assignments) (ap (λ (l : List ℕ). l ++ Kind.END ∷ []) (sym (append-assoc ks ls rest)) ∙ append-assoc (ks ++ ls) rest (Kind.END ∷ []))
+    (field (ks ++ (ls ++ rest)) Kind.END (set-more ks (ls ++ rest) a b) end-of-text))
+
+-- kinds that begin none
+set-dead-at : (ks ls : List ℕ) (k q : ℕ) → Assignments ks → run setStep 1 ls ≡ q → setStep q k ≡ 0 → Viable (Field Assignments) ((ks ++ ls) ++ k ∷ []) → ⊥
+set-dead-at ks ls k q a l d =
+    set-dead ((ks ++ ls) ++ k ∷ [])
+    (run-append setStep 1 (ks ++ ls) (k ∷ []) ∙ ap (λ (x : ℕ). setStep x k) (run-append setStep 1 ks ls ∙ ap (λ (x : ℕ). run setStep x ls) (set-run ks a) ∙ l) ∙ d)
+
+-- what the reader of one assignment makes of the tokens u, v, w
+pub data OneSet (s : List ℕ) (cs : List Attribute) (u v w : Token) : Parsed Attribute → Type 0 where
+  one-set : u .kind ≡ Kind.NAME → v .kind ≡ Kind.ASSIGN → w .kind ≡ Kind.LITERAL → length cs < 16 → (a : Attribute) → OneSet s cs u v w (ok a (behind s Kind.IN-FIELD w))
+  wrong-1 : eqb (u .kind) Kind.NAME ≡ false → (r : ℕ) → r ≡ refusal (u .kind) → OneSet s cs u v w (aside r (u .start))
+  wrong-2 : u .kind ≡ Kind.NAME → eqb (v .kind) Kind.ASSIGN ≡ false → OneSet s cs u v w (aside (refusal (v .kind)) (v .start))
+  wrong-3 : u .kind ≡ Kind.NAME → v .kind ≡ Kind.ASSIGN → eqb (w .kind) Kind.LITERAL ≡ false → OneSet s cs u v w (aside (refusal (w .kind)) (w .start))
+  other-set : (r p : ℕ) → (r ≡ 2 → ⊥) → OneSet s cs u v w (aside r p)
+
+module _ (s : List ℕ) (cs : List Attribute) (u : Token) where
+  abbrev Set : Parsed Attribute → Type 0
+  Set r = OneSet s cs u (behind s Kind.IN-FIELD u) (behind s Kind.IN-FIELD (behind s Kind.IN-FIELD u)) r
+
+  value-set : (name : List ℕ) → u .kind ≡ Kind.NAME → behind s Kind.IN-FIELD u .kind ≡ Kind.ASSIGN → length cs < 16
+      → Set (constantValue s name (behind s Kind.IN-FIELD (behind s Kind.IN-FIELD u)))
+  unfolding constantValue
+  value-set name n e few =
+      chosen Set (eqb (behind s Kind.IN-FIELD (behind s Kind.IN-FIELD u) .kind) Kind.LITERAL) _ _
+      (λ l. chosen Set (ltb 2048 (length (decodedAt s (behind s Kind.IN-FIELD (behind s Kind.IN-FIELD u) .start)))) _ _
+      (λ f. other-set 7 _ (λ z. let bad : ⊥ = omega (arith, z) in bad)) (λ f. one-set n e (eqb-true _ _ l) few _))
+      (λ l. wrong-3 n e l)
+
+  assigned-set : (name : List ℕ) → u .kind ≡ Kind.NAME → length cs < 16 → Set (assigned s name (behind s Kind.IN-FIELD u))
+  unfolding assigned
+  assigned-set name n few =
+      chosen Set (eqb (behind s Kind.IN-FIELD u .kind) Kind.ASSIGN) _ _ (λ e. value-set name n (eqb-true _ _ e) few) (λ e. wrong-2 n e)
+
+  abbrev Faulted : ℕ → Type 0
+  Faulted r = Set (pick (eqb r 0) (pick (leb 16 (length cs)) (aside 7 (u .start)) (assigned s (wordOf s u) (behind s Kind.IN-FIELD u))) (aside r (u .start)))
+
+  four-set : Faulted 4
+  four-set = other-set 4 (u .start) (λ z. let bad : ⊥ = omega (arith, z) in bad)
+
+  zero-set : u .kind ≡ Kind.NAME → Faulted 0
+  zero-set n =
+      chosen Set (leb 16 (length cs)) _ _ (λ f. other-set 7 (u .start) (λ z. let bad : ⊥ = omega (arith, z) in bad)) (λ f. assigned-set (wordOf s u) n (leb-false _ _ f))
+
+  fault-set : Faulted (nameFault s cs u)
+  unfolding nameFault
+  fault-set =
+      chosen Faulted (eqb (u .kind) Kind.NAME) _ _
+      (λ n. chosen Faulted (reserved (wordOf s u)) 4 _ (λ f. four-set) (λ f. chosen Faulted (isSet cs (wordOf s u)) 4 0 (λ g. four-set) (λ g. zero-set (eqb-true _ _ n))))
+      (λ n. let z : eqb (refusal (u .kind)) 0 ≡ false = ne-eqb _ _ (refusal-some (u .kind)) in rw z (wrong-1 n (refusal (u .kind)) refl))
+
+  constant-set : Set (constant s cs u)
+  unfolding constant
+  constant-set = fault-set
+
+-- the whole field, whose first token is t
+module _ (s : List ℕ) (t : Token) where
+  abbrev So : List Attribute × Token → Parsed (List Attribute) → Type 0
+  So x r = (ks : List ℕ) → Kinds s Kind.IN-FIELD t ks (x .1) → Assignments ks → Judged (Field Assignments) s Kind.IN-FIELD t r
+
+  abbrev μ : List Attribute × Token → ℕ
+  μ x = 16 - length (x .0)
+
+  abbrev out : List Attribute × Token → Parsed (List Attribute)
+  out x = unexpected (x .1)
+
+  abbrev Turn : List Attribute × Token → Step (List Attribute × Token) (Parsed (List Attribute)) → Type 0
+  Turn x st = Turned μ out (constantsTurn s) So x st
+
+  three-kinds : (u v w : Token) (ks : List ℕ) → v ≡ behind s Kind.IN-FIELD u → w ≡ behind s Kind.IN-FIELD v → u .kind ≡ Kind.NAME → v .kind ≡ Kind.ASSIGN → w .kind ≡ Kind.LITERAL
+      → Kinds s Kind.IN-FIELD t ks u → Kinds s Kind.IN-FIELD t (ks ++ triple) (behind s Kind.IN-FIELD w)
+  three-kinds u v w ks ve we a b c p =
+      let q : Kinds s Kind.IN-FIELD w (w .kind ∷ []) (behind s Kind.IN-FIELD w) = further w (behind s Kind.IN-FIELD w) [] (here (behind s Kind.IN-FIELD w)) in
+      let q′ : Kinds s Kind.IN-FIELD (behind s Kind.IN-FIELD v) (w .kind ∷ []) (behind s Kind.IN-FIELD w) = subst (λ (x : Token). Kinds s Kind.IN-FIELD x (w .kind ∷ []) (behind s Kind.IN-FIELD w)) we q in
+      let r : Kinds s Kind.IN-FIELD v (v .kind ∷ w .kind ∷ []) (behind s Kind.IN-FIELD w) = further v _ (w .kind ∷ []) q′ in
+      let r′ : Kinds s Kind.IN-FIELD (behind s Kind.IN-FIELD u) (v .kind ∷ w .kind ∷ []) (behind s Kind.IN-FIELD w) =
+      subst (λ (x : Token). Kinds s Kind.IN-FIELD x (v .kind ∷ w .kind ∷ []) (behind s Kind.IN-FIELD w)) ve r in
+      let o : Kinds s Kind.IN-FIELD u (u .kind ∷ v .kind ∷ w .kind ∷ []) (behind s Kind.IN-FIELD w) = further u _ (v .kind ∷ w .kind ∷ []) r′ in
+      let z : u .kind ∷ v .kind ∷ w .kind ∷ [] ≡ triple = cc (a, b, c) in
+      kinds-append s Kind.IN-FIELD t u (behind s Kind.IN-FIELD w) ks triple p (subst (λ (l : List ℕ). Kinds s Kind.IN-FIELD u l (behind s Kind.IN-FIELD w)) z o)
