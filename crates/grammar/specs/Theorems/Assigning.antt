@@ -174,3 +174,46 @@ module _ (s : List ℕ) (t : Token) where
       let o : Kinds s Kind.IN-FIELD u (u .kind ∷ v .kind ∷ w .kind ∷ []) (behind s Kind.IN-FIELD w) = further u _ (v .kind ∷ w .kind ∷ []) r′ in
       let z : u .kind ∷ v .kind ∷ w .kind ∷ [] ≡ triple = cc (a, b, c) in
       kinds-append s Kind.IN-FIELD t u (behind s Kind.IN-FIELD w) ks triple p (subst (λ (l : List ℕ). Kinds s Kind.IN-FIELD u l (behind s Kind.IN-FIELD w)) z o)
+
+  one-kind : (u v : Token) (ks : List ℕ) (k : ℕ) → v ≡ behind s Kind.IN-FIELD u → u .kind ≡ k → Kinds s Kind.IN-FIELD t ks u → Kinds s Kind.IN-FIELD t (ks ++ k ∷ []) v
+  one-kind u v ks k ve e p =
+      let q : Kinds s Kind.IN-FIELD t (ks ++ u .kind ∷ []) (behind s Kind.IN-FIELD u) = kinds-one s Kind.IN-FIELD t u ks p in
+      let q′ : Kinds s Kind.IN-FIELD t (ks ++ u .kind ∷ []) v = subst (λ (x : Token). Kinds s Kind.IN-FIELD t (ks ++ u .kind ∷ []) x) (sym ve) q in
+      subst (λ (x : ℕ). Kinds s Kind.IN-FIELD t (ks ++ x ∷ []) v) e q′
+
+  two-kinds : (u v w : Token) (ks : List ℕ) (j k : ℕ) → v ≡ behind s Kind.IN-FIELD u → w ≡ behind s Kind.IN-FIELD v → u .kind ≡ j → v .kind ≡ k → Kinds s Kind.IN-FIELD t ks u
+      → Kinds s Kind.IN-FIELD t (ks ++ j ∷ k ∷ []) w
+  two-kinds u v w ks j k ve we e f p =
+      subst (λ (l : List ℕ). Kinds s Kind.IN-FIELD t l w) (append-assoc ks (j ∷ []) (k ∷ [])) (one-kind v w (ks ++ j ∷ []) k we f (one-kind u v ks j ve e p))
+
+  on-set : (cs : List Attribute) (u v w : Token) → v ≡ behind s Kind.IN-FIELD u → w ≡ behind s Kind.IN-FIELD v → ending (u .kind) ≡ false → (r : Parsed Attribute)
+      → OneSet s cs u v w r → Turn (cs, u) (onConstant cs r)
+  on-set cs u v w ve we e _ (one-set a b c few x) =
+      turned-next (cs ++ (x ∷ []), behind s Kind.IN-FIELD w) (rw length-append (omega (arith, few)))
+      (λ r h ks p g. h (ks ++ triple) (three-kinds u v w ks ve we a b c p) (set-snoc ks g))
+  on-set cs u v w ve we e _ (wrong-1 n r q) =
+      turned-done (aside r (u .start)) (λ ks p g.
+      judged-stop (Field Assignments) s Kind.IN-FIELD t ks u p (viable (Kind.END ∷ []) (field ks Kind.END g end-of-text))
+      (subst (λ (l : List ℕ). Viable (Field Assignments) (l ++ u .kind ∷ []) → ⊥) (append-nil ks) (set-dead-at ks [] (u .kind) 1 g refl (set-wrong-1 (u .kind) n e))) r q)
+  on-set cs u v w ve we e _ (wrong-2 a n) =
+      turned-done (aside (refusal (v .kind)) (v .start)) (λ ks p g.
+      judged-stop (Field Assignments) s Kind.IN-FIELD t (ks ++ Kind.NAME ∷ []) v (one-kind u v ks Kind.NAME ve a p)
+      (set-viable ks (Kind.NAME ∷ []) (Kind.ASSIGN ∷ Kind.LITERAL ∷ []) g (assignment [] no-assignment))
+      (set-dead-at ks (Kind.NAME ∷ []) (v .kind) 2 g set-name (set-wrong-2 (v .kind) n)) (refusal (v .kind)) refl)
+  on-set cs u v w ve we e _ (wrong-3 a b n) =
+      turned-done (aside (refusal (w .kind)) (w .start)) (λ ks p g.
+      judged-stop (Field Assignments) s Kind.IN-FIELD t (ks ++ Kind.NAME ∷ Kind.ASSIGN ∷ []) w (two-kinds u v w ks Kind.NAME Kind.ASSIGN ve we a b p)
+      (set-viable ks (Kind.NAME ∷ Kind.ASSIGN ∷ []) (Kind.LITERAL ∷ []) g (assignment [] no-assignment))
+      (set-dead-at ks (Kind.NAME ∷ Kind.ASSIGN ∷ []) (w .kind) 3 g (ap (λ (q : ℕ). setStep q Kind.ASSIGN) set-name ∙ set-assign) (set-wrong-3 (w .kind) n)) (refusal (w .kind)) refl)
+  on-set cs u v w ve we e _ (other-set r p n) = turned-done (aside r p) (λ ks q g. another r p n)
+
+  turn-judged : (x : List Attribute × Token) → Turn x (constantsTurn s x)
+  turn-judged (cs, u) =
+      chosen (Turn (cs, u)) (ending (u .kind)) _ _
+      (λ e. turned-done (ok cs u) (λ ks p g. through ks u cs p (field ks (u .kind) g (ending-ends (u .kind) e))))
+      (λ e. on-set cs u (behind s Kind.IN-FIELD u) (behind s Kind.IN-FIELD (behind s Kind.IN-FIELD u)) refl refl e (constant s cs u) (constant-set s cs u))
+
+  -- Local-Constants, read from its first token t on.
+  pub constants-judged : Judged (Field Assignments) s Kind.IN-FIELD t (constantsFrom s [] t)
+  unfolding constantsFrom
+  constants-judged = loop-turned μ out (constantsTurn s) So turn-judged ([], t) [] (here t) no-assignment
