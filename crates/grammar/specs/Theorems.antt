@@ -2,3 +2,4 @@ pub mod Decoding
 pub mod Unique
 pub mod OneToken
 pub mod Assigning
+pub mod Licensing
