@@ -105,3 +105,123 @@ module _ (s : List ℕ) where
 
   first-kind : (t : Token) (k : ℕ) → t .kind ≡ k → Kinds s MODE t (k ∷ []) (behind s MODE t)
   first-kind t k e = step-kind t t [] k e (here t)
+
+-- "K-of(list)", whose number is the token t
+module _ (s : List ℕ) (constants : List Attribute) (n k : ℕ) (t : Token) where
+  abbrev upTo : List ℕ → List ℕ
+  upTo ls = Kind.DIGITS ∷ Kind.OF ∷ Kind.OPEN ∷ ls
+
+  list-place : (d : ℕ) (ls : List ℕ) → run place (p-want d) (upTo ls) ≡ run place (p-item d) ls
+  list-place d ls =
+      ap (λ (q : Place). run place (place (place q Kind.OF) Kind.OPEN) ls) (place-number d)
+      ∙ ap (λ (q : Place). run place (place q Kind.OPEN) ls) (place-of d) ∙ ap (λ (q : Place). run place q ls) (place-list d)
+
+  list-dead : (d : ℕ) (ls : List ℕ) (j : ℕ) (q : Place) → run place (p-item d) ls ≡ q → place q j ≡ p-dead → run place (p-want d) (upTo (ls ++ j ∷ [])) ≡ p-dead
+  list-dead d ls j q e f = list-place d (ls ++ j ∷ []) ∙ run-append place (p-item d) ls (j ∷ []) ∙ ap (λ (x : Place). place x j) e ∙ f
+
+  abbrev InList : List P.Principal × Token → Parsed Expression → Type 0
+  InList x r = (ls : List ℕ) → Kinds s Kind.IN-LICENSEES t (upTo ls) (x .1) → ((ms : List ℕ) → PrincList ms → PrincList (ls ++ ms)) → ((d : ℕ) → run place (p-item d) ls ≡ p-item d)
+      → Reading N0 s n t r
+
+  abbrev listμ : List P.Principal × Token → ℕ
+  listμ x = 16 - (n + length (x .0))
+
+  abbrev listOut : List P.Principal × Token → Parsed Expression
+  listOut x = unexpected (x .1)
+
+  abbrev ListTurn : List P.Principal × Token → Step (List P.Principal × Token) (Parsed Expression) → Type 0
+  ListTurn x st = Turned listμ listOut (L.listTurn s constants n k) InList x st
+
+  kOf-size : (ps : List P.Principal) (p : P.Principal) → n + length ps < 16 → (1 ≤ length (named (kOf k (ps ++ p ∷ [])))) × (n + length (named (kOf k (ps ++ p ∷ []))) ≤ 16)
+  unfolding named
+  kOf-size ps p few = let z : length (ps ++ p ∷ []) ≡ length ps + 1 = rw length-append refl in (omega (arith, z), omega (arith, z, few))
+
+  module _ (ps : List P.Principal) (u : Token) (h : principalFirst (u .kind) ≡ true) (few : n + length ps < 16) (p : P.Principal) where
+    here-one : PrincList (u .kind ∷ [])
+    here-one = one (u .kind) (principal-is (u .kind) h)
+
+    module _ (ls : List ℕ) (path : Kinds s Kind.IN-LICENSEES t (upTo ls) u) (open′ : (ms : List ℕ) → PrincList ms → PrincList (ls ++ ms)) where
+      item-path : Kinds s Kind.IN-LICENSEES t (upTo (ls ++ u .kind ∷ [])) (behind s Kind.IN-LICENSEES u)
+      item-path = step-kind s t u (upTo ls) (u .kind) refl path
+
+      items : PrincList (ls ++ u .kind ∷ [])
+      items = open′ (u .kind ∷ []) here-one
+
+      closed-read : behind s Kind.IN-LICENSEES u .kind ≡ Kind.CLOSE → Reading N0 s n t (L.listed s k (ps ++ p ∷ []) (behind s Kind.IN-LICENSEES u))
+      unfolding L.listed
+      closed-read e =
+          chosen (Reading N0 s n t) (ltb (length (ps ++ p ∷ [])) k) _ _ (λ f. otherwise 5 _ (λ z. let bad : ⊥ = omega (arith, z) in bad))
+          (λ f. got (upTo ((ls ++ u .kind ∷ []) ++ Kind.CLOSE ∷ [])) (behind s Kind.IN-LICENSEES (behind s Kind.IN-LICENSEES u)) (kOf k (ps ++ p ∷ []))
+          (step-kind s t (behind s Kind.IN-LICENSEES u) (upTo (ls ++ u .kind ∷ [])) Kind.CLOSE e item-path) (threshold (ls ++ u .kind ∷ []) items) refl
+          (kOf-size ps p few .0) (kOf-size ps p few .1))
+
+      comma-path : behind s Kind.IN-LICENSEES u .kind ≡ Kind.COMMA
+          → Kinds s Kind.IN-LICENSEES t (upTo ((ls ++ u .kind ∷ []) ++ Kind.COMMA ∷ [])) (behind s Kind.IN-LICENSEES (behind s Kind.IN-LICENSEES u))
+      comma-path e = step-kind s t (behind s Kind.IN-LICENSEES u) (upTo (ls ++ u .kind ∷ [])) Kind.COMMA e item-path
+
+      comma-open : (ms : List ℕ) → PrincList ms → PrincList (((ls ++ u .kind ∷ []) ++ Kind.COMMA ∷ []) ++ ms)
+      comma-open ms l = subst PrincList (sym (append-assoc (ls ++ u .kind ∷ []) (Kind.COMMA ∷ []) ms)) (comma (ls ++ u .kind ∷ []) ms items l)
+
+      comma-run : (d : ℕ) → run place (p-item d) ((ls ++ u .kind ∷ []) ++ Kind.COMMA ∷ []) ≡ p-item d
+      comma-run d = run-append place (p-item d) (ls ++ u .kind ∷ []) (Kind.COMMA ∷ []) ∙ ap (λ (q : Place). place q Kind.COMMA) (list-run (ls ++ u .kind ∷ []) items d) ∙ place-comma d
+
+      listed-halt : eqb (behind s Kind.IN-LICENSEES u .kind) Kind.CLOSE ≡ false → eqb (behind s Kind.IN-LICENSEES u .kind) Kind.COMMA ≡ false
+          → Reading N0 s n t (unexpected (behind s Kind.IN-LICENSEES u))
+      listed-halt a b =
+          halted (upTo (ls ++ u .kind ∷ [])) (behind s Kind.IN-LICENSEES u) item-path (Kind.CLOSE ∷ []) (threshold (ls ++ u .kind ∷ []) items)
+          (λ d. list-dead d (ls ++ u .kind ∷ []) (behind s Kind.IN-LICENSEES u .kind) (p-listed d) (list-run (ls ++ u .kind ∷ []) items d) (wrong-listed d (behind s Kind.IN-LICENSEES u .kind) a b))
+          (refusal (behind s Kind.IN-LICENSEES u .kind)) refl
+
+    on-got : ListTurn (ps, u) (L.onListed s k ps (ok p (behind s Kind.IN-LICENSEES u)))
+    on-got =
+        chosen (ListTurn (ps, u)) (eqb (behind s Kind.IN-LICENSEES u .kind) Kind.CLOSE) _ _
+        (λ e. turned-done _ (λ ls path o r. closed-read ls path o (eqb-true _ _ e)))
+        (λ e. chosen (ListTurn (ps, u)) (eqb (behind s Kind.IN-LICENSEES u .kind) Kind.COMMA) _ _
+        (λ f. turned-next (ps ++ p ∷ [], behind s Kind.IN-LICENSEES (behind s Kind.IN-LICENSEES u)) (rw length-append (omega (arith, few)))
+        (λ r g ls path o q. g ((ls ++ u .kind ∷ []) ++ Kind.COMMA ∷ []) (comma-path ls path o (eqb-true _ _ f)) (comma-open ls path o) (comma-run ls path o)))
+        (λ f. turned-done _ (λ ls path o r. listed-halt ls path o e f)))
+
+  on-none : (ps : List P.Principal) (u : Token) → principalFirst (u .kind) ≡ false → (r : ℕ) → r ≡ refusal (u .kind) → InList (ps, u) (aside r (u .start))
+  on-none ps u h r e ls path o q =
+      halted (upTo ls) u path (Kind.LITERAL ∷ Kind.CLOSE ∷ [])
+      (subst (λ (l : List ℕ). PrincExpr (upTo l)) (append-assoc ls (Kind.LITERAL ∷ []) (Kind.CLOSE ∷ [])) (threshold (ls ++ Kind.LITERAL ∷ []) (o (Kind.LITERAL ∷ []) (one Kind.LITERAL principal-literal))))
+      (λ d. list-dead d ls (u .kind) (p-item d) (q d) (wrong-item d (u .kind) h)) r e
+
+  on-licensee : (ps : List P.Principal) (u : Token) (r : Parsed P.Principal) → OneLicensee s (n + length ps) u r → ListTurn (ps, u) (L.onListed s k ps r)
+  on-licensee ps u _ (licensee-got h few p) = on-got ps u h few p
+  on-licensee ps u _ (licensee-none h r e) = turned-done (aside r (u .start)) (on-none ps u h r e)
+  on-licensee ps u _ (licensee-other r p m) = turned-done (aside r p) (λ ls path o q. otherwise r p m)
+
+  list-turn : (x : List P.Principal × Token) → ListTurn x (L.listTurn s constants n k x)
+  list-turn (ps, u) = on-licensee ps u (L.licensee s constants (n + length ps) u) (licensee-read s constants (n + length ps) u)
+
+  list-reads : (u : Token) → Kinds s Kind.IN-LICENSEES t (upTo []) u → Reading N0 s n t (L.listFrom s constants n k [] u)
+  unfolding L.listFrom
+  list-reads u path = loop-turned listμ listOut (L.listTurn s constants n k) InList list-turn ([], u) [] path (λ ms l. l) (λ d. refl)
+
+  -- the bracket, "-of" and the number before it
+  open-reads : (left : ℕ) (u : Token) → Kinds s Kind.IN-LICENSEES t (Kind.DIGITS ∷ Kind.OF ∷ []) u → Reading N0 s n t (L.listOpened s constants left n k u)
+  unfolding L.listOpened
+  open-reads left u path =
+      chosen (Reading N0 s n t) (eqb (u .kind) Kind.OPEN) _ _
+      (λ e. chosen (Reading N0 s n t) (eqb left 0) _ _ (λ f. otherwise 7 _ (λ z. let bad : ⊥ = omega (arith, z) in bad))
+      (λ f. list-reads (behind s Kind.IN-LICENSEES u) (step-kind s t u (Kind.DIGITS ∷ Kind.OF ∷ []) Kind.OPEN (eqb-true _ _ e) path)))
+      (λ e. halted (Kind.DIGITS ∷ Kind.OF ∷ []) u path (Kind.OPEN ∷ Kind.LITERAL ∷ Kind.CLOSE ∷ []) (threshold (Kind.LITERAL ∷ []) (one Kind.LITERAL principal-literal))
+      (λ d. ap (λ (q : Place). place (place q Kind.OF) (u .kind)) (place-number d) ∙ ap (λ (q : Place). place q (u .kind)) (place-of d) ∙ wrong-of d (u .kind) e)
+      (refusal (u .kind)) refl)
+
+  of-reads : (left : ℕ) (u : Token) → Kinds s Kind.IN-LICENSEES t (Kind.DIGITS ∷ []) u → Reading N0 s n t (L.ofRead s constants left n k u)
+  unfolding L.ofRead
+  of-reads left u path =
+      chosen (Reading N0 s n t) (eqb (u .kind) Kind.OF) _ _
+      (λ e. open-reads left (behind s Kind.IN-LICENSEES u) (step-kind s t u (Kind.DIGITS ∷ []) Kind.OF (eqb-true _ _ e) path))
+      (λ e. halted (Kind.DIGITS ∷ []) u path (Kind.OF ∷ Kind.OPEN ∷ Kind.LITERAL ∷ Kind.CLOSE ∷ []) (threshold (Kind.LITERAL ∷ []) (one Kind.LITERAL principal-literal))
+      (λ d. ap (λ (q : Place). place q (u .kind)) (place-number d) ∙ wrong-number d (u .kind) e)
+      (refusal (u .kind)) refl)
+
+  threshold-reads : (left : ℕ) → t .kind ≡ Kind.DIGITS → Reading N0 s n t (L.threshold s constants left n t k)
+  unfolding L.threshold
+  threshold-reads left e =
+      chosen (Reading N0 s n t) (eqb k 0) _ _ (λ f. otherwise 5 _ (λ z. let bad : ⊥ = omega (arith, z) in bad))
+      (λ f. chosen (Reading N0 s n t) (ltb 16 k) _ _ (λ g. otherwise 5 _ (λ z. let bad : ⊥ = omega (arith, z) in bad))
+      (λ g. of-reads left (behind s Kind.IN-LICENSEES t) (first-kind s t Kind.DIGITS e)))
