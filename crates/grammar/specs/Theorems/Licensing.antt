@@ -225,3 +225,161 @@ module _ (s : List ℕ) (constants : List Attribute) (n k : ℕ) (t : Token) whe
       chosen (Reading N0 s n t) (eqb k 0) _ _ (λ f. otherwise 5 _ (λ z. let bad : ⊥ = omega (arith, z) in bad))
       (λ f. chosen (Reading N0 s n t) (ltb 16 k) _ _ (λ g. otherwise 5 _ (λ z. let bad : ⊥ = omega (arith, z) in bad))
       (λ g. of-reads left (behind s Kind.IN-LICENSEES t) (first-kind s t Kind.DIGITS e)))
+
+-- operands joined by one operator
+module _ (s : List ℕ) (N : ℕ → Type 0) (joint : ℕ) (join : Expression → Expression → Expression) (operand : L.Reader)
+    (names : (a b : Expression) → named (join a b) ≡ named a ++ named b)
+    (joined : (ks ls : List ℕ) → PrincExpr ks → PrincExpr ls → PrincExpr (ks ++ joint ∷ ls))
+    (goes : (d : ℕ) → place (p-have d) joint ≡ p-want d)
+    (reads : (n : ℕ) (t : Token) → Reading N s n t (operand n t)) where
+  abbrev Stop : ℕ → Type 0
+  Stop k = N k × (eqb k joint ≡ false)
+
+  module _ (n : ℕ) (t : Token) where
+    abbrev Chained : Expression × Token → Parsed Expression → Type 0
+    Chained x r = (ks : List ℕ) → Kinds s Kind.IN-LICENSEES t ks (x .1) → PrincExpr ks → N (x .1 .kind) → 1 ≤ length (named (x .0)) → n + length (named (x .0)) ≤ 16 → Reading Stop s n t r
+
+    abbrev chainμ : Expression × Token → ℕ
+    chainμ x = 16 - (n + length (named (x .0)))
+
+    abbrev chainOut : Expression × Token → Parsed Expression
+    chainOut x = unexpected (x .1)
+
+    abbrev ChainTurn : Expression × Token → Step (Expression × Token) (Parsed Expression) → Type 0
+    ChainTurn x st = Turned chainμ chainOut (L.chainTurn s joint join operand n) Chained x st
+
+    joint-run : (ks ls : List ℕ) (j d : ℕ) → PrincExpr ks → run place (p-want d) (ls ++ j ∷ []) ≡ p-dead → run place (p-want d) ((ks ++ joint ∷ ls) ++ j ∷ []) ≡ p-dead
+    joint-run ks ls j d e f =
+        ap (run place (p-want d)) (append-assoc ks (joint ∷ ls) (j ∷ [])) ∙ run-append place (p-want d) ks (joint ∷ (ls ++ j ∷ []))
+        ∙ ap (λ (q : Place). run place (place q joint) (ls ++ j ∷ [])) (expr-run ks e d) ∙ ap (λ (q : Place). run place q (ls ++ j ∷ [])) (goes d) ∙ f
+
+    joint-path : (ks ls : List ℕ) (u v : Token) → u .kind ≡ joint → Kinds s Kind.IN-LICENSEES t ks u → Kinds s Kind.IN-LICENSEES (behind s Kind.IN-LICENSEES u) ls v
+        → Kinds s Kind.IN-LICENSEES t (ks ++ joint ∷ ls) v
+    joint-path ks ls u v e p q =
+        kinds-append s MODE t u v ks (joint ∷ ls) p (subst (λ (x : ℕ). Kinds s Kind.IN-LICENSEES u (x ∷ ls) v) e (further u v ls q))
+
+    name-length : (e f : Expression) → length (named (join e f)) ≡ length (named e) + length (named f)
+    name-length e f = rw (names e f, length-append) refl
+
+    on-operand : (e : Expression) (u : Token) → u .kind ≡ joint → (r : Parsed Expression) → Reading N s (n + length (named e)) (behind s Kind.IN-LICENSEES u) r
+        → ChainTurn (e, u) (L.onOperand joint join n e r)
+    on-operand e u je _ (got ls v f q g nk some few) =
+        turned-next (join e f, v) (rw (name-length e f) (omega (arith, some, few)))
+        (λ r h ks p x m one′ low. h (ks ++ joint ∷ ls) (joint-path ks ls u v je p q) (joined ks ls x g) nk (rw (name-length e f) (omega (arith, some))) (rw (name-length e f) (omega (arith, few))))
+    on-operand e u je _ (halted ls v q rest g dead r re) =
+        turned-done (aside r (v .start)) (λ ks p x m one′ low.
+        halted (ks ++ joint ∷ ls) v (joint-path ks ls u v je p q) rest (subst PrincExpr (sym (append-assoc ks (joint ∷ ls) rest)) (joined ks (ls ++ rest) x g))
+        (λ d. joint-run ks ls (v .kind) d x (dead d)) r re)
+    on-operand e u je _ (otherwise r p m) = turned-done (aside r p) (λ ks q x k one′ low. otherwise r p m)
+
+    chain-turn : (x : Expression × Token) → ChainTurn x (L.chainTurn s joint join operand n x)
+    chain-turn (e, u) =
+        chosen (ChainTurn (e, u)) (eqb (u .kind) joint) _ _
+        (λ j. on-operand e u (eqb-true _ _ j) (operand (n + length (named e)) (behind s Kind.IN-LICENSEES u)) (reads (n + length (named e)) (behind s Kind.IN-LICENSEES u)))
+        (λ j. turned-done (ok e u) (λ ks p x m one′ low. got ks u e p x (m, j) one′ low))
+
+    chain-from : (r : Parsed Expression) → Reading N s n t r → Reading Stop s n t (andThen r (λ e u. L.chainFrom s joint join operand n e u))
+    chain-from _ (got ks u e p x m one′ low) = loop-turned chainμ chainOut (L.chainTurn s joint join operand n) Chained chain-turn (e, u) ks p x m one′ low
+    chain-from _ (halted ks u p rest x dead r re) = halted ks u p rest x dead r re
+    chain-from _ (otherwise r p m) = otherwise r p m
+
+    chain-reads : Reading Stop s n t (L.chain s joint join operand n t)
+    chain-reads = chain-from (operand n t) (reads n t)
+
+and-names : (a b : Expression) → named (and a b) ≡ named a ++ named b
+unfolding named
+and-names a b = refl
+
+or-names : (a b : Expression) → named (or a b) ≡ named a ++ named b
+unfolding named
+or-names a b = refl
+
+expression-reads : (s : List ℕ) (reader : L.Reader) → ((n : ℕ) (t : Token) → Reading N0 s n t (reader n t)) → (n : ℕ) (t : Token) → Reading N2 s n t (L.expressionOf s reader n t)
+expression-reads s reader reads =
+    chain-reads s N1 Kind.OR or (L.chain s Kind.AND and reader) or-names either place-or (chain-reads s N0 Kind.AND and reader and-names both place-and reads)
+
+-- a principal, a K-of or a bracket
+module _ (s : List ℕ) (constants : List Attribute) where
+  name-size : (p : P.Principal) → length (named (name p)) ≡ 1
+  unfolding named
+  name-size p = refl
+
+  name-reads : (n : ℕ) (t : Token) → eqb (t .kind) Kind.OPEN ≡ false → eqb (t .kind) Kind.DIGITS ≡ false → (r : Parsed P.Principal) → OneLicensee s n t r
+      → Reading N0 s n t (andThen r (λ p u. ok (name p) u))
+  name-reads n t a b _ (licensee-got h few p) =
+      got (t .kind ∷ []) (behind s Kind.IN-LICENSEES t) (name p) (first-kind s t (t .kind) refl) (principal (t .kind) (principal-is (t .kind) h)) refl
+      (omega (arith, name-size p)) (omega (arith, name-size p, few))
+  name-reads n t a b _ (licensee-none h r e) =
+      halted [] t (here t) (Kind.LITERAL ∷ []) (principal Kind.LITERAL principal-literal) (λ d. wrong-want d (t .kind) a b h) r e
+  name-reads n t a b _ (licensee-other r p m) = otherwise r p m
+
+  bracket-path : (t u : Token) (ks : List ℕ) → t .kind ≡ Kind.OPEN → Kinds s Kind.IN-LICENSEES (behind s Kind.IN-LICENSEES t) ks u → Kinds s Kind.IN-LICENSEES t (Kind.OPEN ∷ ks) u
+  bracket-path t u ks e p = subst (λ (x : ℕ). Kinds s Kind.IN-LICENSEES t (x ∷ ks) u) e (further t u ks p)
+
+  closed-reads : (n : ℕ) (t u : Token) (ks : List ℕ) (e : Expression) → t .kind ≡ Kind.OPEN → Kinds s Kind.IN-LICENSEES (behind s Kind.IN-LICENSEES t) ks u → PrincExpr ks → N2 (u .kind)
+      → 1 ≤ length (named e) → n + length (named e) ≤ 16 → Reading N0 s n t (L.closed s e u)
+  unfolding L.closed
+  closed-reads n t u ks e o p x m some few =
+      chosen (Reading N0 s n t) (eqb (u .kind) Kind.CLOSE) _ _
+      (λ c. got (Kind.OPEN ∷ ks ++ Kind.CLOSE ∷ []) (behind s Kind.IN-LICENSEES u) e (step-kind s t u (Kind.OPEN ∷ ks) Kind.CLOSE (eqb-true _ _ c) (bracket-path t u ks o p)) (bracket ks x) refl some few)
+      (λ c. halted (Kind.OPEN ∷ ks) u (bracket-path t u ks o p) (Kind.CLOSE ∷ []) (bracket ks x)
+      (λ d. ap (λ (q : Place). run place q (ks ++ u .kind ∷ [])) (place-open d) ∙ run-append place (p-want (suc d)) ks (u .kind ∷ [])
+      ∙ ap (λ (q : Place). place q (u .kind)) (expr-run ks x (suc d)) ∙ wrong-close d (u .kind) (m .0 .1) (m .1) c) (refusal (u .kind)) refl)
+
+  bracket-reads : (n : ℕ) (t : Token) → t .kind ≡ Kind.OPEN → (r : Parsed Expression) → Reading N2 s n (behind s Kind.IN-LICENSEES t) r → Reading N0 s n t (andThen r (λ e u. L.closed s e u))
+  bracket-reads n t o _ (got ks u e p x m some few) = closed-reads n t u ks e o p x m some few
+  bracket-reads n t o _ (halted ks u p rest x dead r re) =
+      halted (Kind.OPEN ∷ ks) u (bracket-path t u ks o p) (rest ++ Kind.CLOSE ∷ [])
+      (subst (λ (l : List ℕ). PrincExpr (Kind.OPEN ∷ l)) (append-assoc ks rest (Kind.CLOSE ∷ [])) (bracket (ks ++ rest) x))
+      (λ d. ap (λ (q : Place). run place q (ks ++ u .kind ∷ [])) (place-open d) ∙ dead (suc d)) r re
+  bracket-reads n t o _ (otherwise r p m) = otherwise r p m
+
+  body-reads : (left : ℕ) (inner : L.Reader) → (eqb left 0 ≡ false → (n : ℕ) (t : Token) → Reading N2 s n t (inner n t)) → (n : ℕ) (t : Token)
+      → Reading N0 s n t (L.primaryBody s constants left inner n t)
+  body-reads left inner reads n t =
+      chosen (Reading N0 s n t) (eqb (t .kind) Kind.OPEN) _ _
+      (λ o. chosen (Reading N0 s n t) (eqb left 0) _ _ (λ f. otherwise 7 (t .start) (λ z. let bad : ⊥ = omega (arith, z) in bad))
+      (λ f. bracket-reads n t (eqb-true _ _ o) (inner n (behind s Kind.IN-LICENSEES t)) (reads f n (behind s Kind.IN-LICENSEES t))))
+      (λ o. chosen (Reading N0 s n t) (eqb (t .kind) Kind.DIGITS) _ _
+      (λ f. threshold-reads s constants n (numberAt s (t .start) (t .end)) t left (eqb-true _ _ f))
+      (λ f. name-reads n t o f (L.licensee s constants n t) (licensee-read s constants n t)))
+
+  primary-reads : (left n : ℕ) (t : Token) → Reading N0 s n t (L.primary s constants left n t)
+  unfolding L.primary
+  primary-reads zero n t = body-reads 0 (λ n t. unexpected t) (λ f. clash refl f) n t
+  primary-reads (suc left) n t =
+      body-reads (suc left) (L.expressionOf s (λ n t. L.primary s constants left n t)) (λ f. expression-reads s (λ n t. L.primary s constants left n t) (primary-reads left)) n t
+
+  -- the whole field
+  ended-judged : (t u : Token) (ks : List ℕ) (e : Expression) → Kinds s Kind.IN-LICENSEES t ks u → PrincExpr ks → N2 (u .kind)
+      → Judged (Field Licensees) s Kind.IN-LICENSEES t (ended (given e) u)
+  ended-judged t u ks e p x m =
+      chosen (Judged (Field Licensees) s Kind.IN-LICENSEES t) (ending (u .kind)) _ _
+      (λ f. through ks u (given e) p (field ks (u .kind) (somebody ks x) (ending-ends (u .kind) f)))
+      (λ f. judged-stop (Field Licensees) s Kind.IN-LICENSEES t ks u p (viable (Kind.END ∷ []) (field ks Kind.END (somebody ks x) end-of-text))
+      (licensees-dead (ks ++ u .kind ∷ [])
+      (run-append place p-begin ks (u .kind ∷ []) ∙ ap (λ (q : Place). place q (u .kind)) (begin-run ks (expr-run ks x 0)) ∙ wrong-end (u .kind) (m .0 .1) (m .1) f))
+      (refusal (u .kind)) refl)
+
+  begin-dead : (k : ℕ) (ks : List ℕ) → ending k ≡ false → run place (p-want 0) (k ∷ ks) ≡ p-dead → run place p-begin (k ∷ ks) ≡ p-dead
+  begin-dead k ks f d = ap (λ (q : Place). run place q ks) (begin-want k f) ∙ d
+
+  begin-path : (t u : Token) (ks : List ℕ) → ending (t .kind) ≡ false → Kinds s Kind.IN-LICENSEES t ks u → run place (p-want 0) (ks ++ u .kind ∷ []) ≡ p-dead → run place p-begin (ks ++ u .kind ∷ []) ≡ p-dead
+  begin-path t _ _ f (here _) d = begin-dead (t .kind) [] f d
+  begin-path t u _ f (further _ _ ks p) d = begin-dead (t .kind) (ks ++ u .kind ∷ []) f d
+
+  judged : (t : Token) → ending (t .kind) ≡ false → (r : Parsed Expression) → Reading N2 s 0 t r → Judged (Field Licensees) s Kind.IN-LICENSEES t (andThen r (λ e u. ended (given e) u))
+  judged t f _ (got ks u e p x m some few) = ended-judged t u ks e p x m
+  judged t f _ (halted ks u p rest x dead r re) =
+      judged-stop (Field Licensees) s Kind.IN-LICENSEES t ks u p
+      (viable (rest ++ Kind.END ∷ []) (subst (Field Licensees) (append-assoc ks rest (Kind.END ∷ [])) (field (ks ++ rest) Kind.END (somebody (ks ++ rest) x) end-of-text)))
+      (licensees-dead (ks ++ u .kind ∷ []) (begin-path t u ks f p (dead 0))) r re
+  judged t f _ (otherwise r p m) = another r p m
+
+  -- Licensees, read from its first token t on.
+  pub licensees-judged : (t : Token) → Judged (Field Licensees) s Kind.IN-LICENSEES t (L.licensees s constants t)
+  unfolding L.licensees L.expression
+  licensees-judged t =
+      chosen (Judged (Field Licensees) s Kind.IN-LICENSEES t) (ending (t .kind)) _ _
+      (λ e. through [] t empty (here t) (field [] (t .kind) nobody (ending-ends (t .kind) e)))
+      (λ e. judged t e (L.expressionOf s (λ n t. L.primary s constants 16 n t) 0 t) (expression-reads s (λ n t. L.primary s constants 16 n t) (primary-reads 16) 0 t))
