@@ -3,3 +3,4 @@ pub mod Unique
 pub mod OneToken
 pub mod Assigning
 pub mod Licensing
+pub mod Exactly
