@@ -10,6 +10,10 @@ use Rattle.syntax.specs.Parsed.{Parsed, ok, aside}
 pub data Viable (G : List ℕ → Type 0) (ks : List ℕ) : Type 0 where
   viable : (rest : List ℕ) → G (ks ++ rest) → Viable G ks
 
+-- they begin some sentence and are not all of it
+pub data Open (G : List ℕ → Type 0) (ks : List ℕ) : Type 0 where
+  opens : (k : ℕ) (rest : List ℕ) → G (ks ++ k ∷ rest) → Open G ks
+
 -- the kinds of the tokens from the first up to before the second, in a field of that mode
 pub data Kinds (s : List ℕ) (mode : ℕ) : Token → List ℕ → Token → Type 0 where
   here : (t : Token) → Kinds s mode t [] t
@@ -20,5 +24,5 @@ pub data Kinds (s : List ℕ) (mode : ℕ) : Token → List ℕ → Token → Ty
 -- Any other reason is not the grammar's.
 pub data Judged {A : Type 0} (G : List ℕ → Type 0) (s : List ℕ) (mode : ℕ) (t : Token) : Parsed A → Type 0 where
   through : (ks : List ℕ) (n : Token) (a : A) → Kinds s mode t ks n → G (ks ++ n .kind ∷ []) → Judged G s mode t (ok a n)
-  no-continuation : (ks : List ℕ) (n : Token) → Kinds s mode t ks n → Viable G ks → (Viable G (ks ++ n .kind ∷ []) → ⊥) → Judged G s mode t (aside 2 (n .start))
+  no-continuation : (ks : List ℕ) (n : Token) → Kinds s mode t ks n → Open G ks → (Viable G (ks ++ n .kind ∷ []) → ⊥) → Judged G s mode t (aside 2 (n .start))
   another : (r p : ℕ) → (r ≡ 2 → ⊥) → Judged G s mode t (aside r p)

@@ -19,10 +19,10 @@ use Rattle.fields.specs.Parsed.{behind, ending, wordOf}
 use Rattle.fields.specs.Constants.{isSet, reserved, constantValue, assigned, nameFault, constant, onConstant, constantsTurn, constantsFrom}
 use Rattle.fields.specs.Theorems.Together.{refusal-some}
 use Rattle.grammar.specs.Fields.{Ends, end-of-text, Field, field, Assignments, no-assignment, assignment}
-use Rattle.grammar.specs.Viable.{Viable, viable, Kinds, here, further, Judged, through, no-continuation, another}
+use Rattle.grammar.specs.Viable.{Viable, Open, opens, Kinds, here, further, Judged, through, no-continuation, another}
 use Rattle.grammar.specs.Working.Automaton.{run, run-append, not-viable}
 use Rattle.grammar.specs.Working.Looping.{Turned, turned-next, turned-done, loop-turned, kinds-append, kinds-one}
-use Rattle.grammar.specs.Theorems.OneToken.{ends-ending, ending-ends, judged-stop}
+use Rattle.grammar.specs.Theorems.OneToken.{ends-ending, ending-ends, judged-stop, opens-end}
 
 -- states: 1 before a name or the end, 2 before "=", 3 before a literal, 4 behind the token that ends the field, 0 none
 unfoldable setStep : ℕ → ℕ → ℕ
@@ -90,9 +90,9 @@ set-snoc : (ks : List ℕ) → Assignments ks → Assignments (ks ++ triple)
 set-snoc ks a = set-more ks triple a (assignment [] no-assignment)
 
 -- what begins a sentence
-set-viable : (ks ls rest : List ℕ) → Assignments ks → Assignments (ls ++ rest) → Viable (Field Assignments) (ks ++ ls)
+set-viable : (ks ls rest : List ℕ) → Assignments ks → Assignments (ls ++ rest) → Open (Field Assignments) (ks ++ ls)
 set-viable ks ls rest a b =
-    viable (rest ++ Kind.END ∷ [])
+    opens-end (Field Assignments) (ks ++ ls) rest
     (subst (Field Assignments) (ap (λ (l : List ℕ). l ++ Kind.END ∷ []) (sym (append-assoc ks ls rest)) ∙ append-assoc (ks ++ ls) rest (Kind.END ∷ []))
     (field (ks ++ (ls ++ rest)) Kind.END (set-more ks (ls ++ rest) a b) end-of-text))
 
@@ -193,7 +193,7 @@ module _ (s : List ℕ) (t : Token) where
       (λ r h ks p g. h (ks ++ triple) (three-kinds u v w ks ve we a b c p) (set-snoc ks g))
   on-set cs u v w ve we e _ (wrong-1 n r q) =
       turned-done (aside r (u .start)) (λ ks p g.
-      judged-stop (Field Assignments) s Kind.IN-FIELD t ks u p (viable (Kind.END ∷ []) (field ks Kind.END g end-of-text))
+      judged-stop (Field Assignments) s Kind.IN-FIELD t ks u p (opens Kind.END [] (field ks Kind.END g end-of-text))
       (subst (λ (l : List ℕ). Viable (Field Assignments) (l ++ u .kind ∷ []) → ⊥) (append-nil ks) (set-dead-at ks [] (u .kind) 1 g refl (set-wrong-1 (u .kind) n e))) r q)
   on-set cs u v w ve we e _ (wrong-2 a n) =
       turned-done (aside (refusal (v .kind)) (v .start)) (λ ks p g.

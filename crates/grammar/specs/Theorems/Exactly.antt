@@ -6,7 +6,7 @@ use Prim.Native.Nat.{ℕ}
 use Rattle.lexical.specs.Line.{tokenAt}
 use Rattle.lexical.specs.declared.token.Token.{Token}
 use Rattle.syntax.specs.Parsed.{Parsed, ok, aside}
-use Rattle.grammar.specs.Viable.{Viable, viable, Kinds, here, further, Judged, through, no-continuation, another}
+use Rattle.grammar.specs.Viable.{Viable, viable, Open, opens, Kinds, here, further, Judged, through, no-continuation, another}
 
 -- no sentence goes on as another: each has the token that ends it
 abbrev pub Whole : (List ℕ → Type 0) → Type 0
@@ -76,8 +76,11 @@ module _ (G : List ℕ → Type 0) where
         whole-on ls m (x ∷ more) k g h =
             whole (ls ++ m ∷ []) x (more ++ k ∷ []) g (subst G (append-assoc ls (m ∷ x ∷ more) (k ∷ []) ∙ sym (append-assoc ls (m ∷ []) (x ∷ (more ++ k ∷ [])))) h)
 
-    stop-sentence : (n m : Token) (ks ls : List ℕ) → G (ks ++ n .kind ∷ []) → (G ls → ⊥) → Viable G ls → (Viable G (ls ++ m .kind ∷ []) → ⊥) → Walks ls m ks n → ⊥
-    stop-sentence n m ks ls g nf w nw walk = through-first m n ls ks nf w nw g walk
+    not-all : (ks : List ℕ) → Open G ks → G ks → ⊥
+    not-all ks (opens k rest h) g = whole ks k rest g h
+
+    open-viable : (ks : List ℕ) → Open G ks → Viable G ks
+    open-viable ks (opens k rest h) = viable (k ∷ rest) h
 
     module _ {A : Type 0} (s : List ℕ) (mode : ℕ) (t : Token) where
       -- the reader gave reason 2 at n, or a reason that is not the grammar's
@@ -85,9 +88,20 @@ module _ (G : List ℕ → Type 0) where
         refused : Refused n (aside 2 (n .start))
         refused-else : (r p : ℕ) → (r ≡ 2 → ⊥) → Refused n (aside r p)
 
-      -- Where the field is not over before n, the kinds before n begin a sentence, and those up to n begin none: reason 2 there, or another reason.
-      pub exactly : (x : Parsed A) → Judged G s mode t x → (n : Token) (ks : List ℕ) → Kinds s mode t ks n → (G ks → ⊥) → Viable G ks → (Viable G (ks ++ n .kind ∷ []) → ⊥) → Refused n x
-      exactly _ (through ls m a q g) n ks p nf v nv = absurd (through-first n m ks ls nf v nv g (walks s mode t n m ks ls p q))
-      exactly _ (no-continuation ls m q w nw) n ks p nf v nv =
-          subst (λ (x : Token). Refused n (aside 2 (x .start))) (stop-first n m ks ls v nv w nw (walks s mode t n m ks ls p q)) refused
-      exactly _ (another r p h) n ks q nf v nv = refused-else r p h
+      -- Where the kinds before n begin a sentence, and are not all of it, and those up to n begin none: reason 2 at n, unless another reason stood before.
+      pub exactly : (x : Parsed A) → Judged G s mode t x → (n : Token) (ks : List ℕ) → Kinds s mode t ks n → Open G ks → (Viable G (ks ++ n .kind ∷ []) → ⊥) → Refused n x
+      exactly _ (through ls m a q g) n ks p o nv = absurd (through-first n m ks ls (not-all ks o) (open-viable ks o) nv g (walks s mode t n m ks ls p q))
+      exactly _ (no-continuation ls m q w nw) n ks p o nv =
+          subst (λ (x : Token). Refused n (aside 2 (x .start))) (stop-first n m ks ls (open-viable ks o) nv (open-viable ls w) nw (walks s mode t n m ks ls p q)) refused
+      exactly _ (another r p h) n ks q o nv = refused-else r p h
+
+      -- the reader got through to n, or gave a reason that is not the grammar's
+      pub data Passed (n : Token) : Parsed A → Type 0 where
+        passed : (a : A) → Passed n (ok a n)
+        passed-else : (r p : ℕ) → (r ≡ 2 → ⊥) → Passed n (aside r p)
+
+      -- Where the kinds up to n are a sentence, the reader gets through to n, unless another reason stood before: no reason 2.
+      pub complete : (x : Parsed A) → Judged G s mode t x → (n : Token) (ks : List ℕ) → Kinds s mode t ks n → G (ks ++ n .kind ∷ []) → Passed n x
+      complete _ (through ls m a q g) n ks p h = subst (λ (x : Token). Passed n (ok a x)) (through-sentence n m ks ls h g (walks s mode t n m ks ls p q)) (passed a)
+      complete _ (no-continuation ls m q w nw) n ks p h = absurd (through-first m n ls ks (not-all ls w) (open-viable ls w) nw h (walks s mode t m n ls ks q p))
+      complete _ (another r p e) n ks q h = passed-else r p e
