@@ -4,3 +4,4 @@ pub mod OneToken
 pub mod Assigning
 pub mod Licensing
 pub mod Exactly
+pub mod Readers

@@ -20,7 +20,7 @@ use Rattle.fields.specs.Constants.{isSet, reserved, constantValue, assigned, na
 use Rattle.fields.specs.Theorems.Together.{refusal-some}
 use Rattle.grammar.specs.Fields.{Ends, end-of-text, Field, field, Assignments, no-assignment, assignment}
 use Rattle.grammar.specs.Viable.{Viable, Open, opens, Kinds, here, further, Judged, through, no-continuation, another}
-use Rattle.grammar.specs.Working.Automaton.{run, run-append, not-viable}
+use Rattle.grammar.specs.Working.Automaton.{run, run-append, not-viable, not-longer}
 use Rattle.grammar.specs.Working.Looping.{Turned, turned-next, turned-done, loop-turned, kinds-append, kinds-one}
 use Rattle.grammar.specs.Theorems.OneToken.{ends-ending, ending-ends, judged-stop, opens-end}
 
@@ -77,6 +77,17 @@ set-alive _ (field ks e g en) z =
 
 set-dead : (ks : List ℕ) → run setStep 1 ks ≡ 0 → Viable (Field Assignments) ks → ⊥
 set-dead = not-viable setStep 0 set-stays (Field Assignments) 1 set-alive
+
+set-over : (ks : List ℕ) → Field Assignments ks → run setStep 1 ks ≡ 4
+set-over _ (field ks e g en) = run-append setStep 1 ks (e ∷ []) ∙ ap (λ (q : ℕ). setStep q e) (set-run ks g) ∙ set-end e en
+
+set-last : (k : ℕ) → setStep 4 k ≡ 0
+unfolding setStep
+set-last k = refl
+
+-- no sentence of the field goes on as another
+pub constants-whole : (ks : List ℕ) (k : ℕ) (more : List ℕ) → Field Assignments ks → Field Assignments (ks ++ k ∷ more) → ⊥
+constants-whole = not-longer setStep 0 set-stays (Field Assignments) 1 4 set-over set-last (λ z. let bad : ⊥ = omega (arith, z) in bad)
 
 -- one assignment more
 set-more : (ks ls : List ℕ) → Assignments ks → Assignments ls → Assignments (ks ++ ls)

@@ -30,7 +30,7 @@ use Rattle.fields.specs.Authorizer as Auth
 use Rattle.fields.specs.Signature as Sign
 use Rattle.grammar.specs.Fields.{Ends, end-of-text, next-version, next-constants, next-authorizer, next-licensees, next-conditions, next-comment, next-signature, Field, field, Version, version-integer, version-literal, Principal, principal-literal, principal-name, Authorizer, authorizer, Signature, signature}
 use Rattle.grammar.specs.Viable.{Viable, viable, Open, opens, Kinds, here, further, Judged, through, no-continuation, another}
-use Rattle.grammar.specs.Working.Automaton.{run, not-viable}
+use Rattle.grammar.specs.Working.Automaton.{run, not-viable, not-longer}
 
 -- the reader's test of what ends a field
 pub ends-ending : (k : ℕ) → Ends k → ending k ≡ true
@@ -113,6 +113,13 @@ module _ (first : ℕ → Bool) where
     one-dead : (ks : List ℕ) → run oneStep 1 ks ≡ 0 → Viable (Field G) ks → ⊥
     one-dead = not-viable oneStep 0 one-stays (Field G) 1 one-alive
 
+    one-over : (ks : List ℕ) → Field G ks → run oneStep 1 ks ≡ 3
+    one-over _ (field ks e g en) = single-run ks e (shape ks g) en
+
+    pub one-whole : (ks : List ℕ) (k : ℕ) (more : List ℕ) → Field G ks → Field G (ks ++ k ∷ more) → ⊥
+    unfolding oneStep
+    one-whole = not-longer oneStep 0 one-stays (Field G) 1 3 one-over (λ k. refl) (λ z. let bad : ⊥ = omega (arith, z) in bad)
+
     module _ {A : Type 0} (s : List ℕ) (mode : ℕ) (t : Token) where
       pub one-wrong : first (t .kind) ≡ false → (r : ℕ) → r ≡ refusal (t .kind) → Judged {A = A} (Field G) s mode t (aside r (t .start))
       one-wrong h r e =
@@ -181,6 +188,10 @@ module _ (s : List ℕ) (t : Token) where
       (λ e. chosen VersionJudged (eqb (t .kind) Kind.LITERAL) _ _ (λ f. version-text (decodedAt s (t .start)) (version-string (t .kind) f))
       (λ f. one-wrong versionFirst Version version-shape version-holds Kind.LITERAL (version-string Kind.LITERAL refl) s Kind.IN-FIELD t (version-neither (t .kind) e f) (refusal (t .kind)) refl))
 
+-- no sentence of the field goes on as another
+pub version-whole : (ks : List ℕ) (k : ℕ) (more : List ℕ) → Field Version ks → Field Version (ks ++ k ∷ more) → ⊥
+version-whole = one-whole versionFirst Version version-shape version-holds Kind.LITERAL (version-string Kind.LITERAL refl)
+
 -- a principal
 unfoldable pub principalFirst : ℕ → Bool
 principalFirst k = pick (eqb k Kind.LITERAL) true (eqb k Kind.NAME)
@@ -228,6 +239,9 @@ authorizer-shape _ (authorizer k p) = single k (is-principal k p)
 
 authorizer-holds : (k : ℕ) → principalFirst k ≡ true → Authorizer (k ∷ [])
 authorizer-holds k h = authorizer k (principal-is k h)
+
+pub authorizer-whole : (ks : List ℕ) (k : ℕ) (more : List ℕ) → Field Authorizer ks → Field Authorizer (ks ++ k ∷ more) → ⊥
+authorizer-whole = one-whole principalFirst Authorizer authorizer-shape authorizer-holds Kind.LITERAL (is-principal Kind.LITERAL principal-literal)
 
 module _ (s : List ℕ) (standing : ℕ) (constants : List Attribute) (t : Token) where
   abbrev AuthorizerJudged : Parsed P.Principal → Type 0

@@ -23,3 +23,9 @@ module _ {Q : Type 0} (step : Q → ℕ → Q) where
     module _ (G : List ℕ → Type 0) (q : Q) (alive : (ks : List ℕ) → G ks → run q ks ≡ dead → ⊥) where
       pub not-viable : (ks : List ℕ) → run q ks ≡ dead → Viable G ks → ⊥
       not-viable ks d (viable rest g) = alive (ks ++ rest) g (run-append q ks rest ∙ ap (λ (x : Q). run x rest) d ∙ run-dead rest)
+
+    -- no sentence goes on as another, if each leads to one place, from which no kind leads on
+    pub not-longer : (G : List ℕ → Type 0) (q over : Q) → ((ks : List ℕ) → G ks → run q ks ≡ over) → ((k : ℕ) → step over k ≡ dead) → (over ≡ dead → ⊥)
+        → (ks : List ℕ) (k : ℕ) (more : List ℕ) → G ks → G (ks ++ k ∷ more) → ⊥
+    not-longer G q over ends last apart ks k more g h =
+        apart (sym (ends (ks ++ k ∷ more) h) ∙ run-append q ks (k ∷ more) ∙ ap (λ (x : Q). run (step x k) more) (ends ks g) ∙ ap (λ (x : Q). run x more) (last k) ∙ run-dead more)

@@ -10,7 +10,7 @@ use Rattle.lexical.specs.Kind
 use Rattle.fields.specs.Parsed.{ending}
 use Rattle.grammar.specs.Fields.{Ends, end-of-text, next-version, next-constants, next-authorizer, next-licensees, next-conditions, next-comment, next-signature, Field, field, Principal, principal-literal, principal-name, PrincList, one, comma, PrincExpr, bracket, both, either, threshold, principal, Licensees, nobody, somebody}
 use Rattle.grammar.specs.Viable.{Viable}
-use Rattle.grammar.specs.Working.Automaton.{run, run-append, run-dead, not-viable}
+use Rattle.grammar.specs.Working.Automaton.{run, run-append, run-dead, not-viable, not-longer}
 use Rattle.grammar.specs.Theorems.OneToken.{ends-ending, ending-ends, principalFirst, is-principal}
 
 pub data Place : Type 0 where
@@ -169,3 +169,14 @@ licensees-alive _ (field ks e g en) z =
 
 pub licensees-dead : (ks : List ℕ) → run place p-begin ks ≡ p-dead → Viable (Field Licensees) ks → ⊥
 licensees-dead = not-viable place p-dead place-dead (Field Licensees) p-begin licensees-alive
+
+field-over : (ks : List ℕ) → Field Licensees ks → run place p-begin ks ≡ p-over
+field-over _ (field ks e g en) = licensees-over ks e g en
+
+place-over : (k : ℕ) → place p-over k ≡ p-dead
+unfolding place
+place-over k = refl
+
+-- no sentence of the field goes on as another
+pub licensees-whole : (ks : List ℕ) (k : ℕ) (more : List ℕ) → Field Licensees ks → Field Licensees (ks ++ k ∷ more) → ⊥
+licensees-whole = not-longer place p-dead place-dead (Field Licensees) p-begin p-over field-over place-over (λ z. let v : _≡_ {A = ℕ} 0 1 = cc in omega (arith, v))
