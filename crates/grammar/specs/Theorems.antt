@@ -1,0 +1,7 @@
+pub mod Decoding
+pub mod Unique
+pub mod OneToken
+pub mod Assigning
+pub mod Licensing
+pub mod Exactly
+pub mod Readers
