@@ -40,7 +40,7 @@ pub data Dropped : List ℕ → List ℕ → Type 0 where
 -- a byte behind a backslash that none of the other lines speaks of: no newline, no NUL, none of n r t f, not "0", and no octal digit before two more
 pub data Other (b : ℕ) (xs : List ℕ) : Type 0 where
   other-byte : (b ≡ 0 → ⊥) → (b ≡ 10 → ⊥) → (b ≡ 110 → ⊥) → (b ≡ 114 → ⊥) → (b ≡ 116 → ⊥) → (b ≡ 102 → ⊥) → (b ≡ 48 → ⊥)
-    → pick (octal b) (twoOctal xs) false ≡ false → Other b xs
+      → pick (octal b) (twoOctal xs) false ≡ false → Other b xs
 
 -- a byte that stands for itself: no quote, no backslash; "An unescaped newline or return, or a byte 0 anywhere, is illegal."
 pub data Plain (b : ℕ) : Type 0 where
@@ -63,7 +63,7 @@ pub data Gives : List ℕ → List ℕ → Type 0 where
   one-more : (c : ℕ) (xs ys : List ℕ) → octal c ≡ true → (c ≡ 48 → ⊥) → leads octal xs ≡ false → Gives xs ys → Gives (92 ∷ 48 ∷ c ∷ xs) ((c - 48) ∷ ys)
   -- ""\0" with [..] two more octal digits, or three octal digits starting 1 to 7"; "Above \377 no token"
   three : (b c d : ℕ) (xs ys : List ℕ) → octal b ≡ true → octal c ≡ true → octal d ≡ true → 1 ≤ octalValue b c d → octalValue b c d ≤ 255
-    → Gives xs ys → Gives (92 ∷ b ∷ c ∷ d ∷ xs) (octalValue b c d ∷ ys)
+      → Gives xs ys → Gives (92 ∷ b ∷ c ∷ d ∷ xs) (octalValue b c d ∷ ys)
   -- "\0, \00, \000 give "0", "00", "000"", longest reading
   zero-1 : (xs ys : List ℕ) → leads octal xs ≡ false → Gives xs ys → Gives (92 ∷ 48 ∷ xs) (48 ∷ ys)
   zero-2 : (xs ys : List ℕ) → leads octal xs ≡ false → Gives xs ys → Gives (92 ∷ 48 ∷ 48 ∷ xs) (48 ∷ 48 ∷ ys)

@@ -5,3 +5,4 @@ pub mod Assigning
 pub mod Licensing
 pub mod Exactly
 pub mod Readers
+pub mod Convert

@@ -279,6 +279,7 @@ module _ (s : List ℕ) (i e : ℕ) (k : e ≤ length s) (quote : getD s e 0 ≡
           where
             last : (zs : List ℕ) → ys ≡ 48 ∷ zs → Began 48 (between s (i + 4) e) zs → Gives (between s i e) (b ∷ ys)
             last zs ye (began us ze q) = rw (four-is (four-before (three-before h)), bz, cz, dz, ye, ze) (zero-3 (between s (i + 4) e) us q)
+
             after : Began 48 (between s (i + 3) e) ys → Gives (between s i e) (b ∷ ys)
             after (began zs ye q) =
                 last zs ye (plain-began (between s (i + 3) e) zs q 48 (between s (i + 4) e) (fourth-is (three-before h)) (λ z. let no : ⊥ = omega (arith, z) in no))

@@ -65,9 +65,9 @@ wrong-end k a b c = rw (a, b, c) (chosen (λ (q : Place). q ≡ p-dead) (eqb k K
 -- what a reader of expressions behind n licensees makes of the tokens from t on; N is what is known of the kind behind what it read
 pub data Reading (N : ℕ → Type 0) (s : List ℕ) (n : ℕ) (t : Token) : Parsed Expression → Type 0 where
   got : (ks : List ℕ) (u : Token) (e : Expression) → Kinds s Kind.IN-LICENSEES t ks u → PrincExpr ks → N (u .kind) → 1 ≤ length (named e) → n + length (named e) ≤ 16
-    → Reading N s n t (ok e u)
+      → Reading N s n t (ok e u)
   halted : (ks : List ℕ) (u : Token) → Kinds s Kind.IN-LICENSEES t ks u → (rest : List ℕ) → PrincExpr (ks ++ rest)
-    → ((d : ℕ) → run place (p-want d) (ks ++ u .kind ∷ []) ≡ p-dead) → (r : ℕ) → r ≡ refusal (u .kind) → Reading N s n t (aside r (u .start))
+      → ((d : ℕ) → run place (p-want d) (ks ++ u .kind ∷ []) ≡ p-dead) → (r : ℕ) → r ≡ refusal (u .kind) → Reading N s n t (aside r (u .start))
   otherwise : (r p : ℕ) → (r ≡ 2 → ⊥) → Reading N s n t (aside r p)
 
 abbrev N0 : ℕ → Type 0
