@@ -45,23 +45,77 @@ pub fn assertions(option: &str, file: &Word) -> Result<Vec<Source>, Trouble> {
     }
 }
 
-/// Cuts at blank lines. A part with nothing but comments is no assertion.
+/// Cuts at blank lines, but not at those that a literal's line continuation
+/// drops. A part with nothing but comments is no assertion.
 pub fn split(file: &str, bytes: &[u8]) -> Vec<Source> {
     let mut sources: Vec<Source> = Vec::new();
-    let mut open = false;
+    let mut open = None;
     for (index, line) in bytes.split(|byte| *byte == b'\n').enumerate() {
         let blank = line.iter().all(|byte| matches!(byte, b' ' | b'\t'));
-        match (blank, open) {
-            (true, _) => open = false,
-            (false, true) => add_line(&mut sources, line),
-            (false, false) => {
-                sources.push(Source { file: file.into(), line: index + 1, text: line.to_vec() });
-                open = true;
+        open = match open {
+            Some(Lines { continued: false, .. }) | None if blank => None,
+            Some(lines) => {
+                add_line(&mut sources, line);
+                Some(if blank { lines } else { lines.behind(line) })
             }
-        }
+            None => {
+                sources.push(Source { file: file.into(), line: index + 1, text: line.to_vec() });
+                Some(Lines { field: Field::Tokens, continued: false }.behind(line))
+            }
+        };
     }
     sources.retain(|source| !only_comments(&source.text));
     sources
+}
+
+/// Where an assertion stands behind some of its lines.
+#[derive(Clone, Copy)]
+struct Lines {
+    field: Field,
+    /// The line ended with the backslash of a literal's line continuation.
+    continued: bool,
+}
+
+/// What the lines of a field hold.
+#[derive(Clone, Copy)]
+enum Field {
+    Tokens,
+    /// As `Tokens`, up to its first literal's end.
+    Signature,
+    /// A comment's text, or what stands behind a signature: no literals.
+    Free,
+}
+
+impl Lines {
+    fn behind(self, line: &[u8]) -> Lines {
+        let mut field = match self.continued {
+            true => self.field,
+            false => field_of(line).unwrap_or(self.field),
+        };
+        let mut inside = self.continued;
+        let mut bytes = line.iter();
+        while let Some(byte) = bytes.next() {
+            match (byte, inside, field) {
+                (_, false, Field::Free) | (b'#', false, _) => break,
+                (b'"', true, Field::Signature) => (inside, field) = (false, Field::Free),
+                (b'"', _, _) => inside = !inside,
+                (b'\\', true, _) if bytes.next().is_none() => return Lines { field, continued: true },
+                _ => {}
+            }
+        }
+        Lines { field, continued: false }
+    }
+}
+
+/// The field that a line begins, where it begins with a label.
+fn field_of(line: &[u8]) -> Option<Field> {
+    let colon = line.iter().position(|byte| *byte == b':')?;
+    match line[..colon].to_ascii_lowercase().as_slice() {
+        b"comment" => Some(Field::Free),
+        b"signature" => Some(Field::Signature),
+        b"keynote-version" | b"local-constants" | b"authorizer" | b"licensees" | b"conditions" => Some(Field::Tokens),
+        _ => None,
+    }
 }
 
 fn add_line(sources: &mut [Source], line: &[u8]) {
@@ -118,6 +172,26 @@ mod tests {
         assert_eq!(texts("\n\n# heading\n# more\n\n# of it\na"), [(6, "# of it\na".to_string())]);
         assert_eq!(texts(""), []);
         assert_eq!(texts("\n \n"), []);
+    }
+
+    #[test]
+    fn blank_lines_that_a_literal_drops() {
+        let whole = |text: &str| assert_eq!(texts(text), [(1, text.to_string())]);
+        let two = |first: &str, second: &str| {
+            let line = first.matches('\n').count() + 3;
+            let parts = [(1, first.to_string()), (line, second.to_string())];
+            assert_eq!(texts(&format!("{first}\n\n{second}")), parts);
+        };
+        whole("Licensees: \"a\\\n\n \t\nb\"");
+        whole("Authorizer: \"a\" # \"\nLicensees: \"\\\"b\\\n\nc\\\n\nd\"");
+        whole("Signature: \"a\\\n\nb\"");
+        two("Licensees: \"a\\\\", "b\"");
+        two("Licensees: \"a\" \\", "b");
+        two("Licensees: \"a\" # \"\\", "b");
+        two("COMMENT: \"a\\", "b");
+        two("Comment: a\n \"b\\", "c");
+        two("Signature: \"a\" \"b\\", "c");
+        two("Licensees: \"a\n \"b\\\n c\"\\", "d");
     }
 
     #[test]
