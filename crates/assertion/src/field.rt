@@ -9,12 +9,12 @@ use fields::out::Out;
 use fields::out::ended;
 use fields::version::version;
 use judge::Judged;
-use judge::judge;
+use judge::judge_field;
 use lexical::kind;
 use lexical::token::Token;
 ghost use mathlib.Core.Path.{_≡_};
-ghost use lib.ListN.{length, take};
-ghost use Rattle.judge.specs.Working.Judging.{judgedIn, writtenIn};
+ghost use lib.ListN.{take};
+ghost use Rattle.judge.specs.Working.Judging.{judgedHere};
 ghost use Rattle.fields.specs.Working.Setting.{constantsIn};
 ghost use Rattle.fields.specs.Working.Authorizing.{authorizerIn};
 ghost use Rattle.fields.specs.Working.Chain.{fieldIn};
@@ -184,16 +184,12 @@ fn conditions_field<'a>(
     names: &[usize],
     consts: &'a [u8],
     constants: &[usize],
-    program: &mut [u32],
-    stack: &mut [u64],
-    bytes: &mut [u8],
     d: Partial,
     t: Token,
 ) -> Went
-    ensures { λ r. ⌜ r ≡ onJudged d (judgedIn (now (s .entry)) t (now (query .entry)) (now (consts .entry)) (now (values .entry)) (now (names .entry)) (take (d .known) (now (constants .entry))) (now (program .entry)) (length (now (stack .entry))) (length (now (bytes .entry)))) ⌝ }
-    ensures { λ _. ⌜ now (program .exit) ≡ writtenIn (now (s .entry)) t (now (program .entry)) ⌝ }
+    ensures { λ r. ⌜ r ≡ onJudged d (judgedHere (now (s .entry)) t (now (query .entry)) (now (consts .entry)) (now (values .entry)) (now (names .entry)) (take (d .known) (now (constants .entry)))) ⌝ }
 {
-    match judge(
+    match judge_field(
         s,
         t,
         query,
@@ -201,9 +197,6 @@ fn conditions_field<'a>(
         values,
         names,
         front(constants, d.known),
-        program,
-        stack,
-        bytes,
     ) {
         Judged::Aside { reason, place } => Went::Aside { reason, place },
         Judged::On { rank, next } => Went::On {
@@ -236,13 +229,10 @@ pub fn field(
     pool: &mut [u8],
     places: &mut [usize],
     code: &mut [u16],
-    program: &mut [u32],
-    stack: &mut [u64],
-    bytes: &mut [u8],
     d: Partial,
     t: Token,
 ) -> Went
-    ensures { λ r. ⌜ moved r (tabled (now (consts .exit)) (now (constants .exit)) (now (pool .exit)) (now (places .exit)) (now (code .exit)) (now (program .exit))) ≡ fieldAt (given (now (s .entry)) standing (now (query .entry)) (now (values .entry)) (now (names .entry)) start (length (now (stack .entry))) (length (now (bytes .entry)))) k (tabled (now (consts .entry)) (now (constants .entry)) (now (pool .entry)) (now (places .entry)) (now (code .entry)) (now (program .entry))) d t ⌝ }
+    ensures { λ r. ⌜ moved r (tabled (now (consts .exit)) (now (constants .exit)) (now (pool .exit)) (now (places .exit)) (now (code .exit))) ≡ fieldAt (given (now (s .entry)) standing (now (query .entry)) (now (values .entry)) (now (names .entry)) start) k (tabled (now (consts .entry)) (now (constants .entry)) (now (pool .entry)) (now (places .entry)) (now (code .entry))) d t ⌝ }
 {
     if k == kind::KEYNOTE_VERSION {
         return passed(d, version(s, t));
@@ -257,19 +247,7 @@ pub fn field(
         return licensees_field(s, consts, constants, pool, places, code, d, t);
     }
     if k == kind::CONDITIONS {
-        return conditions_field(
-            s,
-            query,
-            values,
-            names,
-            consts,
-            constants,
-            program,
-            stack,
-            bytes,
-            d,
-            t,
-        );
+        return conditions_field(s, query, values, names, consts, constants, d, t);
     }
     passed(d, ended(t))
 }

@@ -17,7 +17,6 @@ use lexical::kind;
 use lexical::line::token_at;
 use lexical::token::Token;
 ghost use mathlib.Core.Path.{_≡_};
-ghost use lib.ListN.{length};
 ghost use Rattle.assertion.specs.Draft.{without};
 ghost use Rattle.assertion.specs.Read.{first};
 ghost use Rattle.assertion.specs.Working.Field.{given, tabled, moved, fieldAt};
@@ -138,13 +137,10 @@ fn next_field(
     pool: &mut [u8],
     places: &mut [usize],
     code: &mut [u16],
-    program: &mut [u32],
-    stack: &mut [u64],
-    bytes: &mut [u8],
     d: Partial,
     t: Token,
 ) -> Went
-    ensures { λ r. ⌜ moved r (tabled (now (consts .exit)) (now (constants .exit)) (now (pool .exit)) (now (places .exit)) (now (code .exit)) (now (program .exit))) ≡ fieldAt (given (now (s .entry)) standing (now (query .entry)) (now (values .entry)) (now (names .entry)) start (length (now (stack .entry))) (length (now (bytes .entry)))) (t .kind) (tabled (now (consts .entry)) (now (constants .entry)) (now (pool .entry)) (now (places .entry)) (now (code .entry)) (now (program .entry))) d (first (now (s .entry)) t) ⌝ }
+    ensures { λ r. ⌜ moved r (tabled (now (consts .exit)) (now (constants .exit)) (now (pool .exit)) (now (places .exit)) (now (code .exit))) ≡ fieldAt (given (now (s .entry)) standing (now (query .entry)) (now (values .entry)) (now (names .entry)) start) (t .kind) (tabled (now (consts .entry)) (now (constants .entry)) (now (pool .entry)) (now (places .entry)) (now (code .entry))) d (first (now (s .entry)) t) ⌝ }
     ensures { λ _. ⌜ now (free .exit) ≡ without (now (free .entry)) (t .kind) ⌝ }
 {
     use_label(free, t.kind);
@@ -162,9 +158,6 @@ fn next_field(
         pool,
         places,
         code,
-        program,
-        stack,
-        bytes,
         d,
         n,
     )
@@ -184,13 +177,10 @@ fn fields(
     pool: &mut [u8],
     places: &mut [usize],
     code: &mut [u16],
-    program: &mut [u32],
-    stack: &mut [u64],
-    bytes: &mut [u8],
     partial: Partial,
     from: Token,
 ) -> Reading
-    ensures { λ r. ⌜ readBy r (tabled (now (consts .exit)) (now (constants .exit)) (now (pool .exit)) (now (places .exit)) (now (code .exit)) (now (program .exit))) ≡ fieldsIn (given (now (s .entry)) standing (now (query .entry)) (now (values .entry)) (now (names .entry)) start (length (now (stack .entry))) (length (now (bytes .entry)))) (now (free .entry)) (tabled (now (consts .entry)) (now (constants .entry)) (now (pool .entry)) (now (places .entry)) (now (code .entry)) (now (program .entry))) partial from ⌝ }
+    ensures { λ r. ⌜ readBy r (tabled (now (consts .exit)) (now (constants .exit)) (now (pool .exit)) (now (places .exit)) (now (code .exit))) ≡ fieldsIn (given (now (s .entry)) standing (now (query .entry)) (now (values .entry)) (now (names .entry)) start) (now (free .entry)) (tabled (now (consts .entry)) (now (constants .entry)) (now (pool .entry)) (now (places .entry)) (now (code .entry))) partial from ⌝ }
 {
     let mut d = partial;
     let mut t = from;
@@ -211,9 +201,6 @@ fn fields(
             pool,
             places,
             code,
-            program,
-            stack,
-            bytes,
             d,
             t,
         ) {
@@ -246,11 +233,8 @@ pub fn read(
     end: usize,
     code: &mut [u16],
     size: usize,
-    program: &mut [u32],
-    stack: &mut [u64],
-    bytes: &mut [u8],
 ) -> Reading
-    ensures { λ r. ⌜ readBy r (tabled (now (consts .exit)) (now (constants .exit)) (now (pool .exit)) (now (places .exit)) (now (code .exit)) (now (program .exit))) ≡ readIn (given (now (s .entry)) standing (now (query .entry)) (now (values .entry)) (now (names .entry)) start (length (now (stack .entry))) (length (now (bytes .entry)))) top (tabled (now (consts .entry)) (now (constants .entry)) (now (pool .entry)) (now (places .entry)) (now (code .entry)) (now (program .entry))) count end size ⌝ }
+    ensures { λ r. ⌜ readBy r (tabled (now (consts .exit)) (now (constants .exit)) (now (pool .exit)) (now (places .exit)) (now (code .exit))) ≡ readIn (given (now (s .entry)) standing (now (query .entry)) (now (values .entry)) (now (names .entry)) start) top (tabled (now (consts .entry)) (now (constants .entry)) (now (pool .entry)) (now (places .entry)) (now (code .entry))) count end size ⌝ }
 {
     if standing == 0 {
         return Reading::Dropped {
@@ -283,9 +267,6 @@ pub fn read(
         pool,
         places,
         code,
-        program,
-        stack,
-        bytes,
         d,
         t,
     )

@@ -7,7 +7,7 @@ use machine::run;
 ghost use mathlib.Core.Path.{_≡_};
 ghost use Prim.Native.Nat.{_%_};
 ghost use lib.ListN.{length};
-ghost use Rattle.judge.specs.Working.Judging.{judgedIn, rankAt, writtenIn};
+ghost use Rattle.judge.specs.Working.Judging.{judgedIn, judgedHere, rankAt, writtenIn};
 
 // The rank and the token behind the field; or the first fault: reason 0 is that of buffers that are too small.
 pub enum Judged {
@@ -93,4 +93,33 @@ pub fn judge<'a>(
             Judged::On { rank, next }
         }
     }
+}
+
+// The same, with tables of its own.
+pub fn judge_field<'a>(
+    s: &[u8],
+    t: Token,
+    query: &'a [u8],
+    consts: &'a [u8],
+    values: &[usize],
+    names: &[usize],
+    constants: &[usize],
+) -> Judged
+    ensures { λ r. ⌜ r ≡ judgedHere (now (s .entry)) t (now (query .entry)) (now (consts .entry)) (now (values .entry)) (now (names .entry)) (now (constants .entry)) ⌝ }
+{
+    let mut code = [0u32; 8194];
+    let mut stack = [0u64; 208];
+    let mut bytes = [0u8; 77824];
+    judge(
+        s,
+        t,
+        query,
+        consts,
+        values,
+        names,
+        constants,
+        &mut code,
+        &mut stack,
+        &mut bytes,
+    )
 }

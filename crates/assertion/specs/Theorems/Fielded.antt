@@ -26,12 +26,7 @@ use Rattle.expression.specs.Theorems.Queried.{environment}
 use Rattle.constants.specs.Theorems.Begun.{begun-shows}
 use Rattle.conditions.specs.Word.{nextAt}
 use Rattle.conditions.specs.Program.{readProgram}
-use Rattle.conditions.specs.Compiled.{Compiled, refused, compiled, conditions-compiled}
-use Rattle.conditions.specs.Working.Emit.{Ran}
-use Rattle.conditions.specs.Working.Program.{conditionsAt as codedAt}
-use Rattle.conditions.specs.Working.Written.{Keeps, keeps}
-use Rattle.judge.specs.Working.Judging.{writtenBy, writtenIn}
-use Rattle.judge.specs.Theorems.Judges.{Judging, judged-aside, judged-on, judge-read}
+use Rattle.judge.specs.Theorems.Judges.{Judging, judged-aside, judged-on, judge-field-read}
 use Rattle.judge.specs.declared.Judged.{Judged}
 use Rattle.fields.specs.Parsed.{ending, ended}
 use Rattle.fields.specs.Constants.{constantsFrom}
@@ -64,51 +59,26 @@ pub data FieldRead (q : Query) (g : Given) (top : ℕ) (x : Tables) (names : Lis
 -- the tables with some that are as long
 module _ {g : Given} {x y : Tables} (after : After g x y) where
   after-constants : (m q : List ℕ) → length m ≡ length (y .consts) → length q ≡ length (y .constants) → take (g .start) m ≡ take (g .start) (y .consts)
-      → After g x (tabled m q (y .pool) (y .places) (y .code) (y .program))
+      → After g x (tabled m q (y .pool) (y .places) (y .code))
   after-constants m q hm hq e = record {
     consts = hm ∙ after .consts;
     constants = hq ∙ after .constants;
     pool = after .pool;
     places = after .places;
     code = after .code;
-    program = after .program;
     begun = e ∙ after .begun;
   }
 
   pub after-code : (p l m : List ℕ) → length p ≡ length (y .pool) → length l ≡ length (y .places) → length m ≡ length (y .code)
-      → After g x (tabled (y .consts) (y .constants) p l m (y .program))
+      → After g x (tabled (y .consts) (y .constants) p l m)
   after-code p l m hp hl hm = record {
     consts = after .consts;
     constants = after .constants;
     pool = hp ∙ after .pool;
     places = hl ∙ after .places;
     code = hm ∙ after .code;
-    program = after .program;
     begun = after .begun;
   }
-
-  after-program : (m : List ℕ) → length m ≡ length (y .program) → After g x (tabled (y .consts) (y .constants) (y .pool) (y .places) (y .code) m)
-  after-program m hm = record {
-    consts = after .consts;
-    constants = after .constants;
-    pool = after .pool;
-    places = after .places;
-    code = after .code;
-    program = hm ∙ after .program;
-    begun = after .begun;
-  }
-
--- the code of Conditions is written into a buffer as long
-written-length : (s m : List ℕ) (at : ℕ) → length s < 65536 → length s + 2 ≤ length m → length (writtenIn s (nextAt s at) m) ≡ length m
-unfolding writtenIn
-written-length s m at short room = kept (readProgram s (nextAt s at)) (codedAt s m 0 (nextAt s at)) (conditions-compiled s m 0 at short (omega arith) (omega (arith, room)))
-  where
-    keeping : (b : List ℕ) → Keeps m 0 b → length b ≡ length m
-    keeping b (keeps l e) = l
-
-    kept : (p : Parsed Program) (r : Ran) → Compiled s m 0 p r → length (writtenBy r) ≡ length m
-    kept _ _ (refused r p b k i) = keeping b i
-    kept _ _ (compiled q x p u n b c stop l h k codes) = l
 
 opened-conditions : (k : ℕ) → k ≡ Kind.CONDITIONS → Kind.opened k ≡ Kind.IN-FIELD
 unfolding Kind.opened
@@ -158,10 +128,10 @@ module _ {q : Query} {g : Given} {top : ℕ} {x : Tables} {names : List Principa
   constants-field : (k : ℕ) (p : Parsed (List Attribute)) (r : Stored) → ConstantsRead (g .text) (y .consts) (y .constants) (g .start) p r
       → Reads k (andThen p (λ cs n. ok (withConstants (labelled d k) cs) n)) (intoConstants y (settledAs u r))
   constants-field k _ _ (constants-aside r p m m′ h hm hq e) =
-      field-aside r p (tabled m m′ (y .pool) (y .places) (y .code) (y .program)) h
+      field-aside r p (tabled m m′ (y .pool) (y .places) (y .code)) h
       (record { after = after-constants (held .after) m m′ hm hq e; holds = front .holds; code = front .code })
   constants-field k _ _ (constants-on cs c e n m m′ number few lie sn hm hq b) =
-      field-on (withConstants (labelled d k) cs) (knowing u c) n (tabled m m′ (y .pool) (y .places) (y .code) (y .program)) (left k)
+      field-on (withConstants (labelled d k) cs) (knowing u c) n (tabled m m′ (y .pool) (y .places) (y .code)) (left k)
       (record {
         ps = held .ps;
         after = after-constants (held .after) m m′ hm hq b;
@@ -189,10 +159,10 @@ module _ {q : Query} {g : Given} {top : ℕ} {x : Tables} {names : List Principa
       → AuthorRead (g .text) (y .pool) (y .places) (u .count) (u .end) (enterAll names (held .ps)) p r
       → Reads k (andThen p (λ p n. ok (withAuthorizer (labelled d k) p) n)) (intoIndex y (madeAs u r))
   author-field k ke one _ _ (author-aside r p pool places h hp hl holds) =
-      field-aside r p (tabled (y .consts) (y .constants) pool places (y .code) (y .program)) h
+      field-aside r p (tabled (y .consts) (y .constants) pool places (y .code)) h
       (record { after = after-code (held .after) pool places (y .code) hp hl refl; holds = names-before ready (held .ps) holds; code = front .code })
   author-field k ke one _ _ (author-on p i c e n pool places sn ie holds low near hp hl) =
-      field-on (withAuthorizer (labelled d k) p) (authoredBy u i c e) n (tabled (y .consts) (y .constants) pool places (y .code) (y .program)) (left k)
+      field-on (withAuthorizer (labelled d k) p) (authoredBy u i c e) n (tabled (y .consts) (y .constants) pool places (y .code)) (left k)
       (record {
         ps = held .ps ++ (p ∷ []);
         after = after-code (held .after) pool places (y .code) hp hl refl;
@@ -210,7 +180,7 @@ module _ {q : Query} {g : Given} {top : ℕ} {x : Tables} {names : List Principa
       → Reads k (andThen p (λ l n. ok (withLicensees (labelled d k) l) n)) (intoCode y (listedAs u r))
   list-field k ke one _ _ (licensees-aside r p pool places code h hp hl hm holds same) =
       let z : u .size ≡ size = listed-none one (held .list) in
-      field-aside r p (tabled (y .consts) (y .constants) pool places code (y .program)) h
+      field-aside r p (tabled (y .consts) (y .constants) pool places code) h
       (record {
         after = after-code (held .after) pool places code hp hl hm;
         holds = names-before ready (held .ps) holds;
@@ -220,7 +190,7 @@ module _ {q : Query} {g : Given} {top : ℕ} {x : Tables} {names : List Principa
       let z : u .size ≡ size = listed-none one (held .list) in
       let e : enterAll names (held .ps ++ licenseesOf f) ≡ enterAll (enterAll names (held .ps)) (licenseesOf f) = enter-all-append names (held .ps) (licenseesOf f) in
       let l : length (held .ps ++ licenseesOf f) ≡ length (held .ps) + length (licenseesOf f) = length-append (held .ps) (licenseesOf f) in
-      field-on (withLicensees (labelled d k) f) (licensedTo u st) n (tabled (y .consts) (y .constants) pool places code (y .program)) (left k)
+      field-on (withLicensees (labelled d k) f) (licensedTo u st) n (tabled (y .consts) (y .constants) pool places code) (left k)
       (record {
         ps = held .ps ++ licenseesOf f;
         after = after-code (held .after) pool places code hp hl hm;
@@ -245,18 +215,15 @@ module _ {q : Query} {g : Given} {top : ℕ} {x : Tables} {names : List Principa
       let b = begun-shows (y .consts) _ _ (g .start) (held .after .begun ∙ ready .begun) (ready .values-short) (ready .requesters-short) in
       record { values-lie = ready .values; attributes-lie = ready .attributes; constants-lie = held .constants; values-joined = b .0; requesters-joined = b .1 }
 
-  judged-field : (k : ℕ) (p : Parsed Program) (r : Judged) (m : List ℕ) → Judging (g .text) (environment q (d .constants)) p r → length m ≡ length (y .program)
-      → Reads k (andThen p (λ p n. ok (withProgram (labelled d k) p) n))
-      (moved (onJudged u r) (tabled (y .consts) (y .constants) (y .pool) (y .places) (y .code) m))
+  judged-field : (k : ℕ) (p : Parsed Program) (r : Judged) → Judging (g .text) (environment q (d .constants)) p r
+      → Reads k (andThen p (λ p n. ok (withProgram (labelled d k) p) n)) (moved (onJudged u r) y)
   unfolding worth
-  judged-field k _ _ m (judged-aside r p h) hm =
-      field-aside r p (tabled (y .consts) (y .constants) (y .pool) (y .places) (y .code) m) h
-      (record { after = after-program (held .after) m hm; holds = front .holds; code = front .code })
-  judged-field k _ _ m (judged-on p n sn) hm =
-      field-on (withProgram (labelled d k) p) (rankedAt u (conditions (environment q (d .constants)) p)) n (tabled (y .consts) (y .constants) (y .pool) (y .places) (y .code) m) (left k)
+  judged-field k _ _ (judged-aside r p h) = field-aside r p y h front
+  judged-field k _ _ (judged-on p n sn) =
+      field-on (withProgram (labelled d k) p) (rankedAt u (conditions (environment q (d .constants)) p)) n y (left k)
       (record {
         ps = held .ps;
-        after = after-program (held .after) m hm;
+        after = held .after;
         stood = sn;
         constants = held .constants;
         index = index-less free k (held .index);
@@ -272,13 +239,7 @@ module _ {q : Query} {g : Given} {top : ℕ} {x : Tables} {names : List Principa
   conditions-field : (k at : ℕ) → Reads k (andThen (readProgram (g .text) (nextAt (g .text) at)) (λ p n. ok (withProgram (labelled d k) p) n))
       (conditionsAt g y u (nextAt (g .text) at))
   unfolding conditionsAt
-  conditions-field k at =
-      judged-field k _ _ (writtenIn (g .text) (nextAt (g .text) at) (y .program))
-      (judge-read shown few-values (g .text) (omega (arith, ready .short)) (g .depth) (g .space) (ready .depth) (ready .space) at (y .program) room)
-      (written-length (g .text) (y .program) at (omega (arith, ready .short)) room)
-    where
-      room : length (g .text) + 2 ≤ length (y .program)
-      room = omega (arith, ready .short, ready .program-room, held .after .program)
+  conditions-field k at = judged-field k _ _ (judge-field-read shown few-values (g .text) (ready .short) at)
 
   conditions-here : (k : ℕ) → k ≡ Kind.CONDITIONS → (at : ℕ)
       → Reads k (andThen (readProgram (g .text) (tokenAt (g .text) (Kind.opened k) at)) (λ p n. ok (withProgram (labelled d k) p) n))

@@ -85,7 +85,7 @@ module _ {q : Query} {g : Given} (top : ℕ) {x : Tables} {names : List Principa
         → As (kept (record { authorizer = p; licensees = d .licensees; conditions = d .conditions })) (withCode y (finishedBy (keptAt u z) code))
     kept-as p ie m z code l ended =
         as-kept (record { authorizer = p; licensees = d .licensees; conditions = d .conditions }) (held .ps) (u .author) (u .rank) (u .count) (u .end) z
-        (tabled (y .consts) (y .constants) (y .pool) (y .places) code (y .program)) (after-code (held .after) (y .pool) (y .places) code refl refl l)
+        (tabled (y .consts) (y .constants) (y .pool) (y .places) code) (after-code (held .after) (y .pool) (y .places) code refl refl l)
         (omega (arith, held .index .room)) (held .index .holds) (held .index .low) ie m (ended .named) (ended .formed) (ended .few) (ended .wrote) (ended .ends) (ended .most) (held .rank)
 
     listed-as : (p : Principal) → u .author ≡ place (enterAll names (held .ps)) p → member p (enterAll names (held .ps)) ≡ true
@@ -165,7 +165,7 @@ module _ {q : Query} {g : Given} (top : ℕ) {x : Tables} {names : List Principa
   turns _ _ (belong d free u t y de held) = turn-here de held
 
   unread : After g x x
-  unread = record { consts = refl; constants = refl; pool = refl; places = refl; code = refl; program = refl; begun = refl }
+  unread = record { consts = refl; constants = refl; pool = refl; places = refl; code = refl; begun = refl }
 
   held-blank : (t : Token) → Stood (g .text) t → Held q g top x names end size labels blank (fresh top count end size) t x
   unfolding enterAll worth

@@ -30,11 +30,8 @@ pub record Ready (q : Query) (g : Given) (x : Tables) (names : List Principal) (
   pub values-short : length (joined (q .values)) ≤ 65535
   pub requesters-short : length (joined (q .requesters)) ≤ 65535
   pub few : length (q .values) ≤ 256
-  pub depth : 208 ≤ g .depth
-  pub space : 77824 ≤ g .space
   pub constants-room : 16 ≤ length (x .constants)
-  pub consts-room : g .start + 64 + 8192 ≤ length (x .consts)
-  pub program-room : 8194 ≤ length (x .program)
+  pub consts-room : g .start + 64 + length (g .text) ≤ length (x .consts)
   pub holds : Holds (x .pool) (x .places) count end names
   pub tight : end ≤ 258 * count
   pub places-room : count + 17 ≤ length (x .places)
@@ -49,7 +46,6 @@ pub record After (g : Given) (x y : Tables) : Type 0 where
   pub pool : length (y .pool) ≡ length (x .pool)
   pub places : length (y .places) ≡ length (x .places)
   pub code : length (y .code) ≡ length (x .code)
-  pub program : length (y .program) ≡ length (x .program)
   pub begun : take (g .start) (y .consts) ≡ take (g .start) (x .consts)
 
 -- the rank of Conditions: of a missing field the number given

@@ -7,7 +7,7 @@ use lib.ListN.{take}
 use Rattle.text.specs.Choice.{pick}
 use Rattle.lexical.specs.Kind
 use Rattle.lexical.specs.declared.token.Token.{Token}
-use Rattle.judge.specs.Working.Judging.{judgedIn, writtenIn}
+use Rattle.judge.specs.Working.Judging.{judgedHere}
 use Rattle.judge.specs.declared.Judged.{Judged}
 use Rattle.judge.specs.declared.Judged.the-variants.{On as Ranked, Aside as Unranked}
 use Rattle.fields.specs.Version.{version}
@@ -26,8 +26,7 @@ use Rattle.assertion.specs.declared.field.Partial.{Partial}
 use Rattle.assertion.specs.declared.field.Went.{Went}
 use Rattle.assertion.specs.declared.field.Went.the-variants.{On, Aside}
 
--- what stays as it is: the text and its standing, the query's record, the places of its values and attributes, where constants begin, and
--- the room of the two stacks
+-- what stays as it is: the text and its standing, the query's record, the places of its values and attributes, and where constants begin
 pub record Given : Type 0 where
   pub text : List ℕ
   pub standing : ℕ
@@ -35,33 +34,27 @@ pub record Given : Type 0 where
   pub values : List ℕ
   pub names : List ℕ
   pub start : ℕ
-  pub depth : ℕ
-  pub space : ℕ
 
-abbrev pub given : List ℕ → ℕ → List ℕ → List ℕ → List ℕ → ℕ → ℕ → ℕ → Given
-given s standing query values names start depth space = record {
+abbrev pub given : List ℕ → ℕ → List ℕ → List ℕ → List ℕ → ℕ → Given
+given s standing query values names start = record {
   text = s;
   standing = standing;
   query = query;
   values = values;
   names = names;
   start = start;
-  depth = depth;
-  space = space;
 }
 
--- the buffer of constants and the places of their names, the pool of identifiers and their places, the licensees' programs, and the code of
--- Conditions
+-- the buffer of constants and the places of their names, the pool of identifiers and their places, and the licensees' programs
 pub record Tables : Type 0 where
   pub consts : List ℕ
   pub constants : List ℕ
   pub pool : List ℕ
   pub places : List ℕ
   pub code : List ℕ
-  pub program : List ℕ
 
-abbrev pub tabled : List ℕ → List ℕ → List ℕ → List ℕ → List ℕ → List ℕ → Tables
-tabled consts constants pool places code program = record { consts = consts; constants = constants; pool = pool; places = places; code = code; program = program }
+abbrev pub tabled : List ℕ → List ℕ → List ℕ → List ℕ → List ℕ → Tables
+tabled consts constants pool places code = record { consts = consts; constants = constants; pool = pool; places = places; code = code }
 
 -- an answer and the tables
 pub data Moved : Type 0 where
@@ -106,13 +99,13 @@ listedAs d (ran (Unlisted r a) p l k) = listed (Aside r a) p l k
 
 -- the tables with those
 abbrev pub intoConstants : Tables → Settled → Moved
-intoConstants x (settled r c q) = moved r (tabled c q (x .pool) (x .places) (x .code) (x .program))
+intoConstants x (settled r c q) = moved r (tabled c q (x .pool) (x .places) (x .code))
 
 abbrev pub intoIndex : Tables → Settled → Moved
-intoIndex x (settled r p l) = moved r (tabled (x .consts) (x .constants) p l (x .code) (x .program))
+intoIndex x (settled r p l) = moved r (tabled (x .consts) (x .constants) p l (x .code))
 
 abbrev pub intoCode : Tables → Listing → Moved
-intoCode x (listed r p l k) = moved r (tabled (x .consts) (x .constants) p l k (x .program))
+intoCode x (listed r p l k) = moved r (tabled (x .consts) (x .constants) p l k)
 
 abbrev pub onJudged : Partial → Judged → Went
 onJudged d (Ranked k t) = On (rankedAt d k) t
@@ -134,11 +127,10 @@ licenseesAt g x d t =
     intoCode x (listedAs d (fieldIn (g .text) (x .consts) (known d x) (x .pool) (x .places) (x .code) (d .count) (d .end) (d .size) t))
 
 abbrev pub judgedBy : Given → Tables → Partial → Token → Judged
-judgedBy g x d t = judgedIn (g .text) t (g .query) (x .consts) (g .values) (g .names) (known d x) (x .program) (g .depth) (g .space)
+judgedBy g x d t = judgedHere (g .text) t (g .query) (x .consts) (g .values) (g .names) (known d x)
 
 unfoldable pub conditionsAt : Given → Tables → Partial → Token → Moved
-conditionsAt g x d t =
-    moved (onJudged d (judgedBy g x d t)) (tabled (x .consts) (x .constants) (x .pool) (x .places) (x .code) (writtenIn (g .text) t (x .program)))
+conditionsAt g x d t = moved (onJudged d (judgedBy g x d t)) x
 
 -- the field with that label, whose first token is t
 unfoldable pub fieldAt : Given → ℕ → Tables → Partial → Token → Moved

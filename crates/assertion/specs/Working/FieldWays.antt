@@ -11,7 +11,7 @@ use borrow.Author.Tests.{eq-eqb, ne-eqb}
 use Rattle.text.specs.Choice.{pick}
 use Rattle.lexical.specs.Kind
 use Rattle.lexical.specs.declared.token.Token.{Token}
-use Rattle.judge.specs.Working.Judging.{judgedIn, writtenIn}
+use Rattle.judge.specs.Working.Judging.{judgedHere}
 use Rattle.judge.specs.declared.Judged.{Judged}
 use Rattle.judge.specs.declared.Judged.the-variants.{On as Ranked, Aside as Unranked}
 use Rattle.fields.specs.Version.{version}
@@ -105,10 +105,10 @@ module _ (d : Partial) (s consts constants known pool places code : List ℕ) (t
   listed-not a b k = rw (← ke, ← e, k)
 
 -- `conditions_field`
-module _ (d : Partial) (s : List ℕ) (t : Token) (query consts values names constants known program : List ℕ) (depth space : ℕ) (ke : known ≡ take (d .known) constants)
-    (r : Judged) (e : r ≡ judgedIn s t query consts values names known program depth space) where
+module _ (d : Partial) (s : List ℕ) (t : Token) (query consts values names constants known : List ℕ) (ke : known ≡ take (d .known) constants)
+    (r : Judged) (e : r ≡ judgedHere s t query consts values names known) where
   abbrev judged : Went
-  judged = onJudged d (judgedIn s t query consts values names (take (d .known) constants) program depth space)
+  judged = onJudged d (judgedHere s t query consts values names (take (d .known) constants))
 
   pub judged-on : (k : ℕ) (n : Token) → r ≡ Ranked k n → On (rankedAt d k) n ≡ judged
   judged-on k n f = rw (← ke, ← e, f)
@@ -117,12 +117,12 @@ module _ (d : Partial) (s : List ℕ) (t : Token) (query consts values names con
   judged-not a b f = rw (← ke, ← e, f)
 
 -- `field`
-module _ (s : List ℕ) (standing : ℕ) (query values names : List ℕ) (start depth space k : ℕ) (consts constants pool places code program : List ℕ) (d : Partial) (t : Token) where
+module _ (s : List ℕ) (standing : ℕ) (query values names : List ℕ) (start k : ℕ) (consts constants pool places code : List ℕ) (d : Partial) (t : Token) where
   abbrev g : Given
-  g = given s standing query values names start depth space
+  g = given s standing query values names start
 
   abbrev x : Tables
-  x = tabled consts constants pool places code program
+  x = tabled consts constants pool places code
 
   pub field-version : (o : Out) (r : Went) → k ≡ Kind.KEYNOTE-VERSION → o ≡ outOf (version s t) → r ≡ passedOn d o → moved r x ≡ fieldAt g k x d t
   unfolding fieldAt
@@ -130,30 +130,30 @@ module _ (s : List ℕ) (standing : ℕ) (query values names : List ℕ) (start 
 
   module _ (n4 : k ≡ Kind.KEYNOTE-VERSION → ⊥) where
     pub field-constants : (r : Went) (c q : List ℕ) → k ≡ Kind.LOCAL-CONSTANTS → settled r c q ≡ settledAs d (constantsIn s consts constants 0 start t)
-        → moved r (tabled c q pool places code program) ≡ fieldAt g k x d t
+        → moved r (tabled c q pool places code) ≡ fieldAt g k x d t
     unfolding fieldAt constantsAt
     field-constants r c q h e = rw (h, ← e)
 
     module _ (n5 : k ≡ Kind.LOCAL-CONSTANTS → ⊥) where
       pub field-authorizer : (r : Went) (p l : List ℕ) → k ≡ Kind.AUTHORIZER
           → settled r p l ≡ madeAs d (authorizerIn s standing consts (take (d .known) constants) pool places (d .count) (d .end) t)
-          → moved r (tabled consts constants p l code program) ≡ fieldAt g k x d t
+          → moved r (tabled consts constants p l code) ≡ fieldAt g k x d t
       unfolding fieldAt authorizerAt
       field-authorizer r p l h e = rw (h, ← e)
 
       module _ (n6 : k ≡ Kind.AUTHORIZER → ⊥) where
         pub field-licensees : (r : Went) (p l m : List ℕ) → k ≡ Kind.LICENSEES
             → listed r p l m ≡ listedAs d (fieldIn s consts (take (d .known) constants) pool places code (d .count) (d .end) (d .size) t)
-            → moved r (tabled consts constants p l m program) ≡ fieldAt g k x d t
+            → moved r (tabled consts constants p l m) ≡ fieldAt g k x d t
         unfolding fieldAt licenseesAt
         field-licensees r p l m h e = rw (h, ← e)
 
         module _ (n7 : k ≡ Kind.LICENSEES → ⊥) where
-          pub field-conditions : (r : Went) (m : List ℕ) → k ≡ Kind.CONDITIONS
-              → r ≡ onJudged d (judgedIn s t query consts values names (take (d .known) constants) program depth space)
-              → m ≡ writtenIn s t program → moved r (tabled consts constants pool places code m) ≡ fieldAt g k x d t
+          pub field-conditions : (r : Went) → k ≡ Kind.CONDITIONS
+              → r ≡ onJudged d (judgedHere s t query consts values names (take (d .known) constants))
+              → moved r x ≡ fieldAt g k x d t
           unfolding fieldAt conditionsAt
-          field-conditions r m h e f = rw (h, e, f)
+          field-conditions r h e = rw (h, e)
 
           pub field-comment : (o : Out) (r : Went) → (k ≡ Kind.CONDITIONS → ⊥) → o ≡ endedOut t → r ≡ passedOn d o → moved r x ≡ fieldAt g k x d t
           unfolding fieldAt

@@ -51,7 +51,7 @@ unfoldable pub signedIn : List ℕ → List ℕ → Partial → Token → Finish
 signedIn s code d t = onSigned code d (outOf (signature s t))
 
 abbrev pub withCode : Tables → Finished → Result
-withCode x (finishedBy r code) = readBy r (tabled (x .consts) (x .constants) (x .pool) (x .places) code (x .program))
+withCode x (finishedBy r code) = readBy r (tabled (x .consts) (x .constants) (x .pool) (x .places) code)
 
 -- the labels that may still stand, what is read so far, the token behind it, and the tables
 abbrev pub State : Type 0

@@ -136,23 +136,20 @@ pub next-is : (s : List ℕ) (g : Given) (x : Tables) (d : Partial) (kind end mo
 next-is s g x d kind end mode n r me nt e = e ∙ rw (nt, me)
 
 -- the loop, with the invariant `fieldsIn .. ≡ a`
-module _ (s : List ℕ) (standing : ℕ) (query values names : List ℕ) (start depth space : ℕ) (free consts constants pool places code program : List ℕ) (d : Partial) (t : Token) (a : Result)
-    (inv : fieldsIn (given s standing query values names start depth space) free (tabled consts constants pool places code program) d t ≡ a) (b : Bool) (be : b ≡ lastAt free (t .kind)) where
+module _ (s : List ℕ) (standing : ℕ) (query values names : List ℕ) (start : ℕ) (free consts constants pool places code : List ℕ) (d : Partial) (t : Token) (a : Result)
+    (inv : fieldsIn (given s standing query values names start) free (tabled consts constants pool places code) d t ≡ a) (b : Bool) (be : b ≡ lastAt free (t .kind)) where
   abbrev g : Given
-  g = given s standing query values names start depth space
+  g = given s standing query values names start
 
   abbrev x : Tables
-  x = tabled consts constants pool places code program
+  x = tabled consts constants pool places code
 
-  pub fields-last : (r : Reading) (m : List ℕ) → b ≡ true → finishedBy r m ≡ lastIn s free code d t → readBy r (tabled consts constants pool places m program) ≡ a
+  pub fields-last : (r : Reading) (m : List ℕ) → b ≡ true → finishedBy r m ≡ lastIn s free code d t → readBy r (tabled consts constants pool places m) ≡ a
   unfolding fieldsIn
   fields-last r m h e = sym (loop-done _ _ _ (free, d, t, x) _ (rw (← be, h, ← e))) ∙ inv
 
-  module _ (h : b ≡ false) (left : List ℕ) (le : left ≡ without free (t .kind)) (deep wide : ℕ) (de : deep ≡ depth) (we : wide ≡ space) (r : Went) (z : Tables)
-      (rf : moved r z ≡ fieldAt (given s standing query values names start deep wide) (t .kind) x d (first s t)) where
-    re : moved r z ≡ fieldAt g (t .kind) x d (first s t)
-    re = rf ∙ rw (de, we)
-
+  module _ (h : b ≡ false) (left : List ℕ) (le : left ≡ without free (t .kind)) (r : Went) (z : Tables)
+      (re : moved r z ≡ fieldAt g (t .kind) x d (first s t)) where
     pub fields-aside : (p q : ℕ) → r ≡ Aside p q → readBy (Dropped p q) z ≡ a
     unfolding fieldsIn
     fields-aside p q k = sym (loop-done _ _ _ (free, d, t, x) _ (rw (← be, h, ← re, k))) ∙ inv

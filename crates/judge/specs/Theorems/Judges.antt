@@ -3,7 +3,7 @@ use mathlib.Core.Path.{_≡_, refl}
 use mathlib.Core.List.{List}
 use Prim.Native.Nat.{ℕ, _+_, _-_, _%_, _<_, _≤_}
 use native.Mathlib.Omega.{arith}
-use lib.ListN.{length, take}
+use lib.ListN.{length, take, replicate, length-replicate}
 use borrow.Author.Tests.{le-ltb}
 use Rattle.lexical.specs.Kind.{IN-FIELD}
 use Rattle.lexical.specs.declared.token.Token.{Token}
@@ -23,7 +23,7 @@ use Rattle.conditions.specs.Compiled.{Compiled, refused, compiled, conditions-c
 use Rattle.conditions.specs.Behind.{read-behind}
 use Rattle.conditions.specs.Working.Emit.{Ran}
 use Rattle.conditions.specs.Working.Program.{conditionsAt}
-use Rattle.judge.specs.Working.Judging.{leftBy, rankAt, judgedOf, judgedIn}
+use Rattle.judge.specs.Working.Judging.{leftBy, rankAt, judgedOf, judgedIn, judgedHere}
 use Rattle.judge.specs.Theorems.Rooms.{read-need, read-room}
 use Rattle.judge.specs.declared.Judged.{Judged}
 use Rattle.judge.specs.declared.Judged.the-variants.{On, Aside}
@@ -64,3 +64,10 @@ module _ {rec consts values names constants : List ℕ} {env : Environment} (sho
     pub judge-read : Judging s env (readProgram s (nextAt s at)) (judgedIn s (nextAt s at) rec consts values names constants m depth space)
     unfolding judgedIn
     judge-read = both-judge (readProgram s (nextAt s at)) (conditionsAt s m 0 (nextAt s at)) refl (conditions-compiled s m 0 at short (omega arith) (omega (arith, room)))
+
+-- With tables of its own, for a text of at most 8,192 bytes.
+pub judge-field-read : {rec consts values names constants : List ℕ} {env : Environment} → Shows rec consts values names constants env → length (env .values) ≤ 256
+    → (s : List ℕ) → length s ≤ 8192 → (at : ℕ) → Judging s env (readProgram s (nextAt s at)) (judgedHere s (nextAt s at) rec consts values names constants)
+unfolding judgedHere
+judge-field-read shows few s short at =
+    judge-read shows few s (omega (arith, short)) 208 77824 (omega arith) (omega arith) at (replicate 8194 0) (omega (arith, short, length-replicate {A = ℕ} 8194 0))

@@ -3,7 +3,7 @@ use mathlib.Core.Path.{_≡_, sym}
 use mathlib.Core.List.{List, [], map}
 use Prim.Native.Nat.{ℕ, _%_, _<_, _≤_}
 use lib.Dec.{ltb}
-use lib.ListN.{length, take}
+use lib.ListN.{replicate, length, take}
 use borrow.Author.Tests.{lt-ltb, le-ltb}
 use Rattle.text.specs.Choice.{pick}
 use Rattle.text.specs.Counted.{counted}
@@ -38,6 +38,15 @@ judgedOf f (ran (Found x p u n) b) = On (f b u) n
 unfoldable pub judgedIn : List ℕ → Token → List ℕ → List ℕ → List ℕ → List ℕ → List ℕ → List ℕ → ℕ → ℕ → Judged
 judgedIn s t rec consts values names constants m depth space =
     judgedOf (λ b u. rankAt b u s rec consts values names constants depth space) (conditionsAt s m 0 t)
+
+-- with tables that are large enough for every text
+unfoldable pub judgedHere : List ℕ → Token → List ℕ → List ℕ → List ℕ → List ℕ → List ℕ → Judged
+judgedHere s t rec consts values names constants = judgedIn s t rec consts values names constants (replicate 8194 0) 208 77824
+
+pub here-is : (s : List ℕ) (t : Token) (rec consts values names constants : List ℕ) (r : Judged)
+    → r ≡ judgedIn s t rec consts values names constants (replicate 8194 0) 208 77824 → r ≡ judgedHere s t rec consts values names constants
+unfolding judgedHere
+here-is s t rec consts values names constants r e = e
 
 -- the code that is written
 abbrev pub writtenBy : Ran → List ℕ
