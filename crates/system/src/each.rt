@@ -4,15 +4,13 @@ use crate::note::note;
 use assertion::Reading;
 use assertion::read;
 ghost use mathlib.Core.Path.{_≡_};
-ghost use lib.ListN.{length, getD};
+ghost use lib.ListN.{getD, drop};
 ghost use Prim.Native.Nat.{_+_, _-_};
 ghost use lib.Dec.{ltb};
 ghost use Rattle.text.specs.Choice.{pick};
-ghost use Rattle.system.specs.Working.Each.{fixed, store, oneBy, oneIn, eachBy, eachFrom};
+ghost use Rattle.system.specs.Working.Each.{fixed, store, oneBy, oneIn, full, wentBy, eachBy, eachFrom};
 
 pub const MOST_CONSTANTS: usize = 16;
-
-pub const STACK: usize = 208;
 
 // The byte at a place, 0 past the end.
 fn byte_at(s: &[u8], at: usize) -> u8
@@ -46,16 +44,13 @@ fn read_one(
     pool: &mut [u8],
     places: &mut [usize],
     code: &mut [u16],
-    program: &mut [u32],
-    bytes: &mut [u8],
     count: usize,
     end: usize,
     size: usize,
 ) -> Reading
-    ensures { λ r. ⌜ oneBy r (store (now (consts .exit)) (now (pool .exit)) (now (places .exit)) (now (code .exit)) (now (program .exit))) ≡ oneIn (fixed (now (query .entry)) (now (values .entry)) (now (names .entry)) top start (length (now (bytes .entry)))) at (store (now (consts .entry)) (now (pool .entry)) (now (places .entry)) (now (code .entry)) (now (program .entry))) count end size ⌝ }
+    ensures { λ r. ⌜ oneBy r (store (now (consts .exit)) (now (pool .exit)) (now (places .exit)) (now (code .exit))) ≡ oneIn (fixed (now (query .entry)) (now (values .entry)) (now (names .entry)) top start) at (store (now (consts .entry)) (now (pool .entry)) (now (places .entry)) (now (code .entry))) count end size ⌝ }
 {
     let mut constants = [0usize; MOST_CONSTANTS];
-    let mut stack = [0u64; STACK];
     let standing = standing_at(query, at);
     read(
         text::counted_at(query, at),
@@ -73,9 +68,6 @@ fn read_one(
         end,
         code,
         size,
-        program,
-        &mut stack,
-        bytes,
     )
 }
 
@@ -89,7 +81,46 @@ fn behind(i: usize, n: usize) -> usize
     i
 }
 
-// The assertions whose texts are at those places.
+// Is a table too small for one assertion more: 16 constants of its text, 17 principals of 256 bytes?
+fn is_full(
+    consts: usize,
+    start: usize,
+    text: usize,
+    pool: usize,
+    end: usize,
+    places: usize,
+    count: usize,
+) -> bool
+    ensures { λ r. ⌜ r ≡ full consts start text pool end places count ⌝ }
+{
+    if consts < start {
+        return true;
+    }
+    if consts - start < 64 {
+        return true;
+    }
+    if consts - start - 64 < text {
+        return true;
+    }
+    if pool < end {
+        return true;
+    }
+    if pool - end < 4386 {
+        return true;
+    }
+    if places < count {
+        return true;
+    }
+    places - count < 17
+}
+
+// How far the reading went, and the ends there.
+pub struct Stretch {
+    pub next: usize,
+    pub ends: Ends,
+}
+
+// The assertions whose texts are at those places, from the first on, while the tables have room for one more.
 pub fn read_each(
     query: &[u8],
     values: &[usize],
@@ -101,20 +132,31 @@ pub fn read_each(
     pool: &mut [u8],
     places: &mut [usize],
     code: &mut [u16],
-    program: &mut [u32],
-    bytes: &mut [u8],
     authors: &mut [u16],
     conds: &mut [u8],
     ends: &mut [u16],
     page: &mut [u8],
+    first: usize,
     from: Ends,
-) -> Ends
-    ensures { λ r. ⌜ eachBy r (store (now (consts .exit)) (now (pool .exit)) (now (places .exit)) (now (code .exit)) (now (program .exit))) (now (authors .exit)) (now (conds .exit)) (now (ends .exit)) (now (page .exit)) ≡ eachFrom (fixed (now (query .entry)) (now (values .entry)) (now (names .entry)) top start (length (now (bytes .entry)))) (now (texts .entry)) 0 (eachBy from (store (now (consts .entry)) (now (pool .entry)) (now (places .entry)) (now (code .entry)) (now (program .entry))) (now (authors .entry)) (now (conds .entry)) (now (ends .entry)) (now (page .entry))) ⌝ }
+) -> Stretch
+    ensures { λ r. ⌜ wentBy (r .next) (eachBy (r .ends) (store (now (consts .exit)) (now (pool .exit)) (now (places .exit)) (now (code .exit))) (now (authors .exit)) (now (conds .exit)) (now (ends .exit)) (now (page .exit))) ≡ eachFrom (fixed (now (query .entry)) (now (values .entry)) (now (names .entry)) top start) (drop first (now (texts .entry))) first (eachBy from (store (now (consts .entry)) (now (pool .entry)) (now (places .entry)) (now (code .entry))) (now (authors .entry)) (now (conds .entry)) (now (ends .entry)) (now (page .entry))) ⌝ }
 {
     let mut e = from;
-    let mut i: usize = 0;
+    let mut i = first;
     while i < texts.len() {
         let at = texts[i];
+        let n = text::counted_at(query, at).len();
+        if is_full(
+            consts.len(),
+            start,
+            n,
+            pool.len(),
+            e.end,
+            places.len(),
+            e.count,
+        ) {
+            return Stretch { next: i, ends: e };
+        }
         let r = read_one(
             query,
             values,
@@ -126,8 +168,6 @@ pub fn read_each(
             pool,
             places,
             code,
-            program,
-            bytes,
             e.count,
             e.end,
             e.size,
@@ -135,5 +175,5 @@ pub fn read_each(
         e = note(authors, conds, ends, page, i, e, r);
         i = behind(i, texts.len());
     }
-    e
+    Stretch { next: i, ends: e }
 }

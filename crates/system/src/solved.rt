@@ -11,26 +11,26 @@ use compliance::solve;
 use constants::begin as begin_constants;
 use limits::MOST_ASSERTIONS;
 ghost use mathlib.Core.Path.{_≡_};
-ghost use mathlib.Core.Bool.{Bool};
-ghost use lib.ListN.{length, take};
+ghost use lib.ListN.{take};
 ghost use Prim.Native.Nat.{_-_, _%_};
-ghost use Rattle.system.specs.Working.Each.{fixed, store, eachBy};
-ghost use Rattle.system.specs.Working.Solving.{solvedBy, filledIn, solvedIn};
+ghost use Rattle.text.specs.Copy.{copied, copyAt};
+ghost use Rattle.system.specs.Working.Each.{fixed};
+ghost use Rattle.system.specs.Working.Solving.{solvedBy, rowsGive, grownIn, filledIn, solvedIn};
 
-// The two joined texts, and 16 constants of a text.
-pub const CONSTS: usize = 11400;
+// Tables for most queries: the two joined texts and 16 constants of a text, principals, and their identifiers.
+const SOME_CONSTS: usize = 4096;
 
-// An identifier of 256 bytes behind its length, for each principal.
-pub const POOL: usize = 142674;
+const SOME_PRINCIPALS: usize = 128;
+
+const SOME_POOL: usize = 8192;
+
+// Tables for every query: the longest texts, and an identifier of 256 bytes behind its length for each principal.
+const CONSTS: usize = 11400;
+
+const POOL: usize = 142674;
 
 // The instructions of a field Licensees, for each assertion.
-pub const CODE: usize = 1536;
-
-// An entry for each byte of a text, and two more.
-pub const PROGRAM: usize = 8194;
-
-// 19 strings of 4,096 bytes.
-pub const BYTES: usize = 77824;
+const CODE: usize = 1536;
 
 fn front_bytes(l: &[u8], n: usize) -> &[u8]
     ensures { λ r. ⌜ now r ≡ take n (now (l .entry)) ⌝ }
@@ -50,6 +50,33 @@ fn front_pairs(l: &[u16], n: usize) -> &[u16]
     &l[..n]
 }
 
+fn front_places(l: &[usize], n: usize) -> &[usize]
+    ensures { λ r. ⌜ now r ≡ take n (now (l .entry)) ⌝ }
+{
+    if l.len() <= n {
+        return l;
+    }
+    &l[..n]
+}
+
+// Copies numbers into dst at a place, and tells whether they fit; where they don't, nothing is written.
+fn copy_places(dst: &mut [usize], at: usize, src: &[usize]) -> bool
+    ensures { λ r. ⌜ copied r (now (dst .exit)) ≡ copyAt (now (dst .entry)) at (now (src .entry)) ⌝ }
+{
+    if dst.len() < at {
+        return false;
+    }
+    if dst.len() - at < src.len() {
+        return false;
+    }
+    let mut i: usize = 0;
+    while i < src.len() {
+        dst[at + i] = src[i];
+        i += 1;
+    }
+    true
+}
+
 // The highest rank of n compliance values.
 fn top_of(n: usize) -> u8
     ensures { λ r. ⌜ r ≡ (n - 1) % 256 ⌝ }
@@ -58,6 +85,77 @@ fn top_of(n: usize) -> u8
         return 0;
     }
     ((n - 1) % 256) as u8
+}
+
+// What the rows in use give.
+fn solve_rows(
+    authors: &[u16],
+    conds: &[u8],
+    ends: &[u16],
+    code: &[u16],
+    direct: &[u8],
+    e: Ends,
+    top: u8,
+) -> Solution
+    ensures { λ r. ⌜ r ≡ rowsGive (now (authors .entry)) (now (conds .entry)) (now (ends .entry)) (now (code .entry)) (now (direct .entry)) e top ⌝ }
+{
+    solve(
+        front_pairs(authors, e.kept),
+        front_bytes(conds, e.kept),
+        front_pairs(ends, e.kept),
+        front_pairs(code, e.size),
+        front_bytes(direct, e.count),
+        top,
+    )
+}
+
+// The assertions from the one with that number on read and solved, over larger tables that begin as the old ones.
+fn grown(
+    query: &[u8],
+    values: &[usize],
+    names: &[usize],
+    top: u8,
+    start: usize,
+    texts: &[usize],
+    joined: &[u8],
+    identifiers: &[u8],
+    indexed: &[usize],
+    code: &mut [u16],
+    direct: &[u8],
+    authors: &mut [u16],
+    conds: &mut [u8],
+    ends: &mut [u16],
+    page: &mut [u8],
+    next: usize,
+    e: Ends,
+) -> Solution
+    ensures { λ r. ⌜ solvedBy r (now (page .exit)) ≡ grownIn (fixed (now (query .entry)) (now (values .entry)) (now (names .entry)) top start) (now (texts .entry)) (now (joined .entry)) (now (identifiers .entry)) (now (indexed .entry)) (now (code .entry)) (now (direct .entry)) (now (authors .entry)) (now (conds .entry)) (now (ends .entry)) (now (page .entry)) next e ⌝ }
+{
+    let mut consts = [0u8; CONSTS];
+    let mut pool = [0u8; POOL];
+    let mut places = [0usize; PRINCIPALS];
+    text::copy_at(&mut consts, 0, joined);
+    text::copy_at(&mut pool, 0, identifiers);
+    copy_places(&mut places, 0, indexed);
+    let w = read_each(
+        query,
+        values,
+        names,
+        top,
+        start,
+        texts,
+        &mut consts,
+        &mut pool,
+        &mut places,
+        code,
+        authors,
+        conds,
+        ends,
+        page,
+        next,
+        e,
+    );
+    solve_rows(authors, conds, ends, code, direct, w.ends, top)
 }
 
 // The assertions at `texts` read and solved, over an index that has POLICY and the requesters.
@@ -77,8 +175,6 @@ fn fill(
     ensures { λ r. ⌜ solvedBy r (now (page .exit)) ≡ filledIn (now (query .entry)) (now (values .entry)) (now (names .entry)) (now (texts .entry)) start (now (consts .entry)) (now (pool .entry)) (now (places .entry)) (now (direct .entry)) index (now (page .entry)) ⌝ }
 {
     let mut code = [0u16; CODE];
-    let mut program = [0u32; PROGRAM];
-    let mut bytes = [0u8; BYTES];
     let mut authors = [0u16; MOST_ASSERTIONS];
     let mut conds = [0u8; MOST_ASSERTIONS];
     let mut ends = [0u16; MOST_ASSERTIONS];
@@ -90,7 +186,7 @@ fn fill(
         size: 0,
         kept: 0,
     };
-    let e = read_each(
+    let w = read_each(
         query,
         values,
         names,
@@ -101,22 +197,36 @@ fn fill(
         pool,
         places,
         &mut code,
-        &mut program,
-        &mut bytes,
         &mut authors,
         &mut conds,
         &mut ends,
         page,
+        0,
         from,
     );
-    solve(
-        front_pairs(&authors, e.kept),
-        front_bytes(&conds, e.kept),
-        front_pairs(&ends, e.kept),
-        front_pairs(&code, e.size),
-        front_bytes(direct, e.count),
-        top,
-    )
+    let e = w.ends;
+    if w.next < texts.len() {
+        return grown(
+            query,
+            values,
+            names,
+            top,
+            start,
+            texts,
+            front_bytes(consts, start),
+            front_bytes(pool, e.end),
+            front_places(places, e.count),
+            &mut code,
+            direct,
+            &mut authors,
+            &mut conds,
+            &mut ends,
+            page,
+            w.next,
+            e,
+        );
+    }
+    solve_rows(&authors, &conds, &ends, &code, direct, e, top)
 }
 
 // The query whose items are at those places of its record: its class, and the report on the page.
@@ -130,9 +240,9 @@ pub fn solved(
 ) -> Solution
     ensures { λ r. ⌜ solvedBy r (now (page .exit)) ≡ solvedIn (now (query .entry)) (now (values .entry)) (now (requesters .entry)) (now (names .entry)) (now (texts .entry)) (now (page .entry)) ⌝ }
 {
-    let mut consts = [0u8; CONSTS];
-    let mut pool = [0u8; POOL];
-    let mut places = [0usize; PRINCIPALS];
+    let mut consts = [0u8; SOME_CONSTS];
+    let mut pool = [0u8; SOME_POOL];
+    let mut places = [0usize; SOME_PRINCIPALS];
     let mut direct = [0u8; PRINCIPALS];
     let start = begin_constants(&mut consts, query, values, requesters);
     let alone = begin_index(&mut pool, &mut places);

@@ -1,14 +1,15 @@
 -- Working definitions: the assertions of a query read one after the other, and the ways out of the functions that do it. Assumes nothing.
 use mathlib.Core.Path.{_≡_, refl, sym, ap, _∙_}
 use mathlib.Core.List.{List, [], _∷_}
-use Prim.Native.Nat.{ℕ, zero, suc, _+_, _-_, _<_, _≤_}
+use mathlib.Core.Bool.{Bool, true, false}
+use Prim.Native.Nat.{ℕ, zero, suc, _+_, _-_, _*_, _<_, _≤_}
 use native.Mathlib.Omega.{arith}
 use native.Mathlib.Numerals.{add-one}
 use lib.ListN.{length, getD, drop, replicate, drop-of-length-le, List·getD-eq-default}
 use lib.Seq.{drop-cons}
-use lib.Dec.{ltb}
-use borrow.Author.Tests.{lt-ltb, le-ltb}
-use Rattle.text.specs.Choice.{pick}
+use lib.Dec.{ltb, leb}
+use borrow.Author.Tests.{lt-ltb, le-ltb, lt-leb, le-leb, leb-true, leb-false}
+use Rattle.text.specs.Choice.{pick, split}
 use Rattle.text.specs.Counted.{counted}
 use Rattle.assertion.specs.Working.Field.{given, tabled}
 use Rattle.assertion.specs.Working.Reading.{Result, readBy, readIn}
@@ -16,40 +17,38 @@ use Rattle.assertion.specs.declared.Reading.{Reading}
 use Rattle.system.specs.Working.Noting.{Noted, noted, noteIn}
 use Rattle.system.specs.declared.note.Ends.{Ends}
 
--- what stays as it is: the record, the places of its values and attributes, the highest rank, where constants begin, and the room for strings
+-- what stays as it is: the record, the places of its values and attributes, the highest rank, and where constants begin
 pub record Fixed : Type 0 where
   pub bytes : List ℕ
   pub values : List ℕ
   pub names : List ℕ
   pub top : ℕ
   pub start : ℕ
-  pub space : ℕ
 
-abbrev pub fixed : List ℕ → List ℕ → List ℕ → ℕ → ℕ → ℕ → Fixed
-fixed bytes values names top start space = record { bytes = bytes; values = values; names = names; top = top; start = start; space = space }
+abbrev pub fixed : List ℕ → List ℕ → List ℕ → ℕ → ℕ → Fixed
+fixed bytes values names top start = record { bytes = bytes; values = values; names = names; top = top; start = start }
 
--- constants, identifiers and their places, licensees' programs, and the code of Conditions
+-- constants, identifiers and their places, and licensees' programs
 pub record Store : Type 0 where
   pub consts : List ℕ
   pub pool : List ℕ
   pub places : List ℕ
   pub code : List ℕ
-  pub program : List ℕ
 
-abbrev pub store : List ℕ → List ℕ → List ℕ → List ℕ → List ℕ → Store
-store consts pool places code program = record { consts = consts; pool = pool; places = places; code = code; program = program }
+abbrev pub store : List ℕ → List ℕ → List ℕ → List ℕ → Store
+store consts pool places code = record { consts = consts; pool = pool; places = places; code = code }
 
 pub data One : Type 0 where
   oneBy : Reading → Store → One
 
 abbrev pub oneOf : Result → One
-oneOf (readBy r x) = oneBy r (store (x .consts) (x .pool) (x .places) (x .code) (x .program))
+oneOf (readBy r x) = oneBy r (store (x .consts) (x .pool) (x .places) (x .code))
 
--- the assertion at a place: 16 entries for its constants, 208 numbers for its operands
+-- the assertion at a place: 16 entries for its constants
 unfoldable pub oneIn : Fixed → ℕ → Store → ℕ → ℕ → ℕ → One
 oneIn f at x count end size =
-    oneOf (readIn (given (counted (f .bytes) at) (getD (f .bytes) (at - 3) 0) (f .bytes) (f .values) (f .names) (f .start) 208 (f .space)) (f .top)
-    (tabled (x .consts) (replicate 16 0) (x .pool) (x .places) (x .code) (x .program)) count end size)
+    oneOf (readIn (given (counted (f .bytes) at) (getD (f .bytes) (at - 3) 0) (f .bytes) (f .values) (f .names) (f .start)) (f .top)
+    (tabled (x .consts) (replicate 16 0) (x .pool) (x .places) (x .code)) count end size)
 
 -- the ends, the tables, the rows and the page
 pub data Each : Type 0 where
@@ -61,10 +60,23 @@ onNoted x (noted e a c d page) = eachBy e x a c d page
 abbrev pub onOne : List ℕ → List ℕ → List ℕ → List ℕ → ℕ → Ends → One → Each
 onOne a c d page i e (oneBy r x) = onNoted x (noteIn a c d page i e r)
 
--- the assertions at those places, the first of which has the number i
-unfoldable pub eachFrom : Fixed → List ℕ → ℕ → Each → Each
-eachFrom f [] i z = z
-eachFrom f (p ∷ ps) i (eachBy e x a c d page) = eachFrom f ps (suc i) (onOne a c d page i e (oneIn f p x (e .count) (e .end) (e .size)))
+-- is a table too small for one assertion more?
+unfoldable pub full : ℕ → ℕ → ℕ → ℕ → ℕ → ℕ → ℕ → Bool
+full consts start text pool end places count =
+    pick (leb (start + 64 + text) consts) (pick (leb (end + 17 * 258) pool) (pick (leb (count + 17) places) false true) true) true
+
+abbrev pub fullAt : Fixed → ℕ → Ends → Store → Bool
+fullAt f at e x = full (length (x .consts)) (f .start) (length (counted (f .bytes) at)) (length (x .pool)) (e .end) (length (x .places)) (e .count)
+
+-- how far the reading went
+pub data Went : Type 0 where
+  wentBy : ℕ → Each → Went
+
+-- the assertions at those places, the first of which has the number i, while there is room
+unfoldable pub eachFrom : Fixed → List ℕ → ℕ → Each → Went
+eachFrom f [] i z = wentBy i z
+eachFrom f (p ∷ ps) i (eachBy e x a c d page) =
+    pick (fullAt f p e x) (wentBy i (eachBy e x a c d page)) (eachFrom f ps (suc i) (onOne a c d page i e (oneIn f p x (e .count) (e .end) (e .size))))
 
 -- `byte_at` and `standing_at`
 pub byte-past : (s : List ℕ) (at : ℕ) → length s ≤ at → 0 ≡ getD s at 0
@@ -74,13 +86,13 @@ pub standing-low : (s : List ℕ) (at r : ℕ) → at < 3 → r ≡ getD s 0 0 �
 standing-low s at r h e = let z : at - 3 ≡ 0 = omega (arith, h) in e ∙ rw z
 
 -- `read_one`
-pub one-is : (bytes values names : List ℕ) (top start space at : ℕ) (x : Store) (count end size : ℕ) (text : List ℕ) (standing : ℕ) (r : Reading) (consts constants pool places code program : List ℕ)
+pub one-is : (bytes values names : List ℕ) (top start at : ℕ) (x : Store) (count end size : ℕ) (text : List ℕ) (standing : ℕ) (r : Reading) (consts constants pool places code : List ℕ)
     → text ≡ counted bytes at → standing ≡ getD bytes (at - 3) 0
-    → readBy r (tabled consts constants pool places code program)
-    ≡ readIn (given text standing bytes values names start 208 space) top (tabled (x .consts) (replicate 16 0) (x .pool) (x .places) (x .code) (x .program)) count end size
-    → oneBy r (store consts pool places code program) ≡ oneIn (fixed bytes values names top start space) at x count end size
+    → readBy r (tabled consts constants pool places code)
+    ≡ readIn (given text standing bytes values names start) top (tabled (x .consts) (replicate 16 0) (x .pool) (x .places) (x .code)) count end size
+    → oneBy r (store consts pool places code) ≡ oneIn (fixed bytes values names top start) at x count end size
 unfolding oneIn
-one-is bytes values names top start space at x count end size text standing r consts constants pool places code program te se e = rw (← te, ← se, ← e)
+one-is bytes values names top start at x count end size text standing r consts constants pool places code te se e = rw (← te, ← se, ← e)
 
 -- `behind`
 pub behind-on : (i n : ℕ) → i < n → i + 1 ≡ pick (ltb i n) (i + 1) i
@@ -89,33 +101,73 @@ behind-on i n h = rw (lt-ltb _ _ h)
 pub behind-all : (i n : ℕ) → n ≤ i → i ≡ pick (ltb i n) (i + 1) i
 behind-all i n h = rw (le-ltb _ _ h)
 
+-- `is_full`
+module _ (consts start text pool end places count : ℕ) where
+  abbrev is : Bool
+  is = full consts start text pool end places count
+
+  no-text : consts < start + 64 + text → true ≡ is
+  unfolding full
+  no-text h = rw (lt-leb _ _ h)
+
+  no-pool : pool < end + 17 * 258 → true ≡ is
+  unfolding full
+  no-pool h = split (leb (start + 64 + text) consts) (λ e. rw (e, lt-leb _ _ h)) (λ e. rw e)
+
+  pub full-start : consts < start → true ≡ is
+  full-start h = no-text (omega (arith, h))
+
+  pub full-lengths : start ≤ consts → consts - start < 64 → true ≡ is
+  full-lengths h k = no-text (omega (arith, h, k))
+
+  pub full-text : start ≤ consts → 64 ≤ consts - start → consts - start - 64 < text → true ≡ is
+  full-text h k l = no-text (omega (arith, h, k, l))
+
+  pub full-end : pool < end → true ≡ is
+  full-end h = no-pool (omega (arith, h))
+
+  pub full-pool : end ≤ pool → pool - end < 4386 → true ≡ is
+  full-pool h k = no-pool (omega (arith, h, k))
+
+  pub full-count : places < count → true ≡ is
+  unfolding full
+  full-count h =
+      split (leb (start + 64 + text) consts)
+      (λ e. split (leb (end + 17 * 258) pool) (λ f. rw (e, f, lt-leb (count + 17) places (omega (arith, h)))) (λ f. rw (e, f))) (λ e. rw e)
+
+  pub full-places : start ≤ consts → 64 ≤ consts - start → text ≤ consts - start - 64 → end ≤ pool → 4386 ≤ pool - end → count ≤ places → ltb (places - count) 17 ≡ is
+  unfolding full
+  full-places h k l m n o =
+      rw (le-leb (start + 64 + text) consts (omega (arith, h, k, l)), le-leb (end + 17 * 258) pool (omega (arith, m, n)))
+      (split (leb (count + 17) places)
+      (λ e. rw (e, le-ltb (places - count) 17 (omega (arith, leb-true (count + 17) places e, o)))) (λ e. rw (e, lt-ltb (places - count) 17 (omega (arith, leb-false (count + 17) places e, o)))))
+
 -- `read_each`, with the invariant `eachFrom f (drop i ps) i .. ≡ z`
-module _ (f : Fixed) (ps : List ℕ) (i : ℕ) (e : Ends) (x : Store) (a c d page : List ℕ) (z : Each) (inv : eachFrom f (drop i ps) i (eachBy e x a c d page) ≡ z) where
-  pub each-end : length ps ≤ i → eachBy e x a c d page ≡ z
+module _ (bytes values names : List ℕ) (top start : ℕ) (ps : List ℕ) (i : ℕ) (e : Ends) (x : Store) (a c d page : List ℕ) (z : Went)
+    (inv : eachFrom (fixed bytes values names top start) (drop i ps) i (eachBy e x a c d page) ≡ z) where
+  abbrev f : Fixed
+  f = fixed bytes values names top start
+
+  pub each-end : length ps ≤ i → wentBy i (eachBy e x a c d page) ≡ z
   unfolding eachFrom
   each-end h = let w : eachFrom f [] i (eachBy e x a c d page) ≡ z = rw (drop-of-length-le ps h) at inv in w
 
-  each-next : i < length ps → (k : ℕ) → k ≡ getD ps i 0 → (r : Reading) (y : Store) → oneBy r y ≡ oneIn f k x (e .count) (e .end) (e .size)
-      → (u : Ends) (a′ c′ d′ page′ : List ℕ) → noted u a′ c′ d′ page′ ≡ noteIn a c d page i e r → eachFrom f (drop (i + 1) ps) (i + 1) (eachBy u y a′ c′ d′ page′) ≡ z
-  unfolding eachFrom
-  each-next h k ke r y re u a′ c′ d′ page′ ne =
-      let w : eachFrom f (drop (suc i) ps) (suc i) (onOne a c d page i e (oneIn f (getD ps i 0) x (e .count) (e .end) (e .size))) ≡ z = rw (drop-cons ps i 0 h) at inv in
-      let v : oneBy r y ≡ oneIn f (getD ps i 0) x (e .count) (e .end) (e .size) = re ∙ rw ke in
-      let t : eachFrom f (drop (suc i) ps) (suc i) (onNoted y (noteIn a c d page i e r)) ≡ z = rw (← v) at w in
-      rw (add-one i) (rw (← ne) at t)
+  module _ (h : i < length ps) (at : ℕ) (ate : at ≡ getD ps i 0) (text : List ℕ) (te : text ≡ counted bytes at)
+      (b : Bool) (be : b ≡ full (length (x .consts)) start (length text) (length (x .pool)) (e .end) (length (x .places)) (e .count)) where
+    here : pick b (wentBy i (eachBy e x a c d page)) (eachFrom f (drop (suc i) ps) (suc i) (onOne a c d page i e (oneIn f at x (e .count) (e .end) (e .size)))) ≡ z
+    unfolding eachFrom
+    here = rw (be, te, ate) (rw (drop-cons ps i 0 h) at inv)
+
+    pub each-full : b ≡ true → wentBy i (eachBy e x a c d page) ≡ z
+    each-full k = rw k at here
+
+    module _ (k : b ≡ false) (r : Reading) (y : Store) (re : oneBy r y ≡ oneIn f at x (e .count) (e .end) (e .size)) (u : Ends) (a′ c′ d′ page′ : List ℕ)
+        (ne : noted u a′ c′ d′ page′ ≡ noteIn a c d page i e r) (j : ℕ) (je : j ≡ pick (ltb i (length ps)) (i + 1) i) where
+      pub each-more : eachFrom f (drop j ps) j (eachBy u y a′ c′ d′ page′) ≡ z
+      each-more =
+          let on : j ≡ suc i = je ∙ rw (lt-ltb _ _ h, add-one i) in
+          let w : eachFrom f (drop (suc i) ps) (suc i) (onOne a c d page i e (oneIn f at x (e .count) (e .end) (e .size))) ≡ z = rw k at here in
+          rw on (rw (← re, ← ne) at w)
 
 pub each-less : (n i j : ℕ) → i < n → j ≡ pick (ltb i n) (i + 1) i → n - j < n - i
 each-less n i j h je = let z : j ≡ i + 1 = je ∙ rw (lt-ltb _ _ h) in omega (arith, h, z)
-
--- one turn; the room for strings is as it was
-module _ (bytes values names : List ℕ) (top start space : ℕ) (ps : List ℕ) (i : ℕ) (e : Ends) (x : Store) (a c d page : List ℕ) (z : Each)
-    (inv : eachFrom (fixed bytes values names top start space) (drop i ps) i (eachBy e x a c d page) ≡ z) (h : i < length ps) (j : ℕ) (je : j ≡ pick (ltb i (length ps)) (i + 1) i) where
-  is : j ≡ i + 1
-  is = je ∙ rw (lt-ltb _ _ h)
-
-  pub each-more : (k wide : ℕ) → k ≡ getD ps i 0 → wide ≡ space → (r : Reading) (y : Store)
-      → oneBy r y ≡ oneIn (fixed bytes values names top start wide) k x (e .count) (e .end) (e .size)
-      → (u : Ends) (a′ c′ d′ page′ : List ℕ) → noted u a′ c′ d′ page′ ≡ noteIn a c d page i e r
-      → eachFrom (fixed bytes values names top start space) (drop j ps) j (eachBy u y a′ c′ d′ page′) ≡ z
-  each-more k wide ke we r y re u a′ c′ d′ page′ ne =
-      rw is (each-next (fixed bytes values names top start space) ps i e x a c d page z inv h k ke r y (re ∙ rw we) u a′ c′ d′ page′ ne)

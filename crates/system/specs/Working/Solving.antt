@@ -1,10 +1,15 @@
 -- Working definitions: a query solved by the tables. Assumes nothing.
 use mathlib.Core.Path.{_≡_, refl, sym, ap, _∙_}
+use mathlib.Core.Bool.{Bool}
 use mathlib.Core.List.{List, [], _∷_, map}
 use Prim.Native.Nat.{ℕ, _-_, _%_, _<_, _≤_}
 use native.Mathlib.Omega.{arith}
-use lib.ListN.{length, take, replicate}
+use lib.Dec.{ltb}
+use lib.ListN.{length, take, drop, replicate}
 use lib.Seq.{take-all, length-take-le}
+use borrow.Author.Tests.{lt-ltb, le-ltb}
+use Rattle.text.specs.Choice.{pick}
+use Rattle.text.specs.Copy.{Copied, copied, copyAt}
 use Rattle.text.specs.Counted.{counted}
 use Rattle.text.specs.Join.{joined}
 use Rattle.compliance.specs.Working.Solve.{solutionOf}
@@ -12,7 +17,7 @@ use Rattle.compliance.specs.declared.Solution.{Solution}
 use Rattle.constants.specs.Constants.{Written, written, begunInto}
 use Rattle.system.specs.Working.Asking.{Asked, asked, allFrom, Begun, begun, beginIn}
 use Rattle.system.specs.Working.Noting.{endsOf, headerInto}
-use Rattle.system.specs.Working.Each.{Fixed, fixed, Store, store, Each, eachBy, eachFrom}
+use Rattle.system.specs.Working.Each.{Fixed, fixed, Store, store, eachBy, Went, wentBy, eachFrom}
 use Rattle.system.specs.declared.asked.Index.{Index}
 use Rattle.system.specs.declared.note.Ends.{Ends}
 
@@ -25,15 +30,39 @@ abbrev pub topOf : List ℕ → ℕ
 topOf values = (length values - 1) % 256
 
 -- the tables' fronts that are in use
-abbrev pub onEach : ℕ → List ℕ → Each → Solved
-onEach top direct (eachBy e x a c d page) =
-    solvedBy (solutionOf (take (e .kept) a) (take (e .kept) c) (take (e .kept) d) (take (e .size) (x .code)) (take (e .count) direct) top) page
+unfoldable pub rowsGive : List ℕ → List ℕ → List ℕ → List ℕ → List ℕ → Ends → ℕ → Solution
+rowsGive a c d code direct e top = solutionOf (take (e .kept) a) (take (e .kept) c) (take (e .kept) d) (take (e .size) code) (take (e .count) direct) top
+
+-- a table with another's entries in front
+abbrev pub laidBy : Copied → List ℕ
+laidBy (copied b m) = m
+
+unfoldable pub laid : List ℕ → List ℕ → List ℕ
+laid m old = laidBy (copyAt m 0 old)
+
+abbrev pub onWent : ℕ → List ℕ → Went → Solved
+onWent top direct (wentBy i (eachBy e x a c d page)) = solvedBy (rowsGive a c d (x .code) direct e top) page
+
+-- larger tables that begin as the old ones
+abbrev pub larger : List ℕ → List ℕ → List ℕ → List ℕ → Store
+larger consts pool places code = store (laid (replicate 11400 0) consts) (laid (replicate 142674 0) pool) (laid (replicate 553 0) places) code
+
+unfoldable pub grownIn : Fixed → List ℕ → List ℕ → List ℕ → List ℕ → List ℕ → List ℕ → List ℕ → List ℕ → List ℕ → List ℕ → ℕ → Ends → Solved
+grownIn f texts consts pool places code direct a c d page i e =
+    onWent (f .top) direct (eachFrom f (drop i texts) i (eachBy e (larger consts pool places code) a c d page))
+
+-- what was read is solved, or the rest is read into larger tables
+abbrev pub onStretch : Fixed → List ℕ → List ℕ → Went → Solved
+onStretch f texts direct (wentBy i (eachBy e x a c d page)) =
+    pick (ltb i (length texts))
+    (grownIn f texts (take (f .start) (x .consts)) (take (e .end) (x .pool)) (take (e .count) (x .places)) (x .code) direct a c d page i e)
+    (solvedBy (rowsGive a c d (x .code) direct e (f .top)) page)
 
 unfoldable pub filledIn : List ℕ → List ℕ → List ℕ → List ℕ → ℕ → List ℕ → List ℕ → List ℕ → List ℕ → Index → List ℕ → Solved
 filledIn s values names texts start consts pool places direct x page =
-    onEach (topOf values) direct
-    (eachFrom (fixed s values names (topOf values) start 77824) texts 0
-    (eachBy (endsOf (x .count) (x .end) 0 0) (store consts pool places (replicate 1536 0) (replicate 8194 0)) (replicate 32 0) (replicate 32 0) (replicate 32 0) (headerInto page (length texts))))
+    onStretch (fixed s values names (topOf values) start) texts direct
+    (eachFrom (fixed s values names (topOf values) start) texts 0
+    (eachBy (endsOf (x .count) (x .end) 0 0) (store consts pool places (replicate 1536 0)) (replicate 32 0) (replicate 32 0) (replicate 32 0) (headerInto page (length texts))))
 
 abbrev pub onAsked : List ℕ → List ℕ → List ℕ → List ℕ → ℕ → List ℕ → List ℕ → Asked → Solved
 onAsked s values names texts start consts page (asked x pool places direct) = filledIn s values names texts start consts pool places direct x page
@@ -44,38 +73,63 @@ onBegun s values requesters names texts start consts page (begun x pool places) 
 
 abbrev pub onWritten : List ℕ → List ℕ → List ℕ → List ℕ → List ℕ → List ℕ → Written → Solved
 onWritten s values requesters names texts page (written start consts) =
-    onBegun s values requesters names texts start consts page (beginIn (replicate 142674 0) (replicate 553 0))
+    onBegun s values requesters names texts start consts page (beginIn (replicate 8192 0) (replicate 128 0))
 
 unfoldable pub solvedIn : List ℕ → List ℕ → List ℕ → List ℕ → List ℕ → List ℕ → Solved
 solvedIn s values requesters names texts page =
     onWritten s values requesters names texts page
-    (begunInto (replicate 11400 0) (joined (map (counted s) values)) (joined (map (counted s) requesters)))
+    (begunInto (replicate 4096 0) (joined (map (counted s) values)) (joined (map (counted s) requesters)))
 
 -- `top_of`
 pub top-none : (n : ℕ) → n ≡ 0 → 0 ≡ (n - 1) % 256
 top-none n h = rw h
 
+-- `solve_rows`
+pub rows-are : (a c d code direct : List ℕ) (e : Ends) (top : ℕ) (a′ c′ d′ code′ direct′ : List ℕ)
+    → a′ ≡ take (e .kept) a → c′ ≡ take (e .kept) c → d′ ≡ take (e .kept) d → code′ ≡ take (e .size) code → direct′ ≡ take (e .count) direct
+    → (r : Solution) → r ≡ solutionOf a′ c′ d′ code′ direct′ top → r ≡ rowsGive a c d code direct e top
+unfolding rowsGive
+rows-are a c d code direct e top a′ c′ d′ code′ direct′ ae ce de ke re r rr = rw (rr, ae, ce, de, ke, re)
+
+pub laid-is : (m old n : List ℕ) (b : Bool) → copied b n ≡ copyAt m 0 old → n ≡ laid m old
+unfolding laid
+laid-is m old n b e = rw (← e)
+
+-- `grown`
+pub grown-is : (f : Fixed) (texts consts pool places code direct a c d page : List ℕ) (i : ℕ) (e : Ends) (consts′ pool′ places′ : List ℕ)
+    → consts′ ≡ laid (replicate 11400 0) consts → pool′ ≡ laid (replicate 142674 0) pool → places′ ≡ laid (replicate 553 0) places
+    → (j : ℕ) (u : Ends) (y : Store) (a′ c′ d′ page′ : List ℕ)
+    → wentBy j (eachBy u y a′ c′ d′ page′) ≡ eachFrom f (drop i texts) i (eachBy e (store consts′ pool′ places′ code) a c d page)
+    → (r : Solution) → r ≡ rowsGive a′ c′ d′ (y .code) direct u (f .top) → solvedBy r page′ ≡ grownIn f texts consts pool places code direct a c d page i e
+unfolding grownIn
+grown-is f texts consts pool places code direct a c d page i e consts′ pool′ places′ ce pe le j u y a′ c′ d′ page′ we r re = rw (re, ← ce, ← pe, ← le, ← we)
+
 -- `fill`
 module _ (s values names texts : List ℕ) (start : ℕ) (consts pool places direct : List ℕ) (x : Index) (page : List ℕ)
-    (top : ℕ) (te : top ≡ (length values - 1) % 256) (head : List ℕ) (he : head ≡ headerInto page (length texts)) where
-  pub fill-is : (space : ℕ) → space ≡ 77824 → (e : Ends) (y : Store) (a c d out : List ℕ)
-      → eachBy e y a c d out
-      ≡ eachFrom (fixed s values names top start space) texts 0
-      (eachBy (endsOf (x .count) (x .end) 0 0) (store consts pool places (replicate 1536 0) (replicate 8194 0)) (replicate 32 0) (replicate 32 0) (replicate 32 0) head)
-      → (a′ c′ d′ code′ direct′ : List ℕ) → a′ ≡ take (e .kept) a → c′ ≡ take (e .kept) c → d′ ≡ take (e .kept) d → code′ ≡ take (e .size) (y .code) → direct′ ≡ take (e .count) direct
-      → (r : Solution) → r ≡ solutionOf a′ c′ d′ code′ direct′ top → solvedBy r out ≡ filledIn s values names texts start consts pool places direct x page
+    (top : ℕ) (te : top ≡ (length values - 1) % 256) (head : List ℕ) (he : head ≡ headerInto page (length texts))
+    (i : ℕ) (e : Ends) (y : Store) (a c d out : List ℕ)
+    (ee : wentBy i (eachBy e y a c d out)
+    ≡ eachFrom (fixed s values names top start) (drop 0 texts) 0
+    (eachBy (endsOf (x .count) (x .end) 0 0) (store consts pool places (replicate 1536 0)) (replicate 32 0) (replicate 32 0) (replicate 32 0) head)) where
+  went : wentBy i (eachBy e y a c d out)
+      ≡ eachFrom (fixed s values names (topOf values) start) texts 0
+      (eachBy (endsOf (x .count) (x .end) 0 0) (store consts pool places (replicate 1536 0)) (replicate 32 0) (replicate 32 0) (replicate 32 0) (headerInto page (length texts)))
+  went = ee ∙ rw (te, he)
+
+  pub fill-all : length texts ≤ i → (r : Solution) → r ≡ rowsGive a c d (y .code) direct e top → solvedBy r out ≡ filledIn s values names texts start consts pool places direct x page
   unfolding filledIn
-  fill-is space se e y a c d out ee a′ c′ d′ code′ direct′ ae ce de ke re r rr =
-      let w : eachBy e y a c d out
-      ≡ eachFrom (fixed s values names ((length values - 1) % 256) start 77824) texts 0
-      (eachBy (endsOf (x .count) (x .end) 0 0) (store consts pool places (replicate 1536 0) (replicate 8194 0)) (replicate 32 0) (replicate 32 0) (replicate 32 0) (headerInto page (length texts)))
-      = ee ∙ rw (se, te, he) in
-      rw (rr, ae, ce, de, ke, re, te, ← w)
+  fill-all h r re = rw (re, te, ← went, le-ltb _ _ h)
+
+  pub fill-rest : i < length texts → (old-consts old-pool old-places : List ℕ) → old-consts ≡ take start (y .consts) → old-pool ≡ take (e .end) (y .pool) → old-places ≡ take (e .count) (y .places)
+      → (r : Solution) (page′ : List ℕ) → solvedBy r page′ ≡ grownIn (fixed s values names top start) texts old-consts old-pool old-places (y .code) direct a c d out i e
+      → solvedBy r page′ ≡ filledIn s values names texts start consts pool places direct x page
+  unfolding filledIn
+  fill-rest h old-consts old-pool old-places ce pe le r page′ re = re ∙ rw (← went, lt-ltb _ _ h, te, ce, pe, le)
 
 -- `solved`
 pub solve-is : (s values requesters names texts page : List ℕ) (start : ℕ) (consts : List ℕ)
-    → written start consts ≡ begunInto (replicate 11400 0) (joined (map (counted s) values)) (joined (map (counted s) requesters))
-    → (x : Index) (pool places : List ℕ) → begun x pool places ≡ beginIn (replicate 142674 0) (replicate 553 0)
+    → written start consts ≡ begunInto (replicate 4096 0) (joined (map (counted s) values)) (joined (map (counted s) requesters))
+    → (x : Index) (pool places : List ℕ) → begun x pool places ≡ beginIn (replicate 8192 0) (replicate 128 0)
     → (y : Index) (pool′ places′ direct : List ℕ) → asked y pool′ places′ direct ≡ allFrom s requesters (asked x pool places (replicate 553 0))
     → (r : Solved) → r ≡ filledIn s values names texts start consts pool′ places′ direct y page → r ≡ solvedIn s values requesters names texts page
 unfolding solvedIn
