@@ -15,6 +15,7 @@ pub mod Parts
 pub mod Stocked
 pub mod Paged
 pub mod Made
+pub mod Grown
 pub mod Filled
 pub mod Solved
 pub mod Answers

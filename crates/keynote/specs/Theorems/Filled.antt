@@ -1,11 +1,16 @@
 -- The assertions of a query, read one after the other into the tables, give its answer and its report. Assumes nothing.
 use mathlib.Core.Path.{_≡_, refl, sym, ap, _∙_, subst}
+use mathlib.Core.Bool.{true, false}
 use mathlib.Core.List.{List, [], _∷_, _++_, map, append-assoc, append-nil}
 use Prim.Native.Nat.{ℕ, suc, _+_, _-_, _*_, _≤_, _<_}
 use native.Mathlib.Omega.{arith}
 use native.Mathlib.Nat.{add-zero}
+use native.Mathlib.Numerals.{add-one}
 use lib.ListN.{length, getD, take, drop, replicate, length-replicate, length-map}
-use lib.Seq.{take-at}
+use lib.Seq.{take-at, drop-drop}
+use lib.Dec.{leb}
+use borrow.Author.Tests.{le-leb, le-ltb, lt-ltb, leb-true}
+use Rattle.text.specs.Choice.{split, clash}
 use Rattle.text.specs.Join.{joined}
 use Rattle.text.specs.Counted.{counted}
 use Rattle.record.specs.Query.{Query, Supplied}
@@ -31,8 +36,8 @@ use Rattle.assertion.specs.Working.Reading.{readIn}
 use Rattle.assertion.specs.Theorems.Ready.{Ready, ReadAs}
 use Rattle.assertion.specs.Theorems.Reads.{read-as}
 use Rattle.system.specs.Working.Noting.{endsOf, headerInto}
-use Rattle.system.specs.Working.Each.{Fixed, fixed, Store, store, oneIn, Each, eachBy, onOne, eachFrom}
-use Rattle.system.specs.Working.Solving.{solvedBy, topOf, onEach, filledIn}
+use Rattle.system.specs.Working.Each.{Fixed, fixed, Store, store, oneIn, Each, eachBy, onOne, full, fullAt, Went, wentBy, eachFrom}
+use Rattle.system.specs.Working.Solving.{Solved, solvedBy, topOf, rowsGive, onWent, grownIn, onStretch, filledIn}
 use Rattle.system.specs.declared.asked.Index.{Index}
 use Rattle.system.specs.declared.note.Ends.{Ends}
 use Rattle.keynote.specs.Answer.{ranked, reading, readings, keptOf, system, classOf, roundsOf, reachedOf}
@@ -42,7 +47,8 @@ use Rattle.keynote.specs.Theorems.PlacesAssertion.{Small, AllSmall, smal
 use Rattle.keynote.specs.Theorems.Started.{Started, startNames}
 use Rattle.keynote.specs.Theorems.Stocked.{asked-covers}
 use Rattle.keynote.specs.Theorems.Paged.{header-is}
-use Rattle.keynote.specs.Theorems.Made.{Made, Reached, joining, joining-is, before, noted-made}
+use Rattle.keynote.specs.Theorems.Made.{Size, Made, Reached, joining, joining-is, before, noted-made}
+use Rattle.keynote.specs.Theorems.Grown.{small, large, made-larger}
 use Rattle.keynote.specs.Theorems.Made.{reached as reached-at}
 
 -- as many places as items
@@ -62,9 +68,56 @@ pub record Fit (s : List ℕ) (q : Query) (values names : List ℕ) (start t : �
   pub at-most : most ≤ 32
   pub room : 3 + 3 * most ≤ length sheet
 
-reached-same : {q : Query} {start : ℕ} {direct sheet : List ℕ} {l l′ : List Assertion} {i i′ : ℕ} {f f′ : List ℕ} {z : Each} → l ≡ l′ → i ≡ i′ → f ≡ f′
-    → Reached q start direct sheet l i f z → Reached q start direct sheet l′ i′ f′ z
+reached-same : {size : Size} {q : Query} {start : ℕ} {direct sheet : List ℕ} {l l′ : List Assertion} {i i′ : ℕ} {f f′ : List ℕ} {z : Each} → l ≡ l′ → i ≡ i′ → f ≡ f′
+    → Reached size q start direct sheet l i f z → Reached size q start direct sheet l′ i′ f′ z
 reached-same a b c r = rw (← a, ← b, ← c) r
+
+-- the reading ended there
+data Ended (size : Size) (q : Query) (start : ℕ) (direct sheet : List ℕ) (l : List Assertion) (i : ℕ) (front : List ℕ) : Went → Type 0 where
+  ended : (j : ℕ) (z : Each) → Reached size q start direct sheet l i front z → Ended size q start direct sheet l i front (wentBy j z)
+
+ended-same : {size : Size} {q : Query} {start : ℕ} {direct sheet : List ℕ} {l l′ : List Assertion} {i i′ : ℕ} {f f′ : List ℕ} {w : Went} → l ≡ l′ → i ≡ i′ → f ≡ f′
+    → Ended size q start direct sheet l i f w → Ended size q start direct sheet l′ i′ f′ w
+ended-same a b c r = rw (← a, ← b, ← c) r
+
+-- the three numbers of the system that those assertions make, and the page
+abbrev gives : Query → List Assertion → List ℕ → Solved
+gives q l page =
+    solvedBy (record { rank = rank (systemOf l (q .requesters) (top (q .values))) policy; rounds = rounds (systemOf l (q .requesters) (top (q .values))); reached = reached (systemOf l (q .requesters) (top (q .values))) })
+    page
+
+-- the solver over the fronts gives the system's three numbers
+solved-ended : {size : Size} {q : Query} {start : ℕ} {direct sheet : List ℕ} {l : List Assertion} {i : ℕ} {front : List ℕ} {w : Went} → (t : ℕ) → t ≡ top (q .values)
+    → Ended size q start direct sheet l i front w → onWent t direct w ≡ gives q l (front ++ drop (3 + 3 * i) sheet)
+unfolding rowsGive
+solved-ended {q = q} {direct = direct} {sheet = sheet} {l = l} {i = i} {front = front} t te (ended j _ (reached-at e x a c d page made fe pe)) =
+    let m : take (e .count) direct ≡ map (asking (q .requesters)) (made .names)
+    = ap (take (e .count)) (made .stock .marks)
+    ∙ take-at (map (asking (q .requesters)) (made .names)) (replicate (553 - length (made .names)) 0) (e .count) (length-map (made .names) (asking (q .requesters)) ∙ sym (made .holds .counted)) in
+    rw (te, pe, m)
+    (ap (λ (w : Solution). solvedBy w (front ++ drop (3 + 3 * i) sheet))
+    (represented (made .names) (take (e .kept) a) (take (e .kept) c) (take (e .kept) d) (take (e .size) (x .code)) (map (asking (q .requesters)) (made .names)) (top (q .values))
+    (systemOf l (q .requesters) (top (q .values))) (made .stock .filling .represents)))
+
+gives-same : (q : Query) (sheet : List ℕ) {l l′ : List Assertion} {f f′ : List ℕ} {i i′ : ℕ} → l ≡ l′ → f ≡ f′ → i ≡ i′
+    → gives q l (f ++ drop (3 + 3 * i) sheet) ≡ gives q l′ (f′ ++ drop (3 + 3 * i′) sheet)
+gives-same q sheet a b c = rw (a, b, c)
+
+-- where no table is too small there is room
+full-not : (consts start text pool end places count : ℕ) → full consts start text pool end places count ≡ false
+    → (start + 64 + text ≤ consts) × (end + 17 * 258 ≤ pool) × (count + 17 ≤ places)
+unfolding full
+full-not consts start text pool end places count not =
+    split (leb (start + 64 + text) consts)
+    (λ a. split (leb (end + 17 * 258) pool)
+    (λ b. split (leb (count + 17) places)
+    (λ c. (leb-true (start + 64 + text) consts a, leb-true (end + 17 * 258) pool b, leb-true (count + 17) places c))
+    (λ c. let z : true ≡ false = rw (a, b, c) at not in clash refl z))
+    (λ b. let z : true ≡ false = rw (a, b) at not in clash refl z))
+    (λ a. let z : true ≡ false = rw a at not in clash refl z)
+
+drop-next : (l : List ℕ) (i p : ℕ) (ps : List ℕ) → drop i l ≡ p ∷ ps → drop (suc i) l ≡ ps
+drop-next l i p ps e = ap (λ (n : ℕ). drop n l) (sym (add-one i)) ∙ sym (drop-drop 1 i l) ∙ ap (drop 1) e
 
 small-head : {r : Read} {l : List Read} → AllSmall (r ∷ l) → Small r
 small-head (small∷ h t) = h
@@ -74,86 +127,107 @@ small-tail (small∷ h t) = t
 
 module _ {s : List ℕ} {q : Query} {values names : List ℕ} {start t : ℕ} (direct : List ℕ) {sheet : List ℕ} {most : ℕ} (fit : Fit s q values names start t sheet most) where
   abbrev all : Fixed
-  all = fixed s values names t start 77824
+  all = fixed s values names t start
 
   abbrev givenAt : ℕ → Given
-  givenAt v = given (counted s v) (getD s (v - 3) 0) s values names start 208 77824
+  givenAt v = given (counted s v) (getD s (v - 3) 0) s values names start
 
   -- there is room for one assertion more
-  ready : {l : List Assertion} {i : ℕ} {e : Ends} {x : Store} {a c d : List ℕ} (made : Made q start direct l i e x a c d) → i < 32 → (v : ℕ) → length (counted s v) ≤ 8192
-      → Ready q (givenAt v) (before x) (made .names) (e .count) (e .end) (e .size)
-  ready made h v short = record {
-    short = short;
-    values = fit .values-lie;
-    attributes = fit .names-lie;
-    begun = made .begun;
-    values-short = fit .values-short;
-    requesters-short = fit .requesters-short;
-    few = fit .few;
-    depth = omega arith;
-    space = omega arith;
-    constants-room = omega arith;
-    consts-room = omega (arith, fit .start-low, made .consts-long);
-    program-room = omega (arith, made .program-long);
-    holds = made .holds;
-    tight = made .tight;
-    places-room = omega (arith, made .few, h, made .places-long);
-    pool-room = omega (arith, made .tight, made .few, h, made .pool-long);
-    numbers = omega (arith, made .holds .counted, made .few, h);
-    code-room = omega (arith, made .low, h, made .code-long);
-  }
+  ready : {size : Size} {l : List Assertion} {i : ℕ} {e : Ends} {x : Store} {a c d : List ℕ} (made : Made size q start direct l i e x a c d) → i < 32
+      → (v : ℕ) → length (counted s v) ≤ 8192 → fullAt all v e x ≡ false → Ready q (givenAt v) (before x) (made .names) (e .count) (e .end) (e .size)
+  ready {e = e} {x = x} made h v short not =
+      let room = full-not (length (x .consts)) start (length (counted s v)) (length (x .pool)) (e .end) (length (x .places)) (e .count) not in
+      record {
+        short = short;
+        values = fit .values-lie;
+        attributes = fit .names-lie;
+        begun = made .begun;
+        values-short = fit .values-short;
+        requesters-short = fit .requesters-short;
+        few = fit .few;
+        constants-room = omega arith;
+        consts-room = room .0;
+        holds = made .holds;
+        tight = made .tight;
+        places-room = room .2;
+        pool-room = room .1;
+        numbers = omega (arith, made .holds .counted, made .few, h);
+        code-room = omega (arith, made .low, h, made .code-long);
+      }
 
   same-reading : (v : ℕ) (u : Supplied) → AssertionAt s v u → readAssertion (getD s (v - 3) 0) (counted s v) ≡ reading u
   unfolding reading
   same-reading v u at = ap (λ (n : ℕ). readAssertion n (counted s v)) (at .1) ∙ ap (readAssertion (u .standing)) (at .0)
 
   -- one assertion more
-  step : {l : List Assertion} {i : ℕ} {e : Ends} {x : Store} {a c d : List ℕ} (made : Made q start direct l i e x a c d) → i < most → (v : ℕ) (u : Supplied) → AssertionAt s v u
-      → length (u .text) ≤ 8192 → Small (reading u) → (front page : List ℕ) → length front ≡ 3 + 3 * i → page ≡ front ++ drop (3 + 3 * i) sheet
-      → Reached q start direct sheet (joining q l (reading u)) (suc i) (front ++ entryBytes (reading u)) (onOne a c d page i e (oneIn all v x (e .count) (e .end) (e .size)))
+  step : {size : Size} {l : List Assertion} {i : ℕ} {e : Ends} {x : Store} {a c d : List ℕ} (made : Made size q start direct l i e x a c d) → i < most → (v : ℕ) (u : Supplied) → AssertionAt s v u
+      → fullAt all v e x ≡ false → length (u .text) ≤ 8192 → Small (reading u) → (front page : List ℕ) → length front ≡ 3 + 3 * i → page ≡ front ++ drop (3 + 3 * i) sheet
+      → Reached size q start direct sheet (joining q l (reading u)) (suc i) (front ++ entryBytes (reading u)) (onOne a c d page i e (oneIn all v x (e .count) (e .end) (e .size)))
   unfolding oneIn
-  step {i = i} {e = e} {x = x} made h v u at short small front page fe pe =
+  step {i = i} {e = e} {x = x} made h v u at not short few front page fe pe =
       let less : i < 32 = omega (arith, h, fit .at-most) in
       let b : length (counted s v) ≤ 8192 = omega (arith, short, ap length (at .0)) in
       let r : ReadAs q (givenAt v) t (before x) (made .names) (e .count) (e .end) (e .size) (reading u) (readIn (givenAt v) t (before x) (e .count) (e .end) (e .size))
       = subst (λ (w : Read). ReadAs q (givenAt v) t (before x) (made .names) (e .count) (e .end) (e .size) w (readIn (givenAt v) t (before x) (e .count) (e .end) (e .size)))
-      (same-reading v u at) (read-as t (ready made less v b)) in
+      (same-reading v u at) (read-as t (ready made less v b not)) in
       noted-made made less (givenAt v) refl t (fit .top-is) front sheet page fe pe (omega (arith, h, fit .room)) (reading u)
-      (readIn (givenAt v) t (before x) (e .count) (e .end) (e .size)) small r
+      (readIn (givenAt v) t (before x) (e .count) (e .end) (e .size)) few r
 
-  -- all of them
-  each-reached : {ps : List ℕ} {m seen : List Supplied} → Lie (AssertionAt s) ps m → All SuppliedOk seen m → AllSmall (map reading m)
-      → (l : List Assertion) (i : ℕ) (front : List ℕ) (z : Each) → i + length m ≤ most → Reached q start direct sheet l i front z
-      → Reached q start direct sheet (l ++ map (ranked q) (keptOf (map reading m))) (i + length m) (front ++ entriesBytes (map reading m)) (eachFrom all ps i z)
+  at-short : (v : ℕ) (u : Supplied) → AssertionAt s v u → length (u .text) ≤ 8192 → length (counted s v) ≤ 8192
+  at-short v u at short = omega (arith, short, ap length (at .0))
+
+  -- large tables are never too small
+  never-full : {l : List Assertion} {i : ℕ} {e : Ends} {x : Store} {a c d : List ℕ} → Made large q start direct l i e x a c d → i < 32
+      → (v : ℕ) → length (counted s v) ≤ 8192 → fullAt all v e x ≡ false
+  unfolding full
+  never-full {e = e} {x = x} made h v short =
+      rw (
+        le-leb (start + 64 + length (counted s v)) (length (x .consts)) (omega (arith, fit .start-low, short, made .consts-long)),
+        le-leb (e .end + 17 * 258) (length (x .pool)) (omega (arith, made .tight, made .few, h, made .pool-long)),
+        le-leb (e .count + 17) (length (x .places)) (omega (arith, made .few, h, made .places-long)),
+      )
+
+  -- all of them, in large tables
+  each-large : {ps : List ℕ} {m seen : List Supplied} → Lie (AssertionAt s) ps m → All SuppliedOk seen m → AllSmall (map reading m)
+      → (l : List Assertion) (i : ℕ) (front : List ℕ) (z : Each) → i + length m ≤ most → Reached large q start direct sheet l i front z
+      → Ended large q start direct sheet (l ++ map (ranked q) (keptOf (map reading m))) (i + length m) (front ++ entriesBytes (map reading m)) (eachFrom all ps i z)
   unfolding eachFrom keptOf entriesBytes
-  each-reached lie[] each[] smalls l i front z h r = rw (append-nil l, append-nil front, add-zero i) r
-  each-reached (lie∷ {v = v} {vs = vs} {a = u} {l = m} at lies) (each∷ ok oks) smalls l i front _ h (reached-at e x a c d page made fe pe) =
+  each-large lie[] each[] smalls l i front z h r = rw (append-nil l, append-nil front, add-zero i) (ended i z r)
+  each-large (lie∷ {v = v} {vs = vs} {a = u} {l = m} at lies) (each∷ ok oks) smalls l i front _ h (reached-at e x a c d page made fe pe) =
       let n : suc i + length m ≡ i + suc (length m) = omega arith in
-      reached-same (joining-is q l (reading u) (map reading m)) n (append-assoc front (entryBytes (reading u)) (entriesBytes (map reading m)))
-      (each-reached lies oks (small-tail smalls) (joining q l (reading u)) (suc i) (front ++ entryBytes (reading u))
+      let not : fullAt all v e x ≡ false = never-full made (omega (arith, h, fit .at-most)) v (at-short v u at (ok .1 .1)) in
+      rw not (ended-same (joining-is q l (reading u) (map reading m)) n (append-assoc front (entryBytes (reading u)) (entriesBytes (map reading m)))
+      (each-large lies oks (small-tail smalls) (joining q l (reading u)) (suc i) (front ++ entryBytes (reading u))
       (onOne a c d page i e (oneIn all v x (e .count) (e .end) (e .size))) (omega (arith, h))
-      (step made (omega (arith, h)) v u at (ok .1 .1) (small-head smalls) front page fe pe))
+      (step made (omega (arith, h)) v u at not (ok .1 .1) (small-head smalls) front page fe pe)))
 
--- the solver over the fronts gives the system's three numbers
-solved-from : {q : Query} {start : ℕ} {direct sheet : List ℕ} {l : List Assertion} {i : ℕ} {front : List ℕ} {z : Each} → (t : ℕ) → t ≡ top (q .values)
-    → Reached q start direct sheet l i front z
-    → onEach t direct z
-    ≡ solvedBy (record { rank = rank (systemOf l (q .requesters) (top (q .values))) policy; rounds = rounds (systemOf l (q .requesters) (top (q .values))); reached = reached (systemOf l (q .requesters) (top (q .values))) })
-    (front ++ drop (3 + 3 * i) sheet)
-solved-from {q} {direct = direct} {sheet = sheet} {l = l} {i = i} {front = front} t te (reached-at e x a c d page made fe pe) =
-    let m : take (e .count) direct ≡ map (asking (q .requesters)) (made .names)
-    = ap (take (e .count)) (made .stock .marks)
-    ∙ take-at (map (asking (q .requesters)) (made .names)) (replicate (553 - length (made .names)) 0) (e .count) (length-map (made .names) (asking (q .requesters)) ∙ sym (made .holds .counted)) in
-    rw (te, pe, m)
-    (ap (λ (w : Solution). solvedBy w (front ++ drop (3 + 3 * i) sheet))
-    (represented (made .names) (take (e .kept) a) (take (e .kept) c) (take (e .kept) d) (take (e .size) (x .code)) (map (asking (q .requesters)) (made .names)) (top (q .values))
-    (systemOf l (q .requesters) (top (q .values))) (made .stock .filling .represents)))
+  -- the assertions from the one with the number i on, in small tables first
+  each-small : (texts : List ℕ) {ps : List ℕ} {m seen : List Supplied} → Lie (AssertionAt s) ps m → All SuppliedOk seen m → AllSmall (map reading m)
+      → (l : List Assertion) (i : ℕ) (front : List ℕ) (z : Each) → i + length m ≤ most → i + length m ≡ length texts → drop i texts ≡ ps
+      → Reached small q start direct sheet l i front z
+      → onStretch all texts direct (eachFrom all ps i z)
+      ≡ gives q (l ++ map (ranked q) (keptOf (map reading m))) ((front ++ entriesBytes (map reading m)) ++ drop (3 + 3 * (i + length m)) sheet)
+  unfolding eachFrom keptOf entriesBytes grownIn
+  each-small texts lie[] each[] smalls l i front _ h n de (reached-at e x a c d page made fe pe) =
+      rw (append-nil l, append-nil front, add-zero i, le-ltb i (length texts) (omega (arith, n)))
+      (solved-ended {size = small} {sheet = sheet} {front = front} t (fit .top-is) (ended i (eachBy e x a c d page) (reached-at e x a c d page made fe pe)))
+  each-small texts {seen = seen} (lie∷ {v = v} {vs = vs} {a = u} {l = m} at lies) (each∷ ok oks) smalls l i front _ h n de (reached-at e x a c d page made fe pe) =
+      split (fullAt all v e x)
+      (λ f. rw (f, lt-ltb i (length texts) (omega (arith, n)), de)
+      (solved-ended t (fit .top-is) (each-large {seen = seen} (lie∷ at lies) (each∷ ok oks) smalls l i front _ h
+      (reached-at e _ a c d page (made-larger made (fit .start-low) (omega (arith, h, fit .at-most))) fe pe))))
+      (λ f. let k : suc i + length m ≡ i + suc (length m) = omega arith in
+      rw f
+      (each-small texts lies oks (small-tail smalls) (joining q l (reading u)) (suc i) (front ++ entryBytes (reading u))
+      (onOne a c d page i e (oneIn all v x (e .count) (e .end) (e .size))) (omega (arith, h)) (k ∙ n) (drop-next texts i v vs de)
+      (step made (omega (arith, h)) v u at f (ok .1 .1) (small-head smalls) front page fe pe)
+      ∙ gives-same q sheet (joining-is q l (reading u) (map reading m)) (append-assoc front (entryBytes (reading u)) (entriesBytes (map reading m))) k))
 
 -- before the first
 start-made : (s : List ℕ) (q : Query) (start : ℕ) (consts : List ℕ) (x : Index) (pool places direct : List ℕ) → Started s q start consts x pool places direct
-    → (code program a c d : List ℕ) → length code ≡ 1536 → length program ≡ 8194 → length a ≡ 32 → length c ≡ 32 → length d ≡ 32
-    → Made q start direct [] 0 (endsOf (x .count) (x .end) 0 0) (store consts pool places code program) a c d
-start-made s q start consts x pool places direct st code program a c d ke pe ae ce de = record {
+    → (code a c d : List ℕ) → length code ≡ 1536 → length a ≡ 32 → length c ≡ 32 → length d ≡ 32
+    → Made small q start direct [] 0 (endsOf (x .count) (x .end) 0 0) (store consts pool places code) a c d
+start-made s q start consts x pool places direct st code a c d ke ae ce de = record {
   names = startNames q;
   holds = st .holds;
   stock = record {
@@ -172,7 +246,6 @@ start-made s q start consts x pool places direct st code program a c d ke pe ae 
   pool-long = st .pool-long;
   places-long = st .places-long;
   code-long = ke;
-  program-long = pe;
   begun = st .begun;
 }
 
@@ -214,14 +287,14 @@ module _ (s : List ℕ) (q : Query) (page : List ℕ) (start : ℕ) (consts : Li
         at-most = few;
         room = room;
       } in
-      let made : Made q start direct [] 0 (endsOf (x .count) (x .end) 0 0) (store consts pool places (replicate 1536 0) (replicate 8194 0)) (replicate 32 0) (replicate 32 0) (replicate 32 0)
-      = start-made s q start consts x pool places direct st (replicate 1536 0) (replicate 8194 0) (replicate 32 0) (replicate 32 0) (replicate 32 0)
-      (length-replicate {A = ℕ} 1536 0) (length-replicate {A = ℕ} 8194 0) (length-replicate {A = ℕ} 32 0) (length-replicate {A = ℕ} 32 0) (length-replicate {A = ℕ} 32 0) in
-      let begin : Reached q start direct page [] 0 (1 ∷ pairBytes (3 * length texts))
-      (eachBy (endsOf (x .count) (x .end) 0 0) (store consts pool places (replicate 1536 0) (replicate 8194 0)) (replicate 32 0) (replicate 32 0) (replicate 32 0) (headerInto page (length texts)))
-      = reached-at (endsOf (x .count) (x .end) 0 0) (store consts pool places (replicate 1536 0) (replicate 8194 0)) (replicate 32 0) (replicate 32 0) (replicate 32 0) (headerInto page (length texts))
+      let made : Made small q start direct [] 0 (endsOf (x .count) (x .end) 0 0) (store consts pool places (replicate 1536 0)) (replicate 32 0) (replicate 32 0) (replicate 32 0)
+      = start-made s q start consts x pool places direct st (replicate 1536 0) (replicate 32 0) (replicate 32 0) (replicate 32 0)
+      (length-replicate {A = ℕ} 1536 0) (length-replicate {A = ℕ} 32 0) (length-replicate {A = ℕ} 32 0) (length-replicate {A = ℕ} 32 0) in
+      let begin : Reached small q start direct page [] 0 (1 ∷ pairBytes (3 * length texts))
+      (eachBy (endsOf (x .count) (x .end) 0 0) (store consts pool places (replicate 1536 0)) (replicate 32 0) (replicate 32 0) (replicate 32 0) (headerInto page (length texts)))
+      = reached-at (endsOf (x .count) (x .end) 0 0) (store consts pool places (replicate 1536 0)) (replicate 32 0) (replicate 32 0) (replicate 32 0) (headerInto page (length texts))
       made (front-start (3 * length texts)) (header-is page (length texts) (omega (arith, room)) (omega (arith, n, few))) in
-      solved-from (topOf values) te (each-reached direct fit tl oks smalls [] 0 (1 ∷ pairBytes (3 * length texts)) _ (omega arith) begin)
+      each-small direct fit texts tl oks smalls [] 0 (1 ∷ pairBytes (3 * length texts)) _ (omega arith) (omega (arith, n)) refl begin
       ∙ ap (solvedBy (record { rank = rank (system q) policy; rounds = rounds (system q); reached = reached (system q) })) (page-end q (length texts) page n)
 
 small-readings : (s : List ℕ) (q : Query) → Bytes s → readRecord s ≡ accepted q → AllSmall (map reading (q .assertions))

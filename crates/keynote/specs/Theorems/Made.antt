@@ -37,8 +37,14 @@ use Rattle.keynote.specs.Theorems.PlacesAssertion.{Small}
 use Rattle.keynote.specs.Theorems.Stocked.{Stock, stock-all, stock-row}
 use Rattle.keynote.specs.Theorems.Paged.{front-long, entry-is}
 
--- after i assertions: the kept ones l stand in the tables, and there is room for those to come
-pub record Made (q : Query) (start : ℕ) (direct : List ℕ) (l : List Assertion) (i : ℕ) (e : Ends) (x : Store) (a c d : List ℕ) : Type 0 where
+-- how long the tables are: constants, identifiers, their places
+pub record Size : Type 0 where
+  pub consts : ℕ
+  pub pool : ℕ
+  pub places : ℕ
+
+-- after i assertions: the kept ones l stand in the tables
+pub record Made (size : Size) (q : Query) (start : ℕ) (direct : List ℕ) (l : List Assertion) (i : ℕ) (e : Ends) (x : Store) (a c d : List ℕ) : Type 0 where
   pub names : List Principal
   pub holds : Holds (x .pool) (x .places) (e .count) (e .end) names
   pub stock : Stock (q .requesters) (top (q .values)) direct (take (e .kept) a) (take (e .kept) c) (take (e .kept) d) (take (e .size) (x .code)) l names
@@ -49,17 +55,16 @@ pub record Made (q : Query) (start : ℕ) (direct : List ℕ) (l : List Assertio
   pub authors-long : length a ≡ 32
   pub conds-long : length c ≡ 32
   pub ends-long : length d ≡ 32
-  pub consts-long : length (x .consts) ≡ 11400
-  pub pool-long : length (x .pool) ≡ 142674
-  pub places-long : length (x .places) ≡ 553
+  pub consts-long : length (x .consts) ≡ size .consts
+  pub pool-long : length (x .pool) ≡ size .pool
+  pub places-long : length (x .places) ≡ size .places
   pub code-long : length (x .code) ≡ 1536
-  pub program-long : length (x .program) ≡ 8194
   pub begun : take start (x .consts) ≡ stringBytes (joined (q .values)) ++ stringBytes (joined (q .requesters))
 
 -- and on the page the entries stand in front of what was there
-pub data Reached (q : Query) (start : ℕ) (direct sheet : List ℕ) (l : List Assertion) (i : ℕ) (front : List ℕ) : Each → Type 0 where
-  reached : (e : Ends) (x : Store) (a c d page : List ℕ) → Made q start direct l i e x a c d → length front ≡ 3 + 3 * i → page ≡ front ++ drop (3 + 3 * i) sheet
-      → Reached q start direct sheet l i front (eachBy e x a c d page)
+pub data Reached (size : Size) (q : Query) (start : ℕ) (direct sheet : List ℕ) (l : List Assertion) (i : ℕ) (front : List ℕ) : Each → Type 0 where
+  reached : (e : Ends) (x : Store) (a c d page : List ℕ) → Made size q start direct l i e x a c d → length front ≡ 3 + 3 * i → page ≡ front ++ drop (3 + 3 * i) sheet
+      → Reached size q start direct sheet l i front (eachBy e x a c d page)
 
 -- the kept assertions with one more, unless it is dropped
 unfoldable pub joining : Query → List Assertion → Read → List Assertion
@@ -89,19 +94,19 @@ front-set l k v w h e = rw (add-one k, e) (take-suc-set l k w h)
 
 -- the tables before an assertion, and what is stored of those after it
 abbrev pub before : Store → Tables
-before x = tabled (x .consts) (replicate 16 0) (x .pool) (x .places) (x .code) (x .program)
+before x = tabled (x .consts) (replicate 16 0) (x .pool) (x .places) (x .code)
 
 abbrev stored : Tables → Store
-stored y = store (y .consts) (y .pool) (y .places) (y .code) (y .program)
+stored y = store (y .consts) (y .pool) (y .places) (y .code)
 
-module _ {q : Query} {start : ℕ} {direct : List ℕ} {l : List Assertion} {i : ℕ} {e : Ends} {x : Store} {a c d : List ℕ} (made : Made q start direct l i e x a c d)
+module _ {size : Size} {q : Query} {start : ℕ} {direct : List ℕ} {l : List Assertion} {i : ℕ} {e : Ends} {x : Store} {a c d : List ℕ} (made : Made size q start direct l i e x a c d)
     (more : i < 32) (g : Given) (ge : g .start ≡ start) where
   begun-after : (y : Tables) → After g (before x) y → take start (y .consts) ≡ stringBytes (joined (q .values)) ++ stringBytes (joined (q .requesters))
   begun-after y after = subst (λ (n : ℕ). take n (y .consts) ≡ take n (x .consts)) ge (after .begun) ∙ made .begun
 
   -- an assertion that is dropped
   made-dropped : (y : Tables) → After g (before x) y → Holds (y .pool) (y .places) (e .count) (e .end) (made .names) → take (e .size) (y .code) ≡ take (e .size) (x .code)
-      → Made q start direct l (suc i) e (stored y) a c d
+      → Made size q start direct l (suc i) e (stored y) a c d
   made-dropped y after holds code = record {
     names = made .names;
     holds = holds;
@@ -117,7 +122,6 @@ module _ {q : Query} {start : ℕ} {direct : List ℕ} {l : List Assertion} {i :
     pool-long = after .pool ∙ made .pool-long;
     places-long = after .places ∙ made .places-long;
     code-long = after .code ∙ made .code-long;
-    program-long = after .program ∙ made .program-long;
     begun = begun-after y after;
   }
 
@@ -165,7 +169,7 @@ module _ {q : Query} {start : ℕ} {direct : List ℕ} {l : List Assertion} {i :
         (omega (arith, made .rows, more, made .ends-long)) low-end)
         wrote
 
-    made-kept : Made q start direct (l ++ (ranked q s ∷ [])) (suc i) (endsOf n m z (e .kept + 1)) (stored y) (set a (e .kept) (u % 65536)) (set c (e .kept) k) (set d (e .kept) (z % 65536))
+    made-kept : Made size q start direct (l ++ (ranked q s ∷ [])) (suc i) (endsOf n m z (e .kept + 1)) (stored y) (set a (e .kept) (u % 65536)) (set c (e .kept) k) (set d (e .kept) (z % 65536))
     made-kept = record {
       names = enterAll (made .names) ps;
       holds = holds;
@@ -181,14 +185,13 @@ module _ {q : Query} {start : ℕ} {direct : List ℕ} {l : List Assertion} {i :
       pool-long = after .pool ∙ made .pool-long;
       places-long = after .places ∙ made .places-long;
       code-long = after .code ∙ made .code-long;
-      program-long = after .program ∙ made .program-long;
       begun = begun-after y after;
     }
 
   -- what was read of it is noted: its row where it is kept, and its entry
   pub noted-made : (t : ℕ) → t ≡ top (q .values) → (front sheet page : List ℕ) → length front ≡ 3 + 3 * i → page ≡ front ++ drop (3 + 3 * i) sheet → 3 * i + 6 ≤ length sheet
       → (r : Read) (w : Result) → Small r → ReadAs q g t (before x) (made .names) (e .count) (e .end) (e .size) r w
-      → Reached q start direct sheet (joining q l r) (suc i) (front ++ entryBytes r) (onOne a c d page i e (oneOf w))
+      → Reached size q start direct sheet (joining q l r) (suc i) (front ++ entryBytes r) (onOne a c d page i e (oneOf w))
   unfolding noteIn joining reasonOf placeOf
   noted-made t te front sheet page fe pe room _ _ small (as-dropped r p y some after holds code) =
       reached e (stored y) a c d (entryInto page i r p) (made-dropped y after holds code) (front-long front i (dropped r p) fe)

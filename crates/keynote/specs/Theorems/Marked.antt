@@ -94,8 +94,8 @@ pub record Stage (requesters : List Principal) (top : ℕ) (done names : List Pr
   pub few : x .count ≤ 1 + length done
   pub marks : direct ≡ map (asking done) names ++ replicate (553 - x .count) 0
   pub filling : Filling names [] [] [] [] (map (asking requesters) names) [] requesters top
-  pub pool-long : length pool ≡ 142674
-  pub places-long : length places ≡ 553
+  pub pool-long : length pool ≡ 8192
+  pub places-long : length places ≡ 128
 
 pub data Staged (requesters : List Principal) (top : ℕ) (done names : List Principal) : Asked → Type 0 where
   staged : (x : Index) (pool places direct : List ℕ) → Stage requesters top done names x pool places direct → Staged requesters top done names (asked x pool places direct)

@@ -55,10 +55,10 @@ Filled s q page =
 
 -- the buffer of constants as begun
 pub data Opened (q : Query) : Written → Type 0 where
-  opened : (start : ℕ) (consts : List ℕ) → take start consts ≡ stringBytes (joined (q .values)) ++ stringBytes (joined (q .requesters)) → start ≤ 3100 → length consts ≡ 11400
+  opened : (start : ℕ) (consts : List ℕ) → take start consts ≡ stringBytes (joined (q .values)) ++ stringBytes (joined (q .requesters)) → start ≤ 3100 → length consts ≡ 4096
       → Opened q (written start consts)
 
-module _ (q : Query) (v : Valid q) (d : List ℕ) (long : length d ≡ 11400) where
+module _ (q : Query) (v : Valid q) (d : List ℕ) (long : length d ≡ 4096) where
   pub begun-opened : Opened q (begunInto d (joined (q .values)) (joined (q .requesters)))
   begun-opened =
       let a : List ℕ = joined (q .values) in
@@ -74,7 +74,7 @@ module _ (q : Query) (v : Valid q) (d : List ℕ) (long : length d ≡ 11400) wh
 
 -- what is there before the assertions are read
 pub started-is : (s : List ℕ) (q : Query) → Valid q → (start : ℕ) (consts : List ℕ)
-    → take start consts ≡ stringBytes (joined (q .values)) ++ stringBytes (joined (q .requesters)) → start ≤ 3100 → length consts ≡ 11400
+    → take start consts ≡ stringBytes (joined (q .values)) ++ stringBytes (joined (q .requesters)) → start ≤ 3100 → length consts ≡ 4096
     → (x : Index) (pool places direct : List ℕ) → Stage (q .requesters) (top (q .values)) (q .requesters) (startNames q) x pool places direct
     → Started s q start consts x pool places direct
 started-is s q v start consts b l c x pool places direct st = record {
@@ -100,7 +100,7 @@ module _ (s : List ℕ) (q : Query) (b : Bytes s) (e : readRecord s ≡ accepted
   lies = read-lies s q e
 
   module _ (start : ℕ) (consts : List ℕ) (begins : take start consts ≡ stringBytes (joined (q .values)) ++ stringBytes (joined (q .requesters)))
-      (low : start ≤ 3100) (long : length consts ≡ 11400) where
+      (low : start ≤ 3100) (long : length consts ≡ 4096) where
     on-asked : {a : Asked} → Staged (q .requesters) (top (q .values)) (q .requesters) (startNames q) a
         → onAsked s (valuesAt q) (attributesAt q) (assertionsAt q) start consts page a ≡ solvedAs q page
     on-asked (staged x pool places direct st) = filled start consts x pool places direct (started-is s q valid start consts begins low long x pool places direct st)
@@ -113,12 +113,12 @@ module _ (s : List ℕ) (q : Query) (b : Bytes s) (e : readRecord s ≡ accepted
   on-written : {w : Written} → Opened q w → onWritten s (valuesAt q) (requestersAt q) (attributesAt q) (assertionsAt q) page w ≡ solvedAs q page
   on-written (opened start consts begins low long) =
       on-begun start consts begins low long
-      (begin-rooted (q .requesters) (top (q .values)) (replicate 142674 0) (replicate 553 0) (length-replicate {A = ℕ} 142674 0) (length-replicate {A = ℕ} 553 0) (replicate 553 0) refl)
+      (begin-rooted (q .requesters) (top (q .values)) (replicate 8192 0) (replicate 128 0) (length-replicate {A = ℕ} 8192 0) (length-replicate {A = ℕ} 128 0) (replicate 553 0) refl)
 
   pub solved-by : solvedIn s (valuesAt q) (requestersAt q) (attributesAt q) (assertionsAt q) page ≡ solvedAs q page
   unfolding solvedIn
   solved-by =
-      rw (lie-strings s (lies .values), lie-strings s (lies .requesters)) (on-written (begun-opened q valid (replicate 11400 0) (length-replicate {A = ℕ} 11400 0)))
+      rw (lie-strings s (lies .values), lie-strings s (lies .requesters)) (on-written (begun-opened q valid (replicate 4096 0) (length-replicate {A = ℕ} 4096 0)))
 
 -- an accepted query solved by the tables is what the definition answers
 pub solved-is : (s : List ℕ) (q : Query) → Bytes s → readRecord s ≡ accepted q → (page : List ℕ) → needed q ≤ length page

@@ -23,10 +23,10 @@ pub record Started (s : List ℕ) (q : Query) (start : ℕ) (consts : List ℕ) 
   pub few : x .count ≤ 9
   pub marks : direct ≡ map (asking (q .requesters)) (startNames q) ++ replicate (553 - x .count) 0
   pub filling : Filling (startNames q) [] [] [] [] (map (asking (q .requesters)) (startNames q)) [] (q .requesters) (top (q .values))
-  pub pool-long : length pool ≡ 142674
-  pub places-long : length places ≡ 553
+  pub pool-long : length pool ≡ 8192
+  pub places-long : length places ≡ 128
   pub begun : take start consts ≡ stringBytes (joined (q .values)) ++ stringBytes (joined (q .requesters))
   pub start-low : start ≤ 3100
-  pub consts-long : length consts ≡ 11400
+  pub consts-long : length consts ≡ 4096
   pub values-short : length (joined (q .values)) ≤ 65535
   pub requesters-short : length (joined (q .requesters)) ≤ 65535

@@ -120,7 +120,7 @@ policy-short = omega arith
 first-zero : (n x : ℕ) → x ≡ 1 → replicate {A = ℕ} (suc n) 0 ≡ map (asking []) (policy ∷ []) ++ replicate {A = ℕ} (suc n - x) 0
 first-zero n x e = let z : suc n - x ≡ n = omega (arith, e) in rw (z, nobody-asks)
 
-module _ (requesters : List Principal) (top : ℕ) (pool places : List ℕ) (pl : length pool ≡ 142674) (ll : length places ≡ 553) (direct : List ℕ) (zero : direct ≡ replicate 553 0) where
+module _ (requesters : List Principal) (top : ℕ) (pool places : List ℕ) (pl : length pool ≡ 8192) (ll : length places ≡ 128) (direct : List ℕ) (zero : direct ≡ replicate 553 0) where
   first-rooted : {k : Kept} → EntryRead pool places 0 0 [] policy k → Rooted requesters top direct (onBegun k)
   first-rooted (entry-at c e pool′ places′ h t f g p l) =
       let hs : Holds pool′ places′ c e (policy ∷ []) = rw enter-first at h in
