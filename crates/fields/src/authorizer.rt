@@ -35,8 +35,8 @@ fn is_policy(pool: &[u8], places: &[usize], number: usize) -> bool
     if places.len() <= number {
         return false;
     }
-    let p = places[number];
-    principal::same_principal(text::counted_at(pool, p), b"POLICY")
+    let e = places[number];
+    principal::same_principal(index::name_at(pool, e), b"POLICY")
 }
 
 // Is it one that may not authorize an assertion of that standing?

@@ -76,7 +76,7 @@ pub fn enter(pool: &mut [u8], places: &mut [usize], count: usize, end: usize, id
             end,
         };
     }
-    match index::add(pool, places, count, end, id) {
+    match index::add_principal(pool, places, count, end, id) {
         index::Entered::Now { count: c, end: e } => Entry::At {
             number: i,
             count: c,

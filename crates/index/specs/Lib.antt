@@ -1,3 +1,4 @@
+pub mod Entry
 pub mod Index
 pub mod IndexLaws
 pub mod EnterLaws

@@ -1,27 +1,48 @@
 // The index of principals: each distinct identifier gets a number when it is first read. Identifiers lie in a lent pool, each behind its
-// two-byte length; a lent table holds their places.
+// two-byte length; a lent table holds an entry for each.
 ghost use mathlib.Core.Path.{_≡_};
-ghost use Rattle.compliance.specs.Tables.{place};
+ghost use lib.ListN.{take, set};
 ghost use Rattle.text.specs.Copy.{copied};
-ghost use Rattle.index.specs.Working.Finding.{namesOf};
-ghost use Rattle.index.specs.Working.Adding.{countedInto, entered, addInto};
+ghost use Rattle.principal.specs.Tag.{tag};
+ghost use Rattle.index.specs.Entry.{nameAt, isAt};
+ghost use Rattle.index.specs.Working.Finding.{found};
+ghost use Rattle.index.specs.Working.Adding.{countedInto, entered, addInto, principalInto};
+
+// Is it the entry of the identifier, whose tag is t? It has its own tag in its low half.
+fn is_entry(pool: &[u8], e: usize, id: &[u8], t: usize) -> bool
+    requires { ⌜ t ≡ tag (now id) ⌝ }
+    ensures { λ r. ⌜ r ≡ isAt (now (pool .entry)) (now (id .entry)) e ⌝ }
+{
+    if e % 4294967296 == t {
+        return principal::same_principal(id, text::counted_at(pool, e / 4294967296));
+    }
+    false
+}
 
 // The index of an identifier among the first n, or n where it is none of them.
 pub fn find(pool: &[u8], places: &[usize], n: usize, id: &[u8]) -> usize
-    ensures { λ r. ⌜ r ≡ place (namesOf (now (pool .entry)) (now (places .entry)) n) (now (id .entry)) ⌝ }
+    ensures { λ r. ⌜ r ≡ found (now (pool .entry)) (now (id .entry)) (take n (now (places .entry))) ⌝ }
 {
+    let t = principal::tag_of(id);
     let mut i: usize = 0;
     while i < n {
         if places.len() <= i {
             return i;
         }
-        let p = places[i];
-        if principal::same_principal(id, text::counted_at(pool, p)) {
+        let e = places[i];
+        if is_entry(pool, e, id, t) {
             return i;
         }
         i += 1;
     }
     i
+}
+
+// The identifier of an entry.
+pub fn name_at(pool: &[u8], e: usize) -> &[u8]
+    ensures { λ r. ⌜ now r ≡ nameAt (now (pool .entry)) e ⌝ }
+{
+    text::counted_at(pool, e / 4294967296)
 }
 
 // What entering an identifier gives: how many there are now and where the pool's front ends, or no room.
@@ -67,4 +88,36 @@ pub fn add(pool: &mut [u8], places: &mut [usize], count: usize, end: usize, id: 
         };
     }
     Entered::Full
+}
+
+fn put_entry(places: &mut [usize], i: usize, e: usize)
+    ensures { λ _. ⌜ now (places .exit) ≡ set (now (places .entry)) i e ⌝ }
+{
+    if places.len() <= i {
+        return;
+    }
+    places[i] = e;
+}
+
+// Enters a principal behind the others, with its tag.
+pub fn add_principal(
+    pool: &mut [u8],
+    places: &mut [usize],
+    count: usize,
+    end: usize,
+    id: &[u8],
+) -> Entered
+    ensures { λ r. ⌜ entered r (now (pool .exit)) (now (places .exit)) ≡ principalInto (now (pool .entry)) (now (places .entry)) count end (now (id .entry)) ⌝ }
+{
+    if 4294967294 <= end {
+        return Entered::Full;
+    }
+    let t = principal::tag_of(id);
+    match add(pool, places, count, end, id) {
+        Entered::Full => Entered::Full,
+        Entered::Now { count: c, end: m } => {
+            put_entry(places, count, (end + 2) * 4294967296 + t);
+            Entered::Now { count: c, end: m }
+        }
+    }
 }

@@ -1,2 +1,3 @@
 pub mod Principal
 pub mod Members
+pub mod Tag

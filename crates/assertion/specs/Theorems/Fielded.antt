@@ -258,6 +258,7 @@ module _ {q : Query} {g : Given} {top : ℕ} {x : Tables} {names : List Principa
   author-here k ke one n sn =
       author-field k ke one _ _ (author-read (g .text) (g .standing) (y .consts) (known u y) (y .pool) (y .places) (u .count) (u .end) (d .constants) (enterAll names (held .ps)) n
       (held .constants) sn (held .index .holds) (held .index .low)
+      (omega (arith, held .index .holds .counted, enter-all-length names (held .ps), held .index .room, one, ready .numbers))
       (omega (arith, held-count ready held, held .index .room, one, ready .places-room, held .after .places))
       (omega (arith, held .index .near, held .index .room, one, ready .pool-room, held .after .pool)))
 

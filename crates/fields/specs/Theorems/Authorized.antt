@@ -9,7 +9,7 @@ use lib.ListN.{length, getD, take, List·getD-map}
 use lib.Seq.{getD-take}
 use borrow.Author.Tests.{lt-leb, eqb-true, eqb-false}
 use Rattle.text.specs.Choice.{split}
-use Rattle.text.specs.Counted.{counted}
+use Rattle.index.specs.Entry.{nameAt}
 use Rattle.record.specs.Query.{Attribute}
 use Rattle.record.specs.Lies.{Lie, AttributeAt}
 use Rattle.principal.specs.Principal.{Principal, same, same-left, policy}
@@ -18,7 +18,6 @@ use Rattle.compliance.specs.Tables.{place}
 use Rattle.index.specs.Index.{enter, Holds}
 use Rattle.index.specs.IndexLaws.{names-are}
 use Rattle.index.specs.EnterLaws.{fresh, enter-is, enter-member, place-same, place-below}
-use Rattle.index.specs.Working.Finding.{namesOf}
 use Rattle.lexical.specs.Kind
 use Rattle.lexical.specs.declared.token.Token.{Token}
 use Rattle.syntax.specs.Parsed.{Parsed, ok, aside, refusal}
@@ -43,15 +42,15 @@ pub data AuthorRead (s pool places : List ℕ) (count end : ℕ) (names : List P
 -- is the principal at a member's number POLICY? as the member is
 policy-is : {pool places : List ℕ} {c e : ℕ} {names : List Principal} → Holds pool places c e names → (p : Principal) → member p names ≡ true
     → policyAt pool places (place names p) ≡ same p policy
-unfolding policyAt namesOf
+unfolding policyAt
 policy-is {pool} {places} {c} {e} {names} holds p m =
     let b : place names p < c = omega (arith, place-below names p m, holds .counted) in
-    let a : map (counted pool) (take c places) ≡ names = names-are holds in
-    let g : counted pool (getD places (place names p) 0) ≡ getD names (place names p) (counted pool 0)
-    = ap (counted pool) (sym (getD-take c places (place names p) 0 b)) ∙ sym (List·getD-map (counted pool) (take c places) (place names p) 0)
-    ∙ ap (λ (l : List Principal). getD l (place names p) (counted pool 0)) a in
+    let a : map (nameAt pool) (take c places) ≡ names = names-are holds in
+    let g : nameAt pool (getD places (place names p) 0) ≡ getD names (place names p) (nameAt pool 0)
+    = ap (nameAt pool) (sym (getD-take c places (place names p) 0 b)) ∙ sym (List·getD-map (nameAt pool) (take c places) (place names p) 0)
+    ∙ ap (λ (l : List Principal). getD l (place names p) (nameAt pool 0)) a in
     rw (lt-leb (length places) (place names p) (omega (arith, holds .inTable)), g)
-    (sym (same-left p (getD names (place names p) (counted pool 0)) policy (place-same names p (counted pool 0) m)))
+    (sym (same-left p (getD names (place names p) (nameAt pool 0)) policy (place-same names p (nameAt pool 0) m)))
 
 module _ (s : List ℕ) (standing : ℕ) (pool places : List ℕ) (count end : ℕ) (names : List Principal) (holds : Holds pool places count end names) (t : Token) (id : Principal) where
   module _ (c e : ℕ) (pool′ places′ : List ℕ) (new : Holds pool′ places′ c e (enter names id)) (low : e ≤ 258 * c) (near : e ≤ end + 258)
@@ -82,14 +81,14 @@ module _ (s : List ℕ) (standing : ℕ) (pool places : List ℕ) (count end : �
 
 -- what is read by the tables is what the meaning reads
 pub author-read : (s : List ℕ) (standing : ℕ) (consts constants pool places : List ℕ) (count end : ℕ) (l : List Attribute) (names : List Principal) (t : Token)
-    → Lie (AttributeAt consts) constants l → Stood s t → Holds pool places count end names → end ≤ 258 * count → count < length places → end + 258 ≤ length pool
+    → Lie (AttributeAt consts) constants l → Stood s t → Holds pool places count end names → end ≤ 258 * count → count ≤ 32768 → count < length places → end + 258 ≤ length pool
     → AuthorRead s pool places count end names (authorizer s standing l t) (authorizerIn s standing consts constants pool places count end t)
 unfolding authorizer identifier authorizerIn
-author-read s standing consts constants pool places count end l names t lie st holds low room fits =
+author-read s standing consts constants pool places count end l names t lie st holds low few room fits =
     split (eqb (identifierFault s l t) 0)
     (λ f. let z : identifierFault s l t ≡ 0 = eqb-true _ _ f in
     rw (fault-is s consts constants l lie t, f, token-is s consts constants pool places count end l lie t z)
     (entered-read s standing pool places count end names holds t (identified s l t) _
-    (entry-read pool places count end names holds low (identified s l t) (identified-few s l t z) room fits)))
+    (entry-read pool places count end names holds low (identified s l t) (identified-few s l t z) few room fits)))
     (λ f. rw (fault-is s consts constants l lie t, f)
     (author-aside (identifierFault s l t) (t .start) pool places (eqb-false _ _ f) refl refl holds))

@@ -24,7 +24,9 @@ use Rattle.principal.specs.Members.{member}
 use Rattle.compliance.specs.Tables.{place}
 use Rattle.compliance.specs.Theorems.Fill.{place-absent, place-added}
 use Rattle.index.specs.Index.{enter, Holds}
-use Rattle.index.specs.IndexLaws.{names-are, add-gives, add-holds, holds-front}
+use Rattle.principal.specs.Tag.{tag}
+use Rattle.index.specs.Entry.{packed}
+use Rattle.index.specs.IndexLaws.{found-is, add-gives, add-holds, holds-front}
 use Rattle.index.specs.EnterLaws.{place-below}
 use Rattle.expression.specs.Names.{settingOr}
 use Rattle.expression.specs.Tables.{firstFrom}
@@ -72,22 +74,22 @@ module _ (pool places : List ℕ) (count end : ℕ) (names : List Principal) (ho
   unfolding enterIn enter
   enter-known m =
       let z : place names id < count = omega (arith, place-below names id m, holds .counted) in
-      rw (names-are holds, m, lt-ltb (place names id) count z)
+      rw (found-is holds id, m, lt-ltb (place names id) count z)
 
   -- a new one gets the next, and the index holds it behind the others
-  module _ (m : member id names ≡ false) (short : length id ≤ 65535) (room : count < length places) (fits : end + 2 + length id ≤ length pool) where
+  module _ (m : member id names ≡ false) (short : length id ≤ 65535) (near : end < 4294967294) (room : count < length places) (fits : end + 2 + length id ≤ length pool) where
     pub enter-new : enterIn pool places count end id
-        ≡ entry (At (place (enter names id) id) (count + 1) (end + 2 + length id)) (put pool end (stringBytes id)) (set places count (end + 2))
+        ≡ entry (At (place (enter names id) id) (count + 1) (end + 2 + length id)) (put pool end (stringBytes id)) (set places count (packed (end + 2) (tag id)))
     unfolding enterIn enter
     enter-new =
         let a : place names id ≡ length names = place-absent names id m in
         let b : place (names ++ (id ∷ [])) id ≡ length names = place-added names id m in
         let z : count ≤ place names id = omega (arith, holds .counted) in
-        rw (names-are holds, le-ltb (place names id) count z, add-gives holds id short room fits, m, a, b)
+        rw (found-is holds id, le-ltb (place names id) count z, add-gives holds id short near room fits, m, a, b)
 
-    pub enter-new-holds : Holds (put pool end (stringBytes id)) (set places count (end + 2)) (count + 1) (end + 2 + length id) (enter names id)
+    pub enter-new-holds : Holds (put pool end (stringBytes id)) (set places count (packed (end + 2) (tag id))) (count + 1) (end + 2 + length id) (enter names id)
     unfolding enter
-    enter-new-holds = rw m (add-holds holds id short room fits)
+    enter-new-holds = rw m (add-holds holds id short near room fits)
 
 seven : (n : ℕ) → sizeFault n ≡ 0 → ltb mostIdentifier n ≡ false
 unfolding sizeFault
@@ -134,14 +136,14 @@ pub data EntryRead (pool places : List ℕ) (count end : ℕ) (names : List Prin
       → length pool′ ≡ length pool → length places′ ≡ length places → EntryRead pool places count end names id (entry (At (place (enter names id) id) c e) pool′ places′)
 
 module _ (pool places : List ℕ) (count end : ℕ) (names : List Principal) (holds : Holds pool places count end names) (low : end ≤ 258 * count) (id : Principal)
-    (short : length id ≤ 256) (room : count < length places) (fits : end + 258 ≤ length pool) where
+    (short : length id ≤ 256) (few : count ≤ 32768) (room : count < length places) (fits : end + 258 ≤ length pool) where
   pub entry-read : EntryRead pool places count end names id (enterIn pool places count end id)
   unfolding enter stringBytes
   entry-read =
       split (member id names)
       (λ m. rw (enter-known pool places count end names holds id m)
       (entry-at count end pool places (let h : Holds pool places count end names = holds in rw m h) low (omega arith) (omega arith) refl refl))
-      (λ m. rw (enter-new pool places count end names holds id m (omega (arith, short)) room (omega (arith, short, fits)))
-      (entry-at (count + 1) (end + 2 + length id) (put pool end (stringBytes id)) (set places count (end + 2))
-      (enter-new-holds pool places count end names holds id m (omega (arith, short)) room (omega (arith, short, fits)))
-      (omega (arith, low, short)) (omega arith) (omega (arith, short)) (put-length pool end (stringBytes id) (omega (arith, short, fits))) (length-set places count (end + 2))))
+      (λ m. rw (enter-new pool places count end names holds id m (omega (arith, short)) (omega (arith, low, few)) room (omega (arith, short, fits)))
+      (entry-at (count + 1) (end + 2 + length id) (put pool end (stringBytes id)) (set places count (packed (end + 2) (tag id)))
+      (enter-new-holds pool places count end names holds id m (omega (arith, short)) (omega (arith, low, few)) room (omega (arith, short, fits)))
+      (omega (arith, low, short)) (omega arith) (omega (arith, short)) (put-length pool end (stringBytes id) (omega (arith, short, fits))) (length-set places count (packed (end + 2) (tag id)))))

@@ -119,7 +119,7 @@ module _ (s consts constants : List ℕ) (l : List Attribute) (lie : Lie (Attrib
       (λ g. let more : st .listed < 16 = leb-false _ _ g in
       entered-read s pool places code st names ready t (identified s l t) more _
       (entry-read pool places (st .count) (st .end) names (ready .holds) (ready .low) (identified s l t) (identified-few s l t z)
-      (omega (arith, more, ready .tableRoom)) (omega (arith, more, ready .poolRoom))))))
+      (omega (arith, more, ready .namesRoom)) (omega (arith, more, ready .tableRoom)) (omega (arith, more, ready .poolRoom))))))
       (λ f. rw (fault-is s consts constants l lie t, f) (licensee-aside (identifierFault s l t) (t .start) pool places code (eqb-false _ _ f) (stays-self ready)))
 
 -- a list and the loop that writes it, side by side

@@ -16,9 +16,8 @@ use Rattle.lexical.specs.Decode.{Ran, ran, decodeInto}
 use Rattle.lexical.specs.DecodeLaws.{decode-fits}
 use Rattle.lexical.specs.declared.token.Token.{Token}
 use Rattle.principal.specs.Principal.{Principal}
-use Rattle.compliance.specs.Tables.{place}
-use Rattle.index.specs.Working.Finding.{namesOf}
-use Rattle.index.specs.Working.Adding.{After, entered, addInto}
+use Rattle.index.specs.Working.Finding.{found}
+use Rattle.index.specs.Working.Adding.{After, entered, principalInto}
 use Rattle.index.specs.declared.Entered.{Entered}
 use Rattle.index.specs.declared.Entered.the-variants.{Now, Full as NoRoom}
 use Rattle.expression.specs.Tables.{firstFrom, settingIn}
@@ -50,8 +49,8 @@ onAdded i (entered NoRoom pool places) = entry Full pool places
 -- "unless it is one of them already"
 unfoldable pub enterIn : List ℕ → List ℕ → ℕ → ℕ → Principal → Kept
 enterIn pool places count end id =
-    pick (ltb (place (namesOf pool places count) id) count) (entry (At (place (namesOf pool places count) id) count end) pool places)
-    (onAdded (place (namesOf pool places count) id) (addInto pool places count end id))
+    pick (ltb (found pool id (take count places)) count) (entry (At (found pool id (take count places)) count end) pool places)
+    (onAdded (found pool id (take count places)) (principalInto pool places count end id))
 
 unfoldable pub literalIn : List ℕ → List ℕ → ℕ → ℕ → Principal → Kept
 literalIn pool places count end id = pick (ltb mostIdentifier (length id)) (entry Full pool places) (enterIn pool places count end id)
@@ -88,12 +87,12 @@ module _ (s consts places : List ℕ) (t : Token) where
     fault-none r h re = re ∙ simp (ne-eqb _ _ no, ne-eqb _ _ h)
 
 -- `enter`
-module _ (pool places : List ℕ) (count end : ℕ) (id : List ℕ) (i : ℕ) (ie : i ≡ place (namesOf pool places count) id) where
+module _ (pool places : List ℕ) (count end : ℕ) (id : List ℕ) (i : ℕ) (ie : i ≡ found pool id (take count places)) where
   pub enter-there : i < count → entry (At i count end) pool places ≡ enterIn pool places count end id
   unfolding enterIn
   enter-there h = simp (sym ie, lt-ltb _ _ h)
 
-  module _ (h : count ≤ i) (r : Entered) (p q : List ℕ) (re : entered r p q ≡ addInto pool places count end id) where
+  module _ (h : count ≤ i) (r : Entered) (p q : List ℕ) (re : entered r p q ≡ principalInto pool places count end id) where
     pub enter-new : (c e : ℕ) → r ≡ Now c e → entry (At i c e) p q ≡ enterIn pool places count end id
     unfolding enterIn
     enter-new c e k = simp (sym ie, le-ltb _ _ h, sym re, k)

@@ -2,7 +2,7 @@
 use mathlib.Core.Path.{_≡_, refl, sym, ap, _∙_}
 use mathlib.Core.Bool.{Bool, true, false}
 use mathlib.Core.List.{List, [], _∷_, _++_, append-assoc}
-use Prim.Native.Nat.{ℕ, zero, suc, _+_, _-_, _/_, _%_, _<_, _≤_}
+use Prim.Native.Nat.{ℕ, zero, suc, _+_, _-_, _*_, _/_, _%_, _<_, _≤_}
 use native.Mathlib.Omega.{arith}
 use native.Mathlib.Numerals.{add-one}
 use lib.Dec.{ltb, leb}
@@ -14,6 +14,8 @@ use Rattle.text.specs.Choice.{pick, split, clash}
 use Rattle.text.specs.Copy.{Copied, copied, put, copyAt}
 use Rattle.text.specs.CopyLaws.{put-front}
 use Rattle.record.specs.Encode.{stringBytes}
+use Rattle.principal.specs.Tag.{tag}
+use Rattle.index.specs.Entry.{packed}
 use Rattle.index.specs.declared.Entered.{Entered}
 use Rattle.index.specs.declared.Entered.the-variants.{Now, Full}
 
@@ -32,6 +34,15 @@ unfoldable pub addInto : List ℕ → List ℕ → ℕ → ℕ → List ℕ → 
 addInto pool places count end id =
     pick (leb (length places) count) (entered Full pool places)
     (onCopied (countedInto pool end id) (λ p. entered (Now (count + 1) (end + 2 + length id)) p (set places count (end + 2))) (λ p. entered Full p places))
+
+-- a principal's entry has its tag, and a place that leaves room for it
+abbrev pub onAdded : ℕ → ℕ → After → After
+onAdded count v (entered (Now c e) p l) = entered (Now c e) p (set l count v)
+onAdded count v (entered Full p l) = entered Full p l
+
+unfoldable pub principalInto : List ℕ → List ℕ → ℕ → ℕ → List ℕ → After
+principalInto pool places count end id =
+    pick (leb 4294967294 end) (entered Full pool places) (onAdded count (packed (end + 2) (tag id)) (addInto pool places count end id))
 
 string-length : (id : List ℕ) → length (stringBytes id) ≡ 2 + length id
 unfolding stringBytes
@@ -111,3 +122,25 @@ module _ (pool places : List ℕ) (count end : ℕ) (id : List ℕ) where
         (λ f. let l : end + length (stringBytes id) ≤ length pool = leb-true _ _ f in omega (arith, string-length id))
         (λ f. split (ltb 65535 (length id)) (λ g. let q : copied t e ≡ copied false pool = rw g at is in let no : t ≡ false = cc in clash y no)
         (λ g. let q : copied t e ≡ copied false pool = rw (g, f) at is in let no : t ≡ false = cc in clash y no))
+
+-- `put_entry`
+pub put-past : (l : List ℕ) (k x : ℕ) → length l ≤ k → l ≡ set l k x
+put-past [] k x h = refl
+put-past (y ∷ l) zero x h = let no : ⊥ = omega (arith, h) in absurd no
+put-past (y ∷ l) (suc k) x h = ap (λ (m : List ℕ). y ∷ m) (put-past l k x (omega (arith, h)))
+
+-- `add_principal`
+module _ (pool places : List ℕ) (count end : ℕ) (id : List ℕ) where
+  pub principal-far : 4294967294 ≤ end → entered Full pool places ≡ principalInto pool places count end id
+  unfolding principalInto
+  principal-far h = rw (le-leb _ _ h)
+
+  module _ (near : end < 4294967294) (r : Entered) (p l : List ℕ) (is : entered r p l ≡ addInto pool places count end id) where
+    pub principal-full : r ≡ Full → entered Full p l ≡ principalInto pool places count end id
+    unfolding principalInto
+    principal-full e = rw (lt-leb _ _ near, ← is, e)
+
+    pub principal-now : (c m : ℕ) → r ≡ Now c m → (t : ℕ) → t ≡ tag id → (k : List ℕ) → k ≡ set l count ((end + 2) * 4294967296 + t)
+        → entered (Now c m) p k ≡ principalInto pool places count end id
+    unfolding principalInto packed
+    principal-now c m e t te k ke = rw (lt-leb _ _ near, ← is, e, ke, te)

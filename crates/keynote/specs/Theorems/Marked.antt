@@ -132,7 +132,7 @@ module _ (requesters : List Principal) (top : ℕ) where
     unfolding askIn
     ask-staged h =
         entered-staged (entry-read pool places (x .count) (x .end) names (st .holds) (st .tight) p h
-        (omega (arith, st .few, st .places-long, low)) (omega (arith, st .few, st .tight, st .pool-long, low)))
+        (omega (arith, st .few, low)) (omega (arith, st .few, st .places-long, low)) (omega (arith, st .few, st .tight, st .pool-long, low)))
 
   -- all requesters at their places
   pub all-staged : (s : List ℕ) {vs : List ℕ} {l : List Principal} → Lie (StringAt s) vs l → {seen : List Principal} → Each RequesterOk seen l

@@ -11,11 +11,11 @@ use Rattle.text.specs.Counted.{counted}
 use Rattle.text.specs.Join.{followed, joined}
 use Rattle.record.specs.Query.{Query}
 use Rattle.record.specs.Encode.{stringBytes, itemsBytes}
-use Rattle.record.specs.Places.{placesFrom}
 use Rattle.record.specs.Lies.{Lie, lie[], lie∷, StringAt}
 use Rattle.record.specs.Valid.{Each, each[], each∷, Valid, ValueOk, RequesterOk}
 use Rattle.principal.specs.Principal.{Principal, policy}
 use Rattle.principal.specs.Members.{member}
+use Rattle.index.specs.Entry.{entriesFrom}
 use Rattle.index.specs.Index.{enter, Holds}
 use Rattle.compliance.specs.Theorems.Filling.{asking, fill-start}
 use Rattle.constants.specs.Constants.{written, countedInto, begunInto}
@@ -102,7 +102,7 @@ pub data Rooted (requesters : List Principal) (top : ℕ) (direct : List ℕ) : 
   rooted : (x : Index) (pool places : List ℕ) → Stage requesters top [] (policy ∷ []) x pool places direct → Rooted requesters top direct (begun x pool places)
 
 holds-none : (pool places : List ℕ) → Holds pool places 0 0 []
-unfolding itemsBytes placesFrom
+unfolding itemsBytes entriesFrom
 holds-none pool places = record { bytes = refl; entries = refl; counted = refl; ends = refl; inPool = omega arith; inTable = omega arith }
 
 enter-first : enter [] policy ≡ policy ∷ []
@@ -136,4 +136,4 @@ module _ (requesters : List Principal) (top : ℕ) (pool places : List ℕ) (pl 
 
   pub begin-rooted : Rooted requesters top direct (beginIn pool places)
   unfolding beginIn
-  begin-rooted = first-rooted (entry-read pool places 0 0 [] (holds-none pool places) (omega arith) policy policy-short (omega (arith, ll)) (omega (arith, pl)))
+  begin-rooted = first-rooted (entry-read pool places 0 0 [] (holds-none pool places) (omega arith) policy policy-short (omega arith) (omega (arith, ll)) (omega (arith, pl)))

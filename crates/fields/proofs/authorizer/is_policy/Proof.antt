@@ -5,23 +5,23 @@ use Rattle.fields.proofs.authorizer.is_policy.Tie as tie
 use Rattle.fields.proofs.authorizer.is_policy.Reads as reads
 use Rattle.fields.proofs.authorizer.is_policy.Lts as lts
 use Rattle.principal.proofs.same_principal.Reads as same-principal-reads
-use Rattle.text.proofs.counted_at.Reads as counted-at-reads
+use Rattle.index.proofs.name_at.Reads as name-at-reads
 
 -- src/authorizer.rt:36:9
 returns : tie.Need-returns
 returns c = search policy-out
 
 -- src/authorizer.rt:38:13
-mul-p : tie.Need-mul-p
-mul-p c = search needs
+mul-e : tie.Need-mul-e
+mul-e c = search needs
 
 -- src/authorizer.rt:38:13
-shared-slice-read-p : tie.Need-shared-slice-read-p
-shared-slice-read-p c = search needs
+shared-slice-read-e : tie.Need-shared-slice-read-e
+shared-slice-read-e c = search needs
 
 -- src/authorizer.rt:39:31
-counted-at-requires : tie.Need-counted-at-requires
-counted-at-requires c κs = search needs
+name-at-requires : tie.Need-name-at-requires
+name-at-requires c κs = search needs
 
 -- src/authorizer.rt:39:58
 slice-aggregate-same-principal : tie.Need-slice-aggregate-same-principal
@@ -40,9 +40,9 @@ is-policy-spec =
     tie.close
     (tie.spec
     returns
-    mul-p
-    shared-slice-read-p
-    counted-at-requires
+    mul-e
+    shared-slice-read-e
+    name-at-requires
     slice-aggregate-same-principal
     same-principal-requires
     returns-2)

@@ -4,7 +4,7 @@ use borrow.Author.Needs.{needs}
 use Rattle.fields.proofs.identifier.enter.Tie as tie
 use Rattle.fields.proofs.identifier.enter.Reads as reads
 use Rattle.fields.proofs.identifier.enter.Lts as lts
-use Rattle.index.proofs.add.Reads as add-reads
+use Rattle.index.proofs.add_principal.Reads as add-principal-reads
 use Rattle.index.proofs.find.Reads as find-reads
 
 -- src/identifier.rt:71:9
@@ -24,8 +24,8 @@ returns : tie.Need-returns
 returns c = search enter-there
 
 -- src/identifier.rt:79:11
-add-requires : tie.Need-add-requires
-add-requires c κs = search needs
+add-principal-requires : tie.Need-add-principal-requires
+add-principal-requires c κs = search needs
 
 -- src/identifier.rt:80:38
 enum-known-c : tie.Need-enum-known-c
@@ -67,7 +67,7 @@ enter-spec =
     same-length
     same-length-2
     returns
-    add-requires
+    add-principal-requires
     enum-known-c
     enum-told
     same-length-3
