@@ -1,3 +1,4 @@
+pub mod Shadow
 pub mod Decoding
 pub mod Unique
 pub mod OneToken

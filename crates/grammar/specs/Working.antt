@@ -1,3 +1,5 @@
 pub mod Automaton
 pub mod Looping
 pub mod Places
+pub mod Stations
+pub mod Stationed
