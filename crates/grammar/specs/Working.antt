@@ -3,3 +3,8 @@ pub mod Looping
 pub mod Places
 pub mod Stations
 pub mod Stationed
+pub mod Joints
+pub mod Told
+pub mod Onward
+pub mod Openings
+pub mod Reading

@@ -36,6 +36,23 @@ pub kind-false : (s : List ℕ) (t : Token) → t .kind ≡ Kind.NAME → spelle
 unfolding kindIn
 kind-false s t e f = rw e (split (spelled s t word-true) (λ g. rw g) (λ g. rw (g, f)))
 
+pub product-shadow : (k o : ℕ) → ProductOp k o → Product k × (eqb k Kind.NAME ≡ false)
+product-shadow _ _ times-op = (times, refl)
+product-shadow _ _ divide-op = (divide, refl)
+product-shadow _ _ remainder-op = (remainder, refl)
+
+pub sum-shadow : (k o : ℕ) → SumOp k o → Sum k × (eqb k Kind.NAME ≡ false)
+sum-shadow _ _ plus-op = (plus, refl)
+sum-shadow _ _ minus-op = (minus, refl)
+
+pub compare-shadow : (k o p : ℕ) → CompareOp k o p → Compare k × (eqb k Kind.NAME ≡ false)
+compare-shadow _ _ _ equal-op = (equal, refl)
+compare-shadow _ _ _ unequal-op = (unequal, refl)
+compare-shadow _ _ _ less-op = (order Kind.LESS less, refl)
+compare-shadow _ _ _ greater-op = (order Kind.GREATER greater, refl)
+compare-shadow _ _ _ at-most-op = (order Kind.AT-MOST at-most, refl)
+compare-shadow _ _ _ at-least-op = (order Kind.AT-LEAST at-least, refl)
+
 module _ (s : List ℕ) where
   pub kinds-append : (ts us : List Token) → kindsIn s (ts ++ us) ≡ kindsIn s ts ++ kindsIn s us
   kinds-append [] us = refl
@@ -60,23 +77,6 @@ module _ (s : List ℕ) where
   str-shadow _ _ _ (text-bracket t u ts e k l d) = bracketed (Str operand) t u ts k l (str-bracket _ (str-shadow whole ts e d))
   str-shadow _ _ _ (text-one ts e d) = str-one _ (str-shadow operand ts e d)
   str-shadow _ _ _ (join-tree t ts us e f k d g) = around (Str whole) t ts us Kind.DOT (kind-mark s t Kind.DOT k refl) (str-join _ _ (str-shadow whole ts e d) (str-shadow operand us f g))
-
-  product-shadow : (k o : ℕ) → ProductOp k o → Product k × (eqb k Kind.NAME ≡ false)
-  product-shadow _ _ times-op = (times, refl)
-  product-shadow _ _ divide-op = (divide, refl)
-  product-shadow _ _ remainder-op = (remainder, refl)
-
-  sum-shadow : (k o : ℕ) → SumOp k o → Sum k × (eqb k Kind.NAME ≡ false)
-  sum-shadow _ _ plus-op = (plus, refl)
-  sum-shadow _ _ minus-op = (minus, refl)
-
-  compare-shadow : (k o p : ℕ) → CompareOp k o p → Compare k × (eqb k Kind.NAME ≡ false)
-  compare-shadow _ _ _ equal-op = (equal, refl)
-  compare-shadow _ _ _ unequal-op = (unequal, refl)
-  compare-shadow _ _ _ less-op = (order Kind.LESS less, refl)
-  compare-shadow _ _ _ greater-op = (order Kind.GREATER greater, refl)
-  compare-shadow _ _ _ at-most-op = (order Kind.AT-MOST at-most, refl)
-  compare-shadow _ _ _ at-least-op = (order Kind.AT-LEAST at-least, refl)
 
   pub int-shadow : (c : Class) (ts : List Token) (e : Expr) → IntTree s c ts e → Int c (kindsIn s ts)
   int-shadow _ _ _ (number-tree t k) = before (Int operand) t [] Kind.DIGITS k refl int-literal

@@ -29,12 +29,12 @@ pub first-part : (q r : Place) (ks : List ℕ) (k : ℕ) → station q k ≡ r �
 first-part q r ks k f = ap (λ (x : Place). run station x ks) f
 
 -- strings where a string is wanted
-name-text : (r : ℕ) (F : Frame) (k : ℕ) → Name k → station (p-text r F) k ≡ p-have r F
+pub name-text : (r : ℕ) (F : Frame) (k : ℕ) → Name k → station (p-text r F) k ≡ p-have r F
 unfolding station Table.allows Table.beginsString
 name-text r F _ any-name = refl
 name-text r F _ truth-name = refl
 
-literal-text : (r : ℕ) (F : Frame) → station (p-text r F) Kind.LITERAL ≡ p-have r F
+pub literal-text : (r : ℕ) (F : Frame) → station (p-text r F) Kind.LITERAL ≡ p-have r F
 unfolding station Table.allows Table.beginsString
 literal-text r F = refl
 
@@ -50,7 +50,7 @@ pub close-text : (r : ℕ) (F : Frame) → station (p-have Table.TEXT (texts r F
 unfolding station Table.operator Table.textOperator Table.comparison Table.binds
 close-text r F = refl
 
-dot-text : (F : Frame) → station (p-have Table.TEXT F) Kind.DOT ≡ p-text Table.TEXT F
+pub dot-text : (F : Frame) → station (p-have Table.TEXT F) Kind.DOT ≡ p-text Table.TEXT F
 unfolding station Table.operator Table.textOperator Table.comparison Table.binds Table.levelOf
 dot-text F = refl
 
@@ -118,13 +118,13 @@ behind-mark sort q F ks k (again r e w) h = first-part q r ks k e ∙ h r w
 two : (q p r : Place) (ks ls : List ℕ) (k : ℕ) → run station q ks ≡ p → station p k ≡ r → run station r ls ≡ p → run station q (ks ++ k ∷ ls) ≡ p
 two q p r ks ls k e f g = through-part q p r ks ls k e f ∙ g
 
-digits-have : (q : Place) (F : Frame) → Wants Table.NUMBER q F → station q Kind.DIGITS ≡ p-have Table.NUMBER F
+pub digits-have : (q : Place) (F : Frame) → Wants Table.NUMBER q F → station q Kind.DIGITS ≡ p-have Table.NUMBER F
 unfolding station Table.allows Table.beginsNumber Table.beginsString
 digits-have _ F (integer-wanted _) = refl
 digits-have _ F (first-integer _) = refl
 digits-have _ _ (any-integer S) = refl
 
-at-text : (q : Place) (F : Frame) → Wants Table.NUMBER q F → station q Kind.AT ≡ p-text Table.NUMBER F
+pub at-text : (q : Place) (F : Frame) → Wants Table.NUMBER q F → station q Kind.AT ≡ p-text Table.NUMBER F
 unfolding station Table.allows Table.beginsNumber Table.beginsString
 at-text _ F (integer-wanted _) = refl
 at-text _ F (first-integer _) = refl
@@ -143,17 +143,17 @@ ampersand-text _ F (first-float _) = refl
 ampersand-text _ _ (any-float S) = refl
 
 -- an operator behind a number
-power-number : (F : Frame) → station (p-have Table.NUMBER F) Kind.POWER ≡ p-number Table.INTEGER F
+pub power-number : (F : Frame) → station (p-have Table.NUMBER F) Kind.POWER ≡ p-number Table.INTEGER F
 unfolding station Table.operator Table.numberOperator Table.binds Table.levelOf
 power-number F = refl
 
-product-number : (F : Frame) (o : ℕ) → Product o → station (p-have Table.NUMBER F) o ≡ p-number Table.INTEGER F
+pub product-number : (F : Frame) (o : ℕ) → Product o → station (p-have Table.NUMBER F) o ≡ p-number Table.INTEGER F
 unfolding station Table.operator Table.numberOperator Table.binds Table.levelOf
 product-number F _ times = refl
 product-number F _ divide = refl
 product-number F _ remainder = refl
 
-sum-number : (F : Frame) (o : ℕ) → Sum o → station (p-have Table.NUMBER F) o ≡ p-number Table.INTEGER F
+pub sum-number : (F : Frame) (o : ℕ) → Sum o → station (p-have Table.NUMBER F) o ≡ p-number Table.INTEGER F
 unfolding station Table.operator Table.numberOperator Table.binds Table.levelOf
 sum-number F _ plus = refl
 sum-number F _ minus = refl
@@ -216,7 +216,7 @@ unfolding station Table.allows Table.beginsString Table.beginsNumber Table.begin
 name-any S _ any-name = gone Table.TEXT (tests S) w-text refl
 name-any S _ truth-name = gone Table.TRUE (tests S) w-word refl
 
-literal-any : (S : Spot) → station (p-any S) Kind.LITERAL ≡ p-have Table.TEXT (tests S)
+pub literal-any : (S : Spot) → station (p-any S) Kind.LITERAL ≡ p-have Table.TEXT (tests S)
 unfolding station Table.allows Table.beginsString Table.beginsNumber Table.beginsFloat
 literal-any S = refl
 
@@ -237,7 +237,7 @@ unfolding station Table.operator Table.textOperator Table.testOperator Table.com
 words-close S q ks (gone _ _ w-text e) = gone Table.TEXT (tests S) w-text (through-part q _ _ ks [] Kind.CLOSE e refl)
 words-close S q ks (gone _ _ w-word e) = gone Table.TRUE (tests S) w-word (through-part q _ _ ks [] Kind.CLOSE e refl)
 
-words-dot : (S : Spot) (sort : ℕ) (F : Frame) → Words S sort F → station (p-have sort F) Kind.DOT ≡ p-text Table.TEXT (tests S)
+pub words-dot : (S : Spot) (sort : ℕ) (F : Frame) → Words S sort F → station (p-have sort F) Kind.DOT ≡ p-text Table.TEXT (tests S)
 unfolding station Table.operator Table.textOperator Table.testOperator Table.comparison Table.binds Table.levelOf
 words-dot S _ _ w-text = refl
 words-dot S _ _ w-word = refl
@@ -271,7 +271,7 @@ pub data Held (S : Spot) : ℕ → Frame → Type 0 where
   h-word : Held S Table.TRUE (tests S)
   h-strict : Held S Table.TRUE (tests (strict S))
 
-words-compare : (S : Spot) (o : ℕ) → Compare o → (sort : ℕ) (F : Frame) → Words S sort F → station (p-have sort F) o ≡ p-text Table.TEXT (right (strict S))
+pub words-compare : (S : Spot) (o : ℕ) → Compare o → (sort : ℕ) (F : Frame) → Words S sort F → station (p-have sort F) o ≡ p-text Table.TEXT (right (strict S))
 unfolding station Table.operator Table.textOperator Table.testOperator Table.comparison Table.binds Table.levelOf
 words-compare S _ (order _ less) _ _ w-text = refl
 words-compare S _ (order _ less) _ _ w-word = refl
@@ -291,7 +291,7 @@ unfolding station Table.operator Table.textOperator Table.testOperator Table.com
 words-match S _ _ w-text = refl
 words-match S _ _ w-word = refl
 
-number-compare : (S : Spot) (o : ℕ) → Compare o → station (p-have Table.NUMBER (tests S)) o ≡ p-number Table.INTEGER (right (strict S))
+pub number-compare : (S : Spot) (o : ℕ) → Compare o → station (p-have Table.NUMBER (tests S)) o ≡ p-number Table.INTEGER (right (strict S))
 unfolding station Table.operator Table.numberOperator Table.comparison Table.binds Table.levelOf
 number-compare S _ (order _ less) = refl
 number-compare S _ (order _ greater) = refl
@@ -323,7 +323,7 @@ comparison-run _ (matching ks ls i j) S =
     gone Table.TEXT (right (strict S)) h-text
     (words-on S (p-any S) (p-text Table.TEXT (right (strict S))) ks ls Kind.MATCHES (words-match S) (string-any whole ks i S) ∙ text-run whole ls j Table.TEXT (right (strict S)) (as-text refl))
 
-truth-any : (S : Spot) → station (p-any S) TRUTH ≡ p-have Table.TRUE (tests S)
+pub truth-any : (S : Spot) → station (p-any S) TRUTH ≡ p-have Table.TRUE (tests S)
 unfolding station Table.allows Table.beginsString Table.beginsNumber Table.beginsFloat
 truth-any S = refl
 
@@ -345,11 +345,11 @@ loosened : (S : Spot) (q : Place) (ks : List ℕ) → Gone (Held (strict S)) q k
 loosened S q ks (gone sort F h e) = gone sort F (loosen S sort F h) e
 
 -- "&&" and "||"
-data Junction : ℕ → Type 0 where
+pub data Junction : ℕ → Type 0 where
   junction-and : Junction Kind.AND
   junction-or : Junction Kind.OR
 
-held-junction : (S : Spot) (k : ℕ) → Junction k → (sort : ℕ) (F : Frame) → Held S sort F → station (p-have sort F) k ≡ p-any (strict S)
+pub held-junction : (S : Spot) (k : ℕ) → Junction k → (sort : ℕ) (F : Frame) → Held S sort F → station (p-have sort F) k ≡ p-any (strict S)
 unfolding station Table.operator Table.numberOperator Table.textOperator Table.testOperator Table.comparison Table.binds Table.levelOf
 held-junction S _ junction-and _ _ h-test = ap p-any (strict-strict S)
 held-junction S _ junction-and _ _ h-text = ap p-any (strict-strict S)
@@ -391,11 +391,11 @@ test-run _ _ (test-ands ks u) S = test-run conjunction ks u S
 test-run _ _ (test-or ks ls u v) S = two-tests S (p-any S) ks ls Kind.OR junction-or (test-run whole ks u S) (test-run conjunction ls v (strict S))
 
 -- the mark behind a clause's test
-data Behind (d : ℕ) : ℕ → Place → Type 0 where
+pub data Behind (d : ℕ) : ℕ → Place → Type 0 where
   behind-arrow : Behind d Kind.ARROW (p-arrow d)
   behind-semicolon : Behind d Kind.SEMICOLON (p-begin d)
 
-held-end : (d k : ℕ) (p : Place) → Behind d k p → (sort : ℕ) (F : Frame) → Held (in-clause d) sort F → station (p-have sort F) k ≡ p
+pub held-end : (d k : ℕ) (p : Place) → Behind d k p → (sort : ℕ) (F : Frame) → Held (in-clause d) sort F → station (p-have sort F) k ≡ p
 unfolding station Table.operator Table.numberOperator Table.textOperator Table.testOperator Table.comparison Table.binds Table.levelOf
 held-end d _ _ behind-arrow _ _ h-test = refl
 held-end d _ _ behind-arrow _ _ h-text = refl
@@ -424,11 +424,11 @@ module _ (q q′ : Place) (agree : (k : ℕ) → (station q′ k ≡ station q k
   resume apart [] sort F h = absurd (apart sort F h)
   resume apart (k ∷ ks) sort F h = resume-first k ks sort F (agree k) h
 
-begin-agrees : (d k : ℕ) → (station (p-begin d) k ≡ station (p-any (in-clause d)) k) ⊎ (station (p-any (in-clause d)) k ≡ p-dead)
+pub begin-agrees : (d k : ℕ) → (station (p-begin d) k ≡ station (p-any (in-clause d)) k) ⊎ (station (p-any (in-clause d)) k ≡ p-dead)
 unfolding station
 begin-agrees d k = split (Table.allows Table.ANY (flat k)) (λ e. inl (rw e refl)) (λ e. inr (rw e refl))
 
-arrow-agrees : (d k : ℕ) → (station (p-arrow d) k ≡ station (p-text Table.TEXT (value d)) k) ⊎ (station (p-text Table.TEXT (value d)) k ≡ p-dead)
+pub arrow-agrees : (d k : ℕ) → (station (p-arrow d) k ≡ station (p-text Table.TEXT (value d)) k) ⊎ (station (p-text Table.TEXT (value d)) k ≡ p-dead)
 unfolding station
 arrow-agrees d k = split (Table.allows Table.TEXT (flat k)) (λ e. inl (rw e refl)) (λ e. inr (rw e refl))
 
@@ -442,11 +442,11 @@ arrow-run d = resume (p-text Table.TEXT (value d)) (p-arrow d) (arrow-agrees d) 
 clause-test : (d k : ℕ) (p : Place) (ks ls : List ℕ) → Behind d k p → Gone (Held (in-clause d)) (p-any (in-clause d)) ks → run station (p-begin d) (ks ++ k ∷ ls) ≡ run station p ls
 clause-test d k p ks ls b (gone sort F h e) = through-part (p-begin d) (p-have sort F) p ks ls k (begin-run d ks sort F e) (held-end d k p b sort F h)
 
-value-ends : (d : ℕ) → station (p-have Table.TEXT (value d)) Kind.SEMICOLON ≡ p-begin d
+pub value-ends : (d : ℕ) → station (p-have Table.TEXT (value d)) Kind.SEMICOLON ≡ p-begin d
 unfolding station Table.operator Table.textOperator Table.comparison Table.binds
 value-ends d = refl
 
-brace-opens : (d : ℕ) → station (p-arrow d) Kind.OPEN-BRACE ≡ p-begin (suc d)
+pub brace-opens : (d : ℕ) → station (p-arrow d) Kind.OPEN-BRACE ≡ p-begin (suc d)
 unfolding station Table.allows Table.beginsString
 brace-opens d = refl
 
@@ -454,7 +454,7 @@ pub brace-closes : (d : ℕ) → station (p-begin (suc d)) Kind.CLOSE-BRACE ≡ 
 unfolding station Table.allows Table.beginsString Table.beginsNumber Table.beginsFloat Table.stops
 brace-closes d = rw (ne-eqb (suc d) 0 (λ z. let bad : ⊥ = omega (arith, z) in bad)) refl
 
-block-ends : (d : ℕ) → station (p-block d) Kind.SEMICOLON ≡ p-begin d
+pub block-ends : (d : ℕ) → station (p-block d) Kind.SEMICOLON ≡ p-begin d
 unfolding station
 block-ends d = refl
 
