@@ -8,3 +8,4 @@ pub mod Told
 pub mod Onward
 pub mod Openings
 pub mod Reading
+pub mod Known

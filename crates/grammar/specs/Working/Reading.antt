@@ -291,10 +291,15 @@ module _ (s : List ℕ) where
     operator-joined u sort e op lo o r j fit h rr inner l ts low p x y d b g = on-table (joint-tabled (u .kind) op lo o r j)
       where
         on-table : Tabled op lo o r → (m : ℕ) × ((level ≤ m) × Reading m (m + 1) level want t (onPart rr (λ x f n. applied (binary op (settledTree (Table.operandOf op) sort e)) op x f n)))
-        on-table (tabled el eo er) =
-            (lo, (level-low, extend t (ts ++ u ∷ []) (nextAt s (u .end)) (tokens-one t u ts p) lo level want (lo + 1) (Table.wantOf o) r op (binary op (settledTree (Table.operandOf op) sort e))
-            (eo ∙ sym (joint-goal (u .kind) op lo o r j)) er (O.asked-most level want a) level-low (O.asked-most (lo + 1) (Table.wantOf o) (joint-asked (u .kind) op lo o r j))
-            (joint-suits level want sort (u .kind) op lo o r a y j fit level-low) grows leads ends rr inner-at))
+        on-table (tabled el eo er) = (
+          lo,
+          (
+            level-low,
+            extend t (ts ++ u ∷ []) (nextAt s (u .end)) (tokens-one t u ts p) lo level want (lo + 1) (Table.wantOf o) r op (binary op (settledTree (Table.operandOf op) sort e))
+                (eo ∙ sym (joint-goal (u .kind) op lo o r j)) er (O.asked-most level want a) level-low (O.asked-most (lo + 1) (Table.wantOf o) (joint-asked (u .kind) op lo o r j))
+                (joint-suits level want sort (u .kind) op lo o r a y j fit level-low) grows leads ends rr inner-at,
+          ),
+        )
           where
             level-low : level ≤ lo
             level-low = let k : level ≤ Table.levelOf op = binds-level level op h .1 in omega (arith, k, el)
