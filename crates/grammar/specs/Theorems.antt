@@ -4,6 +4,7 @@ pub mod Unique
 pub mod OneToken
 pub mod Assigning
 pub mod Licensing
+pub mod Conditioning
 pub mod Exactly
 pub mod Readers
 pub mod Convert

@@ -8,12 +8,17 @@ use Rattle.fields.specs.Version.{version}
 use Rattle.fields.specs.Constants.{constantsFrom}
 use Rattle.fields.specs.Authorizer.{authorizer}
 use Rattle.fields.specs.Licensees.{licensees}
+use Rattle.lexical.specs.Line.{tokenAt}
+use Rattle.conditions.specs.Program.{readProgram}
 use Rattle.grammar.specs.Fields.{Field, Version, Assignments, Authorizer, Licensees}
-use Rattle.grammar.specs.Viable.{Viable, Open, Kinds, plainly}
+use Rattle.grammar.specs.Viable.{Viable, Open, Kinds, KindsBy, plainly}
 use Rattle.grammar.specs.Theorems.OneToken.{version-judged, version-whole, authorizer-judged, authorizer-whole}
 use Rattle.grammar.specs.Theorems.Assigning.{constants-judged, constants-whole}
 use Rattle.grammar.specs.Theorems.Licensing.{licensees-judged}
 use Rattle.grammar.specs.Working.Places.{licensees-whole}
+use Rattle.grammar.specs.Theorems.Conditioning.{conditions-judged, conditions-whole}
+use Rattle.grammar.specs.Conditions.{Conditions}
+use Rattle.grammar.specs.Spelled.{kindIn}
 use Rattle.grammar.specs.Theorems.Exactly.{Refused, exactly, Passed, complete}
 
 module _ (s : List ℕ) (t n : Token) (ks : List ℕ) where
@@ -52,3 +57,16 @@ module _ (s : List ℕ) (t n : Token) (ks : List ℕ) where
     pub licensees-complete : Kinds s Kind.IN-LICENSEES t ks n → Field Licensees (ks ++ n .kind ∷ [])
         → Passed plainly (Field Licensees) licensees-whole s Kind.IN-LICENSEES t n (licensees s constants t)
     licensees-complete p g = complete plainly (Field Licensees) licensees-whole s Kind.IN-LICENSEES t (licensees s constants t) (licensees-judged s constants t) n ks p g
+
+-- Conditions, whose tokens are of the kinds that `kindIn` says, from the token behind a place of the text on
+module _ (s : List ℕ) (at : ℕ) (n : Token) (ks : List ℕ) where
+  abbrev first : Token
+  first = tokenAt s Kind.IN-FIELD at
+
+  pub conditions-exactly : KindsBy (kindIn s) s Kind.IN-FIELD first ks n → Open Conditions ks → (Viable Conditions (ks ++ kindIn s n ∷ []) → ⊥)
+      → Refused (kindIn s) Conditions conditions-whole s Kind.IN-FIELD first n (readProgram s first)
+  conditions-exactly p o nv = exactly (kindIn s) Conditions conditions-whole s Kind.IN-FIELD first (readProgram s first) (conditions-judged s at) n ks p o nv
+
+  pub conditions-complete : KindsBy (kindIn s) s Kind.IN-FIELD first ks n → Conditions (ks ++ kindIn s n ∷ [])
+      → Passed (kindIn s) Conditions conditions-whole s Kind.IN-FIELD first n (readProgram s first)
+  conditions-complete p g = complete (kindIn s) Conditions conditions-whole s Kind.IN-FIELD first (readProgram s first) (conditions-judged s at) n ks p g

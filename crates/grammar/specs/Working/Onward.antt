@@ -58,7 +58,7 @@ any-text S k p h _ fit-text = h Table.TEXT (tests S) w-text
 any-text S k p h _ fit-true-name = h Table.TRUE (tests S) w-word
 any-text S k p h _ fit-false-name = h Table.TRUE (tests S) w-word
 
-any-test : (S : Spot) (k : ℕ) (p : Place) → ((sort : ℕ) (F : Frame) → Held S sort F → station (p-have sort F) k ≡ p) → (sort : ℕ) → Fits Table.TEST sort → station (after (p-any S) sort) k ≡ p
+pub any-test : (S : Spot) (k : ℕ) (p : Place) → ((sort : ℕ) (F : Frame) → Held S sort F → station (p-have sort F) k ≡ p) → (sort : ℕ) → Fits Table.TEST sort → station (after (p-any S) sort) k ≡ p
 any-test S k p h _ fit-test = h Table.TEST (tests (strict S)) h-test
 any-test S k p h _ fit-true = h Table.TRUE (tests S) h-word
 any-test S k p h _ fit-false = h Table.TRUE (tests S) h-word

@@ -123,7 +123,7 @@ module _ (s : List ℕ) where
         (λ q st. runs-on q pre us u ∙ leads-dead q us u (run station q (kindsIn s pre)) (leads q st) g) rr e
     extend _ (otherwise rr p n) = otherwise rr p n
 
-  runs-last : (q p : Place) (ts : List Token) (u : Token) → run station q (kindsIn s ts) ≡ p → runs q ts u ≡ station p (kindIn s u)
+  pub runs-last : (q p : Place) (ts : List Token) (u : Token) → run station q (kindsIn s ts) ≡ p → runs q ts u ≡ station p (kindIn s u)
   runs-last q p ts u e = run-append station q (kindsIn s ts) (kindIn s u ∷ []) ∙ ap (λ (x : Place). station x (kindIn s u)) e
 
   run-first : (q p : Place) (t : Token) (ts : List Token) (k : ℕ) → kindIn s t ≡ k → station q k ≡ p → run station q (kindsIn s (t ∷ ts)) ≡ run station p (kindsIn s ts)

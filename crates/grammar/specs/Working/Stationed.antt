@@ -506,6 +506,5 @@ station-over : (k : ℕ) → station p-over k ≡ p-dead
 unfolding station
 station-over k = refl
 
--- no sentence of the field goes on as another
-pub conditions-whole : (ks : List ℕ) (k : ℕ) (more : List ℕ) → Conditions ks → Conditions (ks ++ k ∷ more) → ⊥
-conditions-whole = not-longer station p-dead station-dead Conditions (p-begin 0) p-over field-over station-over over-dead
+pub conditions-over : (ks : List ℕ) (k : ℕ) (more : List ℕ) → Conditions ks → Conditions (ks ++ k ∷ more) → ⊥
+conditions-over = not-longer station p-dead station-dead Conditions (p-begin 0) p-over field-over station-over over-dead
