@@ -9,3 +9,5 @@ pub mod Onward
 pub mod Openings
 pub mod Reading
 pub mod Known
+pub mod Pending
+pub mod Yard

@@ -41,6 +41,7 @@ use Rattle.grammar.specs.Working.Onward.{Starts, start-any, start-text, 
 use Rattle.grammar.specs.Working.Openings as O
 use Rattle.grammar.specs.Working.Reading.{Real, real-token, tokens-append, tokens-one, runs, runs-on, run-one, runs-last, Reading, got, halted, otherwise, expression-reads}
 use Rattle.grammar.specs.Working.Known.{next-real}
+use Rattle.grammar.specs.Working.Yard.{one-program}
 
 -- the automaton where a clause begins and ends
 clause-wrong : (d sort k : ℕ) → Fits Table.TEST sort → Table.binds 0 (Table.operator sort k) ≡ false → eqb k Kind.ARROW ≡ false → eqb k Kind.SEMICOLON ≡ false
@@ -388,3 +389,7 @@ module _ (s : List ℕ) where
   pub conditions-tree : (at : ℕ) (p : Program) (n : Token) → P.readProgram s (tokenAt s Kind.IN-FIELD at) ≡ ok p n → Said (tokenAt s Kind.IN-FIELD at) p n
   unfolding P.readProgram
   conditions-tree at p n e = said-of (tokenAt s Kind.IN-FIELD at) p n (subst (BlockRead 0 (tokenAt s Kind.IN-FIELD at)) e (block-reads P.DEPTH 0 (tokenAt s Kind.IN-FIELD at) (next-real s at)))
+
+  -- The grouping is the one of the precedence classes: tokens say one program at most.
+  pub conditions-unique : (ts : List Token) (p q : Program) → ProgramTree s ts (a-program p) → ProgramTree s ts (a-program q) → p ≡ q
+  conditions-unique = one-program s
