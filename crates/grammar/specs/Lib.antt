@@ -3,6 +3,7 @@ pub mod Fields
 pub mod Conditions
 pub mod Spelled
 pub mod Trees
+pub mod Grouped
 pub mod Viable
 pub mod Working
 pub mod Theorems

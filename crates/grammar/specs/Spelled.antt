@@ -5,10 +5,10 @@ use Prim.Native.Nat.{ℕ}
 use lib.Dec.{eqb}
 use Rattle.text.specs.Choice.{pick}
 use Rattle.lexical.specs.Kind
-use Rattle.lexical.specs.Line.{tokenAt}
 use Rattle.lexical.specs.Word.{spells, word-true, word-false}
 use Rattle.lexical.specs.declared.token.Token.{Token}
 use Rattle.grammar.specs.Conditions.{TRUTH}
+use Rattle.grammar.specs.Viable.{TokensIn}
 
 -- does the token spell that word, in any case?
 abbrev pub spelled : List ℕ → Token → List ℕ → Bool
@@ -23,6 +23,5 @@ abbrev pub kindsIn : List ℕ → List Token → List ℕ
 kindsIn s ts = map (kindIn s) ts
 
 -- the tokens of a Conditions field from the first up to before the second
-pub data Tokens (s : List ℕ) : Token → List Token → Token → Type 0 where
-  at-once : (t : Token) → Tokens s t [] t
-  and-on : (t n : Token) (ts : List Token) → Tokens s (tokenAt s Kind.IN-FIELD (t .end)) ts n → Tokens s t (t ∷ ts) n
+abbrev pub Tokens : List ℕ → Token → List Token → Token → Type 0
+Tokens s t ts n = TokensIn s Kind.IN-FIELD t ts n

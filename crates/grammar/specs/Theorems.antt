@@ -5,6 +5,7 @@ pub mod OneToken
 pub mod Assigning
 pub mod Licensing
 pub mod Conditioning
+pub mod Grouping
 pub mod Exactly
 pub mod Readers
 pub mod Convert

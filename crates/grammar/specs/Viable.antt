@@ -14,6 +14,11 @@ pub data Viable (G : List ℕ → Type 0) (ks : List ℕ) : Type 0 where
 pub data Open (G : List ℕ → Type 0) (ks : List ℕ) : Type 0 where
   opens : (k : ℕ) (rest : List ℕ) → G (ks ++ k ∷ rest) → Open G ks
 
+-- the tokens from the first up to before the second, in a field of that mode
+pub data TokensIn (s : List ℕ) (mode : ℕ) : Token → List Token → Token → Type 0 where
+  at-once : (t : Token) → TokensIn s mode t [] t
+  and-on : (t n : Token) (ts : List Token) → TokensIn s mode (tokenAt s mode (t .end)) ts n → TokensIn s mode t (t ∷ ts) n
+
 -- the kinds of the tokens from the first up to before the second, in a field of that mode; `kind` says what kind a token is of
 pub data KindsBy (kind : Token → ℕ) (s : List ℕ) (mode : ℕ) : Token → List ℕ → Token → Type 0 where
   here : (t : Token) → KindsBy kind s mode t [] t

@@ -11,3 +11,4 @@ pub mod Reading
 pub mod Known
 pub mod Pending
 pub mod Yard
+pub mod Shunt

@@ -26,9 +26,9 @@ use Rattle.conditions.specs.Working.Pace.{Sound, real}
 use Rattle.conditions.specs.Working.Reach.{allowed-real}
 use Rattle.grammar.specs.Fields.{Ends, end-of-text, Field, field}
 use Rattle.grammar.specs.Conditions.{TRUTH, whole, Clauses, Conditions}
-use Rattle.grammar.specs.Spelled.{kindIn, kindsIn, Tokens, at-once, and-on}
+use Rattle.grammar.specs.Spelled.{kindIn, kindsIn, Tokens}
 use Rattle.grammar.specs.Trees.{StrTree, TestTree, Says, a-program, a-clause, ProgramTree, no-clauses, one-more, plain-tree, valued-tree, nested-tree}
-use Rattle.grammar.specs.Viable.{Viable, Open, KindsBy, here, further, JudgedBy, through, no-continuation, another}
+use Rattle.grammar.specs.Viable.{at-once, and-on, Viable, Open, KindsBy, here, further, JudgedBy, through, no-continuation, another}
 use Rattle.grammar.specs.Theorems.OneToken.{ending-ends, judged-stop, opens-end}
 use Rattle.grammar.specs.Theorems.Shadow.{kinds-append, kind-mark, program-shadow}
 use Rattle.grammar.specs.Working.Automaton.{run, run-append}

@@ -28,7 +28,8 @@ use Rattle.conditions.specs.Expression as E
 use Rattle.conditions.specs.Working.Pace.{Sound, real}
 use Rattle.conditions.specs.Working.Reach.{binds-level}
 use Rattle.grammar.specs.Conditions.{TRUTH}
-use Rattle.grammar.specs.Spelled.{spelled, kindIn, kindsIn, Tokens, at-once, and-on}
+use Rattle.grammar.specs.Spelled.{spelled, kindIn, kindsIn, Tokens}
+use Rattle.grammar.specs.Viable.{at-once, and-on}
 use Rattle.grammar.specs.Trees.{literal-tree, name-tree, number-tree, true-tree, false-tree}
 use Rattle.grammar.specs.Theorems.Shadow.{kinds-append, kind-other, kind-mark}
 use Rattle.grammar.specs.Working.Automaton.{run, run-append}
