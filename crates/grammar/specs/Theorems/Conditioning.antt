@@ -379,16 +379,19 @@ module _ (s : List ℕ) where
   conditions-judged at = judged (tokenAt s Kind.IN-FIELD at) (P.readBlock P.DEPTH s 0 (tokenAt s Kind.IN-FIELD at)) (block-reads P.DEPTH 0 (tokenAt s Kind.IN-FIELD at) (next-real s at))
 
   -- what was read, and its tree
-  pub data Said (t : Token) : Program → Token → Type 0 where
-    said : (ts : List Token) (n : Token) (p : Program) → Tokens s t ts n → ProgramTree s ts (a-program p) → Said t p n
+  pub data Said (t : Token) : Parsed Program → Type 0 where
+    said : (ts : List Token) (n : Token) (p : Program) → Tokens s t ts n → ProgramTree s ts (a-program p) → Said t (ok p n)
+    not-said : (r p : ℕ) → Said t (aside r p)
 
-  said-of : (t : Token) (p : Program) (n : Token) → BlockRead 0 t (ok p n) → Said t p n
-  said-of t _ _ (b-got ts n p path z d g) = said ts n p path d
+  block-said : (t : Token) (r : Parsed Program) → BlockRead 0 t r → Said t r
+  block-said t _ (b-got ts n p path z d g) = said ts n p path d
+  block-said t _ (b-halted ts u path rest p d g r e) = not-said r (u .start)
+  block-said t _ (b-otherwise r p n) = not-said r p
 
   -- Where the reader gets through, its program is one that the tokens say.
-  pub conditions-tree : (at : ℕ) (p : Program) (n : Token) → P.readProgram s (tokenAt s Kind.IN-FIELD at) ≡ ok p n → Said (tokenAt s Kind.IN-FIELD at) p n
+  pub conditions-tree : (at : ℕ) → Said (tokenAt s Kind.IN-FIELD at) (P.readProgram s (tokenAt s Kind.IN-FIELD at))
   unfolding P.readProgram
-  conditions-tree at p n e = said-of (tokenAt s Kind.IN-FIELD at) p n (subst (BlockRead 0 (tokenAt s Kind.IN-FIELD at)) e (block-reads P.DEPTH 0 (tokenAt s Kind.IN-FIELD at) (next-real s at)))
+  conditions-tree at = block-said (tokenAt s Kind.IN-FIELD at) (P.readBlock P.DEPTH s 0 (tokenAt s Kind.IN-FIELD at)) (block-reads P.DEPTH 0 (tokenAt s Kind.IN-FIELD at) (next-real s at))
 
   -- The grouping is the one of the precedence classes: tokens say one program at most.
   pub conditions-unique : (ts : List Token) (p q : Program) → ProgramTree s ts (a-program p) → ProgramTree s ts (a-program q) → p ≡ q
