@@ -60,22 +60,16 @@ module _ (kind : Token → ℕ) where
       stop-first n m ks ls v nv w nw (first-on more e) = absurd (nw (viable-less ls (kind m) more (subst (Viable G) e v)))
       stop-first n m ks ls v nv w nw (second-on more e) = absurd (nv (viable-less ks (kind n) more (subst (Viable G) e w)))
 
+      -- no sentence that goes on
+      whole-on : (ls : List ℕ) (m : ℕ) (more : List ℕ) (k : ℕ) → G (ls ++ m ∷ []) → G ((ls ++ m ∷ more) ++ k ∷ []) → ⊥
+      whole-on ls m [] k g h = whole (ls ++ m ∷ []) k [] g h
+      whole-on ls m (x ∷ more) k g h =
+          whole (ls ++ m ∷ []) x (more ++ k ∷ []) g (subst G (append-assoc ls (m ∷ x ∷ more) (k ∷ []) ∙ sym (append-assoc ls (m ∷ []) (x ∷ (more ++ k ∷ [])))) h)
+
       through-sentence : (n m : Token) (ks ls : List ℕ) → G (ks ++ kind n ∷ []) → G (ls ++ kind m ∷ []) → Walks ks n ls m → n ≡ m
       through-sentence n m ks ls g h (together e f) = f
-      through-sentence n m ks ls g h (first-on more e) =
-          absurd (whole-on ls (kind m) more (kind n) h (subst (λ (l : List ℕ). G (l ++ kind n ∷ [])) e g))
-        where
-          whole-on : (ls : List ℕ) (m : ℕ) (more : List ℕ) (k : ℕ) → G (ls ++ m ∷ []) → G ((ls ++ m ∷ more) ++ k ∷ []) → ⊥
-          whole-on ls m [] k g h = whole (ls ++ m ∷ []) k [] g h
-          whole-on ls m (x ∷ more) k g h =
-              whole (ls ++ m ∷ []) x (more ++ k ∷ []) g (subst G (append-assoc ls (m ∷ x ∷ more) (k ∷ []) ∙ sym (append-assoc ls (m ∷ []) (x ∷ (more ++ k ∷ [])))) h)
-      through-sentence n m ks ls g h (second-on more e) =
-          absurd (whole-on ks (kind n) more (kind m) g (subst (λ (l : List ℕ). G (l ++ kind m ∷ [])) e h))
-        where
-          whole-on : (ls : List ℕ) (m : ℕ) (more : List ℕ) (k : ℕ) → G (ls ++ m ∷ []) → G ((ls ++ m ∷ more) ++ k ∷ []) → ⊥
-          whole-on ls m [] k g h = whole (ls ++ m ∷ []) k [] g h
-          whole-on ls m (x ∷ more) k g h =
-              whole (ls ++ m ∷ []) x (more ++ k ∷ []) g (subst G (append-assoc ls (m ∷ x ∷ more) (k ∷ []) ∙ sym (append-assoc ls (m ∷ []) (x ∷ (more ++ k ∷ [])))) h)
+      through-sentence n m ks ls g h (first-on more e) = absurd (whole-on ls (kind m) more (kind n) h (subst (λ (l : List ℕ). G (l ++ kind n ∷ [])) e g))
+      through-sentence n m ks ls g h (second-on more e) = absurd (whole-on ks (kind n) more (kind m) g (subst (λ (l : List ℕ). G (l ++ kind m ∷ [])) e h))
 
       not-all : (ks : List ℕ) → Open G ks → G ks → ⊥
       not-all ks (opens k rest h) g = whole ks k rest g h

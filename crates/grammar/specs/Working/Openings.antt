@@ -37,20 +37,22 @@ pub data Before : ℕ → ℕ → ℕ → ℕ → ℕ → ℕ → ℕ → Type 0
   dollar-text : Before Kind.DOLLAR Op.LOOKUP Table.TEXT 6 Table.TEXT Table.TEXT Table.TEXT
   not-test : Before Kind.NOT Op.OPPOSITE Table.ANY 2 Table.ANY Table.TEST Table.TEST
 
-pub data BeforeTabled (op want level wanted o r : ℕ) : Type 0 where
-  before-tabled : Table.operandLevel op ≡ level → Table.operandWant op want ≡ wanted → Table.operandOf op ≡ o → Table.resultOf op ≡ r → BeforeTabled op want level wanted o r
+-- what the tables say of it; its mark is no name
+pub data BeforeTabled (k op want level wanted o r : ℕ) : Type 0 where
+  before-tabled : Table.operandLevel op ≡ level → Table.operandWant op want ≡ wanted → Table.operandOf op ≡ o → Table.resultOf op ≡ r → goal wanted ≡ o → eqb k Kind.NAME ≡ false
+      → eqb op Table.NONE ≡ false → BeforeTabled k op want level wanted o r
 
-pub before-table : (k op want level wanted o r : ℕ) → Before k op want level wanted o r → BeforeTabled op want level wanted o r
+pub before-table : (k op want level wanted o r : ℕ) → Before k op want level wanted o r → BeforeTabled k op want level wanted o r
 unfolding Table.operandLevel Table.operandWant Table.operandOf Table.resultOf
-before-table _ _ _ _ _ _ _ minus-any = before-tabled refl refl refl refl
-before-table _ _ _ _ _ _ _ minus-number = before-tabled refl refl refl refl
-before-table _ _ _ _ _ _ _ minus-integer = before-tabled refl refl refl refl
-before-table _ _ _ _ _ _ _ at-any = before-tabled refl refl refl refl
-before-table _ _ _ _ _ _ _ at-number = before-tabled refl refl refl refl
-before-table _ _ _ _ _ _ _ at-integer = before-tabled refl refl refl refl
-before-table _ _ _ _ _ _ _ dollar-any = before-tabled refl refl refl refl
-before-table _ _ _ _ _ _ _ dollar-text = before-tabled refl refl refl refl
-before-table _ _ _ _ _ _ _ not-test = before-tabled refl refl refl refl
+before-table _ _ _ _ _ _ _ minus-any = before-tabled refl refl refl refl refl refl refl
+before-table _ _ _ _ _ _ _ minus-number = before-tabled refl refl refl refl refl refl refl
+before-table _ _ _ _ _ _ _ minus-integer = before-tabled refl refl refl refl refl refl refl
+before-table _ _ _ _ _ _ _ at-any = before-tabled refl refl refl refl refl refl refl
+before-table _ _ _ _ _ _ _ at-number = before-tabled refl refl refl refl refl refl refl
+before-table _ _ _ _ _ _ _ at-integer = before-tabled refl refl refl refl refl refl refl
+before-table _ _ _ _ _ _ _ dollar-any = before-tabled refl refl refl refl refl refl refl
+before-table _ _ _ _ _ _ _ dollar-text = before-tabled refl refl refl refl refl refl refl
+before-table _ _ _ _ _ _ _ not-test = before-tabled refl refl refl refl refl refl refl
 
 pub before-asked : (k op want level wanted o r : ℕ) → Before k op want level wanted o r → Asked level wanted
 before-asked _ _ _ _ _ _ _ minus-any = asked-number (omega arith) (omega arith)
@@ -73,18 +75,6 @@ before-suits _ _ _ _ _ _ _ at-integer = suits-integer
 before-suits _ _ _ _ _ _ _ dollar-any = suits-any _ is-text
 before-suits _ _ _ _ _ _ _ dollar-text = suits-text
 before-suits _ _ _ _ _ _ _ not-test = suits-any _ is-test
-
--- the marks that are no names
-pub before-mark : (k op want level wanted o r : ℕ) → Before k op want level wanted o r → eqb k Kind.NAME ≡ false
-before-mark _ _ _ _ _ _ _ minus-any = refl
-before-mark _ _ _ _ _ _ _ minus-number = refl
-before-mark _ _ _ _ _ _ _ minus-integer = refl
-before-mark _ _ _ _ _ _ _ at-any = refl
-before-mark _ _ _ _ _ _ _ at-number = refl
-before-mark _ _ _ _ _ _ _ at-integer = refl
-before-mark _ _ _ _ _ _ _ dollar-any = refl
-before-mark _ _ _ _ _ _ _ dollar-text = refl
-before-mark _ _ _ _ _ _ _ not-test = refl
 
 -- the tree
 pub before-told : (s : List ℕ) (k op want level wanted o r : ℕ) (t : Token) (us : List Token) (f : Expr) → Before k op want level wanted o r → t .kind ≡ k → Told s o level us f
@@ -315,17 +305,6 @@ module _ (s : List ℕ) (t : Token) where
   not-allowed _ _ (start-number F) n h = rw (flat-kind n, h) refl
   not-allowed _ _ (start-integer F) n h = rw (flat-kind n, h) refl
 
-pub before-goal : (k op want level wanted o r : ℕ) → Before k op want level wanted o r → goal wanted ≡ o
-before-goal _ _ _ _ _ _ _ minus-any = refl
-before-goal _ _ _ _ _ _ _ minus-number = refl
-before-goal _ _ _ _ _ _ _ minus-integer = refl
-before-goal _ _ _ _ _ _ _ at-any = refl
-before-goal _ _ _ _ _ _ _ at-number = refl
-before-goal _ _ _ _ _ _ _ at-integer = refl
-before-goal _ _ _ _ _ _ _ dollar-any = refl
-before-goal _ _ _ _ _ _ _ dollar-text = refl
-before-goal _ _ _ _ _ _ _ not-test = refl
-
 pub asked-most : (level want : ℕ) → Asked level want → level ≤ 7
 asked-most level _ (asked-any h) = omega (arith, h)
 asked-most level _ (asked-text h i) = omega (arith, i)
@@ -350,15 +329,3 @@ wanting-something s _ want-integer = something s _ _ suits-integer
 
 pub asked-low : (level want m : ℕ) → Asked level want → m ≤ level → m ≤ 7
 asked-low level want m a h = omega (arith, asked-most level want a, h)
-
--- it is an operator
-pub before-some : (k op want level wanted o r : ℕ) → Before k op want level wanted o r → eqb op Table.NONE ≡ false
-before-some _ _ _ _ _ _ _ minus-any = refl
-before-some _ _ _ _ _ _ _ minus-number = refl
-before-some _ _ _ _ _ _ _ minus-integer = refl
-before-some _ _ _ _ _ _ _ at-any = refl
-before-some _ _ _ _ _ _ _ at-number = refl
-before-some _ _ _ _ _ _ _ at-integer = refl
-before-some _ _ _ _ _ _ _ dollar-any = refl
-before-some _ _ _ _ _ _ _ dollar-text = refl
-before-some _ _ _ _ _ _ _ not-test = refl

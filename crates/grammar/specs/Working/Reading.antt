@@ -232,13 +232,12 @@ module _ (s : List ℕ) where
         → Reading 7 8 7 want t (onPart rr (λ sort e n. applied (unary op) op sort e n))
     prefix-reads op lv wn o r b rr h = on-table (O.before-table (t .kind) op want lv wn o r b)
       where
-        on-table : O.BeforeTabled op want lv wn o r → Reading 7 8 7 want t (onPart rr (λ sort e n. applied (unary op) op sort e n))
-        on-table (O.before-tabled el ew eo er) =
-            extend t (t ∷ []) first (and-on t first [] (at-once first)) 7 7 want lv wn r op (unary op) (eo ∙ sym (O.before-goal (t .kind) op want lv wn o r b)) er (omega arith) (omega arith)
-            (O.before-most (t .kind) op want lv wn o r b) (O.before-suits (t .kind) op want lv wn o r b)
-            (λ us f d. O.before-told s (t .kind) op want lv wn o r t us f b refl (subst (λ (x : ℕ). Told s x lv us f) (O.before-goal (t .kind) op want lv wn o r b) d))
-            (λ q st. subst (λ (x : ℕ). Onward q lv wn x r (station q (kindIn s t))) (sym (O.before-goal (t .kind) op want lv wn o r b))
-            (subst (λ (x : ℕ). Onward q lv wn o r (station q x)) (sym (kind-other s t (O.before-mark (t .kind) op want lv wn o r b))) (O.before-onward (t .kind) op want lv wn o r q b st)))
+        on-table : O.BeforeTabled (t .kind) op want lv wn o r → Reading 7 8 7 want t (onPart rr (λ sort e n. applied (unary op) op sort e n))
+        on-table (O.before-tabled el ew eo er eg em es) =
+            extend t (t ∷ []) first (and-on t first [] (at-once first)) 7 7 want lv wn r op (unary op) (eo ∙ sym eg) er (omega arith) (omega arith) (O.before-most (t .kind) op want lv wn o r b)
+            (O.before-suits (t .kind) op want lv wn o r b) (λ us f d. O.before-told s (t .kind) op want lv wn o r t us f b refl (subst (λ (x : ℕ). Told s x lv us f) eg d))
+            (λ q st. subst (λ (x : ℕ). Onward q lv wn x r (station q (kindIn s t))) (sym eg)
+            (subst (λ (x : ℕ). Onward q lv wn o r (station q x)) (sym (kind-other s t em)) (O.before-onward (t .kind) op want lv wn o r q b st)))
             (λ sort k f g. binds-high 8 (Table.operator r k) (omega arith)) rr
             (subst (λ (x : ℕ). Reading x x x wn first rr) el (subst (λ (x : ℕ). Reading (Table.operandLevel op) (Table.operandLevel op) (Table.operandLevel op) x first rr) ew h))
 
@@ -253,7 +252,11 @@ module _ (s : List ℕ) where
         allowed : Table.allows want (t .kind) ≡ true → (op : ℕ) → O.Prefixing want (t .kind) op
             → Reading 7 8 7 want t (pick (eqb op Table.NONE) (pick (eqb (t .kind) Kind.OPEN) (bracketed want nest t) (readLeaf s want row t)) (prefixed op want row nest t))
         allowed h _ O.no-prefix = chosen (Reading 7 8 7 want t) (eqb (t .kind) Kind.OPEN) _ _ (λ e. onBracket (eqb-true _ _ e)) (λ e. leaf-reads row h)
-        allowed h _ (O.prefixes op lv wn o r b) = rw (O.before-some (t .kind) op want lv wn o r b) (onPrefix op lv wn o r b)
+        allowed h _ (O.prefixes op lv wn o r b) = on-table (O.before-table (t .kind) op want lv wn o r b)
+          where
+            on-table : O.BeforeTabled (t .kind) op want lv wn o r
+                → Reading 7 8 7 want t (pick (eqb op Table.NONE) (pick (eqb (t .kind) Kind.OPEN) (bracketed want nest t) (readLeaf s want row t)) (prefixed op want row nest t))
+            on-table (O.before-tabled el ew eo er eg em es) = rw es (onPrefix op lv wn o r b)
 
   -- what the reader makes of a right operand
   pub data JoinedAs (u : Token) (sort : ℕ) (e : Expr) (op : ℕ) : Parsed Part → Type 0 where
@@ -418,8 +421,8 @@ module _ (s : List ℕ) where
     prefix-asked : (k op want lv wn o r : ℕ) → O.Before k op want lv wn o r → Asked (Table.operandLevel op) (Table.operandWant op want)
     prefix-asked k op want lv wn o r b = on-table (O.before-table k op want lv wn o r b)
       where
-        on-table : O.BeforeTabled op want lv wn o r → Asked (Table.operandLevel op) (Table.operandWant op want)
-        on-table (O.before-tabled el ew eo er) = rw (el, ew) (O.before-asked k op want lv wn o r b)
+        on-table : O.BeforeTabled k op want lv wn o r → Asked (Table.operandLevel op) (Table.operandWant op want)
+        on-table (O.before-tabled el ew eo er eg em es) = rw (el, ew) (O.before-asked k op want lv wn o r b)
 
     mutual
       unfolding E.readExpression
