@@ -1,5 +1,6 @@
 pub mod Automaton
 pub mod Looping
+pub mod Marks
 pub mod Places
 pub mod Stations
 pub mod Stationed

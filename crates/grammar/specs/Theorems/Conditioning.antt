@@ -30,16 +30,17 @@ use Rattle.grammar.specs.Spelled.{kindIn, kindsIn, Tokens}
 use Rattle.grammar.specs.Trees.{StrTree, TestTree, Says, a-program, a-clause, ProgramTree, no-clauses, one-more, plain-tree, valued-tree, nested-tree}
 use Rattle.grammar.specs.Viable.{at-once, and-on, Viable, Open, KindsBy, here, further, JudgedBy, through, no-continuation, another}
 use Rattle.grammar.specs.Theorems.OneToken.{ending-ends, judged-stop, opens-end}
-use Rattle.grammar.specs.Theorems.Shadow.{kinds-append, kind-mark, program-shadow}
+use Rattle.grammar.specs.Theorems.Shadow.{kind-mark, program-shadow}
+use Rattle.grammar.specs.Working.Marks.{mark, kinds-append, tokens-append, tokens-one}
 use Rattle.grammar.specs.Working.Automaton.{run, run-append}
 use Rattle.grammar.specs.Working.Looping.{Went, went-next, went-done, loop-went}
 use Rattle.grammar.specs.Working.Stations.{in-clause, value, tests, Frame, Place, p-dead, p-begin, p-arrow, p-block, p-any, p-text, p-have, flat, station}
 use Rattle.grammar.specs.Working.Stationed.{Behind, behind-arrow, behind-semicolon, held-end, value-ends, brace-opens, brace-closes, block-ends, conditions-dead, conditions-over}
 use Rattle.grammar.specs.Working.Joints.{Fits, fit-test, fit-true, fit-false, Unfit, TestFit, test-fits, test-unfit, test-fit, binds-less, kind-same, test-kind}
-use Rattle.grammar.specs.Working.Told.{Told, told-text, told-test, settle, Suits, suits-text, suits-sorted, Completes, completes, mark, finish, something}
+use Rattle.grammar.specs.Working.Told.{Told, told-text, told-test, settle, Suits, suits-text, suits-sorted, Completes, completes, finish, something}
 use Rattle.grammar.specs.Working.Onward.{Starts, start-any, start-text, after, asked-any, asked-text, any-test, strict-dead}
 use Rattle.grammar.specs.Working.Openings as O
-use Rattle.grammar.specs.Working.Reading.{Real, real-token, tokens-append, tokens-one, runs, runs-on, run-one, runs-last, Reading, got, halted, otherwise, expression-reads}
+use Rattle.grammar.specs.Working.Reading.{Real, real-token, runs, runs-on, run-one, runs-last, Reading, got, halted, otherwise, expression-reads}
 use Rattle.grammar.specs.Working.Known.{next-real}
 use Rattle.grammar.specs.Working.Yard.{one-program}
 
@@ -128,7 +129,7 @@ module _ (s : List ℕ) where
       v = nextAt s (u .end)
 
       arrow-path : Tokens s t pre v
-      arrow-path = tokens-one s t u ts path
+      arrow-path = tokens-one s Kind.IN-FIELD t u ts path
 
       arrow-runs : (us : List Token) (n : Token) → runs s (p-any (in-clause nest)) (pre ++ us) n ≡ runs s (p-arrow nest) us n
       arrow-runs us n = runs-on s (p-any (in-clause nest)) pre us n ∙ ap (λ (x : Place). runs s x us n) (run-one s (p-any (in-clause nest)) ts u ∙ led)
@@ -144,11 +145,11 @@ module _ (s : List ℕ) where
       value-reads : eqb (v .kind) Kind.OPEN-BRACE ≡ false → (rr : Parsed Part) → Reading s 3 3 3 Table.TEXT v rr → ClauseRead nest t (onPart rr (λ x f n. P.valuing s e x f n))
       unfolding P.valuing Table.fits settledTree
       value-reads z _ (got us n _ _ p x suits-text (told-text _ _ f d) b g) =
-          ending-reads (pre ++ us) n (valued e f) (tokens-append s t v n pre us arrow-path p) (value-tree us f d) (p-have Table.TEXT (value nest))
+          ending-reads (pre ++ us) n (valued e f) (tokens-append s Kind.IN-FIELD t v n pre us arrow-path p) (value-tree us f d) (p-have Table.TEXT (value nest))
           (value-runs us n z p ∙ g (p-text Table.TEXT (value nest)) (start-text (value nest))) (value-ends nest)
           (λ y. value-wrong nest (kindIn s n) b (test-kind s n Kind.SEMICOLON refl refl ∙ y))
       value-reads z _ (halted us n p (completes rest _ (told-text _ _ f d)) g r h) =
-          c-halted (pre ++ us) n (tokens-append s t v n pre us arrow-path p) rest (valued e f)
+          c-halted (pre ++ us) n (tokens-append s Kind.IN-FIELD t v n pre us arrow-path p) rest (valued e f)
           (subst (λ (l : List Token). ProgramTree s l (a-clause (valued e f))) (sym (append-assoc pre us rest)) (value-tree (us ++ rest) f d))
           (value-runs us n z p ∙ g (p-text Table.TEXT (value nest)) (start-text (value nest))) r h
       value-reads z _ (otherwise r p n) = c-otherwise r p n
@@ -170,7 +171,7 @@ module _ (s : List ℕ) where
           ∙ ap (λ (d : ℕ). run station (p-begin d) (kindsIn s us ++ kindIn s n ∷ [])) (let z : suc nest ≡ nest + 1 = omega arith in z)
 
       block-path : (us : List Token) (n : Token) → Tokens s first us n → Tokens s t (pre ++ v ∷ us) n
-      block-path us n p = tokens-append s t v n pre (v ∷ us) arrow-path (and-on v n us p)
+      block-path us n p = tokens-append s Kind.IN-FIELD t v n pre (v ∷ us) arrow-path (and-on v n us p)
 
       brace-closes-at : station (p-begin (nest + 1)) Kind.CLOSE-BRACE ≡ p-block nest
       brace-closes-at = ap (λ (d : ℕ). station (p-begin d) Kind.CLOSE-BRACE) (let z : nest + 1 ≡ suc nest = omega arith in z) ∙ brace-closes nest
@@ -185,7 +186,7 @@ module _ (s : List ℕ) where
 
       nested-reads : v .kind ≡ Kind.OPEN-BRACE → (rr : Parsed Program) → BlockRead (nest + 1) first rr → ClauseRead nest t (andThen rr (λ p n. P.ending s (nested e p) (nextAt s (n .end))))
       nested-reads z _ (b-got us w p q st d g) =
-          ending-reads (pre ++ v ∷ (us ++ w ∷ [])) (nextAt s (w .end)) (nested e p) (block-path (us ++ w ∷ []) (nextAt s (w .end)) (tokens-one s first w us q))
+          ending-reads (pre ++ v ∷ (us ++ w ∷ [])) (nextAt s (w .end)) (nested e p) (block-path (us ++ w ∷ []) (nextAt s (w .end)) (tokens-one s Kind.IN-FIELD first w us q))
           (block-tree z us w p (closing-brace nest (w .kind) st) d) (p-block nest) (closed-run us w (nextAt s (w .end)) z (closing-brace nest (w .kind) st) g) (block-ends nest)
           (λ y. block-wrong nest (kindIn s (nextAt s (w .end))) (test-kind s (nextAt s (w .end)) Kind.SEMICOLON refl refl ∙ y))
       nested-reads z _ (b-halted us n q rest p d g r h) =
@@ -273,7 +274,7 @@ module _ (s : List ℕ) where
         where
           from-aside : (ts : List Token) → Tokens s t ts u → ProgramTree s ts (a-program p) → run station (p-begin nest) (kindsIn s ts) ≡ p-begin nest → (r at : ℕ) → ClauseRead nest u (aside r at) → BlockRead nest t (aside r at)
           from-aside ts path d g _ _ (c-halted us n q rest c k dead r e) =
-              b-halted (ts ++ us) n (tokens-append s t u n ts us path q) (rest ++ mark Kind.SEMICOLON ∷ []) (also p c)
+              b-halted (ts ++ us) n (tokens-append s Kind.IN-FIELD t u n ts us path q) (rest ++ mark Kind.SEMICOLON ∷ []) (also p c)
               (subst (λ (l : List Token). ProgramTree s l (a-program (also p c)))
               (ap (λ (l : List Token). ts ++ l) (append-assoc us rest (mark Kind.SEMICOLON ∷ [])) ∙ sym (append-assoc ts us (rest ++ mark Kind.SEMICOLON ∷ [])))
               (one-more (mark Kind.SEMICOLON) ts (us ++ rest) p c refl d k)) (clause-runs u ts g us n q z ∙ dead) r e
@@ -285,7 +286,7 @@ module _ (s : List ℕ) where
           from-ok : (ts : List Token) → Tokens s t ts u → ProgramTree s ts (a-program p) → run station (p-begin nest) (kindsIn s ts) ≡ p-begin nest → (r : Parsed Program) (n : Token) (c : Clause) → Stands (n, also p c) r
               → ClauseRead nest u (ok c n) → BlockRead nest t r
           from-ok ts path d g r _ _ k (c-got us w c q e b f) =
-              k (ts ++ (us ++ w ∷ [])) (tokens-append s t u (nextAt s (w .end)) ts (us ++ w ∷ []) path (tokens-one s u w us q)) (next-real s (w .end)) (one-more w ts us p c e d b)
+              k (ts ++ (us ++ w ∷ [])) (tokens-append s Kind.IN-FIELD t u (nextAt s (w .end)) ts (us ++ w ∷ []) path (tokens-one s Kind.IN-FIELD u w us q)) (next-real s (w .end)) (one-more w ts us p c e d b)
               (ap (λ (l : List Token). run station (p-begin nest) (kindsIn s l)) (sym (append-assoc ts us (w ∷ []))) ∙ run-one s (p-begin nest) (ts ++ us) w ∙ clause-runs u ts g us w q z ∙ f)
 
       -- behind the last token
@@ -368,7 +369,7 @@ module _ (s : List ℕ) where
   judged t _ (b-halted ts u path rest p d g r e) =
       judged-stop (kindIn s) Conditions s Kind.IN-FIELD t (kindsIn s ts) u (tokens-kinds t u ts path)
       (opens-end Conditions (kindsIn s ts) (kindsIn s rest)
-      (subst Conditions (ap (λ (l : List ℕ). l ++ Kind.END ∷ []) (kinds-append s ts rest) ∙ append-assoc (kindsIn s ts) (kindsIn s rest) (Kind.END ∷ []))
+      (subst Conditions (ap (λ (l : List ℕ). l ++ Kind.END ∷ []) (kinds-append (kindIn s) ts rest) ∙ append-assoc (kindsIn s ts) (kindsIn s rest) (Kind.END ∷ []))
       (field (kindsIn s (ts ++ rest)) Kind.END (program-shadow s (ts ++ rest) (a-program p) d) end-of-text)))
       (conditions-dead (kindsIn s ts ++ kindIn s u ∷ []) g) r e
   judged t _ (b-otherwise r p n) = another r p n

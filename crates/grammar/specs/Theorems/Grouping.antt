@@ -28,6 +28,7 @@ use Rattle.grammar.specs.Conditions.{Class, operand, conjunction, whole}
 use Rattle.grammar.specs.Viable.{plainly, TokensIn, at-once, and-on}
 use Rattle.grammar.specs.Grouped.{ListTree, one-item, more-items, PrincTree, principal-tree, threshold-tree, bracket-tree, once, both-tree, up, either-tree, LicenseesTree, nobody-tree, somebody-tree}
 use Rattle.grammar.specs.Theorems.OneToken.{principalFirst, principal-is, Against, none-against, no-principal, some-fault, identifier-against}
+use Rattle.grammar.specs.Working.Marks.{mark, kinds-append, around, before, tokens-append, tokens-one}
 use Rattle.grammar.specs.Working.Looping.{Went, went-next, went-done, loop-went}
 use Rattle.grammar.specs.Working.Shunt.{one-tree}
 
@@ -35,35 +36,24 @@ use Rattle.grammar.specs.Working.Shunt.{one-tree}
 abbrev pub kindsOf : List Token → List ℕ
 kindsOf ts = map plainly ts
 
-kinds-append : (ts us : List Token) → kindsOf (ts ++ us) ≡ kindsOf ts ++ kindsOf us
-kinds-append [] us = refl
-kinds-append (t ∷ ts) us = ap (λ (l : List ℕ). t .kind ∷ l) (kinds-append ts us)
-
--- tokens on both sides of a mark, and behind one
-around : (G : List ℕ → Type 0) (t : Token) (ts us : List Token) (k : ℕ) → t .kind ≡ k → G (kindsOf ts ++ k ∷ kindsOf us) → G (kindsOf (ts ++ t ∷ us))
-around G t ts us k z g = subst G (sym (kinds-append ts (t ∷ us))) (subst (λ (x : ℕ). G (kindsOf ts ++ x ∷ kindsOf us)) (sym z) g)
-
-before : (G : List ℕ → Type 0) (t : Token) (ts : List Token) (k : ℕ) → t .kind ≡ k → G (k ∷ kindsOf ts) → G (kindsOf (t ∷ ts))
-before G t ts k z g = subst (λ (x : ℕ). G (x ∷ kindsOf ts)) (sym z) g
-
 module _ (s : List ℕ) (constants : List Attribute) where
   list-shadow : (ts : List Token) (ps : List P.Principal) → ListTree s constants ts ps → PrincList (kindsOf ts)
   list-shadow _ _ (one-item t p) = one (t .kind) p
-  list-shadow _ _ (more-items c t ts ps z p d) = around PrincList c ts (t ∷ []) Kind.COMMA z (comma (kindsOf ts) (t .kind ∷ []) (list-shadow ts ps d) (one (t .kind) p))
+  list-shadow _ _ (more-items c t ts ps z p d) = around plainly PrincList c ts (t ∷ []) Kind.COMMA z (comma (kindsOf ts) (t .kind ∷ []) (list-shadow ts ps d) (one (t .kind) p))
 
   princ-shadow : (c : Class) (ts : List Token) (e : Expression) → PrincTree s constants c ts e → PrincExpr (kindsOf ts)
   princ-shadow _ _ _ (principal-tree t p) = principal (t .kind) p
   princ-shadow _ _ _ (threshold-tree t u v w ts ps x y a b d) =
-      before PrincExpr t (u ∷ v ∷ ts ++ w ∷ []) Kind.DIGITS x
-      (before (λ (l : List ℕ). PrincExpr (Kind.DIGITS ∷ l)) u (v ∷ ts ++ w ∷ []) Kind.OF y
-      (before (λ (l : List ℕ). PrincExpr (Kind.DIGITS ∷ Kind.OF ∷ l)) v (ts ++ w ∷ []) Kind.OPEN a
-      (around (λ (l : List ℕ). PrincExpr (Kind.DIGITS ∷ Kind.OF ∷ Kind.OPEN ∷ l)) w ts [] Kind.CLOSE b (threshold (kindsOf ts) (list-shadow ts ps d)))))
+      before plainly PrincExpr t (u ∷ v ∷ ts ++ w ∷ []) Kind.DIGITS x
+      (before plainly (λ (l : List ℕ). PrincExpr (Kind.DIGITS ∷ l)) u (v ∷ ts ++ w ∷ []) Kind.OF y
+      (before plainly (λ (l : List ℕ). PrincExpr (Kind.DIGITS ∷ Kind.OF ∷ l)) v (ts ++ w ∷ []) Kind.OPEN a
+      (around plainly (λ (l : List ℕ). PrincExpr (Kind.DIGITS ∷ Kind.OF ∷ Kind.OPEN ∷ l)) w ts [] Kind.CLOSE b (threshold (kindsOf ts) (list-shadow ts ps d)))))
   princ-shadow _ _ _ (bracket-tree t u ts e y z d) =
-      before PrincExpr t (ts ++ u ∷ []) Kind.OPEN y (around (λ (l : List ℕ). PrincExpr (Kind.OPEN ∷ l)) u ts [] Kind.CLOSE z (bracket (kindsOf ts) (princ-shadow whole ts e d)))
+      before plainly PrincExpr t (ts ++ u ∷ []) Kind.OPEN y (around plainly (λ (l : List ℕ). PrincExpr (Kind.OPEN ∷ l)) u ts [] Kind.CLOSE z (bracket (kindsOf ts) (princ-shadow whole ts e d)))
   princ-shadow _ _ _ (once ts e d) = princ-shadow operand ts e d
-  princ-shadow _ _ _ (both-tree t ts us e f z d g) = around PrincExpr t ts us Kind.AND z (both (kindsOf ts) (kindsOf us) (princ-shadow conjunction ts e d) (princ-shadow operand us f g))
+  princ-shadow _ _ _ (both-tree t ts us e f z d g) = around plainly PrincExpr t ts us Kind.AND z (both (kindsOf ts) (kindsOf us) (princ-shadow conjunction ts e d) (princ-shadow operand us f g))
   princ-shadow _ _ _ (up ts e d) = princ-shadow conjunction ts e d
-  princ-shadow _ _ _ (either-tree t ts us e f z d g) = around PrincExpr t ts us Kind.OR z (either (kindsOf ts) (kindsOf us) (princ-shadow whole ts e d) (princ-shadow conjunction us f g))
+  princ-shadow _ _ _ (either-tree t ts us e f z d g) = around plainly PrincExpr t ts us Kind.OR z (either (kindsOf ts) (kindsOf us) (princ-shadow whole ts e d) (princ-shadow conjunction us f g))
 
   -- The tokens of a tree have the kinds of a sentence.
   pub licensees-shadow : (ts : List Token) (l : C.Licensees) → LicenseesTree s constants ts l → Licensees (kindsOf ts)
@@ -115,9 +105,6 @@ module _ (s : List ℕ) (constants : List Attribute) where
   data GroupedList (ks : List ℕ) : Type 0 where
     grouped-list : (ts : List Token) (ps : List P.Principal) → kindsOf ts ≡ ks → ListTree s constants ts ps → GroupedList ks
 
-  abbrev mark : ℕ → Token
-  mark k = record { kind = k; start = 0; end = 0 }
-
   of-some : (ts : List Token) (ks : List ℕ) → kindsOf ts ≡ ks → Some whole ts → Grouped ks
   of-some ts ks z (some e d) = grouped ts e z d
 
@@ -125,7 +112,7 @@ module _ (s : List ℕ) (constants : List Attribute) where
   alone ts e ks z d = grouped ts e z (up ts e (once ts e d))
 
   kinds-around : (ts us : List Token) (k : ℕ) (ks ls : List ℕ) → kindsOf ts ≡ ks → kindsOf us ≡ ls → kindsOf (ts ++ mark k ∷ us) ≡ ks ++ k ∷ ls
-  kinds-around ts us k ks ls y z = kinds-append ts (mark k ∷ us) ∙ ap (λ (l : List ℕ). l ++ k ∷ kindsOf us) y ∙ ap (λ (l : List ℕ). ks ++ k ∷ l) z
+  kinds-around ts us k ks ls y z = kinds-append plainly ts (mark k ∷ us) ∙ ap (λ (l : List ℕ). l ++ k ∷ kindsOf us) y ∙ ap (λ (l : List ℕ). ks ++ k ∷ l) z
 
   list-more : (ts us : List Token) (ps qs : List P.Principal) → ListTree s constants ts ps → ListTree s constants us qs → ListTree s constants (ts ++ mark Kind.COMMA ∷ us) (ps ++ qs)
   list-more ts _ ps _ d (one-item t p) = more-items (mark Kind.COMMA) t ts ps refl p d
@@ -186,13 +173,6 @@ module _ (s : List ℕ) (constants : List Attribute) where
   abbrev after : Token → Token
   after t = behind s Kind.IN-LICENSEES t
 
-  tokens-append : (t u n : Token) (ts us : List Token) → Tokens t ts u → Tokens u us n → Tokens t (ts ++ us) n
-  tokens-append t _ n _ us (at-once _) q = q
-  tokens-append t u n _ us (and-on _ _ ts p) q = and-on t n (ts ++ us) (tokens-append (after t) u n ts us p q)
-
-  tokens-one : (t u : Token) (ts : List Token) → Tokens t ts u → Tokens t (ts ++ u ∷ []) (after u)
-  tokens-one t u ts p = tokens-append t u (after u) ts (u ∷ []) p (and-on u (after u) [] (at-once (after u)))
-
   -- what a reader of expressions makes of the tokens from t on: a tree of that class, or a fault
   data Read (c : Class) (t : Token) : Parsed Expression → Type 0 where
     read-ok : (ts : List Token) (u : Token) (e : Expression) → Tokens t ts u → PrincTree s constants c ts e → Read c t (ok e u)
@@ -243,17 +223,17 @@ module _ (s : List ℕ) (constants : List Attribute) where
     unfolding L.listed
     listed-read ps w ts z q d =
         chosen (Read operand t) (ltb (length ps) k) _ _ (λ e. read-aside 5 (w .start))
-        (λ e. read-ok (t ∷ u ∷ v ∷ ts ++ w ∷ []) (after w) (kOf k ps) (tokens-append t (after v) (after w) (t ∷ u ∷ v ∷ []) (ts ++ w ∷ []) path (tokens-one (after v) w ts q))
+        (λ e. read-ok (t ∷ u ∷ v ∷ ts ++ w ∷ []) (after w) (kOf k ps) (tokens-append s Kind.IN-LICENSEES t (after v) (after w) (t ∷ u ∷ v ∷ []) (ts ++ w ∷ []) path (tokens-one s Kind.IN-LICENSEES (after v) w ts q))
         (threshold-tree t u v w ts ps number of opens z d))
 
     on-listed : (ps : List P.Principal) (w : Token) (r : Parsed P.Principal) → OneRead w r → Turn (ps, w) (L.onListed s k ps r)
     on-listed ps w _ (one-aside r p) = went-done (aside r p) (λ ts q i. read-aside r p)
     on-listed ps w _ (one-ok p) =
         chosen (Turn (ps, w)) (eqb (after w .kind) Kind.CLOSE) _ _
-        (λ z. went-done _ (λ ts q i. listed-read (ps ++ Ident.identified s constants w ∷ []) (after w) (ts ++ w ∷ []) (eqb-true _ _ z) (tokens-one (after v) w ts q) (add-item w ts ps p i)))
+        (λ z. went-done _ (λ ts q i. listed-read (ps ++ Ident.identified s constants w ∷ []) (after w) (ts ++ w ∷ []) (eqb-true _ _ z) (tokens-one s Kind.IN-LICENSEES (after v) w ts q) (add-item w ts ps p i)))
         (λ z. chosen (Turn (ps, w)) (eqb (after w .kind) Kind.COMMA) _ _
         (λ y. went-next (ps ++ Ident.identified s constants w ∷ [], after (after w))
-        (λ r h ts q i. h ((ts ++ w ∷ []) ++ after w ∷ []) (tokens-one (after v) (after w) (ts ++ w ∷ []) (tokens-one (after v) w ts q))
+        (λ r h ts q i. h ((ts ++ w ∷ []) ++ after w ∷ []) (tokens-one s Kind.IN-LICENSEES (after v) (after w) (ts ++ w ∷ []) (tokens-one s Kind.IN-LICENSEES (after v) w ts q))
         (some-items (after w) (ts ++ w ∷ []) (ps ++ Ident.identified s constants w ∷ []) (eqb-true _ _ y) (add-item w ts ps p i))))
         (λ y. went-done _ (λ ts q i. read-aside _ _)))
 
@@ -295,7 +275,7 @@ module _ (s : List ℕ) (constants : List Attribute) where
 
     on-operand : (e : Expression) (u : Token) → u .kind ≡ joint → (r : Parsed Expression) → Read c (after u) r → ChainTurn (e, u) (L.onOperand joint join n e r)
     on-operand e u z _ (read-ok us w f q g) =
-        went-next (join e f, w) (λ r h ts p x. h (ts ++ u ∷ us) (tokens-append t u w ts (u ∷ us) p (and-on u w us q)) (joins u ts us e f z x g))
+        went-next (join e f, w) (λ r h ts p x. h (ts ++ u ∷ us) (tokens-append s Kind.IN-LICENSEES t u w ts (u ∷ us) p (and-on u w us q)) (joins u ts us e f z x g))
     on-operand e u z _ (read-aside r p) = went-done (aside r p) (λ ts q x. read-aside r p)
 
     chain-turn : (x : Expression × Token) → ChainTurn x (L.chainTurn s joint join operand′ n x)
@@ -318,7 +298,7 @@ module _ (s : List ℕ) (constants : List Attribute) where
   unfolding L.closed
   closed-read t z _ (read-ok ts u e q d) =
       chosen (Read operand t) (eqb (u .kind) Kind.CLOSE) _ _
-      (λ y. read-ok (t ∷ ts ++ u ∷ []) (after u) e (and-on t (after u) (ts ++ u ∷ []) (tokens-one (after t) u ts q)) (bracket-tree t u ts e z (eqb-true _ _ y) d)) (λ y. read-aside _ _)
+      (λ y. read-ok (t ∷ ts ++ u ∷ []) (after u) e (and-on t (after u) (ts ++ u ∷ []) (tokens-one s Kind.IN-LICENSEES (after t) u ts q)) (bracket-tree t u ts e z (eqb-true _ _ y) d)) (λ y. read-aside _ _)
   closed-read t z _ (read-aside r p) = read-aside r p
 
   name-read : (t : Token) (r : Parsed P.Principal) → OneRead t r → Read operand t (andThen r (λ p u. ok (name p) u))

@@ -14,6 +14,7 @@ use Rattle.lexical.specs.declared.token.Token.{Token}
 use Rattle.syntax.specs.Expr.{Expr, Program, Clause}
 use Rattle.grammar.specs.Conditions.{Class, operand, power, product, conjunction, whole, TRUTH, Name, any-name, truth-name, Str, str-literal, str-name, str-lookup, str-bracket, str-one, str-join, Product, times, divide, remainder, Sum, plus, minus, Int, int-literal, int-minus, int-convert, int-bracket, int-one, int-power, int-up, int-product, int-term, int-sum, Order, less, greater, at-most, at-least, Compare, order, equal, unequal, Comparison, of-integers, of-strings, Tests, test-truth, test-comparison, test-not, test-bracket, test-one, test-and, test-ands, test-or, Clauses, no-clause, clause, tested, valued, nested}
 use Rattle.grammar.specs.Spelled.{spelled, kindIn, kindsIn}
+use Rattle.grammar.specs.Working.Marks.{kinds-append, around, before}
 use Rattle.grammar.specs.Trees.{StrTree, literal-tree, name-tree, lookup-tree, text-bracket, text-one, join-tree, ProductOp, times-op, divide-op, remainder-op, SumOp, plus-op, minus-op, IntTree, number-tree, negate-tree, convert-tree, number-bracket, number-one, power-tree, number-up, product-tree, number-term, sum-tree, CompareOp, equal-op, unequal-op, less-op, greater-op, at-most-op, at-least-op, TestTree, true-tree, false-tree, compare-numbers, compare-texts, not-tree, test-bracket-tree, test-once, and-tree, test-up, or-tree, Says, a-program, a-clause, ProgramTree, no-clauses, one-more, plain-tree, valued-tree, nested-tree}
 
 -- any token but a name is of the lexer's kind
@@ -54,61 +55,53 @@ compare-shadow _ _ _ at-most-op = (order Kind.AT-MOST at-most, refl)
 compare-shadow _ _ _ at-least-op = (order Kind.AT-LEAST at-least, refl)
 
 module _ (s : List ℕ) where
-  pub kinds-append : (ts us : List Token) → kindsIn s (ts ++ us) ≡ kindsIn s ts ++ kindsIn s us
-  kinds-append [] us = refl
-  kinds-append (t ∷ ts) us = ap (λ (l : List ℕ). kindIn s t ∷ l) (kinds-append ts us)
-
-  -- tokens on both sides of a mark, and tokens in brackets
-  pub around : (G : List ℕ → Type 0) (t : Token) (ts us : List Token) (k : ℕ) → kindIn s t ≡ k → G (kindsIn s ts ++ k ∷ kindsIn s us) → G (kindsIn s (ts ++ t ∷ us))
-  around G t ts us k e g = subst G (sym (kinds-append ts (t ∷ us))) (subst (λ (x : ℕ). G (kindsIn s ts ++ x ∷ kindsIn s us)) (sym e) g)
-
   pub bracketed : (G : List ℕ → Type 0) (t u : Token) (ts : List Token) → t .kind ≡ Kind.OPEN → u .kind ≡ Kind.CLOSE → G (Kind.OPEN ∷ kindsIn s ts ++ Kind.CLOSE ∷ [])
       → G (kindsIn s (t ∷ ts ++ u ∷ []))
   bracketed G t u ts e f g =
-      subst (λ (x : ℕ). G (x ∷ kindsIn s (ts ++ u ∷ []))) (sym (kind-mark s t Kind.OPEN e refl)) (around (λ (l : List ℕ). G (Kind.OPEN ∷ l)) u ts [] Kind.CLOSE (kind-mark s u Kind.CLOSE f refl) g)
+      before (kindIn s) G t (ts ++ u ∷ []) Kind.OPEN (kind-mark s t Kind.OPEN e refl) (around (kindIn s) (λ (l : List ℕ). G (Kind.OPEN ∷ l)) u ts [] Kind.CLOSE (kind-mark s u Kind.CLOSE f refl) g)
 
-  before : (G : List ℕ → Type 0) (t : Token) (ts : List Token) (k : ℕ) → t .kind ≡ k → eqb k Kind.NAME ≡ false → G (k ∷ kindsIn s ts) → G (kindsIn s (t ∷ ts))
-  before G t ts k e h g = subst (λ (x : ℕ). G (x ∷ kindsIn s ts)) (sym (kind-mark s t k e h)) g
+  marked : (G : List ℕ → Type 0) (t : Token) (ts : List Token) (k : ℕ) → t .kind ≡ k → eqb k Kind.NAME ≡ false → G (k ∷ kindsIn s ts) → G (kindsIn s (t ∷ ts))
+  marked G t ts k e h g = before (kindIn s) G t ts k (kind-mark s t k e h) g
 
   pub str-shadow : (c : Class) (ts : List Token) (e : Expr) → StrTree s c ts e → Str c (kindsIn s ts)
-  str-shadow _ _ _ (literal-tree t k) = before (Str operand) t [] Kind.LITERAL k refl str-literal
+  str-shadow _ _ _ (literal-tree t k) = marked (Str operand) t [] Kind.LITERAL k refl str-literal
   str-shadow _ _ _ (name-tree t k) = str-name (kindIn s t) (kind-name s t k)
-  str-shadow _ _ _ (lookup-tree t ts e k d) = before (Str operand) t ts Kind.DOLLAR k refl (str-lookup _ (str-shadow operand ts e d))
+  str-shadow _ _ _ (lookup-tree t ts e k d) = marked (Str operand) t ts Kind.DOLLAR k refl (str-lookup _ (str-shadow operand ts e d))
   str-shadow _ _ _ (text-bracket t u ts e k l d) = bracketed (Str operand) t u ts k l (str-bracket _ (str-shadow whole ts e d))
   str-shadow _ _ _ (text-one ts e d) = str-one _ (str-shadow operand ts e d)
-  str-shadow _ _ _ (join-tree t ts us e f k d g) = around (Str whole) t ts us Kind.DOT (kind-mark s t Kind.DOT k refl) (str-join _ _ (str-shadow whole ts e d) (str-shadow operand us f g))
+  str-shadow _ _ _ (join-tree t ts us e f k d g) = around (kindIn s) (Str whole) t ts us Kind.DOT (kind-mark s t Kind.DOT k refl) (str-join _ _ (str-shadow whole ts e d) (str-shadow operand us f g))
 
   pub int-shadow : (c : Class) (ts : List Token) (e : Expr) → IntTree s c ts e → Int c (kindsIn s ts)
-  int-shadow _ _ _ (number-tree t k) = before (Int operand) t [] Kind.DIGITS k refl int-literal
-  int-shadow _ _ _ (negate-tree t ts e k d) = before (Int operand) t ts Kind.MINUS k refl (int-minus _ (int-shadow operand ts e d))
-  int-shadow _ _ _ (convert-tree t ts e k d) = before (Int operand) t ts Kind.AT k refl (int-convert _ (str-shadow operand ts e d))
+  int-shadow _ _ _ (number-tree t k) = marked (Int operand) t [] Kind.DIGITS k refl int-literal
+  int-shadow _ _ _ (negate-tree t ts e k d) = marked (Int operand) t ts Kind.MINUS k refl (int-minus _ (int-shadow operand ts e d))
+  int-shadow _ _ _ (convert-tree t ts e k d) = marked (Int operand) t ts Kind.AT k refl (int-convert _ (str-shadow operand ts e d))
   int-shadow _ _ _ (number-bracket t u ts e k l d) = bracketed (Int operand) t u ts k l (int-bracket _ (int-shadow whole ts e d))
   int-shadow _ _ _ (number-one ts e d) = int-one _ (int-shadow operand ts e d)
-  int-shadow _ _ _ (power-tree t ts us e f k d g) = around (Int power) t ts us Kind.POWER (kind-mark s t Kind.POWER k refl) (int-power _ _ (int-shadow power ts e d) (int-shadow operand us f g))
+  int-shadow _ _ _ (power-tree t ts us e f k d g) = around (kindIn s) (Int power) t ts us Kind.POWER (kind-mark s t Kind.POWER k refl) (int-power _ _ (int-shadow power ts e d) (int-shadow operand us f g))
   int-shadow _ _ _ (number-up ts e d) = int-up _ (int-shadow power ts e d)
   int-shadow _ _ _ (product-tree t ts us e f o k d g) =
-      around (Int product) t ts us (t .kind) (kind-other s t (product-shadow _ o k .1)) (int-product _ _ _ (product-shadow _ o k .0) (int-shadow product ts e d) (int-shadow power us f g))
+      around (kindIn s) (Int product) t ts us (t .kind) (kind-other s t (product-shadow _ o k .1)) (int-product _ _ _ (product-shadow _ o k .0) (int-shadow product ts e d) (int-shadow power us f g))
   int-shadow _ _ _ (number-term ts e d) = int-term _ (int-shadow product ts e d)
   int-shadow _ _ _ (sum-tree t ts us e f o k d g) =
-      around (Int whole) t ts us (t .kind) (kind-other s t (sum-shadow _ o k .1)) (int-sum _ _ _ (sum-shadow _ o k .0) (int-shadow whole ts e d) (int-shadow product us f g))
+      around (kindIn s) (Int whole) t ts us (t .kind) (kind-other s t (sum-shadow _ o k .1)) (int-sum _ _ _ (sum-shadow _ o k .0) (int-shadow whole ts e d) (int-shadow product us f g))
 
   pub test-shadow : (c : Class) (ts : List Token) (e : Expr) → TestTree s c ts e → Tests c (kindsIn s ts)
   test-shadow _ _ _ (true-tree t k w) = subst (λ (x : ℕ). Tests operand (x ∷ [])) (sym (kind-true s t k w)) test-truth
   test-shadow _ _ _ (false-tree t k w) = subst (λ (x : ℕ). Tests operand (x ∷ [])) (sym (kind-false s t k w)) test-truth
   test-shadow _ _ _ (compare-numbers t ts us e f o p k d g) =
-      around (Tests operand) t ts us (t .kind) (kind-other s t (compare-shadow _ o p k .1))
+      around (kindIn s) (Tests operand) t ts us (t .kind) (kind-other s t (compare-shadow _ o p k .1))
       (test-comparison _ (of-integers _ _ _ (compare-shadow _ o p k .0) (int-shadow whole ts e d) (int-shadow whole us f g)))
   test-shadow _ _ _ (compare-texts t ts us e f o p k d g) =
-      around (Tests operand) t ts us (t .kind) (kind-other s t (compare-shadow _ o p k .1))
+      around (kindIn s) (Tests operand) t ts us (t .kind) (kind-other s t (compare-shadow _ o p k .1))
       (test-comparison _ (of-strings _ _ _ (compare-shadow _ o p k .0) (str-shadow whole ts e d) (str-shadow whole us f g)))
-  test-shadow _ _ _ (not-tree t ts e k d) = before (Tests operand) t ts Kind.NOT k refl (test-not _ (test-shadow operand ts e d))
+  test-shadow _ _ _ (not-tree t ts e k d) = marked (Tests operand) t ts Kind.NOT k refl (test-not _ (test-shadow operand ts e d))
   test-shadow _ _ _ (test-bracket-tree t u ts e k l d) = bracketed (Tests operand) t u ts k l (test-bracket _ (test-shadow whole ts e d))
   test-shadow _ _ _ (test-once ts e d) = test-one _ (test-shadow operand ts e d)
   test-shadow _ _ _ (and-tree t ts us e f k d g) =
-      around (Tests conjunction) t ts us Kind.AND (kind-mark s t Kind.AND k refl) (test-and _ _ (test-shadow conjunction ts e d) (test-shadow operand us f g))
+      around (kindIn s) (Tests conjunction) t ts us Kind.AND (kind-mark s t Kind.AND k refl) (test-and _ _ (test-shadow conjunction ts e d) (test-shadow operand us f g))
   test-shadow _ _ _ (test-up ts e d) = test-ands _ (test-shadow conjunction ts e d)
   test-shadow _ _ _ (or-tree t ts us e f k d g) =
-      around (Tests whole) t ts us Kind.OR (kind-mark s t Kind.OR k refl) (test-or _ _ (test-shadow whole ts e d) (test-shadow conjunction us f g))
+      around (kindIn s) (Tests whole) t ts us Kind.OR (kind-mark s t Kind.OR k refl) (test-or _ _ (test-shadow whole ts e d) (test-shadow conjunction us f g))
 
 -- a clause behind a program
 pub clause-last : (c : Class) (ks ls : List ℕ) → c ≡ whole → Clauses c ks → Clauses operand ls → Clauses whole (ks ++ (ls ++ Kind.SEMICOLON ∷ []))
@@ -127,14 +120,14 @@ spoken (a-clause c) = operand
 pub program-shadow : (s : List ℕ) (ts : List Token) (x : Says) → ProgramTree s ts x → Clauses (spoken x) (kindsIn s ts)
 program-shadow s _ _ no-clauses = no-clause
 program-shadow s _ _ (one-more t ts us p c k d g) =
-    subst (Clauses whole) (sym (kinds-append s ts (us ++ t ∷ [])))
-    (around s (λ (l : List ℕ). Clauses whole (kindsIn s ts ++ l)) t us [] Kind.SEMICOLON (kind-mark s t Kind.SEMICOLON k refl)
+    subst (Clauses whole) (sym (kinds-append (kindIn s) ts (us ++ t ∷ [])))
+    (around (kindIn s) (λ (l : List ℕ). Clauses whole (kindsIn s ts ++ l)) t us [] Kind.SEMICOLON (kind-mark s t Kind.SEMICOLON k refl)
     (clause-last whole (kindsIn s ts) (kindsIn s us) refl (program-shadow s ts (a-program p) d) (program-shadow s us (a-clause c) g)))
 program-shadow s _ _ (plain-tree ts e d) = tested _ (test-shadow s whole ts e d)
 program-shadow s _ _ (valued-tree t ts us e f k d g) =
-    around s (Clauses operand) t ts us Kind.ARROW (kind-mark s t Kind.ARROW k refl) (valued _ _ (test-shadow s whole ts e d) (str-shadow s whole us f g))
+    around (kindIn s) (Clauses operand) t ts us Kind.ARROW (kind-mark s t Kind.ARROW k refl) (valued _ _ (test-shadow s whole ts e d) (str-shadow s whole us f g))
 program-shadow s _ _ (nested-tree t u v ts us e p k l m d g) =
-    around s (Clauses operand) t ts (u ∷ (us ++ v ∷ [])) Kind.ARROW (kind-mark s t Kind.ARROW k refl)
+    around (kindIn s) (Clauses operand) t ts (u ∷ (us ++ v ∷ [])) Kind.ARROW (kind-mark s t Kind.ARROW k refl)
     (subst (λ (x : ℕ). Clauses operand (kindsIn s ts ++ Kind.ARROW ∷ x ∷ kindsIn s (us ++ v ∷ []))) (sym (kind-mark s u Kind.OPEN-BRACE l refl))
-    (around s (λ (l : List ℕ). Clauses operand (kindsIn s ts ++ Kind.ARROW ∷ Kind.OPEN-BRACE ∷ l)) v us [] Kind.CLOSE-BRACE (kind-mark s v Kind.CLOSE-BRACE m refl)
+    (around (kindIn s) (λ (l : List ℕ). Clauses operand (kindsIn s ts ++ Kind.ARROW ∷ Kind.OPEN-BRACE ∷ l)) v us [] Kind.CLOSE-BRACE (kind-mark s v Kind.CLOSE-BRACE m refl)
     (nested (kindsIn s ts) (kindsIn s us) (test-shadow s whole ts e d) (program-shadow s us (a-program p) g))))

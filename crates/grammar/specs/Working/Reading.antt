@@ -31,12 +31,13 @@ use Rattle.grammar.specs.Conditions.{TRUTH}
 use Rattle.grammar.specs.Spelled.{spelled, kindIn, kindsIn, Tokens}
 use Rattle.grammar.specs.Viable.{at-once, and-on}
 use Rattle.grammar.specs.Trees.{literal-tree, name-tree, number-tree, true-tree, false-tree}
-use Rattle.grammar.specs.Theorems.Shadow.{kinds-append, kind-other, kind-mark}
+use Rattle.grammar.specs.Theorems.Shadow.{kind-other, kind-mark}
+use Rattle.grammar.specs.Working.Marks.{mark, kinds-append, tokens-append, tokens-one}
 use Rattle.grammar.specs.Working.Automaton.{run, run-append}
 use Rattle.grammar.specs.Working.Looping.{Went, went-next, went-done, loop-went}
 use Rattle.grammar.specs.Working.Stations.{Place, p-dead, station}
 use Rattle.grammar.specs.Working.Joints.{Fits, Unfit, Joint, Tabled, tabled, joint-tabled, joint-mark, Operated, no-operator, match-operator, joins, operated, binds-less, binds-high, binds-none, operator-kind, test-kind}
-use Rattle.grammar.specs.Working.Told.{Told, told-text, told-number, told-true, told-false, lower, settle, joined, enclosed, goal, Suits, suits-sorted, Completes, completes, completes-lower, mark, finish, something}
+use Rattle.grammar.specs.Working.Told.{Told, told-text, told-number, told-true, told-false, lower, settle, joined, enclosed, goal, Suits, suits-sorted, Completes, completes, completes-lower, finish, something}
 use Rattle.grammar.specs.Working.Onward.{Starts, starts-up, after, Asked, asked-any, asked-text, asked-number, asked-integer, Onward, onward, joint-onward, joint-suits, joint-ends, joint-asked, joint-goal, RightFit, right-fits, right-unfit, right-fit}
 use Rattle.grammar.specs.Working.Openings as O
 
@@ -51,24 +52,17 @@ pub data Real (s : List ℕ) (u : Token) : Type 0 where
   real-token : Sound s u → (u .kind ≡ TRUTH → ⊥) → Real s u
 
 module _ (s : List ℕ) where
-  pub tokens-append : (t u n : Token) (ts us : List Token) → Tokens s t ts u → Tokens s u us n → Tokens s t (ts ++ us) n
-  tokens-append t _ n _ us (at-once _) q = q
-  tokens-append t u n _ us (and-on _ _ ts p) q = and-on t n (ts ++ us) (tokens-append (nextAt s (t .end)) u n ts us p q)
-
-  pub tokens-one : (t u : Token) (ts : List Token) → Tokens s t ts u → Tokens s t (ts ++ u ∷ []) (nextAt s (u .end))
-  tokens-one t u ts p = tokens-append t u (nextAt s (u .end)) ts (u ∷ []) p (and-on u (nextAt s (u .end)) [] (at-once (nextAt s (u .end))))
-
   -- the automaton over tokens and the one behind them
   abbrev pub runs : Place → List Token → Token → Place
   runs q ts u = run station q (kindsIn s ts ++ kindIn s u ∷ [])
 
   pub runs-on : (q : Place) (pre us : List Token) (u : Token) → runs q (pre ++ us) u ≡ runs (run station q (kindsIn s pre)) us u
   runs-on q pre us u =
-      ap (λ (l : List ℕ). run station q (l ++ kindIn s u ∷ [])) (kinds-append s pre us) ∙ ap (run station q) (append-assoc (kindsIn s pre) (kindsIn s us) (kindIn s u ∷ []))
+      ap (λ (l : List ℕ). run station q (l ++ kindIn s u ∷ [])) (kinds-append (kindIn s) pre us) ∙ ap (run station q) (append-assoc (kindsIn s pre) (kindsIn s us) (kindIn s u ∷ []))
       ∙ run-append station q (kindsIn s pre) (kindsIn s us ++ kindIn s u ∷ [])
 
   pub run-one : (q : Place) (ts : List Token) (u : Token) → run station q (kindsIn s (ts ++ u ∷ [])) ≡ runs q ts u
-  run-one q ts u = ap (run station q) (kinds-append s ts (u ∷ []))
+  run-one q ts u = ap (run station q) (kinds-append (kindIn s) ts (u ∷ []))
 
   -- Of a reader that starts at t, where `want` is wanted: what it read is of level l, and b takes no operator behind it; or it stopped at a token
   -- before which what is wanted can still come, and which leads nowhere; or it gave another reason.
@@ -110,17 +104,17 @@ module _ (s : List ℕ) where
         → ((q : Place) → Starts lv wn q → runs q us u ≡ station (after q sort) (kindIn s u)) → (b : Bool) → RightFit (goal wn) sort b
         → Reading l (l + 1) level want t (pick b (ok (part r (build (settledTree (goal wn) sort f))) u) (unexpected u))
     grown us u sort f p x y d b g _ (right-fits i) =
-        got (pre ++ us) u r (build (settledTree (goal wn) sort f)) (tokens-append t v u pre us path p) x suits (grows us (settledTree (goal wn) sort f) (settle s (goal wn) sort lv us f deep i d))
+        got (pre ++ us) u r (build (settledTree (goal wn) sort f)) (tokens-append s Kind.IN-FIELD t v u pre us path p) x suits (grows us (settledTree (goal wn) sort f) (settle s (goal wn) sort lv us f deep i d))
         (ends sort (kindIn s u) i b) (λ q st. runs-on q pre us u ∙ leads-fit q us u sort (run station q (kindsIn s pre)) (leads q st) g i b)
     grown us u sort f p x y d b g _ (right-unfit z i) =
-        halted (pre ++ us) u (tokens-append t v u pre us path p) (grown-completes us (finish s wn sort lv lv us f deep (omega arith) y d))
+        halted (pre ++ us) u (tokens-append s Kind.IN-FIELD t v u pre us path p) (grown-completes us (finish s wn sort lv lv us f deep (omega arith) y d))
         (λ q st. runs-on q pre us u ∙ leads-unfit q us u sort (run station q (kindsIn s pre)) (leads q st) g z i b) (refusal (u .kind)) refl
 
     pub extend : (rr : Parsed Part) → Reading lv lv lv wn v rr → Reading l (l + 1) level want t (onPart rr (λ x f n. applied build op x f n))
     unfolding applied
     extend _ (got us u sort f p x y d b g) = rw (takes, gives) (grown us u sort f p x y d b g (Table.fits (goal wn) sort) (right-fit wn sort y))
     extend _ (halted us u p c g rr e) =
-        halted (pre ++ us) u (tokens-append t v u pre us path p) (grown-completes us c)
+        halted (pre ++ us) u (tokens-append s Kind.IN-FIELD t v u pre us path p) (grown-completes us c)
         (λ q st. runs-on q pre us u ∙ leads-dead q us u (run station q (kindsIn s pre)) (leads q st) g) rr e
     extend _ (otherwise rr p n) = otherwise rr p n
 
@@ -219,7 +213,7 @@ module _ (s : List ℕ) where
     bracket-reads : t .kind ≡ Kind.OPEN → (rr : Parsed Part) → Reading level level level want first rr → Reading 7 8 7 want t (onPart rr (λ sort e n. E.closing s sort e n))
     bracket-reads z _ (got us u sort e p x y d b g) =
         chosen (Reading 7 8 7 want t) (eqb (u .kind) Kind.CLOSE) _ _
-        (λ f. got (t ∷ us ++ u ∷ []) (nextAt s (u .end)) sort e (and-on t (nextAt s (u .end)) (us ++ u ∷ []) (tokens-one first u us p)) (reals (u .end)) y
+        (λ f. got (t ∷ us ++ u ∷ []) (nextAt s (u .end)) sort e (and-on t (nextAt s (u .end)) (us ++ u ∷ []) (tokens-one s Kind.IN-FIELD first u us p)) (reals (u .end)) y
         (enclosed s sort t u us e z (eqb-true _ _ f) (lower s sort 0 level us e (omega arith) d)) (binds-high 8 (Table.operator sort (kindIn s (nextAt s (u .end)))) (omega arith))
         (λ q st. runs-last q (after q sort) (t ∷ us ++ u ∷ []) (nextAt s (u .end)) (opened-right q us u sort z (O.encloses want q st) g y (eqb-true _ _ f))))
         (λ f. halted (t ∷ us) u (and-on t u us p) (enclosed-completes z us (finish s want sort level level us e inside-most (omega arith) y d))
@@ -299,7 +293,7 @@ module _ (s : List ℕ) where
           lo,
           (
             level-low,
-            extend t (ts ++ u ∷ []) (nextAt s (u .end)) (tokens-one t u ts p) lo level want (lo + 1) (Table.wantOf o) r op (binary op (settledTree (Table.operandOf op) sort e))
+            extend t (ts ++ u ∷ []) (nextAt s (u .end)) (tokens-one s Kind.IN-FIELD t u ts p) lo level want (lo + 1) (Table.wantOf o) r op (binary op (settledTree (Table.operandOf op) sort e))
                 (eo ∙ sym (joint-goal (u .kind) op lo o r j)) er (O.asked-most level want a) level-low (O.asked-most (lo + 1) (Table.wantOf o) (joint-asked (u .kind) op lo o r j))
                 (joint-suits level want sort (u .kind) op lo o r a y j fit level-low) grows leads ends rr inner-at,
           ),

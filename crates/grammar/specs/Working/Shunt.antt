@@ -16,6 +16,8 @@ use Rattle.fields.specs.Identifier.{identified}
 use Rattle.grammar.specs.Fields.{Principal, principal-literal, principal-name}
 use Rattle.grammar.specs.Conditions.{Class, operand, power, product, conjunction, whole}
 use Rattle.grammar.specs.Grouped.{ListTree, one-item, more-items, PrincTree, principal-tree, threshold-tree, bracket-tree, once, both-tree, up, either-tree, LicenseesTree, nobody-tree, somebody-tree}
+use Rattle.grammar.specs.Working.Automaton.{run, run-append}
+use Rattle.grammar.specs.Working.Marks.{at-kind}
 use Rattle.grammar.specs.Working.Pending.{Entry, pending, opening, reduce, reduce-same, Stops, stops-end, stops-open, stops-low, stops-up, stops-is, reduce-own}
 
 abbrev Waiting : Type 0
@@ -57,15 +59,7 @@ module _ (s : List ℕ) (constants : List Attribute) where
   shunt z-lost t = z-lost
 
   abbrev runs : Shunt → List Token → Shunt
-  runs q [] = q
-  runs q (t ∷ ts) = runs (shunt q t) ts
-
-  runs-append : (q : Shunt) (ts us : List Token) → runs q (ts ++ us) ≡ runs (runs q ts) us
-  runs-append q [] us = refl
-  runs-append q (t ∷ ts) us = runs-append (shunt q t) ts us
-
-  at-kind : (t : Token) (k x : ℕ) (b : Bool) → t .kind ≡ k → eqb k x ≡ b → eqb (t .kind) x ≡ b
-  at-kind t k x b z h = subst (λ (y : ℕ). eqb y x ≡ b) (sym z) h
+  runs q ts = run shunt q ts
 
   -- the marks
   want-open : (P : Waiting) (t : Token) → t .kind ≡ Kind.OPEN → shunt (z-want P) t ≡ z-want (opening ∷ P)
@@ -111,7 +105,7 @@ module _ (s : List ℕ) (constants : List Attribute) where
   list-runs : (k : ℕ) (P : Waiting) (ts : List Token) (ps : List Prin.Principal) → ListTree s constants ts ps → runs (z-item k [] P) ts ≡ z-listed k ps P
   list-runs k P _ _ (one-item t p) = item k [] P t
   list-runs k P _ _ (more-items c t ts ps z p d) =
-      runs-append (z-item k [] P) ts (c ∷ t ∷ []) ∙ ap (λ (q : Shunt). runs q (c ∷ t ∷ [])) (list-runs k P ts ps d) ∙ ap (λ (q : Shunt). shunt q t) (listed-comma k ps P c z) ∙ item k ps P t
+      run-append shunt (z-item k [] P) ts (c ∷ t ∷ []) ∙ ap (λ (q : Shunt). runs q (c ∷ t ∷ [])) (list-runs k P ts ps d) ∙ ap (λ (q : Shunt). shunt q t) (listed-comma k ps P c z) ∙ item k ps P t
 
   -- where tokens that say e lead from P on, up to what operators of level l and tighter make of it
   data Sim (l : ℕ) (e : Expression) (P : Waiting) : Shunt → Type 0 where
@@ -161,20 +155,20 @@ module _ (s : List ℕ) (constants : List Attribute) where
   princ-sim _ _ _ (threshold-tree t u v w ts ps x y a b d) P h =
       sim-at 2 _ P (runs (z-want P) (t ∷ u ∷ v ∷ ts ++ w ∷ [])) (z-have (kOf (numberAt s (t .start) (t .end)) ps) P)
       (ap (λ (q : Shunt). runs q (u ∷ v ∷ ts ++ w ∷ [])) (want-digits P t x) ∙ ap (λ (q : Shunt). runs q (ts ++ w ∷ [])) (number-of (numberAt s (t .start) (t .end)) P u v)
-      ∙ runs-append (z-item (numberAt s (t .start) (t .end)) [] P) ts (w ∷ []) ∙ ap (λ (q : Shunt). shunt q w) (list-runs (numberAt s (t .start) (t .end)) P ts ps d)
+      ∙ run-append shunt (z-item (numberAt s (t .start) (t .end)) [] P) ts (w ∷ []) ∙ ap (λ (q : Shunt). shunt q w) (list-runs (numberAt s (t .start) (t .end)) P ts ps d)
       ∙ listed-close (numberAt s (t .start) (t .end)) ps P w b) (sim _ P refl)
   princ-sim _ _ _ (bracket-tree t u ts e y z d) P h =
       sim-at 2 e P (runs (z-want P) (t ∷ ts ++ u ∷ [])) (shunt (runs (z-want (opening ∷ P)) ts) u)
-      (ap (λ (q : Shunt). runs q (ts ++ u ∷ [])) (want-open P t y) ∙ runs-append (z-want (opening ∷ P)) ts (u ∷ []))
+      (ap (λ (q : Shunt). runs q (ts ++ u ∷ [])) (want-open P t y) ∙ run-append shunt (z-want (opening ∷ P)) ts (u ∷ []))
       (closes 0 P e u (runs (z-want (opening ∷ P)) ts) z (princ-sim whole ts e d (opening ∷ P) (or-room (stops-open P))))
   princ-sim _ _ _ (once ts e d) P h = sim-down 1 2 e P (runs (z-want P) ts) (omega arith) (princ-sim operand ts e d P any-room)
   princ-sim _ _ _ (both-tree t ts us e f z d g) P (and-room st) =
-      sim-at 1 (and e f) P (runs (z-want P) (ts ++ t ∷ us)) (runs (runs (z-want P) ts) (t ∷ us)) (runs-append (z-want P) ts (t ∷ us))
+      sim-at 1 (and e f) P (runs (z-want P) (ts ++ t ∷ us)) (runs (runs (z-want P) ts) (t ∷ us)) (run-append shunt (z-want P) ts (t ∷ us))
       (two Kind.AND 1 P e f t us (runs (z-want P) ts) z refl refl st (princ-sim conjunction ts e d P (and-room st))
       (λ Q sq. sim-down 1 2 f Q (runs (z-want Q) us) (omega arith) (princ-sim operand us f g Q any-room)))
   princ-sim _ _ _ (up ts e d) P (or-room st) = sim-down 0 1 e P (runs (z-want P) ts) (omega arith) (princ-sim conjunction ts e d P (and-room (stops-up 0 1 P (omega arith) st)))
   princ-sim _ _ _ (either-tree t ts us e f z d g) P (or-room st) =
-      sim-at 0 (or e f) P (runs (z-want P) (ts ++ t ∷ us)) (runs (runs (z-want P) ts) (t ∷ us)) (runs-append (z-want P) ts (t ∷ us))
+      sim-at 0 (or e f) P (runs (z-want P) (ts ++ t ∷ us)) (runs (runs (z-want P) ts) (t ∷ us)) (run-append shunt (z-want P) ts (t ∷ us))
       (two Kind.OR 0 P e f t us (runs (z-want P) ts) z refl refl st (princ-sim whole ts e d P (or-room st))
       (λ Q sq. sim-down 0 1 f Q (runs (z-want Q) us) (omega arith) (princ-sim conjunction us f g Q (and-room sq))))
 

@@ -15,6 +15,7 @@ use Rattle.conditions.specs.Table
 use Rattle.conditions.specs.Operand.{settledTree}
 use Rattle.grammar.specs.Conditions.{Class, operand, power, product, conjunction, whole}
 use Rattle.grammar.specs.Trees.{StrTree, literal-tree, name-tree, lookup-tree, text-bracket, text-one, join-tree, IntTree, number-tree, negate-tree, convert-tree, number-bracket, number-one, power-tree, number-up, product-tree, number-term, sum-tree, ProductOp, SumOp, CompareOp, equal-op, TestTree, compare-numbers, compare-texts, not-tree, test-bracket-tree, test-once, and-tree, test-up, or-tree}
+use Rattle.grammar.specs.Working.Marks.{mark}
 use Rattle.grammar.specs.Working.Joints.{Sorted, is-test, is-text, is-number, is-true, is-false, Fits, fit-test, fit-text, fit-number, fit-true, fit-false, fit-true-name, fit-false-name, Joint, j-power, j-product, j-sum, j-join, j-numbers, j-texts, j-and, j-or}
 
 -- the classes of the levels
@@ -145,10 +146,6 @@ module _ (s : List ℕ) where
 
   pub completes-lower : (w m level : ℕ) (ts : List Token) → m ≤ level → Completes w level ts → Completes w m ts
   completes-lower w m level ts h (completes rest e d) = completes rest e (lower w m level (ts ++ rest) e h d)
-
--- a token of a kind, wherever it stands
-abbrev pub mark : ℕ → Token
-mark k = record { kind = k; start = 0; end = 0 }
 
 module _ (s : List ℕ) where
   whole-text : (l : ℕ) (ts : List Token) (e : Expr) → Told s Table.TEXT l ts e → Told s Table.TEXT 0 ts e

@@ -22,6 +22,8 @@ use Rattle.grammar.specs.Conditions.{Class, operand, power, product, con
 use Rattle.grammar.specs.Spelled.{spelled}
 use Rattle.grammar.specs.Trees.{StrTree, literal-tree, name-tree, lookup-tree, text-bracket, text-one, join-tree, ProductOp, times-op, divide-op, remainder-op, SumOp, plus-op, minus-op, IntTree, number-tree, negate-tree, convert-tree, number-bracket, number-one, power-tree, number-up, product-tree, number-term, sum-tree, CompareOp, equal-op, unequal-op, less-op, greater-op, at-most-op, at-least-op, TestTree, true-tree, false-tree, compare-numbers, compare-texts, not-tree, test-bracket-tree, test-once, and-tree, test-up, or-tree, Says, a-program, a-clause, ProgramTree, no-clauses, one-more, plain-tree, valued-tree, nested-tree}
 use Rattle.grammar.specs.Working.Joints.{Joint, j-power, j-product, j-sum, j-join, j-numbers, j-texts, j-and, j-or, Tabled, tabled, joint-tabled}
+use Rattle.grammar.specs.Working.Automaton.{run, run-append}
+use Rattle.grammar.specs.Working.Marks.{at-kind}
 use Rattle.grammar.specs.Working.Pending.{Entry, pending, opening, reduce, reduce-same, Stops, stops-end, stops-open, stops-low, stops-up, stops-is, reduce-own}
 
 -- a sort and a tree
@@ -120,12 +122,7 @@ module _ (s : List ℕ) where
   yard y-lost t = y-lost
 
   abbrev runs : Yard → List Token → Yard
-  runs q [] = q
-  runs q (t ∷ ts) = runs (yard q t) ts
-
-  runs-append : (q : Yard) (ts us : List Token) → runs q (ts ++ us) ≡ runs (runs q ts) us
-  runs-append q [] us = refl
-  runs-append q (t ∷ ts) us = runs-append (yard q t) ts us
+  runs q ts = run yard q ts
 
   -- a value that says a tree of a sort: itself, or a bare word
   data Means : ℕ → Expr → Value → Type 0 where
@@ -254,10 +251,6 @@ module _ (s : List ℕ) where
           reduced : (q : Yard) → Sim m C o f Q q → Sim l C r (binary op e f) P q
           reduced _ (sim w₁ Q₁ u y i) = sim w₁ Q₁ (r, binary op e f) w (reduce-same l m w₁ u Q₁ Q h i ∙ reduce-own l (joined op v) u P ∙ ap (λ (a : Value). reduce l a P) (made u y))
 
-  -- a token's kind in a test
-  at-kind : (t : Token) (k x : ℕ) (b : Bool) → t .kind ≡ k → eqb k x ≡ b → eqb (t .kind) x ≡ b
-  at-kind t k x b z h = subst (λ (y : ℕ). eqb y x ≡ b) (sym z) h
-
   module _ (C : Context) (P : Waiting) (t : Token) where
     want-open : t .kind ≡ Kind.OPEN → yard (y-want C P) t ≡ y-want C (opening ∷ P)
     unfolding yard
@@ -311,7 +304,7 @@ module _ (s : List ℕ) where
       → Sim l C o e (opening ∷ P) (runs (y-want C (opening ∷ P)) ts) → Sim 6 C o e P (runs (y-want C P) (t ∷ ts ++ u ∷ []))
   bracketed l o C P e t u ts y z h =
       sim-at 6 C o e P (runs (y-want C P) (t ∷ ts ++ u ∷ [])) (yard (runs (y-want C (opening ∷ P)) ts) u)
-      (ap (λ (x : Yard). runs x (ts ++ u ∷ [])) (want-open C P t y) ∙ runs-append (y-want C (opening ∷ P)) ts (u ∷ [])) (closes l o C P e u (runs (y-want C (opening ∷ P)) ts) z h)
+      (ap (λ (x : Yard). runs x (ts ++ u ∷ [])) (want-open C P t y) ∙ run-append yard (y-want C (opening ∷ P)) ts (u ∷ [])) (closes l o C P e u (runs (y-want C (opening ∷ P)) ts) z h)
 
   name-means : (t : Token) (e : Expr) → Means Table.TEXT e (wordSort s Table.ANY (t .start) (t .end), e)
   unfolding wordSort
@@ -359,7 +352,7 @@ module _ (s : List ℕ) where
   str-sim _ _ _ (text-bracket t u ts e y z d) C P h = bracketed 3 Table.TEXT C P e t u ts y z (str-sim whole ts e d C (opening ∷ P) (text-room (stops-open P)))
   str-sim _ _ _ (text-one ts e d) C P h = sim-down 3 6 C Table.TEXT e P (runs (y-want C P) ts) (omega arith) (str-sim operand ts e d C P text-any)
   str-sim _ _ _ (join-tree t ts us e f z d g) C P (text-room st) =
-      sim-at 3 C Table.TEXT _ P _ _ (runs-append (y-want C P) ts (t ∷ us))
+      sim-at 3 C Table.TEXT _ P _ _ (run-append yard (y-want C P) ts (t ∷ us))
       (two Kind.DOT Op.JOIN 3 Table.TEXT Table.TEXT C P e f t us 6 (runs (y-want C P) ts) j-join (means-text _) z st (omega arith) (str-sim whole ts e d C P (text-room st))
       (λ Q sq. str-sim operand us f g C Q text-any))
 
@@ -387,19 +380,19 @@ module _ (s : List ℕ) where
   int-sim _ _ _ (number-bracket t u ts e y z d) C P h = bracketed 3 Table.NUMBER C P e t u ts y z (int-sim whole ts e d C (opening ∷ P) (sum-room (stops-open P)))
   int-sim _ _ _ (number-one ts e d) C P h = sim-down 5 6 C Table.NUMBER e P (runs (y-want C P) ts) (omega arith) (int-sim operand ts e d C P number-any)
   int-sim _ _ _ (power-tree t ts us e f z d g) C P (power-room st) =
-      sim-at 5 C Table.NUMBER _ P _ _ (runs-append (y-want C P) ts (t ∷ us))
+      sim-at 5 C Table.NUMBER _ P _ _ (run-append yard (y-want C P) ts (t ∷ us))
       (two Kind.POWER Op.POWER 5 Table.NUMBER Table.NUMBER C P e f t us 6 (runs (y-want C P) ts) j-power (means-number _) z st (omega arith) (int-sim power ts e d C P (power-room st))
       (λ Q sq. int-sim operand us f g C Q number-any))
   int-sim _ _ _ (number-up ts e d) C P (product-room st) =
       sim-down 4 5 C Table.NUMBER e P (runs (y-want C P) ts) (omega arith) (int-sim power ts e d C P (power-room (stops-up 4 5 P (omega arith) st)))
   int-sim _ _ _ (product-tree t ts us e f o k d g) C P (product-room st) =
-      sim-at 4 C Table.NUMBER _ P _ _ (runs-append (y-want C P) ts (t ∷ us))
+      sim-at 4 C Table.NUMBER _ P _ _ (run-append yard (y-want C P) ts (t ∷ us))
       (two (t .kind) o 4 Table.NUMBER Table.NUMBER C P e f t us 5 (runs (y-want C P) ts) (j-product (t .kind) o k) (means-number _) refl st (omega arith) (int-sim product ts e d C P (product-room st))
       (λ Q sq. int-sim power us f g C Q (power-room sq)))
   int-sim _ _ _ (number-term ts e d) C P (sum-room st) =
       sim-down 3 4 C Table.NUMBER e P (runs (y-want C P) ts) (omega arith) (int-sim product ts e d C P (product-room (stops-up 3 4 P (omega arith) st)))
   int-sim _ _ _ (sum-tree t ts us e f o k d g) C P (sum-room st) =
-      sim-at 3 C Table.NUMBER _ P _ _ (runs-append (y-want C P) ts (t ∷ us))
+      sim-at 3 C Table.NUMBER _ P _ _ (run-append yard (y-want C P) ts (t ∷ us))
       (two (t .kind) o 3 Table.NUMBER Table.NUMBER C P e f t us 4 (runs (y-want C P) ts) (j-sum (t .kind) o k) (means-number _) refl st (omega arith) (int-sim whole ts e d C P (sum-room st))
       (λ Q sq. int-sim product us f g C Q (product-room sq)))
 
@@ -421,12 +414,12 @@ module _ (s : List ℕ) where
   test-sim _ _ _ (true-tree t z w) C P h = sim-down 1 6 C Table.TEST _ P _ (omega arith) (leaf C Table.TEST _ P t _ (want-name C P t z) (true-means t _ w))
   test-sim _ _ _ (false-tree t z w) C P h = sim-down 1 6 C Table.TEST _ P _ (omega arith) (leaf C Table.TEST _ P t _ (want-name C P t z) (false-means t _ w))
   test-sim _ _ _ (compare-numbers t ts us e f o p k d g) C P (test-room st) =
-      sim-at 1 C Table.TEST _ P _ _ (runs-append (y-want C P) ts (t ∷ us))
+      sim-at 1 C Table.TEST _ P _ _ (run-append yard (y-want C P) ts (t ∷ us))
       (sim-down 1 2 C Table.TEST _ P _ (omega arith)
       (two (t .kind) p 2 Table.NUMBER Table.TEST C P e f t us 3 (runs (y-want C P) ts) (j-numbers (t .kind) o p k) (means-test _) refl st (omega arith)
       (sim-down 2 3 C Table.NUMBER e P _ (omega arith) (int-sim whole ts e d C P (sum-room (stops-up 2 3 P (omega arith) st)))) (λ Q sq. int-sim whole us f g C Q (sum-room sq))))
   test-sim _ _ _ (compare-texts t ts us e f o p k d g) C P (test-room st) =
-      sim-at 1 C Table.TEST _ P _ _ (runs-append (y-want C P) ts (t ∷ us))
+      sim-at 1 C Table.TEST _ P _ _ (run-append yard (y-want C P) ts (t ∷ us))
       (sim-down 1 2 C Table.TEST _ P _ (omega arith)
       (two (t .kind) o 2 Table.TEXT Table.TEST C P e f t us 3 (runs (y-want C P) ts) (j-texts (t .kind) o p k) (means-test _) refl st (omega arith)
       (sim-down 2 3 C Table.TEXT e P _ (omega arith) (str-sim whole ts e d C P (text-room (stops-up 2 3 P (omega arith) st)))) (λ Q sq. str-sim whole us f g C Q (text-room sq))))
@@ -437,13 +430,13 @@ module _ (s : List ℕ) where
       sim-down 1 6 C Table.TEST e P _ (omega arith) (bracketed 0 Table.TEST C P e t u ts y z (test-sim whole ts e d C (opening ∷ P) (or-room (stops-open P))))
   test-sim _ _ _ (test-once ts e d) C P (and-room st) = test-sim operand ts e d C P (test-room (stops-up 1 2 P (omega arith) st))
   test-sim _ _ _ (and-tree t ts us e f z d g) C P (and-room st) =
-      sim-at 1 C Table.TEST _ P _ _ (runs-append (y-want C P) ts (t ∷ us))
+      sim-at 1 C Table.TEST _ P _ _ (run-append yard (y-want C P) ts (t ∷ us))
       (two Kind.AND Op.BOTH 1 Table.TEST Table.TEST C P e f t us 1 (runs (y-want C P) ts) j-and (means-test _) z st (omega arith) (test-sim conjunction ts e d C P (and-room st))
       (λ Q sq. test-sim operand us f g C Q (test-room sq)))
   test-sim _ _ _ (test-up ts e d) C P (or-room st) =
       sim-down 0 1 C Table.TEST e P (runs (y-want C P) ts) (omega arith) (test-sim conjunction ts e d C P (and-room (stops-up 0 1 P (omega arith) st)))
   test-sim _ _ _ (or-tree t ts us e f z d g) C P (or-room st) =
-      sim-at 0 C Table.TEST _ P _ _ (runs-append (y-want C P) ts (t ∷ us))
+      sim-at 0 C Table.TEST _ P _ _ (run-append yard (y-want C P) ts (t ∷ us))
       (two Kind.OR Op.EITHER 0 Table.TEST Table.TEST C P e f t us 1 (runs (y-want C P) ts) j-or (means-test _) z st (omega arith) (test-sim whole ts e d C P (or-room st))
       (λ Q sq. test-sim conjunction us f g C Q (and-room sq)))
 
@@ -476,7 +469,7 @@ module _ (s : List ℕ) where
   tested : (p : Program) (B : Blocks) (ts us : List Token) (e : Expr) (t : Token) (r : Yard) → TestTree s whole ts e → ((q : Yard) → Sim 0 (context role-test p B) Table.TEST e [] q → yard q t ≡ r)
       → runs (y-want (context role-test p B) []) (ts ++ t ∷ us) ≡ runs r us
   tested p B ts us e t r d h =
-      runs-append (y-want (context role-test p B) []) ts (t ∷ us)
+      run-append yard (y-want (context role-test p B) []) ts (t ∷ us)
       ∙ ap (λ (x : Yard). runs x us) (h (runs (y-want (context role-test p B) []) ts) (test-sim whole ts e d (context role-test p B) [] (or-room stops-end)))
 
   -- where a program leads, and a clause with its ";"
@@ -487,20 +480,20 @@ module _ (s : List ℕ) where
   program-sim : (ts : List Token) (x : Says) → ProgramTree s ts x → Leads ts x
   program-sim _ _ no-clauses = λ B. refl
   program-sim _ _ (one-more t ts us p c z d g) =
-      λ B. runs-append (y-want (context role-test none B) []) ts (us ++ t ∷ []) ∙ ap (λ (y : Yard). runs y (us ++ t ∷ [])) (program-sim ts (a-program p) d B) ∙ program-sim us (a-clause c) g p B t z
+      λ B. run-append yard (y-want (context role-test none B) []) ts (us ++ t ∷ []) ∙ ap (λ (y : Yard). runs y (us ++ t ∷ [])) (program-sim ts (a-program p) d B) ∙ program-sim us (a-clause c) g p B t z
   program-sim _ _ (plain-tree ts e d) = λ p B t z. tested p B ts [] e t (y-want (context role-test (also p (plain e)) B) []) d (λ q h. have-plain p B e t q z h)
   program-sim _ _ (valued-tree a ts us e f y d g) =
       λ p B t z. ap (runs (y-want (context role-test p B) [])) (append-assoc ts (a ∷ us) (t ∷ []))
       ∙ tested p B ts (us ++ t ∷ []) e a (y-want (context (role-value e) p B) []) d (λ q h. have-arrow p B e a q y h)
-      ∙ runs-append (y-want (context (role-value e) p B) []) us (t ∷ [])
+      ∙ run-append yard (y-want (context (role-value e) p B) []) us (t ∷ [])
       ∙ have-valued p B e f t (runs (y-want (context (role-value e) p B) []) us) z (str-sim whole us f g (context (role-value e) p B) [] (text-room stops-end))
   program-sim _ _ (nested-tree a u v ts us e p₁ x y w d g) =
       λ p B t z. ap (runs (y-want (context role-test p B) [])) (append-assoc ts (a ∷ u ∷ (us ++ v ∷ [])) (t ∷ []))
       ∙ tested p B ts (u ∷ ((us ++ v ∷ []) ++ t ∷ [])) e a (y-want (context (role-value e) p B) []) d (λ q h. have-arrow p B e a q x h)
       ∙ ap (λ (q : Yard). runs q ((us ++ v ∷ []) ++ t ∷ [])) (want-mark (context (role-value e) p B) [] u Kind.OPEN-BRACE y refl refl refl refl)
-      ∙ runs-append (y-want (context role-test none (block p e B)) []) (us ++ v ∷ []) (t ∷ [])
+      ∙ run-append yard (y-want (context role-test none (block p e B)) []) (us ++ v ∷ []) (t ∷ [])
       ∙ ap (λ (q : Yard). yard q t)
-      (runs-append (y-want (context role-test none (block p e B)) []) us (v ∷ []) ∙ ap (λ (q : Yard). yard q v) (program-sim us (a-program p₁) g (block p e B))
+      (run-append yard (y-want (context role-test none (block p e B)) []) us (v ∷ []) ∙ ap (λ (q : Yard). yard q v) (program-sim us (a-program p₁) g (block p e B))
       ∙ want-mark (context role-test p₁ (block p e B)) [] v Kind.CLOSE-BRACE w refl refl refl refl)
       ∙ closed-ends (context role-test p B) (nested e p₁) t
 
