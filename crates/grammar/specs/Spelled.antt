@@ -1,6 +1,6 @@
 -- The kinds of token in Conditions: those of the lexer, and one more for the words true and false. Assumes nothing.
 use mathlib.Core.Bool.{Bool, true}
-use mathlib.Core.List.{List, [], _∷_, map}
+use mathlib.Core.List.{List, map}
 use Prim.Native.Nat.{ℕ}
 use lib.Dec.{eqb}
 use Rattle.text.specs.Choice.{pick}

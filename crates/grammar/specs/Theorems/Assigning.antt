@@ -1,14 +1,14 @@
 -- Local-Constants: its reader gives reason 2 where the grammar allows no continuation, and else reads a sentence. Assumes nothing.
 use mathlib.Core.Path.{_≡_, refl, sym, ap, _∙_, subst}
-use mathlib.Core.Bool.{Bool, true, false}
+use mathlib.Core.Bool.{true, false}
 use mathlib.Core.List.{List, [], _∷_, _++_, append-assoc, append-nil}
-use Prim.Native.Nat.{ℕ, _+_, _-_, _≤_, _<_}
+use Prim.Native.Nat.{ℕ, _+_, _-_, _<_}
 use native.Mathlib.Omega.{arith}
 use lib.Dec.{eqb, leb, ltb}
 use lib.ListN.{length, length-append}
-use borrow.Author.Tests.{eqb-true, eqb-false, leb-false, eq-eqb, ne-eqb}
-use Rattle.text.specs.Choice.{pick, split, clash}
-use Rattle.text.specs.Loop.{Step, next, done, loop}
+use borrow.Author.Tests.{eqb-true, leb-false, ne-eqb}
+use Rattle.text.specs.Choice.{pick, clash}
+use Rattle.text.specs.Loop.{Step}
 use Rattle.record.specs.Query.{Attribute}
 use Rattle.lexical.specs.Kind
 use Rattle.lexical.specs.Bounds.{chosen}
@@ -19,7 +19,7 @@ use Rattle.fields.specs.Parsed.{behind, ending, wordOf}
 use Rattle.fields.specs.Constants.{isSet, reserved, constantValue, assigned, nameFault, constant, onConstant, constantsTurn, constantsFrom}
 use Rattle.fields.specs.Theorems.Together.{refusal-some}
 use Rattle.grammar.specs.Fields.{Ends, end-of-text, Field, field, Assignments, no-assignment, assignment}
-use Rattle.grammar.specs.Viable.{Viable, Open, opens, Kinds, here, further, Judged, plainly, through, no-continuation, another}
+use Rattle.grammar.specs.Viable.{Viable, Open, opens, Kinds, here, further, Judged, plainly, through, another}
 use Rattle.grammar.specs.Working.Automaton.{run, run-append, not-viable, not-longer}
 use Rattle.grammar.specs.Working.Looping.{Turned, turned-next, turned-done, loop-turned, kinds-append, kinds-one}
 use Rattle.grammar.specs.Theorems.OneToken.{ends-ending, ending-ends, judged-stop, opens-end}

@@ -4,11 +4,11 @@ use mathlib.Core.Bool.{Bool, true, false}
 use mathlib.Core.List.{List, [], _∷_, _++_, append-assoc, append-nil}
 use Prim.Native.Nat.{ℕ, zero, suc, _+_, _-_, _≤_, _<_}
 use native.Mathlib.Omega.{arith}
-use lib.Dec.{eqb, leb, ltb}
+use lib.Dec.{eqb, leb}
 use lib.ListN.{length}
-use borrow.Author.Tests.{eqb-true, eqb-false, ne-eqb, leb-true, ltb-true, ltb-false}
-use Rattle.text.specs.Choice.{pick, split, clash}
-use Rattle.text.specs.Loop.{Step, next, done, loop}
+use borrow.Author.Tests.{eqb-true, ne-eqb, leb-true}
+use Rattle.text.specs.Choice.{pick, split}
+use Rattle.text.specs.Loop.{Step}
 use Rattle.lexical.specs.Kind
 use Rattle.lexical.specs.Bounds.{chosen}
 use Rattle.lexical.specs.Line.{tokenAt}
@@ -18,26 +18,26 @@ use Rattle.syntax.specs.Parsed.{Parsed, ok, aside, refusal, unexpected, andThen
 use Rattle.fields.specs.Parsed as F
 use Rattle.conditions.specs.Table
 use Rattle.conditions.specs.Word.{nextAt}
-use Rattle.conditions.specs.Parsed.{Part, part, onPart}
+use Rattle.conditions.specs.Parsed.{Part, onPart}
 use Rattle.conditions.specs.Operand.{settledTree}
 use Rattle.conditions.specs.Expression.{readExpression}
 use Rattle.conditions.specs.Program as P
-use Rattle.conditions.specs.Working.Pace.{Sound, real}
+use Rattle.conditions.specs.Working.Pace.{real}
 use Rattle.conditions.specs.Working.Reach.{allowed-real}
-use Rattle.grammar.specs.Fields.{Ends, end-of-text, Field, field}
-use Rattle.grammar.specs.Conditions.{TRUTH, whole, Clauses, Conditions}
+use Rattle.grammar.specs.Fields.{Ends, end-of-text, field}
+use Rattle.grammar.specs.Conditions.{whole, Conditions}
 use Rattle.grammar.specs.Spelled.{kindIn, kindsIn, Tokens}
-use Rattle.grammar.specs.Trees.{StrTree, TestTree, Says, a-program, a-clause, ProgramTree, no-clauses, one-more, plain-tree, valued-tree, nested-tree}
-use Rattle.grammar.specs.Viable.{at-once, and-on, Viable, Open, KindsBy, here, further, JudgedBy, through, no-continuation, another}
+use Rattle.grammar.specs.Trees.{StrTree, TestTree, a-program, a-clause, ProgramTree, no-clauses, one-more, plain-tree, valued-tree, nested-tree}
+use Rattle.grammar.specs.Viable.{at-once, and-on, KindsBy, here, further, JudgedBy, through, another}
 use Rattle.grammar.specs.Theorems.OneToken.{ending-ends, judged-stop, opens-end}
 use Rattle.grammar.specs.Theorems.Shadow.{kind-mark, program-shadow}
 use Rattle.grammar.specs.Working.Marks.{mark, kinds-append, tokens-append, tokens-one}
-use Rattle.grammar.specs.Working.Automaton.{run, run-append}
+use Rattle.grammar.specs.Working.Automaton.{run}
 use Rattle.grammar.specs.Working.Looping.{Went, went-next, went-done, loop-went}
-use Rattle.grammar.specs.Working.Stations.{in-clause, value, tests, Frame, Place, p-dead, p-begin, p-arrow, p-block, p-any, p-text, p-have, flat, station}
+use Rattle.grammar.specs.Working.Stations.{in-clause, value, Place, p-dead, p-begin, p-arrow, p-block, p-any, p-text, p-have, flat, station}
 use Rattle.grammar.specs.Working.Stationed.{Behind, behind-arrow, behind-semicolon, held-end, value-ends, brace-opens, brace-closes, block-ends, conditions-dead, conditions-over}
 use Rattle.grammar.specs.Working.Joints.{Fits, fit-test, fit-true, fit-false, Unfit, TestFit, test-fits, test-unfit, test-fit, binds-less, kind-same, test-kind}
-use Rattle.grammar.specs.Working.Told.{Told, told-text, told-test, settle, Suits, suits-text, suits-sorted, Completes, completes, finish, something}
+use Rattle.grammar.specs.Working.Told.{Told, told-text, told-test, settle, Suits, suits-text, suits-sorted, Completes, completes, finish}
 use Rattle.grammar.specs.Working.Onward.{Starts, start-any, start-text, after, asked-any, asked-text, any-test, strict-dead}
 use Rattle.grammar.specs.Working.Openings as O
 use Rattle.grammar.specs.Working.Reading.{Real, real-token, runs, runs-on, run-one, runs-last, Reading, got, halted, otherwise, expression-reads}

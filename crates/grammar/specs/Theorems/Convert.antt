@@ -1,5 +1,5 @@
 -- B01: the precedence classes belong to the grammar. "@x ." begins no sentence of Conditions, and "@(x . y) == 0;" is one. Assumes nothing.
-use mathlib.Core.Path.{_≡_, refl}
+use mathlib.Core.Path.{refl}
 use mathlib.Core.List.{List, [], _∷_}
 use Prim.Native.Nat.{ℕ}
 use Rattle.lexical.specs.Kind

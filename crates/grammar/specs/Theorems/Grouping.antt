@@ -1,19 +1,17 @@
 -- Licensees: the classes of "&&" and "||" give the sentences of the RFC's grammar and no others, and one tree of each, which is the reader's.
 -- Assumes nothing.
 use mathlib.Core.Path.{_≡_, refl, sym, ap, _∙_, subst}
-use mathlib.Core.Bool.{Bool, true, false}
 use mathlib.Core.List.{List, [], _∷_, _++_, map, append-assoc}
 use Prim.Native.Nat.{ℕ, zero, suc, _+_, _-_}
 use lib.Dec.{eqb, leb, ltb}
 use lib.ListN.{length}
 use borrow.Author.Tests.{eqb-true, ne-eqb}
 use Rattle.text.specs.Choice.{pick, split}
-use Rattle.text.specs.Loop.{Step, next, done, loop}
+use Rattle.text.specs.Loop.{Step}
 use Rattle.record.specs.Query.{Attribute}
 use Rattle.lexical.specs.Kind
 use Rattle.lexical.specs.Bounds.{chosen}
 use Rattle.lexical.specs.Number.{numberAt}
-use Rattle.lexical.specs.Line.{tokenAt}
 use Rattle.lexical.specs.declared.token.Token.{Token}
 use Rattle.principal.specs.Principal as P
 use Rattle.compliance.specs.Licensees.{Expression, name, and, or, kOf, named, empty, given}
@@ -23,11 +21,11 @@ use Rattle.fields.specs.Parsed.{behind, ending, ended}
 use Rattle.fields.specs.Theorems.Together.{refusal-some}
 use Rattle.fields.specs.Identifier as Ident
 use Rattle.fields.specs.Licensees as L
-use Rattle.grammar.specs.Fields.{Principal, principal-literal, principal-name, PrincList, one, comma, PrincExpr, bracket, both, either, threshold, principal, Licensees, nobody, somebody}
+use Rattle.grammar.specs.Fields.{Principal, PrincList, one, comma, PrincExpr, bracket, both, either, threshold, principal, Licensees, nobody, somebody}
 use Rattle.grammar.specs.Conditions.{Class, operand, conjunction, whole}
 use Rattle.grammar.specs.Viable.{plainly, TokensIn, at-once, and-on}
 use Rattle.grammar.specs.Grouped.{ListTree, one-item, more-items, PrincTree, principal-tree, threshold-tree, bracket-tree, once, both-tree, up, either-tree, LicenseesTree, nobody-tree, somebody-tree}
-use Rattle.grammar.specs.Theorems.OneToken.{principalFirst, principal-is, Against, none-against, no-principal, some-fault, identifier-against}
+use Rattle.grammar.specs.Theorems.OneToken.{principal-is, Against, none-against, no-principal, some-fault, identifier-against}
 use Rattle.grammar.specs.Working.Marks.{mark, kinds-append, around, before, tokens-append, tokens-one}
 use Rattle.grammar.specs.Working.Looping.{Went, went-next, went-done, loop-went}
 use Rattle.grammar.specs.Working.Shunt.{one-tree}

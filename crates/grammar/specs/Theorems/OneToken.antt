@@ -1,24 +1,23 @@
 -- KeyNote-Version, Authorizer and Signature: their readers give reason 2 where the grammar allows no continuation, and else read a sentence.
 -- Assumes nothing.
-use mathlib.Core.Path.{_≡_, refl, sym, ap, _∙_, subst}
+use mathlib.Core.Path.{_≡_, refl, sym, ap, _∙_}
 use mathlib.Core.Bool.{Bool, true, false}
 use mathlib.Core.List.{List, [], _∷_, _++_}
 use Prim.Native.Nat.{ℕ, _≤_, _<_}
 use native.Mathlib.Omega.{arith}
 use lib.Dec.{eqb, leb, ltb}
 use lib.ListN.{length}
-use borrow.Author.Tests.{eqb-true, eqb-false, ltb-true, ltb-false, leb-true, eq-eqb, ne-eqb}
+use borrow.Author.Tests.{eqb-true, eqb-false, ltb-false, leb-true, ne-eqb}
 use Rattle.text.specs.Choice.{pick, split, clash}
 use Rattle.text.specs.Equal.{equal}
 use Rattle.record.specs.Query.{Attribute}
 use Rattle.lexical.specs.Kind
 use Rattle.lexical.specs.Bounds.{chosen}
-use Rattle.lexical.specs.Line.{tokenAt}
 use Rattle.lexical.specs.Literal.{decodedAt}
 use Rattle.lexical.specs.Number.{LIMIT, numberAt}
 use Rattle.lexical.specs.declared.token.Token.{Token}
 use Rattle.principal.specs.Principal as P
-use Rattle.syntax.specs.Parsed.{Parsed, ok, aside, refusal, unexpected, andThen}
+use Rattle.syntax.specs.Parsed.{Parsed, ok, aside, refusal, andThen}
 use Rattle.fields.specs.Limits.{mostLiteral}
 use Rattle.fields.specs.Parsed.{behind, ending, ended, wordOf}
 use Rattle.expression.specs.Names.{settingOr}
@@ -29,7 +28,7 @@ use Rattle.fields.specs.Identifier as Ident
 use Rattle.fields.specs.Authorizer as Auth
 use Rattle.fields.specs.Signature as Sign
 use Rattle.grammar.specs.Fields.{Ends, end-of-text, next-version, next-constants, next-authorizer, next-licensees, next-conditions, next-comment, next-signature, Field, field, Version, version-integer, version-literal, Principal, principal-literal, principal-name, Authorizer, authorizer, Signature, signature}
-use Rattle.grammar.specs.Viable.{Viable, viable, Open, opens, Kinds, KindsBy, here, further, Judged, JudgedBy, plainly, through, no-continuation, another}
+use Rattle.grammar.specs.Viable.{Viable, viable, Open, opens, KindsBy, here, further, Judged, JudgedBy, plainly, through, no-continuation, another}
 use Rattle.grammar.specs.Working.Automaton.{run, not-viable, not-longer}
 
 -- the reader's test of what ends a field

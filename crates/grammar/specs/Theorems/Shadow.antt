@@ -1,18 +1,17 @@
 -- What the trees say of is in the grammar: the tokens of a tree have the kinds of a sentence. Assumes nothing.
-use mathlib.Core.Path.{_≡_, refl, sym, ap, _∙_, subst}
-use mathlib.Core.Bool.{Bool, true, false}
-use mathlib.Core.List.{List, [], _∷_, _++_, map, append-assoc}
+use mathlib.Core.Path.{_≡_, refl, sym, _∙_, subst}
+use mathlib.Core.Bool.{true, false}
+use mathlib.Core.List.{List, [], _∷_, _++_, append-assoc}
 use Prim.Native.Nat.{ℕ}
 use native.Mathlib.Omega.{arith}
 use lib.Dec.{eqb}
-use borrow.Author.Tests.{eqb-true, eqb-false}
 use Rattle.text.specs.Choice.{pick, split}
 use Rattle.lexical.specs.Kind
 use Rattle.lexical.specs.Bounds.{chosen}
 use Rattle.lexical.specs.Word.{word-true, word-false}
 use Rattle.lexical.specs.declared.token.Token.{Token}
-use Rattle.syntax.specs.Expr.{Expr, Program, Clause}
-use Rattle.grammar.specs.Conditions.{Class, operand, power, product, conjunction, whole, TRUTH, Name, any-name, truth-name, Str, str-literal, str-name, str-lookup, str-bracket, str-one, str-join, Product, times, divide, remainder, Sum, plus, minus, Int, int-literal, int-minus, int-convert, int-bracket, int-one, int-power, int-up, int-product, int-term, int-sum, Order, less, greater, at-most, at-least, Compare, order, equal, unequal, Comparison, of-integers, of-strings, Tests, test-truth, test-comparison, test-not, test-bracket, test-one, test-and, test-ands, test-or, Clauses, no-clause, clause, tested, valued, nested}
+use Rattle.syntax.specs.Expr.{Expr}
+use Rattle.grammar.specs.Conditions.{Class, operand, power, product, conjunction, whole, TRUTH, Name, any-name, truth-name, Str, str-literal, str-name, str-lookup, str-bracket, str-one, str-join, Product, times, divide, remainder, Sum, plus, minus, Int, int-literal, int-minus, int-convert, int-bracket, int-one, int-power, int-up, int-product, int-term, int-sum, less, greater, at-most, at-least, Compare, order, equal, unequal, of-integers, of-strings, Tests, test-truth, test-comparison, test-not, test-bracket, test-one, test-and, test-ands, test-or, Clauses, no-clause, clause, tested, valued, nested}
 use Rattle.grammar.specs.Spelled.{spelled, kindIn, kindsIn}
 use Rattle.grammar.specs.Working.Marks.{kinds-append, around, before}
 use Rattle.grammar.specs.Trees.{StrTree, literal-tree, name-tree, lookup-tree, text-bracket, text-one, join-tree, ProductOp, times-op, divide-op, remainder-op, SumOp, plus-op, minus-op, IntTree, number-tree, negate-tree, convert-tree, number-bracket, number-one, power-tree, number-up, product-tree, number-term, sum-tree, CompareOp, equal-op, unequal-op, less-op, greater-op, at-most-op, at-least-op, TestTree, true-tree, false-tree, compare-numbers, compare-texts, not-tree, test-bracket-tree, test-once, and-tree, test-up, or-tree, Says, a-program, a-clause, ProgramTree, no-clauses, one-more, plain-tree, valued-tree, nested-tree}

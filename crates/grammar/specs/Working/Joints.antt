@@ -1,12 +1,11 @@
 -- The tables of crate conditions, as cases: what an operator joins, what fits where, and what stands before an operand. Assumes nothing.
-use mathlib.Core.Path.{_≡_, refl, sym, ap, _∙_, subst}
+use mathlib.Core.Path.{_≡_, refl, sym, ap, _∙_}
 use mathlib.Core.Bool.{Bool, true, false}
 use mathlib.Core.List.{List}
-use Prim.Native.Nat.{ℕ, zero, suc, _+_, _≤_, _<_}
+use Prim.Native.Nat.{ℕ, _+_, _≤_, _<_}
 use native.Mathlib.Omega.{arith}
-use lib.Dec.{eqb, ltb, leb}
-use lib.ListN.{length}
-use borrow.Author.Tests.{eqb-true, eqb-false, ltb-true, ltb-false, leb-true, eq-eqb, ne-eqb, lt-ltb}
+use lib.Dec.{eqb, ltb}
+use borrow.Author.Tests.{eqb-true, eqb-false, ltb-true, lt-ltb}
 use Rattle.text.specs.Choice.{pick, split, clash}
 use Rattle.lexical.specs.Kind
 use Rattle.lexical.specs.Bounds.{chosen}
@@ -14,7 +13,7 @@ use Rattle.lexical.specs.Word.{word-true, word-false}
 use Rattle.lexical.specs.declared.token.Token.{Token}
 use Rattle.syntax.specs.Op
 use Rattle.conditions.specs.Table
-use Rattle.conditions.specs.Working.Reach.{binds-level, level-most, operator-token}
+use Rattle.conditions.specs.Working.Reach.{level-most, operator-token}
 use Rattle.grammar.specs.Conditions.{TRUTH}
 use Rattle.grammar.specs.Spelled.{spelled, kindIn}
 use Rattle.grammar.specs.Trees.{ProductOp, times-op, divide-op, remainder-op, SumOp, plus-op, minus-op, CompareOp, equal-op, unequal-op, less-op, greater-op, at-most-op, at-least-op}

@@ -1,8 +1,8 @@
 -- The lexer gives no kind beyond its own: TRUTH is none of them. Assumes nothing.
-use mathlib.Core.Path.{_≡_, refl, subst}
-use mathlib.Core.Bool.{Bool, true, false}
+use mathlib.Core.Path.{subst}
+use mathlib.Core.Bool.{Bool}
 use mathlib.Core.List.{List}
-use Prim.Native.Nat.{ℕ, _+_, _-_, _≤_, _<_}
+use Prim.Native.Nat.{ℕ, _+_, _-_, _<_}
 use native.Mathlib.Omega.{arith}
 use lib.Dec.{eqb, leb, ltb}
 use lib.ListN.{length, getD}
@@ -17,12 +17,11 @@ use Rattle.lexical.specs.Label.{labelKind, word-keynote-version, word-local-con
 use Rattle.lexical.specs.Word.{stands}
 use Rattle.lexical.specs.Literal.{literalEnd}
 use Rattle.lexical.specs.Operator.{equalPair, pairOf, markKind, isOf, operatorKind}
-use Rattle.lexical.specs.Token.{endOf, illegalAt, operatorAt, operatorToken, literalToken, floatEnd, numberToken, tokenFrom}
+use Rattle.lexical.specs.Token.{endOf, operatorAt, operatorToken, literalToken, floatEnd, numberToken, tokenFrom}
 use Rattle.lexical.specs.Line.{restOfLine, visible, inLine, blankTo, indented, lineAt, lineTurn, linesFrom, tokenAt}
 use Rattle.lexical.specs.declared.token.Token.{Token}
 use Rattle.conditions.specs.Word.{nextAt}
 use Rattle.conditions.specs.Working.Pace.{next-sound}
-use Rattle.grammar.specs.Conditions.{TRUTH}
 use Rattle.grammar.specs.Working.Reading.{Real, real-token}
 
 either : (b : Bool) (x y : ℕ) → x < 44 → y < 44 → pick b x y < 44

@@ -1,21 +1,18 @@
 -- The automaton along the reader: where it stands behind what was read, and where a mark leads it. Assumes nothing.
-use mathlib.Core.Path.{_≡_, refl, sym, ap, _∙_, subst}
+use mathlib.Core.Path.{_≡_, refl, sym, ap, _∙_}
 use mathlib.Core.Bool.{Bool, true, false}
-use Prim.Native.Nat.{ℕ, zero, suc, _+_, _≤_, _<_}
+use Prim.Native.Nat.{ℕ, _+_, _≤_, _<_}
 use native.Mathlib.Omega.{arith}
 use lib.Dec.{eqb, ltb}
-use borrow.Author.Tests.{eqb-true, eqb-false, ltb-true, ltb-false}
+use borrow.Author.Tests.{eqb-true, ltb-true}
 use Rattle.text.specs.Choice.{pick, split, clash}
 use Rattle.lexical.specs.Kind
 use Rattle.lexical.specs.Bounds.{chosen}
-use Rattle.syntax.specs.Op
 use Rattle.conditions.specs.Table
-use Rattle.conditions.specs.Working.Reach.{binds-level}
-use Rattle.grammar.specs.Conditions.{TRUTH}
 use Rattle.grammar.specs.Theorems.Shadow.{product-shadow, sum-shadow, compare-shadow}
-use Rattle.grammar.specs.Working.Stations.{Spot, in-clause, in-bracket, Frame, tests, right, value, texts, numbers, Place, p-dead, p-over, p-begin, p-arrow, p-block, p-any, p-text, p-number, p-have, strict, station, endAt}
-use Rattle.grammar.specs.Working.Stationed.{Words, w-text, w-word, Held, h-test, h-word, Junction, junction-and, junction-or, strict-strict, power-number, product-number, sum-number, dot-text, words-dot, number-compare, words-compare, held-junction, Behind, held-end}
-use Rattle.grammar.specs.Working.Joints.{Sorted, is-test, is-text, is-number, is-true, is-false, Fits, fit-test, fit-text, fit-number, fit-true, fit-false, fit-true-name, fit-false-name, Unfit, unfit-text, unfit-number, Joint, j-power, j-product, j-sum, j-join, j-numbers, j-texts, j-and, j-or, Tabled, tabled, joint-tabled, TestFit, test-fits, test-unfit, test-fit, Operated, no-operator, match-operator, joins, operated, binds-less}
+use Rattle.grammar.specs.Working.Stations.{Spot, in-clause, in-bracket, Frame, tests, right, Place, p-dead, p-over, p-begin, p-arrow, p-block, p-any, p-text, p-number, p-have, strict, station, endAt}
+use Rattle.grammar.specs.Working.Stationed.{Words, w-text, w-word, Held, h-test, h-word, Junction, junction-and, junction-or, strict-strict, power-number, product-number, sum-number, dot-text, words-dot, number-compare, words-compare, held-junction}
+use Rattle.grammar.specs.Working.Joints.{is-test, is-text, is-number, Fits, fit-test, fit-text, fit-number, fit-true, fit-false, fit-true-name, fit-false-name, Unfit, unfit-text, unfit-number, Joint, j-power, j-product, j-sum, j-join, j-numbers, j-texts, j-and, j-or, Tabled, tabled, joint-tabled, TestFit, test-fits, test-unfit, test-fit, Operated, no-operator, match-operator, joins, operated, binds-less}
 use Rattle.grammar.specs.Working.Told.{goal, Suits, suits-any, suits-text, suits-number, suits-integer}
 
 -- the places where a reader of a level begins; one operand may stand for a string of any sort
@@ -77,9 +74,9 @@ level-two op h b =
     split (eqb op Table.NONE) (λ e. rw e)
     (λ e. split (ltb (Table.levelOf op) 2) (λ f. absurd (let bad : ⊥ = omega (arith, h, ltb-true (Table.levelOf op) 2 f) in bad)) (λ f. clash (rw (e, f)) b))
 
-none-low : (b : Bool) → b ≡ b → Table.binds 0 Table.NONE ≡ false
+none-low : Table.binds 0 Table.NONE ≡ false
 unfolding Table.binds
-none-low b h = refl
+none-low = refl
 
 match-high : Table.binds 2 Table.MATCH ≡ true
 unfolding Table.binds Table.levelOf
@@ -89,7 +86,7 @@ tabled-level : (op l o r : ℕ) → Tabled op l o r → Table.levelOf op ≡ l
 tabled-level op l o r (tabled a b c) = a
 
 pub unfit-low : (sort k op : ℕ) → Unfit sort → Operated sort k op → Table.binds 2 op ≡ false → Table.binds 0 op ≡ false
-unfit-low sort k _ u no-operator b = none-low true refl
+unfit-low sort k _ u no-operator b = none-low
 unfit-low sort k _ u match-operator b = clash match-high b
 unfit-low _ k _ unfit-text (joins op l o r j-join fit-text) b = level-two op (omega (arith, tabled-level op l o r (joint-tabled k op l o r j-join))) b
 unfit-low _ k _ unfit-text (joins op l o r (j-texts _ _ p c) fit-text) b = level-two op (omega (arith, tabled-level op l o r (joint-tabled k op l o r (j-texts k op p c)))) b
@@ -107,7 +104,7 @@ word-operator k b =
     (λ f.
     let o : Operated Table.TEXT k (Table.textOperator k) = operated Table.TEXT k is-text in
     let z : Table.binds 0 (Table.textOperator k) ≡ false = unfit-low Table.TEXT k (Table.textOperator k) unfit-text o (rw (e, f) at b) in
-    rw (e, f) (z ∙ sym (none-low true refl))))
+    rw (e, f) (z ∙ sym (none-low))))
 
 -- the right side of a comparison, where its operators end, is a test
 right-text : (S : Spot) (k : ℕ) → Table.binds 3 (Table.operator Table.TEXT k) ≡ false → station (p-have Table.TEXT (right S)) k ≡ station (p-have Table.TEST (tests S)) k

@@ -1,12 +1,12 @@
 -- The automaton and the trees where an operand begins: a prefix operator, a bracket, one token. Assumes nothing.
-use mathlib.Core.Path.{_≡_, refl, sym, ap, _∙_, subst}
+use mathlib.Core.Path.{_≡_, refl, ap, _∙_, subst}
 use mathlib.Core.Bool.{Bool, true, false}
-use mathlib.Core.List.{List, [], _∷_, _++_}
-use Prim.Native.Nat.{ℕ, zero, suc, _+_, _≤_, _<_}
+use mathlib.Core.List.{List, [], _∷_}
+use Prim.Native.Nat.{ℕ, _≤_}
 use native.Mathlib.Omega.{arith}
-use lib.Dec.{eqb, ltb}
-use borrow.Author.Tests.{eqb-true, eqb-false, ne-eqb}
-use Rattle.text.specs.Choice.{pick, split, clash}
+use lib.Dec.{eqb}
+use borrow.Author.Tests.{eqb-true, ne-eqb}
+use Rattle.text.specs.Choice.{clash}
 use Rattle.lexical.specs.Kind
 use Rattle.lexical.specs.Bounds.{chosen}
 use Rattle.lexical.specs.Word.{word-true, word-false}
@@ -15,13 +15,13 @@ use Rattle.syntax.specs.Op
 use Rattle.syntax.specs.Expr.{Expr, unary}
 use Rattle.conditions.specs.Table
 use Rattle.conditions.specs.Word.{wordSort}
-use Rattle.grammar.specs.Conditions.{TRUTH, Name, any-name, truth-name}
+use Rattle.grammar.specs.Conditions.{TRUTH}
 use Rattle.grammar.specs.Spelled.{spelled, kindIn}
 use Rattle.grammar.specs.Trees.{lookup-tree, negate-tree, convert-tree, not-tree}
 use Rattle.grammar.specs.Theorems.Shadow.{kind-name, kind-true, kind-false}
-use Rattle.grammar.specs.Working.Stations.{Spot, in-clause, in-bracket, Frame, tests, right, value, texts, numbers, Place, p-dead, p-any, p-text, p-number, p-have, strict, flat, station}
-use Rattle.grammar.specs.Working.Stationed.{lookup-text, open-text, close-text, name-text, truth-any, lookup-any, open-any, not-any}
-use Rattle.grammar.specs.Working.Joints.{Sorted, is-test, is-text, is-number, is-true, is-false, Fits, Unfit, binds-less, kind-same}
+use Rattle.grammar.specs.Working.Stations.{Spot, in-bracket, Frame, tests, texts, numbers, Place, p-dead, p-any, p-text, p-number, p-have, strict, flat, station}
+use Rattle.grammar.specs.Working.Stationed.{open-text, close-text, name-text, truth-any, open-any}
+use Rattle.grammar.specs.Working.Joints.{is-test, is-text, is-number, is-true, is-false, binds-less, kind-same}
 use Rattle.grammar.specs.Working.Told.{goal, Completes, something, Told, told-text, told-number, told-test, Suits, suits-any, suits-text, suits-number, suits-integer}
 use Rattle.grammar.specs.Working.Onward.{Starts, start-any, start-text, start-operand, start-number, start-integer, after, Asked, asked-any, asked-text, asked-number, asked-integer, Onward, onward, typed, number-test, text-test, strict-test, strict-dead}
 

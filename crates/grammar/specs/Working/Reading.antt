@@ -1,24 +1,21 @@
 -- The reader of expressions against the trees and the automaton. Assumes nothing.
 use mathlib.Core.Path.{_≡_, refl, sym, ap, _∙_, subst}
 use mathlib.Core.Bool.{Bool, true, false}
-use mathlib.Core.List.{List, [], _∷_, _++_, append-assoc, append-nil}
+use mathlib.Core.List.{List, [], _∷_, _++_, append-assoc}
 use Prim.Native.Nat.{ℕ, zero, suc, _+_, _-_, _≤_, _<_}
 use native.Mathlib.Omega.{arith}
 use lib.Dec.{eqb, leb, ltb}
 use lib.ListN.{length}
-use borrow.Author.Tests.{eqb-true, eqb-false, ne-eqb, leb-true, ltb-true, ltb-false}
+use borrow.Author.Tests.{eqb-true, ne-eqb, leb-true, ltb-true, ltb-false}
 use Rattle.text.specs.Choice.{pick, split, clash}
-use Rattle.text.specs.Loop.{Step, next, done, loop}
+use Rattle.text.specs.Loop.{Step}
 use Rattle.lexical.specs.Kind
 use Rattle.lexical.specs.Bounds.{chosen}
 use Rattle.lexical.specs.Literal.{decodedAt}
 use Rattle.lexical.specs.Number as Number
-use Rattle.lexical.specs.Line.{tokenAt}
-use Rattle.lexical.specs.Word.{word-true, word-false}
 use Rattle.lexical.specs.declared.token.Token.{Token}
-use Rattle.syntax.specs.Op
 use Rattle.syntax.specs.Code.{nameAt}
-use Rattle.syntax.specs.Expr.{Expr, name, unary, binary, truth}
+use Rattle.syntax.specs.Expr.{Expr, name, unary, binary}
 use Rattle.syntax.specs.Parsed.{Parsed, ok, aside, refusal, unexpected}
 use Rattle.conditions.specs.Table
 use Rattle.conditions.specs.Word.{nextAt, wordSort}
@@ -28,7 +25,7 @@ use Rattle.conditions.specs.Expression as E
 use Rattle.conditions.specs.Working.Pace.{Sound, real}
 use Rattle.conditions.specs.Working.Reach.{binds-level}
 use Rattle.grammar.specs.Conditions.{TRUTH}
-use Rattle.grammar.specs.Spelled.{spelled, kindIn, kindsIn, Tokens}
+use Rattle.grammar.specs.Spelled.{kindIn, kindsIn, Tokens}
 use Rattle.grammar.specs.Viable.{at-once, and-on}
 use Rattle.grammar.specs.Trees.{literal-tree, name-tree, number-tree, true-tree, false-tree}
 use Rattle.grammar.specs.Theorems.Shadow.{kind-other, kind-mark}
@@ -36,9 +33,9 @@ use Rattle.grammar.specs.Working.Marks.{mark, kinds-append, tokens-appen
 use Rattle.grammar.specs.Working.Automaton.{run, run-append}
 use Rattle.grammar.specs.Working.Looping.{Went, went-next, went-done, loop-went}
 use Rattle.grammar.specs.Working.Stations.{Place, p-dead, station}
-use Rattle.grammar.specs.Working.Joints.{Fits, Unfit, Joint, Tabled, tabled, joint-tabled, joint-mark, Operated, no-operator, match-operator, joins, operated, binds-less, binds-high, binds-none, operator-kind, test-kind}
-use Rattle.grammar.specs.Working.Told.{Told, told-text, told-number, told-true, told-false, lower, settle, joined, enclosed, goal, Suits, suits-sorted, Completes, completes, completes-lower, finish, something}
-use Rattle.grammar.specs.Working.Onward.{Starts, starts-up, after, Asked, asked-any, asked-text, asked-number, asked-integer, Onward, onward, joint-onward, joint-suits, joint-ends, joint-asked, joint-goal, RightFit, right-fits, right-unfit, right-fit}
+use Rattle.grammar.specs.Working.Joints.{Fits, Unfit, Joint, Tabled, tabled, joint-tabled, joint-mark, Operated, no-operator, match-operator, joins, operated, binds-high, binds-none, operator-kind, test-kind}
+use Rattle.grammar.specs.Working.Told.{Told, told-text, told-number, told-true, told-false, lower, settle, joined, enclosed, goal, Suits, suits-sorted, Completes, completes, completes-lower, finish}
+use Rattle.grammar.specs.Working.Onward.{Starts, starts-up, after, Asked, Onward, onward, joint-onward, joint-suits, joint-ends, joint-asked, joint-goal, RightFit, right-fits, right-unfit, right-fit}
 use Rattle.grammar.specs.Working.Openings as O
 
 -- an operator that a level takes, and the next tighter one does not, is of that level at most

@@ -1,16 +1,15 @@
 -- The automaton goes through every sentence of Conditions. Assumes nothing.
 use mathlib.Core.Path.{_≡_, refl, sym, ap, _∙_, subst}
-use mathlib.Core.Bool.{Bool, true, false}
+use mathlib.Core.Bool.{true}
 use mathlib.Core.List.{List, [], _∷_, _++_, append-assoc}
-use Prim.Native.Nat.{ℕ, zero, suc}
+use Prim.Native.Nat.{ℕ, suc}
 use native.Mathlib.Omega.{arith}
-use lib.Dec.{eqb}
 use borrow.Author.Tests.{ne-eqb}
 use mathlib.Core.Logic.{_⊎_, inl, inr}
-use Rattle.text.specs.Choice.{pick, split}
+use Rattle.text.specs.Choice.{split}
 use Rattle.lexical.specs.Kind
 use Rattle.conditions.specs.Table
-use Rattle.grammar.specs.Fields.{Ends, end-of-text, next-version, next-constants, next-authorizer, next-licensees, next-conditions, next-comment, next-signature, Field, field}
+use Rattle.grammar.specs.Fields.{Ends, end-of-text, next-version, next-constants, next-authorizer, next-licensees, next-conditions, next-comment, next-signature, field}
 use Rattle.grammar.specs.Conditions.{Class, operand, power, product, conjunction, whole, TRUTH, Name, any-name, truth-name, Str, str-literal, str-name, str-lookup, str-bracket, str-one, str-join, Product, times, divide, remainder, Sum, plus, minus, Int, int-literal, int-minus, int-convert, int-bracket, int-one, int-power, int-up, int-product, int-term, int-sum, FloatTimes, float-times, float-divide, Float, float-literal, float-minus, float-convert, float-bracket, float-one, float-power, float-up, float-product, float-term, float-sum, Order, less, greater, at-most, at-least, Compare, order, equal, unequal, Comparison, of-integers, of-floats, of-strings, matching, Tests, test-truth, test-comparison, test-not, test-bracket, test-one, test-and, test-ands, test-or, Clauses, no-clause, clause, tested, valued, nested, Conditions}
 use Rattle.grammar.specs.Viable.{Viable}
 use Rattle.grammar.specs.Working.Automaton.{run, run-append, run-dead, not-viable, not-longer}

@@ -1,9 +1,8 @@
 -- Places in a Conditions field, with what stands around them: the automaton by which kinds are seen to begin no sentence. It goes by the tables of
 -- crate conditions, and has the floats besides. Assumes nothing.
-use mathlib.Core.Path.{_≡_, refl}
 use mathlib.Core.Bool.{Bool, true, false}
 use Prim.Native.Nat.{ℕ, zero, suc}
-use lib.Dec.{eqb, ltb}
+use lib.Dec.{eqb}
 use Rattle.text.specs.Choice.{pick}
 use Rattle.lexical.specs.Kind
 use Rattle.conditions.specs.Table

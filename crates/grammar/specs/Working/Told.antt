@@ -1,20 +1,19 @@
 -- What a reader has read, by its sort and its level: trees, and how they grow. Assumes nothing.
-use mathlib.Core.Path.{_≡_, refl, sym, ap, _∙_, subst}
-use mathlib.Core.Bool.{Bool, true, false}
-use mathlib.Core.List.{List, [], _∷_, _++_, append-assoc, append-nil}
-use Prim.Native.Nat.{ℕ, zero, suc, _+_, _≤_, _<_}
+use mathlib.Core.Path.{_≡_, refl, sym, subst}
+use mathlib.Core.Bool.{true, false}
+use mathlib.Core.List.{List, [], _∷_, _++_, append-nil}
+use Prim.Native.Nat.{ℕ, zero, suc, _+_, _≤_}
 use native.Mathlib.Omega.{arith}
 use native.Mathlib.Decide.{le-ind}
-use lib.Dec.{eqb, ltb}
+use lib.Dec.{eqb}
 use Rattle.text.specs.Choice.{pick}
 use Rattle.lexical.specs.Kind
 use Rattle.lexical.specs.declared.token.Token.{Token}
-use Rattle.syntax.specs.Op
-use Rattle.syntax.specs.Expr.{Expr, truth, unary, binary}
+use Rattle.syntax.specs.Expr.{Expr, truth, binary}
 use Rattle.conditions.specs.Table
 use Rattle.conditions.specs.Operand.{settledTree}
 use Rattle.grammar.specs.Conditions.{Class, operand, power, product, conjunction, whole}
-use Rattle.grammar.specs.Trees.{StrTree, literal-tree, name-tree, lookup-tree, text-bracket, text-one, join-tree, IntTree, number-tree, negate-tree, convert-tree, number-bracket, number-one, power-tree, number-up, product-tree, number-term, sum-tree, ProductOp, SumOp, CompareOp, equal-op, TestTree, compare-numbers, compare-texts, not-tree, test-bracket-tree, test-once, and-tree, test-up, or-tree}
+use Rattle.grammar.specs.Trees.{StrTree, literal-tree, text-bracket, text-one, join-tree, IntTree, number-tree, number-bracket, number-one, power-tree, number-up, product-tree, number-term, sum-tree, ProductOp, SumOp, CompareOp, equal-op, TestTree, compare-numbers, compare-texts, test-bracket-tree, test-once, and-tree, test-up, or-tree}
 use Rattle.grammar.specs.Working.Marks.{mark}
 use Rattle.grammar.specs.Working.Joints.{Sorted, is-test, is-text, is-number, is-true, is-false, Fits, fit-test, fit-text, fit-number, fit-true, fit-false, fit-true-name, fit-false-name, Joint, j-power, j-product, j-sum, j-join, j-numbers, j-texts, j-and, j-or}
 
@@ -148,9 +147,6 @@ module _ (s : List ℕ) where
   completes-lower w m level ts h (completes rest e d) = completes rest e (lower w m level (ts ++ rest) e h d)
 
 module _ (s : List ℕ) where
-  whole-text : (l : ℕ) (ts : List Token) (e : Expr) → Told s Table.TEXT l ts e → Told s Table.TEXT 0 ts e
-  whole-text l ts e d = lower s Table.TEXT 0 l ts e (omega arith) d
-
   -- a comparison with something
   text-test : (ts : List Token) (e : Expr) → Told s Table.TEXT 0 ts e → Completes s Table.TEST 7 ts
   text-test _ _ (told-text _ ts e d) =
