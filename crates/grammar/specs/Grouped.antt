@@ -19,7 +19,7 @@ pub data ListTree (s : List ℕ) (constants : List Attribute) : List Token → L
   more-items : (c t : Token) (ts : List Token) (ps : List P.Principal) → c .kind ≡ Kind.COMMA → Principal (t .kind) → ListTree s constants ts ps
       → ListTree s constants (ts ++ c ∷ t ∷ []) (ps ++ identified s constants t ∷ [])
 
--- an operand, operands joined by "&&", and those joined by "||", from left to right
+-- "names joined by && and ||, brackets, K-of(list) [..]; && binds tighter": operands, those joined by "&&", and these joined by "||", from left to right
 pub data PrincTree (s : List ℕ) (constants : List Attribute) : Class → List Token → Expression → Type 0 where
   principal-tree : (t : Token) → Principal (t .kind) → PrincTree s constants operand (t ∷ []) (name (identified s constants t))
   threshold-tree : (t u v w : Token) (ts : List Token) (ps : List P.Principal) → t .kind ≡ Kind.DIGITS → u .kind ≡ Kind.OF → v .kind ≡ Kind.OPEN → w .kind ≡ Kind.CLOSE
@@ -33,7 +33,7 @@ pub data PrincTree (s : List ℕ) (constants : List Attribute) : Class → List 
   either-tree : (t : Token) (ts us : List Token) (e f : Expression) → t .kind ≡ Kind.OR → PrincTree s constants whole ts e → PrincTree s constants conjunction us f
       → PrincTree s constants whole (ts ++ t ∷ us) (or e f)
 
--- the field
+-- <LicenseesExpr>:: "" | <PrincExpr>
 pub data LicenseesTree (s : List ℕ) (constants : List Attribute) : List Token → Licensees → Type 0 where
   nobody-tree : LicenseesTree s constants [] empty
   somebody-tree : (ts : List Token) (e : Expression) → PrincTree s constants whole ts e → LicenseesTree s constants ts (given e)

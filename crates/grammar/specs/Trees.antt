@@ -14,7 +14,7 @@ use Rattle.syntax.specs.Expr.{Expr, literal, name, number, truth, unary, binary
 use Rattle.grammar.specs.Conditions.{Class, operand, power, product, conjunction, whole}
 use Rattle.grammar.specs.Spelled.{spelled}
 
--- strings
+-- "Strings: literals, names, "." and "$""; brackets around them
 pub data StrTree (s : List ℕ) : Class → List Token → Expr → Type 0 where
   literal-tree : (t : Token) → t .kind ≡ Kind.LITERAL → StrTree s operand (t ∷ []) (literal (decodedAt s (t .start)))
   name-tree : (t : Token) → t .kind ≡ Kind.NAME → StrTree s operand (t ∷ []) (name (nameAt s (t .start)))
@@ -23,17 +23,18 @@ pub data StrTree (s : List ℕ) : Class → List Token → Expr → Type 0 where
   text-one : (ts : List Token) (e : Expr) → StrTree s operand ts e → StrTree s whole ts e
   join-tree : (t : Token) (ts us : List Token) (e f : Expr) → t .kind ≡ Kind.DOT → StrTree s whole ts e → StrTree s operand us f → StrTree s whole (ts ++ t ∷ us) (binary Op.JOIN e f)
 
--- the operation that a mark writes between integers
+-- the operation that a mark writes between integers: "* / %"
 pub data ProductOp : ℕ → ℕ → Type 0 where
   times-op : ProductOp Kind.TIMES Op.TIMES
   divide-op : ProductOp Kind.DIVIDE Op.OVER
   remainder-op : ProductOp Kind.REMAINDER Op.REMAINDER
 
+-- "+ -"
 pub data SumOp : ℕ → ℕ → Type 0 where
   plus-op : SumOp Kind.PLUS Op.PLUS
   minus-op : SumOp Kind.MINUS Op.MINUS
 
--- integers
+-- "Integers: unary -, then ^, then * / %, then + -, left to right in a class; @ and $ bind as unary -"
 pub data IntTree (s : List ℕ) : Class → List Token → Expr → Type 0 where
   number-tree : (t : Token) → t .kind ≡ Kind.DIGITS → IntTree s operand (t ∷ []) (number (numberAt s (t .start)))
   negate-tree : (t : Token) (ts : List Token) (e : Expr) → t .kind ≡ Kind.MINUS → IntTree s operand ts e → IntTree s operand (t ∷ ts) (unary Op.NEGATE e)
@@ -58,7 +59,7 @@ pub data CompareOp : ℕ → ℕ → ℕ → Type 0 where
   at-most-op : CompareOp Kind.AT-MOST Op.TEXT-AT-MOST Op.AT-MOST
   at-least-op : CompareOp Kind.AT-LEAST Op.TEXT-AT-LEAST Op.AT-LEAST
 
--- tests
+-- "Tests: ! above && above || (house), a comparison inside; true, false"; "Both sides of a comparison have one type"
 pub data TestTree (s : List ℕ) : Class → List Token → Expr → Type 0 where
   true-tree : (t : Token) → t .kind ≡ Kind.NAME → spelled s t word-true ≡ true → TestTree s operand (t ∷ []) (truth true)
   false-tree : (t : Token) → t .kind ≡ Kind.NAME → spelled s t word-false ≡ true → TestTree s operand (t ∷ []) (truth false)
@@ -81,7 +82,7 @@ pub data Says : Type 0 where
   a-program : Program → Says
   a-clause : Clause → Says
 
--- programs and clauses
+-- "clauses ended by ";", each a test, test -> string expression, or test -> { clauses }"
 pub data ProgramTree (s : List ℕ) : List Token → Says → Type 0 where
   no-clauses : ProgramTree s [] (a-program none)
   one-more : (t : Token) (ts us : List Token) (p : Program) (c : Clause) → t .kind ≡ Kind.SEMICOLON → ProgramTree s ts (a-program p) → ProgramTree s us (a-clause c)

@@ -22,12 +22,13 @@ use Rattle.lexical.specs.Line.{restOfLine, visible, inLine, blankTo, indented, 
 use Rattle.lexical.specs.declared.token.Token.{Token}
 use Rattle.conditions.specs.Word.{nextAt}
 use Rattle.conditions.specs.Working.Pace.{next-sound}
+use Rattle.grammar.specs.Conditions.{TRUTH}
 use Rattle.grammar.specs.Working.Reading.{Real, real-token}
 
-either : (b : Bool) (x y : ℕ) → x < 44 → y < 44 → pick b x y < 44
-either b x y h k = chosen (λ (n : ℕ). n < 44) b x y (λ e. h) (λ e. k)
+either : (b : Bool) (x y : ℕ) → x < TRUTH → y < TRUTH → pick b x y < TRUTH
+either b x y h k = chosen (λ (n : ℕ). n < TRUTH) b x y (λ e. h) (λ e. k)
 
-mark-class : (b : ℕ) → markOf b < 44
+mark-class : (b : ℕ) → markOf b < TRUTH
 mark-class b =
     either (eqb b 40) _ _ (omega arith) (either (eqb b 41) _ _ (omega arith) (either (eqb b 123) _ _ (omega arith) (either (eqb b 125) _ _ (omega arith)
     (either (eqb b 44) _ _ (omega arith) (either (eqb b 59) _ _ (omega arith) (either (eqb b 61) _ _ (omega arith) (either (eqb b 33) _ _ (omega arith)
@@ -35,20 +36,20 @@ mark-class b =
     (either (eqb b 64) _ _ (omega arith) (either (eqb b 38) _ _ (omega arith) (either (eqb b 43) _ _ (omega arith) (either (eqb b 45) _ _ (omega arith)
     (either (eqb b 42) _ _ (omega arith) (either (eqb b 47) _ _ (omega arith) (either (eqb b 37) _ _ (omega arith) (either (eqb b 94) _ _ (omega arith) (omega arith))))))))))))))))))))
 
-class-known : (b : ℕ) → classOf b < 44
+class-known : (b : ℕ) → classOf b < TRUTH
 unfolding classOf
 class-known b =
     either (or (eqb b 32) (eqb b 9)) _ _ (omega arith) (either (eqb b 10) _ _ (omega arith) (either (or (within 97 122 b) (or (within 65 90 b) (eqb b 95))) _ _ (omega arith) (either (within 48 57 b) _ _ (omega arith)
     (either (eqb b 34) _ _ (omega arith) (either (eqb b 35) _ _ (omega arith) (either (eqb b 0) _ _ (omega arith) (either (eqb b 124) _ _ (omega arith)
     (either (eqb b 126) _ _ (omega arith) (mark-class b)))))))))
 
-equal-known : (c : ℕ) → equalPair c < 44
+equal-known : (c : ℕ) → equalPair c < TRUTH
 unfolding equalPair
 equal-known c =
     either (eqb c Kind.ASSIGN) _ _ (omega arith) (either (eqb c Kind.NOT) _ _ (omega arith) (either (eqb c Kind.LESS) _ _ (omega arith) (either (eqb c Kind.GREATER) _ _ (omega arith)
     (either (eqb c TILDE) _ _ (omega arith) (omega arith)))))
 
-pair-known : (c b : ℕ) → pairOf c b < 44
+pair-known : (c b : ℕ) → pairOf c b < TRUTH
 unfolding pairOf
 pair-known c b =
     either (eqb b 61) _ _ (equal-known c)
@@ -56,15 +57,15 @@ pair-known c b =
     (either (eqb b 38) _ _ (either (eqb c Kind.AMPERSAND) _ _ (omega arith) (omega arith))
     (either (eqb b 124) _ _ (either (eqb c BAR) _ _ (omega arith) (omega arith)) (omega arith))))
 
-mark-known : (c : ℕ) → c < 44 → markKind c < 44
+mark-known : (c : ℕ) → c < TRUTH → markKind c < TRUTH
 unfolding markKind
 mark-known c h = either (ltb c Kind.OPEN) _ _ (omega arith) h
 
-operator-known : (mode c b d : ℕ) → c < 44 → operatorKind mode c b d < 44
+operator-known : (mode c b d : ℕ) → c < TRUTH → operatorKind mode c b d < TRUTH
 unfolding operatorKind
 operator-known mode c b d h = either (isOf mode c b d) _ _ (omega arith) (either (eqb (pairOf c b) Kind.ILLEGAL) _ _ (mark-known c h) (pair-known c b))
 
-label-known : (s : List ℕ) (i : ℕ) → labelKind s i < 44
+label-known : (s : List ℕ) (i : ℕ) → labelKind s i < TRUTH
 unfolding labelKind
 label-known s i =
     either (stands s i word-keynote-version) _ _ (omega arith) (either (stands s i word-local-constants) _ _ (omega arith) (either (stands s i word-authorizer) _ _ (omega arith) (either (stands s i word-licensees) _ _ (omega arith)
@@ -72,7 +73,7 @@ label-known s i =
 
 -- the tokens, as the lexer finds them
 abbrev Known : Token → Type 0
-Known t = t .kind < 44
+Known t = t .kind < TRUTH
 
 from-known : (s : List ℕ) (mode i : ℕ) → Known (tokenFrom s mode i)
 unfolding tokenFrom numberToken literalToken operatorToken operatorAt
@@ -135,4 +136,4 @@ token-known s mode at =
     (λ e. chosen Known (eqb (inLine s mode at .kind) Kind.NEXT) _ _ (λ f. lines-known s mode (inLine s mode at .end)) (λ f. in-line-known s mode at))
 
 pub next-real : (s : List ℕ) (at : ℕ) → Real s (nextAt s at)
-next-real s at = real-token (next-sound s at) (λ z. let k : nextAt s at .kind < 44 = token-known s Kind.IN-FIELD at in let bad : ⊥ = omega (arith, k, z) in bad)
+next-real s at = real-token (next-sound s at) (λ z. let k : nextAt s at .kind < TRUTH = token-known s Kind.IN-FIELD at in let bad : ⊥ = omega (arith, k, z) in bad)
