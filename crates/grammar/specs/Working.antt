@@ -1,3 +1,15 @@
 pub mod Automaton
 pub mod Looping
+pub mod Marks
 pub mod Places
+pub mod Stations
+pub mod Stationed
+pub mod Joints
+pub mod Told
+pub mod Onward
+pub mod Openings
+pub mod Reading
+pub mod Known
+pub mod Pending
+pub mod Yard
+pub mod Shunt

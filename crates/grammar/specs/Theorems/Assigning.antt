@@ -1,14 +1,14 @@
 -- Local-Constants: its reader gives reason 2 where the grammar allows no continuation, and else reads a sentence. Assumes nothing.
 use mathlib.Core.Path.{_≡_, refl, sym, ap, _∙_, subst}
-use mathlib.Core.Bool.{Bool, true, false}
+use mathlib.Core.Bool.{true, false}
 use mathlib.Core.List.{List, [], _∷_, _++_, append-assoc, append-nil}
-use Prim.Native.Nat.{ℕ, _+_, _-_, _≤_, _<_}
+use Prim.Native.Nat.{ℕ, _+_, _-_, _<_}
 use native.Mathlib.Omega.{arith}
 use lib.Dec.{eqb, leb, ltb}
 use lib.ListN.{length, length-append}
-use borrow.Author.Tests.{eqb-true, eqb-false, leb-false, eq-eqb, ne-eqb}
-use Rattle.text.specs.Choice.{pick, split, clash}
-use Rattle.text.specs.Loop.{Step, next, done, loop}
+use borrow.Author.Tests.{eqb-true, leb-false, ne-eqb}
+use Rattle.text.specs.Choice.{pick, clash}
+use Rattle.text.specs.Loop.{Step}
 use Rattle.record.specs.Query.{Attribute}
 use Rattle.lexical.specs.Kind
 use Rattle.lexical.specs.Bounds.{chosen}
@@ -19,7 +19,7 @@ use Rattle.fields.specs.Parsed.{behind, ending, wordOf}
 use Rattle.fields.specs.Constants.{isSet, reserved, constantValue, assigned, nameFault, constant, onConstant, constantsTurn, constantsFrom}
 use Rattle.fields.specs.Theorems.Together.{refusal-some}
 use Rattle.grammar.specs.Fields.{Ends, end-of-text, Field, field, Assignments, no-assignment, assignment}
-use Rattle.grammar.specs.Viable.{Viable, Open, opens, Kinds, here, further, Judged, through, no-continuation, another}
+use Rattle.grammar.specs.Viable.{Viable, Open, opens, Kinds, here, further, Judged, plainly, through, another}
 use Rattle.grammar.specs.Working.Automaton.{run, run-append, not-viable, not-longer}
 use Rattle.grammar.specs.Working.Looping.{Turned, turned-next, turned-done, loop-turned, kinds-append, kinds-one}
 use Rattle.grammar.specs.Theorems.OneToken.{ends-ending, ending-ends, judged-stop, opens-end}
@@ -204,16 +204,16 @@ module _ (s : List ℕ) (t : Token) where
       (λ r h ks p g. h (ks ++ triple) (three-kinds u v w ks ve we a b c p) (set-snoc ks g))
   on-set cs u v w ve we e _ (wrong-1 n r q) =
       turned-done (aside r (u .start)) (λ ks p g.
-      judged-stop (Field Assignments) s Kind.IN-FIELD t ks u p (opens Kind.END [] (field ks Kind.END g end-of-text))
+      judged-stop plainly (Field Assignments) s Kind.IN-FIELD t ks u p (opens Kind.END [] (field ks Kind.END g end-of-text))
       (subst (λ (l : List ℕ). Viable (Field Assignments) (l ++ u .kind ∷ []) → ⊥) (append-nil ks) (set-dead-at ks [] (u .kind) 1 g refl (set-wrong-1 (u .kind) n e))) r q)
   on-set cs u v w ve we e _ (wrong-2 a n) =
       turned-done (aside (refusal (v .kind)) (v .start)) (λ ks p g.
-      judged-stop (Field Assignments) s Kind.IN-FIELD t (ks ++ Kind.NAME ∷ []) v (one-kind u v ks Kind.NAME ve a p)
+      judged-stop plainly (Field Assignments) s Kind.IN-FIELD t (ks ++ Kind.NAME ∷ []) v (one-kind u v ks Kind.NAME ve a p)
       (set-viable ks (Kind.NAME ∷ []) (Kind.ASSIGN ∷ Kind.LITERAL ∷ []) g (assignment [] no-assignment))
       (set-dead-at ks (Kind.NAME ∷ []) (v .kind) 2 g set-name (set-wrong-2 (v .kind) n)) (refusal (v .kind)) refl)
   on-set cs u v w ve we e _ (wrong-3 a b n) =
       turned-done (aside (refusal (w .kind)) (w .start)) (λ ks p g.
-      judged-stop (Field Assignments) s Kind.IN-FIELD t (ks ++ Kind.NAME ∷ Kind.ASSIGN ∷ []) w (two-kinds u v w ks Kind.NAME Kind.ASSIGN ve we a b p)
+      judged-stop plainly (Field Assignments) s Kind.IN-FIELD t (ks ++ Kind.NAME ∷ Kind.ASSIGN ∷ []) w (two-kinds u v w ks Kind.NAME Kind.ASSIGN ve we a b p)
       (set-viable ks (Kind.NAME ∷ Kind.ASSIGN ∷ []) (Kind.LITERAL ∷ []) g (assignment [] no-assignment))
       (set-dead-at ks (Kind.NAME ∷ Kind.ASSIGN ∷ []) (w .kind) 3 g (ap (λ (q : ℕ). setStep q Kind.ASSIGN) set-name ∙ set-assign) (set-wrong-3 (w .kind) n)) (refusal (w .kind)) refl)
   on-set cs u v w ve we e _ (other-set r p n) = turned-done (aside r p) (λ ks q g. another r p n)

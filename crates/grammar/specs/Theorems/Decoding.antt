@@ -2,16 +2,16 @@
 use mathlib.Core.Path.{_≡_, refl, sym, ap, _∙_, subst}
 use mathlib.Core.Bool.{Bool, true, false}
 use mathlib.Core.List.{List, [], _∷_}
-use Prim.Native.Nat.{ℕ, zero, suc, _+_, _-_, _*_, _≤_, _<_}
+use Prim.Native.Nat.{ℕ, zero, suc, _+_, _-_, _≤_, _<_}
 use native.Mathlib.Omega.{arith}
 use native.Mathlib.Numerals.{add-one}
 use lib.Dec.{eqb, leb, ltb}
 use lib.ListN.{length, getD, take, drop}
 use lib.Seq.{drop-cons}
-use borrow.Author.Tests.{eqb-true, eqb-false, leb-true, leb-false, ltb-true, ltb-false, ne-eqb, eq-eqb, le-leb, lt-leb, lt-ltb, le-ltb}
+use borrow.Author.Tests.{eqb-true, eqb-false, leb-true, ltb-true, ltb-false, ne-eqb, eq-eqb}
 use Rattle.text.specs.Choice.{pick, split, clash}
-use Rattle.text.specs.Scan.{past, past-more, past-stop, past-end}
-use Rattle.lexical.specs.Bounds.{chosen, byte-within, past-from, past-within}
+use Rattle.text.specs.Scan.{past, past-more, past-stop}
+use Rattle.lexical.specs.Bounds.{chosen, past-from}
 use Rattle.lexical.specs.Class.{classOf}
 use Rattle.lexical.specs.Run.{hasClass, inRun, WHITE}
 use Rattle.lexical.specs.declared.unit.Unit.{Unit}
@@ -19,7 +19,7 @@ use Rattle.lexical.specs.Unit as U
 use Rattle.lexical.specs.Literal.{inside, units, unitsAt, closing, given, literalEnd, decodedAt}
 use Rattle.lexical.specs.UnitLaws.{unit-closing}
 use Rattle.lexical.specs.LiteralLaws.{Closed, closing-within}
-use Rattle.grammar.specs.Escape.{octal, white, leads, twoOctal, Control, Dropped, stopped, dropped, Other, other-byte, Plain, plain-byte, octalValue, Gives, ends, plain, control, joined, one-more, three, zero-1, zero-2, zero-3, other}
+use Rattle.grammar.specs.Escape.{octal, white, leads, twoOctal, Control, Dropped, stopped, dropped, Other, other-byte, plain-byte, octalValue, Gives, ends, plain, control, joined, one-more, three, zero-1, zero-2, zero-3, other}
 use Rattle.grammar.specs.Escape as E
 
 -- the bytes of s from i to before e

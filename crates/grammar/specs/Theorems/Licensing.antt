@@ -1,34 +1,32 @@
 -- Licensees: its reader gives reason 2 where the grammar allows no continuation, and else reads a sentence. Assumes nothing.
 use mathlib.Core.Path.{_≡_, refl, sym, ap, _∙_, subst}
-use mathlib.Core.Bool.{Bool, true, false}
-use mathlib.Core.List.{List, [], _∷_, _++_, append-assoc, append-nil}
+use mathlib.Core.Bool.{true, false}
+use mathlib.Core.List.{List, [], _∷_, _++_, append-assoc}
 use Prim.Native.Nat.{ℕ, zero, suc, _+_, _-_, _≤_, _<_}
 use native.Mathlib.Omega.{arith}
 use lib.Dec.{eqb, leb, ltb}
 use lib.ListN.{length, length-append}
-use borrow.Author.Tests.{eqb-true, eqb-false, leb-false, eq-eqb, ne-eqb}
+use borrow.Author.Tests.{eqb-true, leb-false, ne-eqb}
 use Rattle.text.specs.Choice.{pick, split, clash}
-use Rattle.text.specs.Loop.{Step, next, done, loop}
+use Rattle.text.specs.Loop.{Step}
 use Rattle.record.specs.Query.{Attribute}
 use Rattle.lexical.specs.Kind
 use Rattle.lexical.specs.Bounds.{chosen}
-use Rattle.lexical.specs.Line.{tokenAt}
 use Rattle.lexical.specs.Number.{numberAt}
 use Rattle.lexical.specs.declared.token.Token.{Token}
 use Rattle.principal.specs.Principal as P
 use Rattle.compliance.specs.Licensees.{Expression, name, and, or, kOf, named, empty, given}
-use Rattle.compliance.specs.Licensees as C
 use Rattle.syntax.specs.Parsed.{Parsed, ok, aside, refusal, unexpected, andThen}
 use Rattle.fields.specs.Parsed.{behind, ending, ended}
 use Rattle.fields.specs.Identifier as Ident
 use Rattle.fields.specs.Licensees as L
 use Rattle.fields.specs.Theorems.Together.{refusal-some}
-use Rattle.grammar.specs.Fields.{Ends, end-of-text, Field, field, Principal, principal-literal, PrincList, one, comma, PrincExpr, bracket, both, either, threshold, principal, Licensees, nobody, somebody}
-use Rattle.grammar.specs.Viable.{Viable, Open, opens, Kinds, here, further, Judged, through, no-continuation, another}
-use Rattle.grammar.specs.Working.Automaton.{run, run-append, run-dead}
+use Rattle.grammar.specs.Fields.{end-of-text, Field, field, Principal, principal-literal, PrincList, one, comma, PrincExpr, bracket, both, either, threshold, principal, Licensees, nobody, somebody}
+use Rattle.grammar.specs.Viable.{opens, Kinds, here, further, Judged, plainly, through, another}
+use Rattle.grammar.specs.Working.Automaton.{run, run-append}
 use Rattle.grammar.specs.Working.Looping.{Turned, turned-next, turned-done, loop-turned, kinds-append, kinds-one}
-use Rattle.grammar.specs.Working.Places.{Place, p-dead, p-over, p-begin, p-want, p-have, p-number, p-of, p-item, p-listed, place, place-dead, place-open, place-and, place-or, place-number, place-of, place-list, place-comma, place-item, list-run, expr-run, begin-run, begin-want, licensees-dead}
-use Rattle.grammar.specs.Theorems.OneToken.{ends-ending, ending-ends, judged-stop, opens-end, principalFirst, principal-is, is-principal, Against, none-against, no-principal, some-fault, identifier-against}
+use Rattle.grammar.specs.Working.Places.{Place, p-dead, p-begin, p-want, p-have, p-number, p-of, p-item, p-listed, place, place-open, place-and, place-or, place-number, place-of, place-list, place-comma, list-run, expr-run, begin-run, begin-want, licensees-dead}
+use Rattle.grammar.specs.Theorems.OneToken.{ending-ends, judged-stop, opens-end, principalFirst, principal-is, Against, none-against, no-principal, some-fault, identifier-against}
 
 abbrev MODE : ℕ
 MODE = Kind.IN-LICENSEES
@@ -356,7 +354,7 @@ module _ (s : List ℕ) (constants : List Attribute) where
   ended-judged t u ks e p x m =
       chosen (Judged (Field Licensees) s Kind.IN-LICENSEES t) (ending (u .kind)) _ _
       (λ f. through ks u (given e) p (field ks (u .kind) (somebody ks x) (ending-ends (u .kind) f)))
-      (λ f. judged-stop (Field Licensees) s Kind.IN-LICENSEES t ks u p (opens Kind.END [] (field ks Kind.END (somebody ks x) end-of-text))
+      (λ f. judged-stop plainly (Field Licensees) s Kind.IN-LICENSEES t ks u p (opens Kind.END [] (field ks Kind.END (somebody ks x) end-of-text))
       (licensees-dead (ks ++ u .kind ∷ [])
       (run-append place p-begin ks (u .kind ∷ []) ∙ ap (λ (q : Place). place q (u .kind)) (begin-run ks (expr-run ks x 0)) ∙ wrong-end (u .kind) (m .0 .1) (m .1) f))
       (refusal (u .kind)) refl)
@@ -371,7 +369,7 @@ module _ (s : List ℕ) (constants : List Attribute) where
   judged : (t : Token) → ending (t .kind) ≡ false → (r : Parsed Expression) → Reading N2 s 0 t r → Judged (Field Licensees) s Kind.IN-LICENSEES t (andThen r (λ e u. ended (given e) u))
   judged t f _ (got ks u e p x m some few) = ended-judged t u ks e p x m
   judged t f _ (halted ks u p rest x dead r re) =
-      judged-stop (Field Licensees) s Kind.IN-LICENSEES t ks u p
+      judged-stop plainly (Field Licensees) s Kind.IN-LICENSEES t ks u p
       (opens-end (Field Licensees) ks rest (subst (Field Licensees) (append-assoc ks rest (Kind.END ∷ [])) (field (ks ++ rest) Kind.END (somebody (ks ++ rest) x) end-of-text)))
       (licensees-dead (ks ++ u .kind ∷ []) (begin-path t u ks f p (dead 0))) r re
   judged t f _ (otherwise r p m) = another r p m

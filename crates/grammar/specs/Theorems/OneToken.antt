@@ -1,24 +1,23 @@
 -- KeyNote-Version, Authorizer and Signature: their readers give reason 2 where the grammar allows no continuation, and else read a sentence.
 -- Assumes nothing.
-use mathlib.Core.Path.{_≡_, refl, sym, ap, _∙_, subst}
+use mathlib.Core.Path.{_≡_, refl, sym, ap, _∙_}
 use mathlib.Core.Bool.{Bool, true, false}
 use mathlib.Core.List.{List, [], _∷_, _++_}
 use Prim.Native.Nat.{ℕ, _≤_, _<_}
 use native.Mathlib.Omega.{arith}
 use lib.Dec.{eqb, leb, ltb}
 use lib.ListN.{length}
-use borrow.Author.Tests.{eqb-true, eqb-false, ltb-true, ltb-false, leb-true, eq-eqb, ne-eqb}
+use borrow.Author.Tests.{eqb-true, eqb-false, ltb-false, leb-true, ne-eqb}
 use Rattle.text.specs.Choice.{pick, split, clash}
 use Rattle.text.specs.Equal.{equal}
 use Rattle.record.specs.Query.{Attribute}
 use Rattle.lexical.specs.Kind
 use Rattle.lexical.specs.Bounds.{chosen}
-use Rattle.lexical.specs.Line.{tokenAt}
 use Rattle.lexical.specs.Literal.{decodedAt}
 use Rattle.lexical.specs.Number.{LIMIT, numberAt}
 use Rattle.lexical.specs.declared.token.Token.{Token}
 use Rattle.principal.specs.Principal as P
-use Rattle.syntax.specs.Parsed.{Parsed, ok, aside, refusal, unexpected, andThen}
+use Rattle.syntax.specs.Parsed.{Parsed, ok, aside, refusal, andThen}
 use Rattle.fields.specs.Limits.{mostLiteral}
 use Rattle.fields.specs.Parsed.{behind, ending, ended, wordOf}
 use Rattle.expression.specs.Names.{settingOr}
@@ -29,7 +28,7 @@ use Rattle.fields.specs.Identifier as Ident
 use Rattle.fields.specs.Authorizer as Auth
 use Rattle.fields.specs.Signature as Sign
 use Rattle.grammar.specs.Fields.{Ends, end-of-text, next-version, next-constants, next-authorizer, next-licensees, next-conditions, next-comment, next-signature, Field, field, Version, version-integer, version-literal, Principal, principal-literal, principal-name, Authorizer, authorizer, Signature, signature}
-use Rattle.grammar.specs.Viable.{Viable, viable, Open, opens, Kinds, here, further, Judged, through, no-continuation, another}
+use Rattle.grammar.specs.Viable.{Viable, viable, Open, opens, KindsBy, here, further, Judged, JudgedBy, plainly, through, no-continuation, another}
 use Rattle.grammar.specs.Working.Automaton.{run, not-viable, not-longer}
 
 -- the reader's test of what ends a field
@@ -68,13 +67,13 @@ ending-ends k h =
     (λ f. label-ends k (ltb-false k 4 f) (leb-true k 10 (rw (e, f) at h))))
 
 -- a token that the reader does not expect, and after which the grammar allows no continuation
-pub judged-stop : {A : Type 0} (G : List ℕ → Type 0) (s : List ℕ) (mode : ℕ) (t : Token) (ks : List ℕ) (n : Token) → Kinds s mode t ks n → Open G ks
-    → (Viable G (ks ++ n .kind ∷ []) → ⊥) → (r : ℕ) → r ≡ refusal (n .kind) → Judged {A = A} G s mode t (aside r (n .start))
+pub judged-stop : {A : Type 0} (kind : Token → ℕ) (G : List ℕ → Type 0) (s : List ℕ) (mode : ℕ) (t : Token) (ks : List ℕ) (n : Token) → KindsBy kind s mode t ks n → Open G ks
+    → (Viable G (ks ++ kind n ∷ []) → ⊥) → (r : ℕ) → r ≡ refusal (n .kind) → JudgedBy {A = A} kind G s mode t (aside r (n .start))
 unfolding refusal
-judged-stop {A} G s mode t ks n path v nv r e =
+judged-stop {A} kind G s mode t ks n path v nv r e =
     rw e
-    (chosen (λ (x : ℕ). Judged {A = A} G s mode t (aside x (n .start))) (eqb (n .kind) Kind.ILLEGAL) 1 _ (λ f. another 1 (n .start) (λ z. let bad : ⊥ = omega (arith, z) in bad))
-    (λ f. chosen (λ (x : ℕ). Judged {A = A} G s mode t (aside x (n .start))) (eqb (n .kind) Kind.BAD-LINE) 3 2 (λ g. another 3 (n .start) (λ z. let bad : ⊥ = omega (arith, z) in bad))
+    (chosen (λ (x : ℕ). JudgedBy {A = A} kind G s mode t (aside x (n .start))) (eqb (n .kind) Kind.ILLEGAL) 1 _ (λ f. another 1 (n .start) (λ z. let bad : ⊥ = omega (arith, z) in bad))
+    (λ f. chosen (λ (x : ℕ). JudgedBy {A = A} kind G s mode t (aside x (n .start))) (eqb (n .kind) Kind.BAD-LINE) 3 2 (λ g. another 3 (n .start) (λ z. let bad : ⊥ = omega (arith, z) in bad))
     (λ g. no-continuation ks n path v nv)))
 
 -- a sentence's tail and the end of text behind it
@@ -123,7 +122,7 @@ module _ (first : ℕ → Bool) where
     module _ {A : Type 0} (s : List ℕ) (mode : ℕ) (t : Token) where
       pub one-wrong : first (t .kind) ≡ false → (r : ℕ) → r ≡ refusal (t .kind) → Judged {A = A} (Field G) s mode t (aside r (t .start))
       one-wrong h r e =
-          judged-stop (Field G) s mode t [] t (here t) (opens some (Kind.END ∷ []) (field (some ∷ []) Kind.END (holds some some-first) end-of-text))
+          judged-stop plainly (Field G) s mode t [] t (here t) (opens some (Kind.END ∷ []) (field (some ∷ []) Kind.END (holds some some-first) end-of-text))
           (one-dead (t .kind ∷ []) (one-first (t .kind) false h)) r e
 
       pub one-right : (a : A) → first (t .kind) ≡ true → Judged {A = A} (Field G) s mode t (ended a (behind s mode t))
@@ -131,7 +130,7 @@ module _ (first : ℕ → Bool) where
           chosen (Judged (Field G) s mode t) (ending (behind s mode t .kind)) _ _
           (λ e. through (t .kind ∷ []) (behind s mode t) a (further t (behind s mode t) [] (here (behind s mode t))) (field (t .kind ∷ []) (behind s mode t .kind) (holds (t .kind) h) (ending-ends _ e)))
           (λ e.
-          judged-stop (Field G) s mode t (t .kind ∷ []) (behind s mode t) (further t (behind s mode t) [] (here (behind s mode t)))
+          judged-stop plainly (Field G) s mode t (t .kind ∷ []) (behind s mode t) (further t (behind s mode t) [] (here (behind s mode t)))
           (opens Kind.END [] (field (t .kind ∷ []) Kind.END (holds (t .kind) h) end-of-text))
           (one-dead (t .kind ∷ behind s mode t .kind ∷ []) (ap (λ (q : ℕ). oneStep q (behind s mode t .kind)) (one-first (t .kind) true h) ∙ one-second (behind s mode t .kind) false e))
           (refusal (behind s mode t .kind)) refl)

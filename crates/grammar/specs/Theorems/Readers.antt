@@ -8,47 +8,65 @@ use Rattle.fields.specs.Version.{version}
 use Rattle.fields.specs.Constants.{constantsFrom}
 use Rattle.fields.specs.Authorizer.{authorizer}
 use Rattle.fields.specs.Licensees.{licensees}
+use Rattle.lexical.specs.Line.{tokenAt}
+use Rattle.conditions.specs.Program.{readProgram}
 use Rattle.grammar.specs.Fields.{Field, Version, Assignments, Authorizer, Licensees}
-use Rattle.grammar.specs.Viable.{Viable, Open, Kinds}
+use Rattle.grammar.specs.Viable.{Viable, Open, Kinds, KindsBy, plainly}
 use Rattle.grammar.specs.Theorems.OneToken.{version-judged, version-whole, authorizer-judged, authorizer-whole}
 use Rattle.grammar.specs.Theorems.Assigning.{constants-judged, constants-whole}
 use Rattle.grammar.specs.Theorems.Licensing.{licensees-judged}
 use Rattle.grammar.specs.Working.Places.{licensees-whole}
+use Rattle.grammar.specs.Theorems.Conditioning.{conditions-judged, conditions-whole}
+use Rattle.grammar.specs.Conditions.{Conditions}
+use Rattle.grammar.specs.Spelled.{kindIn}
 use Rattle.grammar.specs.Theorems.Exactly.{Refused, exactly, Passed, complete}
 
 module _ (s : List ℕ) (t n : Token) (ks : List ℕ) where
   -- reason 2 at n where the kinds before n begin a sentence, and those up to n begin none
   pub version-exactly : Kinds s Kind.IN-FIELD t ks n → Open (Field Version) ks → (Viable (Field Version) (ks ++ n .kind ∷ []) → ⊥)
-      → Refused (Field Version) version-whole s Kind.IN-FIELD t n (version s t)
-  version-exactly p o nv = exactly (Field Version) version-whole s Kind.IN-FIELD t (version s t) (version-judged s t) n ks p o nv
+      → Refused plainly (Field Version) version-whole s Kind.IN-FIELD t n (version s t)
+  version-exactly p o nv = exactly plainly (Field Version) version-whole s Kind.IN-FIELD t (version s t) (version-judged s t) n ks p o nv
 
   pub constants-exactly : Kinds s Kind.IN-FIELD t ks n → Open (Field Assignments) ks → (Viable (Field Assignments) (ks ++ n .kind ∷ []) → ⊥)
-      → Refused (Field Assignments) constants-whole s Kind.IN-FIELD t n (constantsFrom s [] t)
-  constants-exactly p o nv = exactly (Field Assignments) constants-whole s Kind.IN-FIELD t (constantsFrom s [] t) (constants-judged s t) n ks p o nv
+      → Refused plainly (Field Assignments) constants-whole s Kind.IN-FIELD t n (constantsFrom s [] t)
+  constants-exactly p o nv = exactly plainly (Field Assignments) constants-whole s Kind.IN-FIELD t (constantsFrom s [] t) (constants-judged s t) n ks p o nv
 
   -- through to n where the kinds up to n are a sentence
-  pub version-complete : Kinds s Kind.IN-FIELD t ks n → Field Version (ks ++ n .kind ∷ []) → Passed (Field Version) version-whole s Kind.IN-FIELD t n (version s t)
-  version-complete p g = complete (Field Version) version-whole s Kind.IN-FIELD t (version s t) (version-judged s t) n ks p g
+  pub version-complete : Kinds s Kind.IN-FIELD t ks n → Field Version (ks ++ n .kind ∷ []) → Passed plainly (Field Version) version-whole s Kind.IN-FIELD t n (version s t)
+  version-complete p g = complete plainly (Field Version) version-whole s Kind.IN-FIELD t (version s t) (version-judged s t) n ks p g
 
   pub constants-complete : Kinds s Kind.IN-FIELD t ks n → Field Assignments (ks ++ n .kind ∷ [])
-      → Passed (Field Assignments) constants-whole s Kind.IN-FIELD t n (constantsFrom s [] t)
-  constants-complete p g = complete (Field Assignments) constants-whole s Kind.IN-FIELD t (constantsFrom s [] t) (constants-judged s t) n ks p g
+      → Passed plainly (Field Assignments) constants-whole s Kind.IN-FIELD t n (constantsFrom s [] t)
+  constants-complete p g = complete plainly (Field Assignments) constants-whole s Kind.IN-FIELD t (constantsFrom s [] t) (constants-judged s t) n ks p g
 
   module _ (constants : List Attribute) where
     pub authorizer-exactly : (standing : ℕ) → Kinds s Kind.IN-FIELD t ks n → Open (Field Authorizer) ks → (Viable (Field Authorizer) (ks ++ n .kind ∷ []) → ⊥)
-        → Refused (Field Authorizer) authorizer-whole s Kind.IN-FIELD t n (authorizer s standing constants t)
+        → Refused plainly (Field Authorizer) authorizer-whole s Kind.IN-FIELD t n (authorizer s standing constants t)
     authorizer-exactly standing p o nv =
-        exactly (Field Authorizer) authorizer-whole s Kind.IN-FIELD t (authorizer s standing constants t) (authorizer-judged s standing constants t) n ks p o nv
+        exactly plainly (Field Authorizer) authorizer-whole s Kind.IN-FIELD t (authorizer s standing constants t) (authorizer-judged s standing constants t) n ks p o nv
 
     pub authorizer-complete : (standing : ℕ) → Kinds s Kind.IN-FIELD t ks n → Field Authorizer (ks ++ n .kind ∷ [])
-        → Passed (Field Authorizer) authorizer-whole s Kind.IN-FIELD t n (authorizer s standing constants t)
+        → Passed plainly (Field Authorizer) authorizer-whole s Kind.IN-FIELD t n (authorizer s standing constants t)
     authorizer-complete standing p g =
-        complete (Field Authorizer) authorizer-whole s Kind.IN-FIELD t (authorizer s standing constants t) (authorizer-judged s standing constants t) n ks p g
+        complete plainly (Field Authorizer) authorizer-whole s Kind.IN-FIELD t (authorizer s standing constants t) (authorizer-judged s standing constants t) n ks p g
 
     pub licensees-exactly : Kinds s Kind.IN-LICENSEES t ks n → Open (Field Licensees) ks → (Viable (Field Licensees) (ks ++ n .kind ∷ []) → ⊥)
-        → Refused (Field Licensees) licensees-whole s Kind.IN-LICENSEES t n (licensees s constants t)
-    licensees-exactly p o nv = exactly (Field Licensees) licensees-whole s Kind.IN-LICENSEES t (licensees s constants t) (licensees-judged s constants t) n ks p o nv
+        → Refused plainly (Field Licensees) licensees-whole s Kind.IN-LICENSEES t n (licensees s constants t)
+    licensees-exactly p o nv = exactly plainly (Field Licensees) licensees-whole s Kind.IN-LICENSEES t (licensees s constants t) (licensees-judged s constants t) n ks p o nv
 
     pub licensees-complete : Kinds s Kind.IN-LICENSEES t ks n → Field Licensees (ks ++ n .kind ∷ [])
-        → Passed (Field Licensees) licensees-whole s Kind.IN-LICENSEES t n (licensees s constants t)
-    licensees-complete p g = complete (Field Licensees) licensees-whole s Kind.IN-LICENSEES t (licensees s constants t) (licensees-judged s constants t) n ks p g
+        → Passed plainly (Field Licensees) licensees-whole s Kind.IN-LICENSEES t n (licensees s constants t)
+    licensees-complete p g = complete plainly (Field Licensees) licensees-whole s Kind.IN-LICENSEES t (licensees s constants t) (licensees-judged s constants t) n ks p g
+
+-- Conditions, whose tokens are of the kinds that `kindIn` says, from the token behind a place of the text on
+module _ (s : List ℕ) (at : ℕ) (n : Token) (ks : List ℕ) where
+  abbrev first : Token
+  first = tokenAt s Kind.IN-FIELD at
+
+  pub conditions-exactly : KindsBy (kindIn s) s Kind.IN-FIELD first ks n → Open Conditions ks → (Viable Conditions (ks ++ kindIn s n ∷ []) → ⊥)
+      → Refused (kindIn s) Conditions conditions-whole s Kind.IN-FIELD first n (readProgram s first)
+  conditions-exactly p o nv = exactly (kindIn s) Conditions conditions-whole s Kind.IN-FIELD first (readProgram s first) (conditions-judged s at) n ks p o nv
+
+  pub conditions-complete : KindsBy (kindIn s) s Kind.IN-FIELD first ks n → Conditions (ks ++ kindIn s n ∷ [])
+      → Passed (kindIn s) Conditions conditions-whole s Kind.IN-FIELD first n (readProgram s first)
+  conditions-complete p g = complete (kindIn s) Conditions conditions-whole s Kind.IN-FIELD first (readProgram s first) (conditions-judged s at) n ks p g

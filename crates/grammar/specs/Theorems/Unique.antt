@@ -1,20 +1,19 @@
 -- What the list of escapes gives is one thing only: the bytes in quotes are a legal literal, and it is what lexical decodes from it. Assumes nothing.
-use mathlib.Core.Path.{_≡_, refl, sym, ap, _∙_, subst}
+use mathlib.Core.Path.{_≡_, refl, sym, ap, _∙_}
 use mathlib.Core.Bool.{Bool, true, false}
 use mathlib.Core.List.{List, [], _∷_, _++_}
-use Prim.Native.Nat.{ℕ, zero, suc, _+_, _-_, _*_, _≤_, _<_}
+use Prim.Native.Nat.{ℕ, suc, _+_, _-_, _≤_, _<_}
 use native.Mathlib.Omega.{arith}
-use lib.Dec.{eqb, leb, ltb}
-use lib.ListN.{length, getD, take, drop, length-drop}
+use lib.ListN.{length, getD, drop, length-drop}
 use lib.Seq.{drop-drop, getD-drop}
-use borrow.Author.Tests.{eqb-true, eqb-false, leb-true, ne-eqb, eq-eqb, lt-leb, le-ltb}
-use Rattle.text.specs.Choice.{pick, split, clash}
+use borrow.Author.Tests.{ne-eqb, lt-leb, le-ltb}
+use Rattle.text.specs.Choice.{pick, split}
 use Rattle.text.specs.Scan.{past, past-more, past-stop}
 use Rattle.lexical.specs.Bounds.{chosen}
 use Rattle.lexical.specs.Run.{inRun, WHITE}
 use Rattle.lexical.specs.declared.unit.Unit.{Unit}
 use Rattle.lexical.specs.Unit as U
-use Rattle.lexical.specs.Literal.{inside, unitsAt, closing, given, literalEnd, decodedAt}
+use Rattle.lexical.specs.Literal.{unitsAt, closing, given, literalEnd, decodedAt}
 use Rattle.lexical.specs.LiteralLaws.{units-more, units-last}
 use Rattle.grammar.specs.Escape.{octal, white, leads, twoOctal, Control, newline, return, tab, feed, Dropped, stopped, dropped, Other, other-byte, Plain, plain-byte, octalValue, Gives, ends, plain, control, joined, one-more, three, zero-1, zero-2, zero-3, other}
 use Rattle.grammar.specs.Theorems.Decoding.{white-is, octal-is, octal-range, octal-zero}

@@ -1,11 +1,11 @@
 -- An induction for loops each of whose turns comes nearer to the end, and paths of tokens. Assumes nothing.
-use mathlib.Core.Path.{_≡_, refl, sym, ap, _∙_}
+use mathlib.Core.Path.{subst}
 use mathlib.Core.List.{List, [], _∷_, _++_}
-use Prim.Native.Nat.{ℕ, zero, suc, _<_, _≤_}
+use Prim.Native.Nat.{ℕ, zero, suc, _<_}
 use native.Mathlib.Omega.{arith}
 use native.Mathlib.Nat.{not-suc-le-zero}
 use borrow.Author.Tests.{lt-ltb}
-use Rattle.text.specs.Loop.{Step, next, done, after, turns, loop}
+use Rattle.text.specs.Loop.{Step, next, done, after, turns, loop, loop-ind}
 use Rattle.lexical.specs.Line.{tokenAt}
 use Rattle.lexical.specs.declared.token.Token.{Token}
 use Rattle.grammar.specs.Viable.{Kinds, here, further}
@@ -29,6 +29,21 @@ module _ {X R : Type 0} (μ : X → ℕ) (out : X → R) (f : X → Step X R) (P
     pub loop-turned : (x : X) → P x (loop μ out f x)
     unfolding loop
     loop-turned x = turned-turns (suc (μ x)) x (omega arith)
+
+-- the same for loops that may stop short with an answer of which it holds anyway
+module _ {X R : Type 0} (μ : X → ℕ) (out : X → R) (f : X → Step X R) (P : X → R → Type 0) where
+  pub data Went (x : X) : Step X R → Type 0 where
+    went-next : (y : X) → ((r : R) → P y r → P x r) → Went x (next y)
+    went-done : (r : R) → P x r → Went x (done r)
+
+  went-on : (x y : X) → Went x (next y) → (r : R) → P y r → P x r
+  went-on x y (went-next _ h) = h
+
+  went-out : (x : X) (r : R) → Went x (done r) → P x r
+  went-out x r (went-done _ p) = p
+
+  pub loop-went : ((x : X) → P x (out x)) → ((x : X) → Went x (f x)) → (x : X) → P x (loop μ out f x)
+  loop-went outs each = loop-ind μ out f P outs (λ x r e. went-out x r (subst (Went x) e (each x))) (λ x y r e l p. went-on x y (subst (Went x) e (each x)) r p)
 
 module _ (s : List ℕ) (mode : ℕ) where
   pub kinds-append : (t u n : Token) (ks ls : List ℕ) → Kinds s mode t ks u → Kinds s mode u ls n → Kinds s mode t (ks ++ ls) n
