@@ -11,6 +11,7 @@ pub mod Bounds
 pub mod UnitLaws
 pub mod Literal
 pub mod LiteralLaws
+pub mod Plain
 pub mod Decode
 pub mod Token
 pub mod Line
