@@ -17,6 +17,7 @@ pub mod Token
 pub mod Line
 pub mod KindLaws
 pub mod TokenLaws
+pub mod Lone
 pub mod LineLaws
 pub mod Number
 pub mod Decoded
