@@ -11,7 +11,7 @@ use native.Mathlib.Numerals.{add-one}
 use lib.Dec.{eqb, leb}
 use lib.ListN.{length, getD, set, take, drop, length-set, length-drop, List·getD-eq-default}
 use lib.Seq.{sets, length-take-le}
-use borrow.Author.Tests.{eqb-true, eqb-false, leb-true, leb-false, lt-ltb, le-ltb, eq-eqb, ne-eqb}
+use borrow.Author.Tests.{eqb-true, eqb-false, leb-true, leb-false, lt-ltb, le-ltb, le-leb, eq-eqb, ne-eqb}
 use Rattle.text.specs.Choice.{split}
 use Rattle.lexical.specs.declared.unit.Unit.{Unit}
 use Rattle.lexical.specs.Unit.{GIVES, CLOSES, barred, unitAt}
@@ -23,6 +23,7 @@ use Rattle.text.specs.Scan.{past}
 use Rattle.text.specs.Copy.{Copied, copied, put, copyAt}
 use Rattle.lexical.specs.Bounds.{past-from}
 use Rattle.lexical.specs.DecodeLaws.{decode-fits, decode-full}
+use Rattle.lexical.specs.Short.{near, near-short}
 use Rattle.lexical.specs.Plain.{plain, end-plain, quote-within, end-quote, given-plain}
 
 module _ (s : List ℕ) (i : ℕ) (u : Unit) (ue : u ≡ unitAt s i) where
@@ -252,3 +253,12 @@ module _ (s : List ℕ) (start e : ℕ) (ee : e ≡ past plain s (start + 1)) (t
   pub into-plain : (m : List ℕ) (at : ℕ) (r : Bool) (b : List ℕ) → copied r b ≡ copyAt m at (take (e - (start + 1)) (drop (start + 1) s)) → ran r b ≡ decodeInto s start m at
   unfolding toRan
   into-plain m at r b ce = ap toRan (rw (sym decoded-taken) at ce) ∙ copied-decoded s start m at
+
+-- whether a literal is short
+module _ (s : List ℕ) (start end most : ℕ) where
+  module _ (t : Bool) (te : t ≡ near s start end most) where
+    pub short-near : t ≡ true → true ≡ leb (length (decodedAt s start)) most
+    short-near h = sym (le-leb _ _ (near-short s start end most (sym te ∙ h)))
+
+  pub short-counted : (n : ℕ) → n ≡ length (decodedAt s start) → leb n most ≡ leb (length (decodedAt s start)) most
+  short-counted n e = ap (λ (k : ℕ). leb k most) e

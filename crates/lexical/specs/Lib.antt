@@ -21,6 +21,7 @@ pub mod Lone
 pub mod LineLaws
 pub mod Number
 pub mod Decoded
+pub mod Short
 pub mod Reason
 pub mod Between
 pub mod Tokens

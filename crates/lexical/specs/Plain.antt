@@ -74,7 +74,7 @@ module _ (s : List ℕ) (e : ℕ) (q : getD s e 0 ≡ 34) where
   unfolding unitAt
   quote-unit = simp (lt-leb _ _ quote-within, eq-eqb _ _ q)
 
-  quote-units : unitsAt s e ≡ closes ∷ []
+  pub quote-units : unitsAt s e ≡ closes ∷ []
   quote-units = let k : GIVES < unitAt s e .kind = rw quote-unit (omega arith) in rw quote-unit at (units-last s e k)
 
   pub end-quote : literalEnd s e ≡ e + 1

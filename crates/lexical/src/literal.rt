@@ -6,13 +6,14 @@ use crate::unit::unit_at;
 use text::copy_at;
 ghost use mathlib.Core.Path.{_≡_};
 ghost use Prim.Native.Nat.{_+_, _≤_};
-ghost use lib.Dec.{eqb};
+ghost use lib.Dec.{eqb, leb};
 ghost use lib.ListN.{length, getD};
 ghost use lib.Seq.{sets};
 ghost use Rattle.text.specs.Scan.{past};
 ghost use Rattle.lexical.specs.Literal.{literalEnd, decodedAt, unitsAt, given};
 ghost use Rattle.lexical.specs.Decode.{ran, decodeInto};
 ghost use Rattle.lexical.specs.Plain.{plain};
+ghost use Rattle.lexical.specs.Short.{near};
 
 fn count(kind: u8) -> usize
     ensures { λ r. ⌜ r ≡ kind ⌝ }
@@ -128,6 +129,39 @@ pub fn literal_length(s: &[u8], start: usize) -> usize
         return e - (start + 1);
     }
     units_length(s, start)
+}
+
+// Does a quote behind a byte other than a backslash stand before `end`, and no more than `most` bytes from `start` to there?
+fn is_near(s: &[u8], start: usize, end: usize, most: usize) -> bool
+    ensures { λ r. ⌜ r ≡ near (now (s .entry)) start end most ⌝ }
+{
+    if s.len() < end {
+        return false;
+    }
+    if end <= start {
+        return false;
+    }
+    if most < end - start {
+        return false;
+    }
+    if end - start < 2 {
+        return false;
+    }
+    if s[end - 1] != b'"' {
+        return false;
+    }
+    s[end - 2] != b'\\'
+}
+
+// Does the literal from `start` to `end` give at most so many bytes? It is decoded only where its end does not tell.
+pub fn is_short(s: &[u8], start: usize, end: usize, most: usize) -> bool
+    ensures { λ r. ⌜ r ≡ leb (length (decodedAt (now (s .entry)) start)) most ⌝ }
+{
+    if is_near(s, start, end, most) {
+        return true;
+    }
+    let n = literal_length(s, start);
+    n <= most
 }
 
 // Writes what the units from `from` on give into buf, from `at` on.
