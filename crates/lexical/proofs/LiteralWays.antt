@@ -19,12 +19,12 @@ use Rattle.lexical.specs.UnitLaws.{unit-moves}
 use Rattle.lexical.specs.Literal.{units, unitsAt, given, literalEnd, decodedAt}
 use Rattle.lexical.specs.LiteralLaws.{units-more, units-last, units-end}
 use Rattle.lexical.specs.Decode.{Ran, ran, decodeInto}
-use Rattle.text.specs.Scan.{past}
+use Rattle.text.specs.Scan.{past, past-end}
 use Rattle.text.specs.Copy.{Copied, copied, put, copyAt}
 use Rattle.lexical.specs.Bounds.{past-from}
 use Rattle.lexical.specs.DecodeLaws.{decode-fits, decode-full}
-use Rattle.lexical.specs.Short.{near, near-short}
-use Rattle.lexical.specs.Plain.{plain, end-plain, quote-within, end-quote, given-plain}
+use Rattle.lexical.specs.Short.{near, near-short, sized}
+use Rattle.lexical.specs.Plain.{plain, bareEnd, end-plain, quote-within, end-quote, given-plain}
 
 module _ (s : List ℕ) (i : ℕ) (u : Unit) (ue : u ≡ unitAt s i) where
   -- the units from here, by the unit at hand
@@ -260,5 +260,31 @@ module _ (s : List ℕ) (start end most : ℕ) where
     pub short-near : t ≡ true → true ≡ leb (length (decodedAt s start)) most
     short-near h = sym (le-leb _ _ (near-short s start end most (sym te ∙ h)))
 
+    pub sized-near : (b : ℕ) (r : Bool) → t ≡ true → b ≡ getD s (start + 1) 0 → r ≡ plain b → r ≡ sized s start end most
+    unfolding sized
+    sized-near b r h be re = simp (sym te, h, sym be) re
+
+    pub sized-far : t ≡ false → false ≡ sized s start end most
+    unfolding sized
+    sized-far h = simp (sym te, h)
+
   pub short-counted : (n : ℕ) → n ≡ length (decodedAt s start) → leb n most ≡ leb (length (decodedAt s start)) most
   short-counted n e = ap (λ (k : ℕ). leb k most) e
+
+-- where a literal of plain bytes closes
+module _ (s : List ℕ) (start : ℕ) where
+  pub bare-past : length s ≤ start → 0 ≡ bareEnd s start
+  unfolding bareEnd
+  bare-past h =
+      let p : past plain s (start + 1) ≡ start + 1 = past-end plain s (start + 1) (omega (arith, h)) in
+      let z : getD s (start + 1) 0 ≡ 0 = List·getD-eq-default s 0 (omega (arith, h)) in
+      simp (p, z)
+
+  module _ (e : ℕ) (ee : e ≡ past plain s (start + 1)) (t : Bool) (te : t ≡ eqb (getD s e 0) 34) where
+    pub bare-closed : t ≡ true → e ≡ bareEnd s start
+    unfolding bareEnd
+    bare-closed h = simp (sym ee, sym te, h)
+
+    pub bare-open : t ≡ false → 0 ≡ bareEnd s start
+    unfolding bareEnd
+    bare-open h = simp (sym ee, sym te, h)

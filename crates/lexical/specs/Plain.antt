@@ -8,13 +8,13 @@ use native.Mathlib.Numerals.{add-one}
 use lib.Dec.{eqb, ltb}
 use lib.ListN.{length, getD, take, drop}
 use lib.Seq.{drop-cons}
-use borrow.Author.Tests.{lt-leb, le-leb, eq-eqb, ltb-true, ltb-false}
+use borrow.Author.Tests.{lt-leb, le-leb, eq-eqb, eqb-true, ltb-true, ltb-false}
 use Rattle.text.specs.Choice.{pick, split, clash}
 use Rattle.text.specs.Scan.{past, past-more, past-stop, past-end}
 use Rattle.lexical.specs.Bounds.{chosen, past-from, byte-within}
 use Rattle.lexical.specs.declared.unit.Unit.{Unit}
 use Rattle.lexical.specs.Unit.{GIVES, CLOSES, gives, closes, barred, unitAt}
-use Rattle.lexical.specs.Literal.{unitsAt, closing, given, literalEnd}
+use Rattle.lexical.specs.Literal.{unitsAt, closing, given, literalEnd, decodedAt}
 use Rattle.lexical.specs.LiteralLaws.{units-more, units-last}
 
 -- neither quote nor backslash, and not barred
@@ -107,3 +107,28 @@ whole-behind (suc n) s i h =
 pub given-plain : (s : List ℕ) (i : ℕ) → getD s (past plain s i) 0 ≡ 34 → given (unitsAt s i) ≡ take (past plain s i - i) (drop i s)
 unfolding Whole
 given-plain s i = whole-behind (length s - i) s i (omega arith)
+
+-- where the literal at `start` closes, if it holds plain bytes only; else 0
+unfoldable pub bareEnd : List ℕ → ℕ → ℕ
+bareEnd s start = pick (eqb (getD s (past plain s (start + 1)) 0) 34) (past plain s (start + 1)) 0
+
+Bare : List ℕ → ℕ → ℕ → Type 0
+Bare s start e = (e ≡ 0 → ⊥) → (start + 1 ≤ e) × (e ≤ length s) × (decodedAt s start ≡ take (e - (start + 1)) (drop (start + 1) s))
+
+-- it gives the bytes up to there
+pub bare-decoded : (s : List ℕ) (start : ℕ) → (bareEnd s start ≡ 0 → ⊥)
+    → (start + 1 ≤ bareEnd s start) × (bareEnd s start ≤ length s) × (decodedAt s start ≡ take (bareEnd s start - (start + 1)) (drop (start + 1) s))
+unfolding bareEnd Bare decodedAt
+bare-decoded s start =
+    chosen (Bare s start) (eqb (getD s (past plain s (start + 1)) 0) 34) (past plain s (start + 1)) 0
+    (λ q z.
+    let e : getD s (past plain s (start + 1)) 0 ≡ 34 = eqb-true _ _ q in
+    (past-from plain s (start + 1), omega (arith, quote-within s (past plain s (start + 1)) e), given-plain s (start + 1) e))
+    (λ q z. absurd (z refl))
+
+-- a plain byte is given
+pub plain-some : (s : List ℕ) (start : ℕ) → plain (getD s (start + 1) 0) ≡ true → 1 ≤ length (decodedAt s start)
+unfolding decodedAt plain barred
+plain-some s start p =
+    let h : start + 1 < length s = byte-within s (start + 1) (λ z. clash p (rw z refl)) in
+    rw (plain-units s (start + 1) h p) (omega arith)

@@ -15,7 +15,7 @@ use Rattle.lexical.specs.UnitLaws.{Quoteless, unit-case, unit-moves}
 use Rattle.lexical.specs.Literal.{unitsAt, given, decodedAt}
 use Rattle.lexical.specs.LiteralLaws.{units-more, units-last}
 use Rattle.lexical.specs.Decoded.{given-cons}
-use Rattle.lexical.specs.Plain.{quote-units}
+use Rattle.lexical.specs.Plain.{plain, quote-units, plain-some}
 
 module _ (s : List ℕ) (j : ℕ) (q : getD s (j + 1) 0 ≡ 34) (n : getD s j 0 ≡ 92 → ⊥) where
   -- such a quote stands in no unit
@@ -84,3 +84,13 @@ near-short s start end most =
 
     last : end - start ≤ most → length (decodedAt s start) ≤ end - start → length (decodedAt s start) ≤ most
     last a b = omega (arith, a, b)
+
+-- and is the first byte plain?
+unfoldable pub sized : List ℕ → ℕ → ℕ → ℕ → Bool
+sized s start end most = pick (near s start end most) (plain (getD s (start + 1) 0)) false
+
+pub sized-length : (s : List ℕ) (start end most : ℕ) → sized s start end most ≡ true → (1 ≤ length (decodedAt s start)) × (length (decodedAt s start) ≤ most)
+unfolding sized
+sized-length s start end most =
+    chosen (λ (t : Bool). t ≡ true → (1 ≤ length (decodedAt s start)) × (length (decodedAt s start) ≤ most)) (near s start end most) _ false
+    (λ e h. (plain-some s start h, near-short s start end most e)) (λ e h. clash h refl)

@@ -409,6 +409,28 @@ fn class_of_first(b: u8) -> u8
     class_in_table(b)
 }
 
+// The class of a mark that is less common; of any other byte as before.
+fn class_of_rare(b: u8) -> u8
+    ensures { λ r. ⌜ r ≡ classOf b ⌝ }
+{
+    if b == b'{' {
+        return kind::OPEN_BRACE;
+    }
+    if b == b'}' {
+        return kind::CLOSE_BRACE;
+    }
+    if b == b'/' {
+        return kind::DIVIDE;
+    }
+    if b == b'%' {
+        return kind::REMAINDER;
+    }
+    if b == b'^' {
+        return kind::POWER;
+    }
+    class_of_first(b)
+}
+
 // The class of a byte: common marks are told by comparisons.
 pub fn class_of(b: u8) -> u8
     ensures { λ r. ⌜ r ≡ classOf b ⌝ }
@@ -440,5 +462,5 @@ pub fn class_of(b: u8) -> u8
     if b == b'*' {
         return kind::TIMES;
     }
-    class_of_first(b)
+    class_of_rare(b)
 }

@@ -1,4 +1,5 @@
 // Literals: where one ends, how long it is decoded, and its decoding into a lent buffer.
+use crate::scan::byte_at;
 use crate::unit::CLOSES;
 use crate::unit::GIVES;
 use crate::unit::is_barred;
@@ -12,8 +13,8 @@ ghost use lib.Seq.{sets};
 ghost use Rattle.text.specs.Scan.{past};
 ghost use Rattle.lexical.specs.Literal.{literalEnd, decodedAt, unitsAt, given};
 ghost use Rattle.lexical.specs.Decode.{ran, decodeInto};
-ghost use Rattle.lexical.specs.Plain.{plain};
-ghost use Rattle.lexical.specs.Short.{near};
+ghost use Rattle.lexical.specs.Plain.{plain, bareEnd};
+ghost use Rattle.lexical.specs.Short.{near, sized};
 
 fn count(kind: u8) -> usize
     ensures { λ r. ⌜ r ≡ kind ⌝ }
@@ -162,6 +163,30 @@ pub fn is_short(s: &[u8], start: usize, end: usize, most: usize) -> bool
     }
     let n = literal_length(s, start);
     n <= most
+}
+
+// Is it plain that the literal from `start` to `end` gives a byte, and at most so many?
+pub fn is_sized(s: &[u8], start: usize, end: usize, most: usize) -> bool
+    ensures { λ r. ⌜ r ≡ sized (now (s .entry)) start end most ⌝ }
+{
+    if is_near(s, start, end, most) {
+        return is_plain(byte_at(s, start, 1));
+    }
+    false
+}
+
+// Where the literal at `start` closes, if it holds plain bytes only; else 0.
+pub fn bare_end(s: &[u8], start: usize) -> usize
+    ensures { λ r. ⌜ r ≡ bareEnd (now (s .entry)) start ⌝ }
+{
+    if s.len() <= start {
+        return 0;
+    }
+    let e = plain_end(s, start + 1);
+    if closes_at(s, e) {
+        return e;
+    }
+    0
 }
 
 // Writes what the units from `from` on give into buf, from `at` on.
