@@ -7,6 +7,7 @@ use lib.ListN.{length, set}
 use borrow.Author.Tests.{lt-ltb, le-ltb, le-leb, lt-leb, eq-eqb, ne-eqb}
 use Rattle.lexical.specs.Kind
 use Rattle.lexical.specs.Line.{tokenAt}
+use Rattle.lexical.specs.Token.{token}
 use Rattle.lexical.specs.declared.token.Token.{Token}
 use Rattle.syntax.specs.Op
 use Rattle.syntax.specs.Code.{entry}
@@ -92,6 +93,16 @@ module _ (m : List ℕ) (top op sort place : ℕ) (next : Token) (w : ℕ) (we :
   pub finish-not : f ≡ false → (r : Out) → r ≡ refused next → ran r m ≡ finishAt m top op sort place next
   unfolding finishAt
   finish-not h r e = simp (sym we, sym fe, h, e)
+
+module _ (m : List ℕ) (top op sort place : ℕ) (next : Token) (h : sort < TRUE) (w : ℕ) (we : w ≡ operandOf op) where
+  pub finish-wrong : (sort ≡ w → ⊥) → (r : Out) → r ≡ refused next → ran r m ≡ finishAt m top op sort place next
+  unfolding finishAt fits
+  finish-wrong n r e = simp (sym we, ne-eqb _ _ n, lt-ltb _ _ h, e)
+
+  pub finish-quick : sort ≡ w → (v x : ℕ) (c : List ℕ) → v ≡ above m top → c ≡ put m top op 0 → x ≡ resultOf op
+      → ran (Found x 0 v (token (next .kind) (next .start) (next .end))) c ≡ finishAt m top op sort place next
+  unfolding finishAt fits settled settledTop
+  finish-quick e v x c ve ce xe = simp (sym we, eq-eqb _ _ e, lt-ltb _ _ h, sym ve, sym ce, sym xe)
 
 module _ (s m : List ℕ) (top op : ℕ) (t : Token) where
   pub ended-not : (t .kind ≡ Kind.SEMICOLON → ⊥) → (r : Out) → r ≡ refused t → ran r m ≡ endedAt s m top op t

@@ -4,7 +4,8 @@ use mathlib.Core.Bool.{Bool, true, false}
 use mathlib.Core.List.{List}
 use Prim.Native.Nat.{ℕ, _<_, _≤_}
 use lib.ListN.{length}
-use borrow.Author.Tests.{lt-ltb, le-ltb, le-leb, lt-leb, eq-eqb, ne-eqb}
+use lib.Dec.{leb}
+use borrow.Author.Tests.{lt-ltb, le-ltb, le-leb, lt-leb, leb-true, leb-false, eq-eqb, ne-eqb}
 use Rattle.lexical.specs.Kind
 use Rattle.lexical.specs.Literal.{decodedAt}
 use Rattle.lexical.specs.Number.{LIMIT, numberAt}
@@ -38,15 +39,15 @@ module _ (s : List ℕ) (want start end : ℕ) where
       word-other h = simp (eq-eqb _ _ w, sym te, tn, sym fe, h)
 
 module _ (s m : List ℕ) (top : ℕ) (t : Token) where
-  module _ (n : ℕ) (ne : n ≡ length (decodedAt s (t .start))) where
-    pub literal-long : 2048 < n → ran (Aside 7 (t .start)) m ≡ literalRead s m top t
-    unfolding literalRead
-    literal-long h = simp (sym ne, lt-ltb _ _ h)
-
-    pub literal-made : n ≤ 2048 → (u : ℕ) (b : List ℕ) (x : Token) → u ≡ above m top → b ≡ put m top Op.LITERAL (t .start) → x ≡ nextAt s (t .end)
+  module _ (f : Bool) (fe : f ≡ leb (length (decodedAt s (t .start))) 2048) where
+    pub literal-made : f ≡ true → (u : ℕ) (b : List ℕ) (x : Token) → u ≡ above m top → b ≡ put m top Op.LITERAL (t .start) → x ≡ nextAt s (t .end)
         → ran (Found TEXT 0 u x) b ≡ literalRead s m top t
     unfolding literalRead
-    literal-made h u b x ue be xe = simp (sym ne, le-ltb _ _ h, sym ue, sym be, sym xe)
+    literal-made h u b x ue be xe = simp (le-ltb _ _ (leb-true (length (decodedAt s (t .start))) 2048 (sym fe ∙ h)), sym ue, sym be, sym xe)
+
+    pub literal-long : f ≡ false → ran (Aside 7 (t .start)) m ≡ literalRead s m top t
+    unfolding literalRead
+    literal-long h = simp (lt-ltb _ _ (leb-false (length (decodedAt s (t .start))) 2048 (sym fe ∙ h)))
 
   module _ (v : ℕ) (ve : v ≡ numberAt s (t .start) (t .end)) where
     pub digits-large : LIMIT ≤ v → ran (Aside 5 (t .start)) m ≡ digitsRead s m top t

@@ -1,11 +1,13 @@
 -- The ways out of the functions of `table` that go by a called function. Assumes nothing.
 use mathlib.Core.Path.{_≡_, sym, _∙_, ap}
 use mathlib.Core.Bool.{Bool, true, false}
-use Prim.Native.Nat.{ℕ, _+_}
+use Prim.Native.Nat.{ℕ, _+_, _≤_, _<_}
+use native.Mathlib.Omega.{arith}
 use lib.Dec.{eqb, ltb}
-use borrow.Author.Tests.{eq-eqb, ne-eqb}
+use borrow.Author.Tests.{lt-ltb, le-ltb, eq-eqb, ne-eqb}
 use Rattle.text.specs.Choice.{pick, split}
 use Rattle.lexical.specs.Kind
+use Rattle.syntax.specs.Op
 use Rattle.conditions.specs.Table
 
 module _ (want k : ℕ) (o : k ≡ Kind.OPEN → ⊥) (n : k ≡ Kind.NOT → ⊥) (w : want ≡ Table.TEXT → ⊥) (a : Bool) (ae : a ≡ Table.beginsNumber k) where
@@ -82,3 +84,89 @@ module _ (op l : ℕ) (le : l ≡ Table.levelOf op) where
 pub loose-none : (level op : ℕ) → op ≡ Table.NONE → true ≡ pick (Table.binds level op) false true
 unfolding Table.binds
 loose-none level op h = simp (eq-eqb _ _ h)
+
+-- the levels, operands and results of operators by where they stand in the list of them
+module _ (op : ℕ) where
+  module _ (h : Op.MINUS < op) where
+    pub level-comparison : op < Op.BOTH → 2 ≡ Table.levelOf op
+    unfolding Table.levelOf
+    level-comparison l =
+        simp (ne-eqb op Op.EITHER (λ z. let no : ⊥ = omega (arith, l, z) in no), ne-eqb op Op.BOTH (λ z. let no : ⊥ = omega (arith, l, z) in no), lt-ltb _ _ h)
+
+    pub level-other : (op ≡ Op.BOTH → ⊥) → (op ≡ Op.EITHER → ⊥) → 2 ≡ Table.levelOf op
+    unfolding Table.levelOf
+    level-other b e = simp (ne-eqb _ _ e, ne-eqb _ _ b, lt-ltb _ _ h)
+
+    not-opposite : eqb op Op.OPPOSITE ≡ false
+    not-opposite = ne-eqb op Op.OPPOSITE (λ z. let no : ⊥ = omega (arith, h, z) in no)
+
+    pub operand-test : Op.AT-LEAST < op → Table.TEST ≡ Table.operandOf op
+    unfolding Table.operandOf
+    operand-test l = simp (not-opposite, lt-ltb _ _ l)
+
+    module _ (l : op ≤ Op.AT-LEAST) where
+      pub operand-compared : Op.TEXT-AT-LEAST < op → Table.NUMBER ≡ Table.operandOf op
+      unfolding Table.operandOf
+      operand-compared m = simp (not-opposite, le-ltb _ _ l, lt-ltb _ _ m)
+
+      pub operand-matched : op ≤ Op.TEXT-AT-LEAST → Table.TEXT ≡ Table.operandOf op
+      unfolding Table.operandOf
+      operand-matched m = simp (not-opposite, le-ltb _ _ l, le-ltb _ _ m, lt-ltb _ _ h)
+
+  module _ (h : op ≤ Op.MINUS) where
+    few : (k : ℕ) → Op.MINUS < k → eqb op k ≡ false
+    few k l = ne-eqb op k (λ z. let no : ⊥ = omega (arith, h, l, z) in no)
+
+    pub level-sum : Op.REMAINDER < op → 3 ≡ Table.levelOf op
+    unfolding Table.levelOf
+    level-sum l =
+        simp (
+          few Op.EITHER (omega arith),
+          few Op.BOTH (omega arith),
+          le-ltb _ _ h,
+          ne-eqb op Op.POWER (λ z. let no : ⊥ = omega (arith, l, z) in no),
+          ne-eqb op Op.JOIN (λ z. let no : ⊥ = omega (arith, l, z) in no),
+          le-ltb op Op.PLUS (omega (arith, l)),
+        )
+
+    pub level-product : op ≤ Op.REMAINDER → (op ≡ Op.POWER → ⊥) → (op ≡ Op.JOIN → ⊥) → 4 ≡ Table.levelOf op
+    unfolding Table.levelOf
+    level-product l p j = simp (few Op.EITHER (omega arith), few Op.BOTH (omega arith), le-ltb _ _ h, ne-eqb _ _ p, ne-eqb _ _ j, lt-ltb op Op.PLUS (omega (arith, l)))
+
+    pub operand-sum : Op.JOIN < op → Table.NUMBER ≡ Table.operandOf op
+    unfolding Table.operandOf
+    operand-sum l =
+        simp (
+          ne-eqb op Op.OPPOSITE (λ z. let no : ⊥ = omega (arith, l, z) in no),
+          ne-eqb op Op.NEGATE (λ z. let no : ⊥ = omega (arith, l, z) in no),
+          le-ltb Op.AT-LEAST op (omega (arith, h)),
+          le-ltb Op.TEXT-AT-LEAST op (omega (arith, h)),
+          le-ltb _ _ h,
+          lt-ltb _ _ l,
+        )
+
+    pub operand-plain : op ≤ Op.JOIN → (op ≡ Op.NEGATE → ⊥) → (op ≡ Op.OPPOSITE → ⊥) → Table.TEXT ≡ Table.operandOf op
+    unfolding Table.operandOf
+    operand-plain l n o =
+        simp (ne-eqb _ _ o, ne-eqb _ _ n, le-ltb Op.AT-LEAST op (omega (arith, h)), le-ltb Op.TEXT-AT-LEAST op (omega (arith, h)), le-ltb _ _ h, le-ltb _ _ l)
+
+    pub result-sum : Op.JOIN < op → Table.NUMBER ≡ Table.resultOf op
+    unfolding Table.resultOf
+    result-sum l =
+        simp (
+          le-ltb _ _ h,
+          ne-eqb op Op.OPPOSITE (λ z. let no : ⊥ = omega (arith, l, z) in no),
+          ne-eqb op Op.LOOKUP (λ z. let no : ⊥ = omega (arith, l, z) in no),
+          ne-eqb op Op.JOIN (λ z. let no : ⊥ = omega (arith, l, z) in no),
+        )
+
+-- and of one that is known
+module _ (k op : ℕ) (h : op ≡ k) where
+  pub level-known : Table.levelOf k ≡ Table.levelOf op
+  level-known = ap Table.levelOf (sym h)
+
+  pub operand-known : Table.operandOf k ≡ Table.operandOf op
+  operand-known = ap Table.operandOf (sym h)
+
+  pub result-known : Table.resultOf k ≡ Table.resultOf op
+  result-known = ap Table.resultOf (sym h)

@@ -85,6 +85,9 @@ pub fn settle_for(code: &mut [u32], top: usize, op: u32, sort: u8, place: usize)
     ensures { λ r. ⌜ r ≡ settledTop (now (code .entry)) top sort ⌝ }
     ensures { λ _. ⌜ now (code .exit) ≡ settled (now (code .entry)) top (operandOf op) sort place ⌝ }
 {
+    if sort < TRUE {
+        return top;
+    }
     let w = operand_of(op);
     settle(code, top, w, sort, place)
 }
@@ -100,7 +103,7 @@ pub fn unexpected(t: Token) -> Out
 }
 
 // Writes an operator behind its last operand.
-pub fn finish(code: &mut [u32], top: usize, op: u32, sort: u8, place: usize, next: Token) -> Out
+pub fn finish_any(code: &mut [u32], top: usize, op: u32, sort: u8, place: usize, next: Token) -> Out
     ensures { λ r. ⌜ ran r (now (code .exit)) ≡ finishAt (now (code .entry)) top op sort place next ⌝ }
 {
     let w = operand_of(op);
@@ -115,6 +118,29 @@ pub fn finish(code: &mut [u32], top: usize, op: u32, sort: u8, place: usize, nex
         };
     }
     unexpected(next)
+}
+
+// The same, at once where the operand is no bare word.
+pub fn finish(code: &mut [u32], top: usize, op: u32, sort: u8, place: usize, next: Token) -> Out
+    ensures { λ r. ⌜ ran r (now (code .exit)) ≡ finishAt (now (code .entry)) top op sort place next ⌝ }
+{
+    if TRUE <= sort {
+        return finish_any(code, top, op, sort, place, next);
+    }
+    if sort != operand_of(op) {
+        return unexpected(next);
+    }
+    let v = push(code, top, op, 0);
+    Out::Found {
+        sort: result_of(op),
+        place: 0,
+        top: v,
+        next: Token {
+            kind: next.kind,
+            start: next.start,
+            end: next.end,
+        },
+    }
 }
 
 // Writes the end of a clause, before the token t, which ends it.

@@ -2,6 +2,7 @@
 use crate::emit::Out;
 use crate::emit::closed;
 use crate::emit::finish;
+use crate::emit::finish_any;
 use crate::emit::settle_for;
 use crate::emit::unexpected;
 use crate::leaf::ROW;
@@ -126,7 +127,7 @@ fn prefixed(
             place,
             top: u,
             next,
-        } => finish(code, u, op, sort, place, next),
+        } => finish_any(code, u, op, sort, place, next),
     }
 }
 

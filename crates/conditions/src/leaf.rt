@@ -8,7 +8,7 @@ use crate::table::TEXT;
 use crate::table::TRUE;
 use lexical::kind;
 use lexical::line::token_at;
-use lexical::literal::literal_length;
+use lexical::literal::is_short;
 use lexical::number::LIMIT;
 use lexical::number::number_at;
 use lexical::token::Token;
@@ -29,20 +29,19 @@ pub const ROW: usize = 16;
 fn literal(s: &[u8], code: &mut [u32], top: usize, t: Token) -> Out
     ensures { λ r. ⌜ ran r (now (code .exit)) ≡ literalRead (now (s .entry)) (now (code .entry)) top t ⌝ }
 {
-    let n = literal_length(s, t.start);
-    if LONGEST < n {
-        return Out::Aside {
-            reason: 7,
-            at: t.start,
+    if is_short(s, t.start, t.end, LONGEST) {
+        let u = push(code, top, syntax::LITERAL, t.start);
+        let next = token_at(s, kind::IN_FIELD, t.end);
+        return Out::Found {
+            sort: TEXT,
+            place: 0,
+            top: u,
+            next,
         };
     }
-    let u = push(code, top, syntax::LITERAL, t.start);
-    let next = token_at(s, kind::IN_FIELD, t.end);
-    Out::Found {
-        sort: TEXT,
-        place: 0,
-        top: u,
-        next,
+    Out::Aside {
+        reason: 7,
+        at: t.start,
     }
 }
 

@@ -228,14 +228,20 @@ pub fn level_of(op: u32) -> u8
     ensures { λ r. ⌜ r ≡ levelOf op ⌝ }
     ensures { λ r. ⌜ r < 6 ⌝ }
 {
-    if op == syntax::EITHER {
-        return 0;
-    }
-    if op == syntax::BOTH {
-        return 1;
-    }
     if syntax::MINUS < op {
+        if op < syntax::BOTH {
+            return 2;
+        }
+        if op == syntax::BOTH {
+            return 1;
+        }
+        if op == syntax::EITHER {
+            return 0;
+        }
         return 2;
+    }
+    if syntax::REMAINDER < op {
+        return 3;
     }
     if op == syntax::POWER {
         return 5;
@@ -243,33 +249,30 @@ pub fn level_of(op: u32) -> u8
     if op == syntax::JOIN {
         return 3;
     }
-    if op < syntax::PLUS {
-        return 4;
-    }
-    3
+    4
 }
 
 // What an operator takes.
 pub fn operand_of(op: u32) -> u8
     ensures { λ r. ⌜ r ≡ operandOf op ⌝ }
 {
-    if op == syntax::OPPOSITE {
-        return TEST;
-    }
-    if syntax::AT_LEAST < op {
-        return TEST;
-    }
-    if syntax::TEXT_AT_LEAST < op {
-        return NUMBER;
-    }
     if syntax::MINUS < op {
+        if syntax::AT_LEAST < op {
+            return TEST;
+        }
+        if syntax::TEXT_AT_LEAST < op {
+            return NUMBER;
+        }
         return TEXT;
+    }
+    if syntax::JOIN < op {
+        return NUMBER;
     }
     if op == syntax::NEGATE {
         return NUMBER;
     }
-    if syntax::JOIN < op {
-        return NUMBER;
+    if op == syntax::OPPOSITE {
+        return TEST;
     }
     TEXT
 }
@@ -280,6 +283,9 @@ pub fn result_of(op: u32) -> u8
 {
     if syntax::MINUS < op {
         return TEST;
+    }
+    if syntax::JOIN < op {
+        return NUMBER;
     }
     if op == syntax::OPPOSITE {
         return TEST;

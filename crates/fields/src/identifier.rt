@@ -4,10 +4,13 @@ use crate::out::word;
 use expression::name::attribute;
 use expression::name::find;
 use lexical::kind;
+use lexical::literal::bare_end;
 use lexical::literal::decode_into;
+use lexical::literal::is_sized;
 use lexical::literal::literal_length;
 use lexical::token::Token;
 ghost use mathlib.Core.Path.{_≡_};
+ghost use lib.ListN.{length};
 ghost use Rattle.lexical.specs.Literal.{decodedAt};
 ghost use Rattle.fields.specs.Identifier.{sizeFault};
 ghost use Rattle.fields.specs.Working.Identifying.{entry, nameFaultIn, faultIn, enterIn, literalIn, tokenIn};
@@ -49,13 +52,23 @@ fn name_fault(consts: &[u8], constants: &[usize], name: &[u8]) -> u8
     size_fault(value.len())
 }
 
+// The reason against a literal from start to end, or 0.
+fn literal_fault(s: &[u8], start: usize, end: usize) -> u8
+    ensures { λ r. ⌜ r ≡ sizeFault (length (decodedAt (now (s .entry)) start)) ⌝ }
+{
+    if is_sized(s, start, end, MOST_IDENTIFIER) {
+        return 0;
+    }
+    let n = literal_length(s, start);
+    size_fault(n)
+}
+
 // The reason against t as an identifier, or 0.
 pub fn identifier_fault(s: &[u8], consts: &[u8], constants: &[usize], t: Token) -> u8
     ensures { λ r. ⌜ r ≡ faultIn (now (s .entry)) (now (consts .entry)) (now (constants .entry)) t ⌝ }
 {
     if t.kind == kind::LITERAL {
-        let n = literal_length(s, t.start);
-        return size_fault(n);
+        return literal_fault(s, t.start, t.end);
     }
     if t.kind == kind::NAME {
         let name = word(s, t);
@@ -86,8 +99,8 @@ pub fn enter(pool: &mut [u8], places: &mut [usize], count: usize, end: usize, id
     }
 }
 
-// Enters what the literal at `start` gives.
-fn enter_literal(
+// Enters what the literal at `start` gives, decoded apart.
+fn enter_decoded(
     s: &[u8],
     pool: &mut [u8],
     places: &mut [usize],
@@ -106,6 +119,27 @@ fn enter_literal(
         return enter(pool, places, count, end, &id[..n]);
     }
     Entry::Full
+}
+
+// Enters what the literal at `start` gives; one of plain bytes as it stands.
+fn enter_literal(
+    s: &[u8],
+    pool: &mut [u8],
+    places: &mut [usize],
+    count: usize,
+    end: usize,
+    start: usize,
+) -> Entry
+    ensures { λ r. ⌜ entry r (now (pool .exit)) (now (places .exit)) ≡ literalIn (now (pool .entry)) (now (places .entry)) count end (decodedAt (now (s .entry)) start) ⌝ }
+{
+    let e = bare_end(s, start);
+    if e == 0 {
+        return enter_decoded(s, pool, places, count, end, start);
+    }
+    if MOST_IDENTIFIER < e - (start + 1) {
+        return Entry::Full;
+    }
+    enter(pool, places, count, end, &s[start + 1..e])
 }
 
 // Enters the principal that t identifies.

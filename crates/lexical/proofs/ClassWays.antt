@@ -1,8 +1,10 @@
 -- The ways out of the functions of `class`. Assumes nothing.
-use mathlib.Core.Path.{_≡_, sym, _∙_}
+use mathlib.Core.Path.{_≡_, refl, sym, ap, _∙_}
 use mathlib.Core.Bool.{Bool, true, false}
-use Prim.Native.Nat.{ℕ, _<_}
+use Prim.Native.Nat.{ℕ, _≤_, _<_}
+use native.Mathlib.Omega.{arith}
 use lib.Dec.{eqb}
+use borrow.Author.Tests.{le-leb, lt-leb, ne-eqb}
 use Rattle.lexical.specs.Class.{classOf, within, BLANK, NEWLINE, LETTER, DIGIT, QUOTE, HASH}
 use Rattle.lexical.specs.Runs.{blank, letter, numeral, blank-class, letter-class, numeral-class, newline-class, quote-class, hash-class}
 
@@ -44,3 +46,40 @@ module _ (b : ℕ) (h : b < 256) where
 
     pub has-digit : r ≡ numeral b → r ≡ eqb (classOf b) DIGIT
     has-digit e = e ∙ numeral-class b h
+
+-- a letter by its place among the bytes
+module _ (b : ℕ) (h : b < 256) where
+  module _ (l : b < 65) where
+    low : false ≡ letter b
+    unfolding letter
+    low = simp (lt-leb 97 b (omega (arith, l)), lt-leb 65 b l, ne-eqb b 95 (λ z. let no : ⊥ = omega (arith, l, z) in no))
+
+    pub name-low : false ≡ eqb (classOf b) LETTER
+    name-low = has-letter b h false low
+
+  module _ (l : 122 < b) where
+    high : false ≡ letter b
+    unfolding letter
+    high =
+        simp (lt-leb b 122 l, lt-leb b 90 (omega (arith, l)), ne-eqb b 95 (λ z. let no : ⊥ = omega (arith, l, z) in no), le-leb 97 b (omega (arith, l)), le-leb 65 b (omega (arith, l)))
+
+    pub name-high : false ≡ eqb (classOf b) LETTER
+    name-high = has-letter b h false high
+
+  module _ (l : 97 ≤ b) (u : b ≤ 122) where
+    pub name-small : true ≡ eqb (classOf b) LETTER
+    name-small = has-letter b h true (letter-small b true (simp (le-leb _ _ l, le-leb _ _ u)) refl)
+
+  module _ (m : b < 97) where
+    past-small : false ≡ within 97 122 b
+    past-small = simp (lt-leb _ _ m)
+
+    pub name-capital : 65 ≤ b → b ≤ 90 → true ≡ eqb (classOf b) LETTER
+    name-capital l u = has-letter b h true (letter-capital b false past-small refl true (simp (le-leb _ _ l, le-leb _ _ u)) refl)
+
+    pub name-bar : 90 < b → eqb b 95 ≡ eqb (classOf b) LETTER
+    name-bar l = has-letter b h (eqb b 95) (letter-bar b false past-small refl false (simp (le-leb 65 b (omega (arith, l)), lt-leb _ _ l)) refl)
+
+-- the class of a byte that is known
+pub class-at : (k b : ℕ) → b ≡ k → classOf k ≡ classOf b
+class-at k b h = ap classOf (sym h)

@@ -1,6 +1,6 @@
 -- The ways out of the functions of `literal`. Assumes nothing.
 use mathlib.Core.Path.{_≡_, refl, sym, ap, _∙_}
-use mathlib.Core.Bool.{true, false}
+use mathlib.Core.Bool.{Bool, true, false}
 use mathlib.Core.List.{List, [], _∷_}
 use Prim.Native.Nat.{ℕ, _+_, _-_, _≤_, _<_, _^_}
 use native.Mathlib.Omega.{arith}
@@ -8,17 +8,23 @@ use native.Mathlib.Nat.{lt-of-le-of-lt}
 use mir.Syntax.{w64}
 use mir.Val.{Fits}
 use native.Mathlib.Numerals.{add-one}
-use lib.Dec.{eqb}
-use lib.ListN.{length, set, length-set}
-use lib.Seq.{sets}
-use borrow.Author.Tests.{eqb-true, eqb-false, lt-ltb, le-ltb, eq-eqb, ne-eqb}
+use lib.Dec.{eqb, leb}
+use lib.ListN.{length, getD, set, take, drop, length-set, length-drop, List·getD-eq-default}
+use lib.Seq.{sets, length-take-le}
+use borrow.Author.Tests.{eqb-true, eqb-false, leb-true, leb-false, lt-ltb, le-ltb, le-leb, eq-eqb, ne-eqb}
 use Rattle.text.specs.Choice.{split}
 use Rattle.lexical.specs.declared.unit.Unit.{Unit}
-use Rattle.lexical.specs.Unit.{GIVES, CLOSES, unitAt}
+use Rattle.lexical.specs.Unit.{GIVES, CLOSES, barred, unitAt}
 use Rattle.lexical.specs.UnitLaws.{unit-moves}
 use Rattle.lexical.specs.Literal.{units, unitsAt, given, literalEnd, decodedAt}
 use Rattle.lexical.specs.LiteralLaws.{units-more, units-last, units-end}
-use Rattle.lexical.specs.Decode.{ran, decodeInto}
+use Rattle.lexical.specs.Decode.{Ran, ran, decodeInto}
+use Rattle.text.specs.Scan.{past, past-end}
+use Rattle.text.specs.Copy.{Copied, copied, put, copyAt}
+use Rattle.lexical.specs.Bounds.{past-from}
+use Rattle.lexical.specs.DecodeLaws.{decode-fits, decode-full}
+use Rattle.lexical.specs.Short.{near, near-short, sized}
+use Rattle.lexical.specs.Plain.{plain, bareEnd, end-plain, quote-within, end-quote, given-plain}
 
 module _ (s : List ℕ) (i : ℕ) (u : Unit) (ue : u ≡ unitAt s i) where
   -- the units from here, by the unit at hand
@@ -165,3 +171,120 @@ module _ (s : List ℕ) (start : ℕ) (m : List ℕ) (at n : ℕ) (ne : n ≡ le
       pub into-all : (b : List ℕ) → b ≡ sets m at (given (unitsAt s (start + 1))) → ran true b ≡ decodeInto s start m at
       unfolding decodeInto decodedAt
       into-all b e = simp (le-ltb _ _ h, sym ne, le-ltb _ _ k, sym e)
+
+-- whether a byte stands as it is in a literal
+module _ (b : ℕ) where
+  pub plain-slash : b ≡ 92 → false ≡ plain b
+  unfolding plain
+  plain-slash h = rw h refl
+
+  pub plain-quote : b ≡ 34 → false ≡ plain b
+  unfolding plain
+  plain-quote h = rw h refl
+
+  module _ (n : b ≡ 92 → ⊥) where
+    module _ (q : b ≡ 34 → ⊥) where
+      pub plain-bar : (t : Bool) → t ≡ barred b → t ≡ true → false ≡ plain b
+      unfolding plain
+      plain-bar t te h = simp (ne-eqb _ _ q, ne-eqb _ _ n, sym te, h)
+
+      pub plain-low : (t : Bool) → t ≡ barred b → t ≡ false → true ≡ plain b
+      unfolding plain
+      plain-low t te h = simp (ne-eqb _ _ q, ne-eqb _ _ n, sym te, h)
+
+      pub plain-middle : 13 < b → true ≡ plain b
+      unfolding barred
+      plain-middle h =
+          let z : b ≡ 0 → ⊥ = λ e. let no : ⊥ = omega (arith, h, e) in no in
+          let l : b ≡ 10 → ⊥ = λ e. let no : ⊥ = omega (arith, h, e) in no in
+          let r : b ≡ 13 → ⊥ = λ e. let no : ⊥ = omega (arith, h, e) in no in
+          plain-low false (simp (ne-eqb _ _ z, ne-eqb _ _ l, ne-eqb _ _ r)) refl
+
+    pub plain-high : 34 < b → true ≡ plain b
+    plain-high h = plain-middle (λ e. let no : ⊥ = omega (arith, h, e) in no) (omega (arith, h))
+
+pub closes-not : (s : List ℕ) (i : ℕ) → length s ≤ i → false ≡ eqb (getD s i 0) 34
+closes-not s i h = rw (List·getD-eq-default s 0 h) refl
+
+-- a literal whose plain bytes from i on end at e
+module _ (s : List ℕ) (i e : ℕ) (ee : e ≡ past plain s i) (t : Bool) (te : t ≡ eqb (getD s e 0) 34) where
+  pub end-units : (r : ℕ) → r ≡ literalEnd s e → r ≡ literalEnd s i
+  end-units r re = re ∙ ap (literalEnd s) ee ∙ sym (end-plain s i)
+
+  module _ (h : t ≡ true) where
+    at-quote : getD s e 0 ≡ 34
+    at-quote = eqb-true _ _ (sym te ∙ h)
+
+    pub quote-fits : length s < 2 ^ 64 → Fits w64 (e + 1)
+    quote-fits l = let k : e + 1 ≤ length s = omega (arith, quote-within s e at-quote) in record { fits = lt-of-le-of-lt k l }
+
+    pub end-found : e + 1 ≡ literalEnd s i
+    end-found = end-units (e + 1) (sym (end-quote s e at-quote))
+
+    pub plain-from : i ≤ e
+    plain-from = rw ee (past-from plain s i)
+
+    pub plain-within : e ≤ length s
+    plain-within = omega (arith, quote-within s e at-quote)
+
+    given-taken : given (unitsAt s i) ≡ take (e - i) (drop i s)
+    given-taken = rw ee (given-plain s i (rw (sym ee) at-quote))
+
+-- what was copied, as what was decoded
+toRan : Copied → Ran
+toRan (copied r b) = ran r b
+
+copied-decoded : (s : List ℕ) (start : ℕ) (m : List ℕ) (at : ℕ) → toRan (copyAt m at (decodedAt s start)) ≡ decodeInto s start m at
+unfolding toRan copyAt put
+copied-decoded s start m at =
+    split (leb (at + length (decodedAt s start)) (length m))
+    (λ e. rw e (sym (decode-fits s start m at (leb-true _ _ e)))) (λ e. rw e (sym (decode-full s start m at (leb-false _ _ e))))
+
+module _ (s : List ℕ) (start e : ℕ) (ee : e ≡ past plain s (start + 1)) (t : Bool) (te : t ≡ eqb (getD s e 0) 34) (h : t ≡ true) where
+  decoded-taken : decodedAt s start ≡ take (e - (start + 1)) (drop (start + 1) s)
+  unfolding decodedAt
+  decoded-taken = given-taken s (start + 1) e ee t te h
+
+  pub length-plain : e - (start + 1) ≡ length (decodedAt s start)
+  length-plain =
+      let l : e - (start + 1) ≤ length (drop (start + 1) s) = omega (arith, length-drop (start + 1) s, plain-within s (start + 1) e ee t te h) in
+      sym (ap length decoded-taken ∙ length-take-le (e - (start + 1)) (drop (start + 1) s) l)
+
+  pub into-plain : (m : List ℕ) (at : ℕ) (r : Bool) (b : List ℕ) → copied r b ≡ copyAt m at (take (e - (start + 1)) (drop (start + 1) s)) → ran r b ≡ decodeInto s start m at
+  unfolding toRan
+  into-plain m at r b ce = ap toRan (rw (sym decoded-taken) at ce) ∙ copied-decoded s start m at
+
+-- whether a literal is short
+module _ (s : List ℕ) (start end most : ℕ) where
+  module _ (t : Bool) (te : t ≡ near s start end most) where
+    pub short-near : t ≡ true → true ≡ leb (length (decodedAt s start)) most
+    short-near h = sym (le-leb _ _ (near-short s start end most (sym te ∙ h)))
+
+    pub sized-near : (b : ℕ) (r : Bool) → t ≡ true → b ≡ getD s (start + 1) 0 → r ≡ plain b → r ≡ sized s start end most
+    unfolding sized
+    sized-near b r h be re = simp (sym te, h, sym be) re
+
+    pub sized-far : t ≡ false → false ≡ sized s start end most
+    unfolding sized
+    sized-far h = simp (sym te, h)
+
+  pub short-counted : (n : ℕ) → n ≡ length (decodedAt s start) → leb n most ≡ leb (length (decodedAt s start)) most
+  short-counted n e = ap (λ (k : ℕ). leb k most) e
+
+-- where a literal of plain bytes closes
+module _ (s : List ℕ) (start : ℕ) where
+  pub bare-past : length s ≤ start → 0 ≡ bareEnd s start
+  unfolding bareEnd
+  bare-past h =
+      let p : past plain s (start + 1) ≡ start + 1 = past-end plain s (start + 1) (omega (arith, h)) in
+      let z : getD s (start + 1) 0 ≡ 0 = List·getD-eq-default s 0 (omega (arith, h)) in
+      simp (p, z)
+
+  module _ (e : ℕ) (ee : e ≡ past plain s (start + 1)) (t : Bool) (te : t ≡ eqb (getD s e 0) 34) where
+    pub bare-closed : t ≡ true → e ≡ bareEnd s start
+    unfolding bareEnd
+    bare-closed h = simp (sym ee, sym te, h)
+
+    pub bare-open : t ≡ false → 0 ≡ bareEnd s start
+    unfolding bareEnd
+    bare-open h = simp (sym ee, sym te, h)

@@ -10,7 +10,7 @@ use mir.Val.{Fits}
 use lib.Dec.{eqb, ltb}
 use lib.ListN.{length, getD}
 use borrow.Author.Tests.{lt-ltb, le-leb, lt-leb, eq-eqb, ne-eqb, ltb-true, ltb-false}
-use Rattle.text.specs.Choice.{split}
+use Rattle.text.specs.Choice.{split, clash}
 use Rattle.text.specs.Scan.{past}
 use Rattle.lexical.specs.Kind
 use Rattle.lexical.specs.Class.{classOf, LETTER, DIGIT, QUOTE}
@@ -19,6 +19,8 @@ use Rattle.lexical.specs.Operator.{operatorKind}
 use Rattle.lexical.specs.Literal.{literalEnd}
 use Rattle.lexical.specs.declared.token.Token.{Token}
 use Rattle.lexical.specs.Token.{token, illegalAt, widthOf, operatorAt, operatorToken, literalToken, floatEnd, numberToken, tokenFrom}
+use Rattle.lexical.specs.Bounds.{byte-within}
+use Rattle.lexical.specs.Lone.{lone, lone-kind, lone-width}
 use Rattle.lexical.specs.KindLaws.{Wide, operator-wide}
 use Rattle.lexical.proofs.LiteralWays.{end-end}
 
@@ -43,27 +45,57 @@ module _ (s : List ℕ) (mode i k w : ℕ) (ke : k ≡ operatorAt s mode i) (we 
   unfolding operatorToken
   operator-made = simp (sym ke, we)
 
-pub class-passed : (s : List ℕ) (i b c : ℕ) → c ≡ classOf b → b ≡ getD s i 0 → c ≡ classOf (getD s i 0)
-class-passed s i b c ce be = ce ∙ ap classOf be
+-- the byte at i, as it was read
+first-byte : (s : List ℕ) (i b : ℕ) → b ≡ getD s (i + 0) 0 → b ≡ getD s i 0
+first-byte s i b be = be ∙ ap (λ (j : ℕ). getD s j 0) (add-zero i)
 
-module _ (s : List ℕ) (mode i b : ℕ) (be : b ≡ getD s i 0) (t : Bool) (te : t ≡ eqb (classOf b) LETTER) where
+pub class-passed : (s : List ℕ) (i b c : ℕ) → c ≡ classOf b → b ≡ getD s (i + 0) 0 → c ≡ classOf (getD s i 0)
+class-passed s i b c ce be = ce ∙ ap classOf (first-byte s i b be)
+
+-- an operator that begins no longer one
+module _ (s : List ℕ) (i b c : ℕ) (be : b ≡ getD s (i + 0) 0) (ce : c ≡ classOf b) (l : Bool) (le : l ≡ lone c) (ly : l ≡ true) where
+  lone-here : lone (classOf (getD s i 0)) ≡ true
+  lone-here = rw (sym (class-passed s i b c ce be)) (sym le ∙ ly)
+
+  pub lone-fits : length s < 2 ^ 64 → Fits w64 (i + 1)
+  unfolding lone classOf
+  lone-fits n =
+      let k : i < length s = byte-within s i (λ z. clash lone-here (rw z refl)) in
+      let m : i + 1 ≤ length s = omega arith in
+      record { fits = lt-of-le-of-lt m n }
+
+  lone-made : (mode : ℕ) → token c i (i + 1) ≡ operatorToken s mode i
+  unfolding operatorToken operatorAt
+  lone-made mode =
+      let k : classOf (getD s i 0) ≡ operatorKind mode (classOf (getD s i 0)) (getD s (i + 1) 0) (getD s (i + 2) 0)
+      = lone-kind (classOf (getD s i 0)) lone-here mode (getD s (i + 1) 0) (getD s (i + 2) 0) in
+      simp (class-passed s i b c ce be, sym k, lone-width (classOf (getD s i 0)) lone-here)
+
+module _ (s : List ℕ) (mode i b : ℕ) (be : b ≡ getD s (i + 0) 0) (t : Bool) (te : t ≡ eqb (classOf b) LETTER) where
+  at-i : b ≡ getD s i 0
+  at-i = first-byte s i b be
+
   pub from-name : (e : ℕ) → t ≡ true → e ≡ past (inRun WORD) s i → token Kind.NAME i e ≡ tokenFrom s mode i
   unfolding tokenFrom
-  from-name e h ee = simp (sym be, sym te, h, sym ee)
+  from-name e h ee = simp (sym at-i, sym te, h, sym ee)
 
   module _ (tn : t ≡ false) (u : Bool) (ue : u ≡ eqb (classOf b) DIGIT) where
     pub from-number : (r : Token) → u ≡ true → r ≡ numberToken s i → r ≡ tokenFrom s mode i
     unfolding tokenFrom
-    from-number r h re = simp (sym be, sym te, tn, sym ue, h) re
+    from-number r h re = simp (sym at-i, sym te, tn, sym ue, h) re
 
-    module _ (un : u ≡ false) (v : Bool) (ve : v ≡ eqb (classOf b) QUOTE) (r : Token) where
-      pub from-literal : v ≡ true → r ≡ literalToken s i → r ≡ tokenFrom s mode i
+    module _ (un : u ≡ false) (v : Bool) (ve : v ≡ eqb (classOf b) QUOTE) where
+      pub from-literal : (r : Token) → v ≡ true → r ≡ literalToken s i → r ≡ tokenFrom s mode i
       unfolding tokenFrom
-      from-literal h re = simp (sym be, sym te, tn, sym ue, un, sym ve, h) re
+      from-literal r h re = simp (sym at-i, sym te, tn, sym ue, un, sym ve, h) re
 
-      pub from-operator : v ≡ false → r ≡ operatorToken s mode i → r ≡ tokenFrom s mode i
-      unfolding tokenFrom
-      from-operator h re = simp (sym be, sym te, tn, sym ue, un, sym ve, h) re
+      module _ (vn : v ≡ false) where
+        pub from-operator : (r : Token) → r ≡ operatorToken s mode i → token (r .kind) (r .start) (r .end) ≡ tokenFrom s mode i
+        unfolding tokenFrom
+        from-operator r re = simp (sym at-i, sym te, tn, sym ue, un, sym ve, vn) re
+
+        pub from-lone : (c : ℕ) (l : Bool) → c ≡ classOf b → l ≡ lone c → l ≡ true → token c i (i + 1) ≡ tokenFrom s mode i
+        from-lone c l ce le ly = from-operator (token c i (i + 1)) (lone-made s i b c be ce l le ly mode)
 
 module _ (s : List ℕ) (i : ℕ) where
   pub literal-past : length s ≤ i → illegalAt i ≡ literalToken s i

@@ -50,7 +50,7 @@ decoded-bytes s start j all = each-at (λ b. b < 256) (decodedAt s start) (each-
 Shorter : ℕ → List Unit → Type 0
 Shorter i us = (closing i us ≡ 0 → ⊥) → i + length (given us) < closing i us
 
-given-cons : (u : Unit) (us : List Unit) → length (given (u ∷ us)) ≤ suc (length (given us))
+pub given-cons : (u : Unit) (us : List Unit) → length (given (u ∷ us)) ≤ suc (length (given us))
 given-cons u us = chosen (λ (xs : List ℕ). length xs ≤ suc (length (given us))) (eqb (u .kind) GIVES) _ _ (λ e. omega arith) (λ e. omega arith)
 
 shorter-last : (i : ℕ) (u : Unit) → GIVES < u .kind → Shorter i (u ∷ [])

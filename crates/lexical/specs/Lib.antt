@@ -11,14 +11,17 @@ pub mod Bounds
 pub mod UnitLaws
 pub mod Literal
 pub mod LiteralLaws
+pub mod Plain
 pub mod Decode
 pub mod Token
 pub mod Line
 pub mod KindLaws
 pub mod TokenLaws
+pub mod Lone
 pub mod LineLaws
 pub mod Number
 pub mod Decoded
+pub mod Short
 pub mod Reason
 pub mod Between
 pub mod Tokens

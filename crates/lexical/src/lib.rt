@@ -17,6 +17,7 @@ pub use kind::mode_of;
 pub use kind::reason_of;
 pub use line::token_at;
 pub use literal::decode_into;
+pub use literal::is_short;
 pub use literal::literal_length;
 pub use number::number_at;
 pub use token::Token;

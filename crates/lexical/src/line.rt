@@ -64,7 +64,7 @@ fn visible_at(s: &[u8], mode: u8, i: usize) -> Token
     if is_hash(b) {
         return rest_of_line(s, i);
     }
-    token_from(s, mode, i, b)
+    token_from(s, mode, i)
 }
 
 // What comes next inside a line.

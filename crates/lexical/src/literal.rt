@@ -1,13 +1,20 @@
 // Literals: where one ends, how long it is decoded, and its decoding into a lent buffer.
+use crate::scan::byte_at;
 use crate::unit::CLOSES;
 use crate::unit::GIVES;
+use crate::unit::is_barred;
 use crate::unit::unit_at;
+use text::copy_at;
 ghost use mathlib.Core.Path.{_≡_};
 ghost use Prim.Native.Nat.{_+_, _≤_};
-ghost use lib.ListN.{length};
+ghost use lib.Dec.{eqb, leb};
+ghost use lib.ListN.{length, getD};
 ghost use lib.Seq.{sets};
+ghost use Rattle.text.specs.Scan.{past};
 ghost use Rattle.lexical.specs.Literal.{literalEnd, decodedAt, unitsAt, given};
 ghost use Rattle.lexical.specs.Decode.{ran, decodeInto};
+ghost use Rattle.lexical.specs.Plain.{plain, bareEnd};
+ghost use Rattle.lexical.specs.Short.{near, sized};
 
 fn count(kind: u8) -> usize
     ensures { λ r. ⌜ r ≡ kind ⌝ }
@@ -15,8 +22,55 @@ fn count(kind: u8) -> usize
     kind as usize
 }
 
-// The end of the literal whose opening quote stands before `from`; 0 where it does not close or holds something illegal.
-pub fn literal_end(s: &[u8], from: usize) -> usize
+// Does a literal hold this byte as it stands?
+fn is_plain(b: u8) -> bool
+    ensures { λ r. ⌜ r ≡ plain b ⌝ }
+{
+    if b == b'\\' {
+        return false;
+    }
+    if b'"' < b {
+        return true;
+    }
+    if b == b'"' {
+        return false;
+    }
+    if 13 < b {
+        return true;
+    }
+    if is_barred(b) {
+        return false;
+    }
+    true
+}
+
+// The end of the bytes from `from` on that a literal holds as they stand.
+fn plain_end(s: &[u8], from: usize) -> usize
+    ensures { λ r. ⌜ r ≡ past plain (now (s .entry)) from ⌝ }
+{
+    let mut i = from;
+    while i < s.len() {
+        if is_plain(s[i]) {
+            i += 1;
+        } else {
+            return i;
+        }
+    }
+    i
+}
+
+// Does a quote stand at i?
+fn closes_at(s: &[u8], i: usize) -> bool
+    ensures { λ r. ⌜ r ≡ eqb (getD (now (s .entry)) i 0) 34 ⌝ }
+{
+    if s.len() <= i {
+        return false;
+    }
+    s[i] == b'"'
+}
+
+// The end of a literal from the unit at `from` on; 0 where it does not close or holds something illegal.
+fn units_end(s: &[u8], from: usize) -> usize
     ensures { λ r. ⌜ r ≡ literalEnd (now (s .entry)) from ⌝ }
 {
     let mut i = from;
@@ -33,8 +87,19 @@ pub fn literal_end(s: &[u8], from: usize) -> usize
     0
 }
 
-// How many bytes the literal whose opening quote stands at `start` gives.
-pub fn literal_length(s: &[u8], start: usize) -> usize
+// The end of the literal whose opening quote stands before `from`; 0 where it does not close or holds something illegal.
+pub fn literal_end(s: &[u8], from: usize) -> usize
+    ensures { λ r. ⌜ r ≡ literalEnd (now (s .entry)) from ⌝ }
+{
+    let e = plain_end(s, from);
+    if closes_at(s, e) {
+        return e + 1;
+    }
+    units_end(s, e)
+}
+
+// How many bytes the units of the literal at `start` give.
+fn units_length(s: &[u8], start: usize) -> usize
     ensures { λ r. ⌜ r ≡ length (decodedAt (now (s .entry)) start) ⌝ }
 {
     if s.len() <= start {
@@ -51,6 +116,77 @@ pub fn literal_length(s: &[u8], start: usize) -> usize
         i += u.width;
     }
     n
+}
+
+// How many bytes the literal whose opening quote stands at `start` gives.
+pub fn literal_length(s: &[u8], start: usize) -> usize
+    ensures { λ r. ⌜ r ≡ length (decodedAt (now (s .entry)) start) ⌝ }
+{
+    if s.len() <= start {
+        return 0;
+    }
+    let e = plain_end(s, start + 1);
+    if closes_at(s, e) {
+        return e - (start + 1);
+    }
+    units_length(s, start)
+}
+
+// Does a quote behind a byte other than a backslash stand before `end`, and no more than `most` bytes from `start` to there?
+fn is_near(s: &[u8], start: usize, end: usize, most: usize) -> bool
+    ensures { λ r. ⌜ r ≡ near (now (s .entry)) start end most ⌝ }
+{
+    if s.len() < end {
+        return false;
+    }
+    if end <= start {
+        return false;
+    }
+    if most < end - start {
+        return false;
+    }
+    if end - start < 2 {
+        return false;
+    }
+    if s[end - 1] != b'"' {
+        return false;
+    }
+    s[end - 2] != b'\\'
+}
+
+// Does the literal from `start` to `end` give at most so many bytes? It is decoded only where its end does not tell.
+pub fn is_short(s: &[u8], start: usize, end: usize, most: usize) -> bool
+    ensures { λ r. ⌜ r ≡ leb (length (decodedAt (now (s .entry)) start)) most ⌝ }
+{
+    if is_near(s, start, end, most) {
+        return true;
+    }
+    let n = literal_length(s, start);
+    n <= most
+}
+
+// Is it plain that the literal from `start` to `end` gives a byte, and at most so many?
+pub fn is_sized(s: &[u8], start: usize, end: usize, most: usize) -> bool
+    ensures { λ r. ⌜ r ≡ sized (now (s .entry)) start end most ⌝ }
+{
+    if is_near(s, start, end, most) {
+        return is_plain(byte_at(s, start, 1));
+    }
+    false
+}
+
+// Where the literal at `start` closes, if it holds plain bytes only; else 0.
+pub fn bare_end(s: &[u8], start: usize) -> usize
+    ensures { λ r. ⌜ r ≡ bareEnd (now (s .entry)) start ⌝ }
+{
+    if s.len() <= start {
+        return 0;
+    }
+    let e = plain_end(s, start + 1);
+    if closes_at(s, e) {
+        return e;
+    }
+    0
 }
 
 // Writes what the units from `from` on give into buf, from `at` on.
@@ -73,11 +209,11 @@ fn write(s: &[u8], from: usize, buf: &mut [u8], at: usize)
     }
 }
 
-// Writes what the literal at `start` gives into buf, from `at` on; where it does not fit, writes nothing and says false.
-pub fn decode_into(s: &[u8], start: usize, buf: &mut [u8], at: usize) -> bool
+// Decodes unit by unit.
+fn decode_units(s: &[u8], start: usize, buf: &mut [u8], at: usize) -> bool
     ensures { λ r. ⌜ ran r (now (buf .exit)) ≡ decodeInto (now (s .entry)) start (now (buf .entry)) at ⌝ }
 {
-    let n = literal_length(s, start);
+    let n = units_length(s, start);
     if buf.len() < at {
         return false;
     }
@@ -89,4 +225,18 @@ pub fn decode_into(s: &[u8], start: usize, buf: &mut [u8], at: usize) -> bool
     }
     write(s, start + 1, buf, at);
     true
+}
+
+// Writes what the literal at `start` gives into buf, from `at` on; where it does not fit, writes nothing and says false.
+pub fn decode_into(s: &[u8], start: usize, buf: &mut [u8], at: usize) -> bool
+    ensures { λ r. ⌜ ran r (now (buf .exit)) ≡ decodeInto (now (s .entry)) start (now (buf .entry)) at ⌝ }
+{
+    if s.len() <= start {
+        return decode_units(s, start, buf, at);
+    }
+    let e = plain_end(s, start + 1);
+    if closes_at(s, e) {
+        return copy_at(buf, at, &s[start + 1..e]);
+    }
+    decode_units(s, start, buf, at)
 }

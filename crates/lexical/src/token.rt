@@ -13,6 +13,7 @@ use crate::scan::skip;
 ghost use mathlib.Core.Path.{_≡_};
 ghost use lib.ListN.{getD};
 ghost use Rattle.lexical.specs.Class.{classOf};
+ghost use Rattle.lexical.specs.Lone.{lone};
 ghost use Rattle.lexical.specs.Token.{widthOf, operatorAt, operatorToken, literalToken, floatEnd, numberToken, tokenFrom};
 
 // A token of the text: its kind, its first byte, and the place behind its last byte. At the end and at a fault the two places are one.
@@ -139,11 +140,30 @@ fn number_token(s: &[u8], i: usize) -> Token
     }
 }
 
-// The token that starts at i with the byte b, by its class.
-pub fn token_from(s: &[u8], mode: u8, i: usize, b: u8) -> Token
-    requires { ⌜ b ≡ getD (now s) i 0 ⌝ }
+// Is it the class of an operator that begins no longer one?
+fn is_lone(c: u8) -> bool
+    ensures { λ r. ⌜ r ≡ lone c ⌝ }
+{
+    if c < kind::OPEN {
+        return false;
+    }
+    if c < kind::ASSIGN {
+        return true;
+    }
+    if c < kind::DOT {
+        return false;
+    }
+    if c == kind::AMPERSAND {
+        return false;
+    }
+    c != kind::MINUS
+}
+
+// The token that starts at i, by the class of its first byte.
+pub fn token_from(s: &[u8], mode: u8, i: usize) -> Token
     ensures { λ r. ⌜ r ≡ tokenFrom (now (s .entry)) mode i ⌝ }
 {
+    let b = byte_at(s, i, 0);
     if begins_name(b) {
         let e = skip(s, i, WORD);
         return Token {
@@ -159,5 +179,17 @@ pub fn token_from(s: &[u8], mode: u8, i: usize, b: u8) -> Token
         return literal_token(s, i);
     }
     let c = class_of(b);
-    operator_token(s, mode, i, c)
+    if is_lone(c) {
+        return Token {
+            kind: c,
+            start: i,
+            end: i + 1,
+        };
+    }
+    let t = operator_token(s, mode, i, c);
+    Token {
+        kind: t.kind,
+        start: t.start,
+        end: t.end,
+    }
 }

@@ -128,7 +128,7 @@ fn escape_unit(b: u8, c: u8, d: u8) -> Unit
 }
 
 // Is it NUL, newline or return?
-fn is_barred(b: u8) -> bool
+pub fn is_barred(b: u8) -> bool
     ensures { λ r. ⌜ r ≡ barred b ⌝ }
 {
     if b == 0 {

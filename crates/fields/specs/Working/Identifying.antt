@@ -3,10 +3,13 @@
 use mathlib.Core.Path.{_≡_, refl, sym, ap, _∙_}
 use mathlib.Core.Bool.{Bool, true, false}
 use mathlib.Core.List.{List, [], _∷_, _++_}
-use Prim.Native.Nat.{ℕ, zero, suc, _+_, _-_, _<_, _≤_}
+use Prim.Native.Nat.{ℕ, zero, suc, _+_, _-_, _<_, _≤_, _^_}
 use native.Mathlib.Omega.{arith}
+use native.Mathlib.Nat.{lt-of-le-of-lt}
+use mir.Syntax.{w64}
+use mir.Val.{Fits}
 use lib.Dec.{eqb, leb, ltb}
-use lib.ListN.{length, getD, take, drop}
+use lib.ListN.{length, getD, take, drop, length-drop}
 use lib.Seq.{take-append-seam, length-take-le}
 use borrow.Author.Tests.{lt-ltb, le-ltb, le-leb, lt-leb, eq-eqb, ne-eqb}
 use Rattle.text.specs.Choice.{pick, clash}
@@ -14,6 +17,8 @@ use Rattle.lexical.specs.Kind
 use Rattle.lexical.specs.Literal.{decodedAt}
 use Rattle.lexical.specs.Decode.{Ran, ran, decodeInto}
 use Rattle.lexical.specs.DecodeLaws.{decode-fits}
+use Rattle.lexical.specs.Plain.{bareEnd, bare-decoded}
+use Rattle.lexical.specs.Short.{sized, sized-length}
 use Rattle.lexical.specs.declared.token.Token.{Token}
 use Rattle.principal.specs.Principal.{Principal}
 use Rattle.index.specs.Working.Finding.{found}
@@ -71,11 +76,22 @@ module _ (consts places name : List ℕ) (i : ℕ) (ie : i ≡ firstFrom consts 
   unfolding nameFaultIn
   name-sized v r h ve re = re ∙ simp (sym ie, lt-leb _ _ h, ve)
 
+-- `literal_fault`
+module _ (s : List ℕ) (start : ℕ) where
+  pub fault-sized : (end : ℕ) (t : Bool) → t ≡ sized s start end mostIdentifier → t ≡ true → 0 ≡ sizeFault (length (decodedAt s start))
+  unfolding sizeFault
+  fault-sized end t te h =
+      let l : (1 ≤ length (decodedAt s start)) × (length (decodedAt s start) ≤ mostIdentifier) = sized-length s start end mostIdentifier (sym te ∙ h) in
+      simp (ne-eqb (length (decodedAt s start)) 0 (λ z. let no : ⊥ = omega (arith, l .0, z) in no), le-ltb _ _ (l .1))
+
+  pub fault-counted : (n r : ℕ) → n ≡ length (decodedAt s start) → r ≡ sizeFault n → r ≡ sizeFault (length (decodedAt s start))
+  fault-counted n r ne re = re ∙ ap sizeFault ne
+
 -- `identifier_fault`
 module _ (s consts places : List ℕ) (t : Token) where
-  pub fault-literal : (n r : ℕ) → t .kind ≡ Kind.LITERAL → n ≡ length (decodedAt s (t .start)) → r ≡ sizeFault n → r ≡ faultIn s consts places t
+  pub fault-literal : (r : ℕ) → t .kind ≡ Kind.LITERAL → r ≡ sizeFault (length (decodedAt s (t .start))) → r ≡ faultIn s consts places t
   unfolding faultIn
-  fault-literal n r h ne re = re ∙ simp (eq-eqb _ _ h, ne)
+  fault-literal r h re = re ∙ simp (eq-eqb _ _ h)
 
   module _ (no : t .kind ≡ Kind.LITERAL → ⊥) where
     pub fault-name : (w : List ℕ) (r : ℕ) → t .kind ≡ Kind.NAME → w ≡ wordOf s t → r ≡ nameFaultIn consts places w → r ≡ faultIn s consts places t
@@ -101,7 +117,7 @@ module _ (pool places : List ℕ) (count end : ℕ) (id : List ℕ) (i : ℕ) (i
     unfolding enterIn
     enter-full k = simp (sym ie, le-ltb _ _ h, sym re, k)
 
--- `enter_literal`
+-- `enter_decoded`
 pub front-of : (s : List ℕ) (k n : ℕ) → k ≤ n → length s ≡ n → k ≡ length (take k s)
 front-of s k n h l = sym (length-take-le k s (omega arith))
 
@@ -133,6 +149,34 @@ module _ (s pool places : List ℕ) (count end start n : ℕ) (ne : n ≡ length
 
     pub literal-never : t ≡ false → entry Full pool places ≡ literalIn pool places count end (decodedAt s start)
     literal-never f = clash (front .0) f
+
+-- `enter_literal`
+module _ (s : List ℕ) (start e : ℕ) (ee : e ≡ bareEnd s start) (n : e ≡ 0 → ⊥) where
+  bare : (start + 1 ≤ e) × (e ≤ length s) × (decodedAt s start ≡ take (e - (start + 1)) (drop (start + 1) s))
+  bare = rw ee (bare-decoded s start (λ z. n (ee ∙ z)))
+
+  pub bare-from : start + 1 ≤ e
+  bare-from = bare .0
+
+  pub bare-within : e ≤ length s
+  bare-within = bare .1
+
+  pub bare-fits : length s < 2 ^ 64 → Fits w64 (start + 1)
+  bare-fits l = let k : start + 1 ≤ length s = omega (arith, bare .0, bare .1) in record { fits = lt-of-le-of-lt k l }
+
+  module _ (pool places : List ℕ) (count end : ℕ) where
+    counted : e - (start + 1) ≡ length (decodedAt s start)
+    counted =
+        let l : e - (start + 1) ≤ length (drop (start + 1) s) = omega (arith, length-drop (start + 1) s, bare .1) in
+        sym (ap length (bare .2) ∙ length-take-le (e - (start + 1)) (drop (start + 1) s) l)
+
+    pub bare-long : mostIdentifier < e - (start + 1) → entry Full pool places ≡ literalIn pool places count end (decodedAt s start)
+    bare-long h = literal-long s pool places count end start (e - (start + 1)) counted h
+
+    pub bare-entered : (r : Kept) → e - (start + 1) ≤ mostIdentifier → r ≡ enterIn pool places count end (take (e - (start + 1)) (drop (start + 1) s))
+        → r ≡ literalIn pool places count end (decodedAt s start)
+    unfolding literalIn
+    bare-entered r h re = (rw (sym (bare .2)) at re) ∙ simp (sym counted, le-ltb _ _ h)
 
 -- `enter_token`
 module _ (s consts constants pool places : List ℕ) (count end : ℕ) (t : Token) (r : Kept) where

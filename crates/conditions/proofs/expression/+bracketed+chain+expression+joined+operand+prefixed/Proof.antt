@@ -27,6 +27,7 @@ use Rattle.conditions.proofs.expression.prefixed.Kinds as prefixed-kind
 use Rattle.conditions.proofs.expression.+bracketed+chain+expression+joined+operand+prefixed.Lts-prefixed as prefixed-lts
 use Rattle.conditions.proofs.emit.closed.Reads as closed-reads
 use Rattle.conditions.proofs.emit.finish.Reads as finish-reads
+use Rattle.conditions.proofs.emit.finish_any.Reads as finish-any-reads
 use Rattle.conditions.proofs.emit.settle_for.Reads as settle-for-reads
 use Rattle.conditions.proofs.emit.unexpected.Reads as unexpected-reads
 use Rattle.conditions.proofs.leaf.leaf.Reads as leaf-reads
@@ -1133,8 +1134,8 @@ prefixed-returns : (t : ℕ) → prefixed-lts.Need-returns (
   operand-want-reads.Learnt,
   expression-below t,
   expression.Post,
-  finish-reads.Asked,
-  finish-reads.Learnt,
+  finish-any-reads.Asked,
+  finish-any-reads.Learnt,
 ) (prefixed-at t) prefixed.Post
 prefixed-returns t c = search prefixed-0
 
@@ -1148,8 +1149,8 @@ prefixed-returns-2 : (t : ℕ) → prefixed-lts.Need-returns-2 (
   operand-want-reads.Learnt,
   expression-below t,
   expression.Post,
-  finish-reads.Asked,
-  finish-reads.Learnt,
+  finish-any-reads.Asked,
+  finish-any-reads.Learnt,
 ) (prefixed-at t) prefixed.Post
 prefixed-returns-2 t c = search prefixed-row
 
@@ -1163,8 +1164,8 @@ prefixed-token-at-requires : (t : ℕ) → prefixed-lts.Need-token-at-requires (
   operand-want-reads.Learnt,
   expression-below t,
   expression.Post,
-  finish-reads.Asked,
-  finish-reads.Learnt,
+  finish-any-reads.Asked,
+  finish-any-reads.Learnt,
 ) (prefixed-at t) prefixed.Post
 prefixed-token-at-requires t c κs = search needs
 
@@ -1178,8 +1179,8 @@ prefixed-operand-level-requires : (t : ℕ) → prefixed-lts.Need-operand-level-
   operand-want-reads.Learnt,
   expression-below t,
   expression.Post,
-  finish-reads.Asked,
-  finish-reads.Learnt,
+  finish-any-reads.Asked,
+  finish-any-reads.Learnt,
 ) (prefixed-at t) prefixed.Post
 prefixed-operand-level-requires t c κs = search needs
 
@@ -1193,8 +1194,8 @@ prefixed-operand-want-requires : (t : ℕ) → prefixed-lts.Need-operand-want-re
   operand-want-reads.Learnt,
   expression-below t,
   expression.Post,
-  finish-reads.Asked,
-  finish-reads.Learnt,
+  finish-any-reads.Asked,
+  finish-any-reads.Learnt,
 ) (prefixed-at t) prefixed.Post
 prefixed-operand-want-requires t c κs = search needs
 
@@ -1208,8 +1209,8 @@ prefixed-add-expression : (t : ℕ) → prefixed-lts.Need-add-expression (
   operand-want-reads.Learnt,
   expression-below t,
   expression.Post,
-  finish-reads.Asked,
-  finish-reads.Learnt,
+  finish-any-reads.Asked,
+  finish-any-reads.Learnt,
 ) (prefixed-at t) prefixed.Post
 prefixed-add-expression t c = search needs
 
@@ -1223,8 +1224,8 @@ prefixed-sub-expression : (t : ℕ) → prefixed-lts.Need-sub-expression (
   operand-want-reads.Learnt,
   expression-below t,
   expression.Post,
-  finish-reads.Asked,
-  finish-reads.Learnt,
+  finish-any-reads.Asked,
+  finish-any-reads.Learnt,
 ) (prefixed-at t) prefixed.Post
 prefixed-sub-expression t c = search needs
 
@@ -1238,8 +1239,8 @@ prefixed-expression-requires : (t : ℕ) → prefixed-lts.Need-expression-requir
   operand-want-reads.Learnt,
   expression-below t,
   expression.Post,
-  finish-reads.Asked,
-  finish-reads.Learnt,
+  finish-any-reads.Asked,
+  finish-any-reads.Learnt,
 ) (prefixed-at t) prefixed.Post
 prefixed-expression-requires t c κs = search needs
 
@@ -1253,8 +1254,8 @@ prefixed-enum-known-reason : (t : ℕ) → prefixed-lts.Need-enum-known-reason (
   operand-want-reads.Learnt,
   expression-below t,
   expression.Post,
-  finish-reads.Asked,
-  finish-reads.Learnt,
+  finish-any-reads.Asked,
+  finish-any-reads.Learnt,
 ) (prefixed-at t) prefixed.Post
 prefixed-enum-known-reason t c = search needs
 
@@ -1268,13 +1269,13 @@ prefixed-enum-known-sort : (t : ℕ) → prefixed-lts.Need-enum-known-sort (
   operand-want-reads.Learnt,
   expression-below t,
   expression.Post,
-  finish-reads.Asked,
-  finish-reads.Learnt,
+  finish-any-reads.Asked,
+  finish-any-reads.Learnt,
 ) (prefixed-at t) prefixed.Post
 prefixed-enum-known-sort t c = search needs
 
 -- src/expression.rt:129:14
-prefixed-finish-requires : (t : ℕ) → prefixed-lts.Need-finish-requires (
+prefixed-finish-any-requires : (t : ℕ) → prefixed-lts.Need-finish-any-requires (
   token-at-reads.Asked,
   token-at-reads.Learnt,
   operand-level-reads.Asked,
@@ -1283,10 +1284,10 @@ prefixed-finish-requires : (t : ℕ) → prefixed-lts.Need-finish-requires (
   operand-want-reads.Learnt,
   expression-below t,
   expression.Post,
-  finish-reads.Asked,
-  finish-reads.Learnt,
+  finish-any-reads.Asked,
+  finish-any-reads.Learnt,
 ) (prefixed-at t) prefixed.Post
-prefixed-finish-requires t c κs = search needs
+prefixed-finish-any-requires t c κs = search needs
 
 -- src/expression.rt:94:1
 prefixed-same-length : (t : ℕ) → prefixed-lts.Need-same-length (
@@ -1298,8 +1299,8 @@ prefixed-same-length : (t : ℕ) → prefixed-lts.Need-same-length (
   operand-want-reads.Learnt,
   expression-below t,
   expression.Post,
-  finish-reads.Asked,
-  finish-reads.Learnt,
+  finish-any-reads.Asked,
+  finish-any-reads.Learnt,
 ) (prefixed-at t) prefixed.Post
 prefixed-same-length t c = search needs
 
@@ -1313,8 +1314,8 @@ prefixed-returns-3 : (t : ℕ) → prefixed-lts.Need-returns-3 (
   operand-want-reads.Learnt,
   expression-below t,
   expression.Post,
-  finish-reads.Asked,
-  finish-reads.Learnt,
+  finish-any-reads.Asked,
+  finish-any-reads.Learnt,
 ) (prefixed-at t) prefixed.Post
 prefixed-returns-3 t c = search prefixed-aside
 
@@ -1328,8 +1329,8 @@ prefixed-same-length-2 : (t : ℕ) → prefixed-lts.Need-same-length-2 (
   operand-want-reads.Learnt,
   expression-below t,
   expression.Post,
-  finish-reads.Asked,
-  finish-reads.Learnt,
+  finish-any-reads.Asked,
+  finish-any-reads.Learnt,
 ) (prefixed-at t) prefixed.Post
 prefixed-same-length-2 t c = search needs
 
@@ -1343,8 +1344,8 @@ prefixed-returns-4 : (t : ℕ) → prefixed-lts.Need-returns-4 (
   operand-want-reads.Learnt,
   expression-below t,
   expression.Post,
-  finish-reads.Asked,
-  finish-reads.Learnt,
+  finish-any-reads.Asked,
+  finish-any-reads.Learnt,
 ) (prefixed-at t) prefixed.Post
 prefixed-returns-4 t c = search prefixed-found
 
@@ -1494,8 +1495,8 @@ pub +bracketed+chain+expression+joined+operand+prefixed-spec : {M : Type 1} → 
       operand-want-reads.Learnt,
       expression-below t,
       expression.Post,
-      finish-reads.Asked,
-      finish-reads.Learnt,
+      finish-any-reads.Asked,
+      finish-any-reads.Learnt,
     )
     (prefixed-at t)
     prefixed.Post
@@ -1509,7 +1510,7 @@ pub +bracketed+chain+expression+joined+operand+prefixed-spec : {M : Type 1} → 
     (prefixed-expression-requires t)
     (prefixed-enum-known-reason t)
     (prefixed-enum-known-sort t)
-    (prefixed-finish-requires t)
+    (prefixed-finish-any-requires t)
     (prefixed-same-length t)
     (prefixed-returns-3 t)
     (prefixed-same-length-2 t)

@@ -1,69 +1,94 @@
-use Rattle.fields.proofs.identifier.enter_literal.Statement.{statement}
-use Rattle.fields.specs.Working.Identifying.{front-of, literal-entered, literal-long, literal-never}
+use Rattle.fields.specs.Working.Identifying.{bare-from, bare-within, bare-fits, bare-long, bare-entered}
 use borrow.Author.Needs.{needs}
+use Rattle.fields.proofs.identifier.enter_literal.Statement.{statement}
 use Rattle.fields.proofs.identifier.enter_literal.Tie as tie
 use Rattle.fields.proofs.identifier.enter_literal.Reads as reads
 use Rattle.fields.proofs.identifier.enter_literal.Lts as lts
 use Rattle.fields.proofs.identifier.enter.Reads as enter-reads
-use Rattle.lexical.proofs.decode_into.Reads as decode-into-reads
-use Rattle.lexical.proofs.literal_length.Reads as literal-length-reads
+use Rattle.fields.proofs.identifier.enter_decoded.Reads as enter-decoded-reads
+use Rattle.lexical.proofs.literal.bare_end.Reads as bare-end-reads
 
--- src/identifier.rt:100:9
-literal-length-requires : tie.Need-literal-length-requires
-literal-length-requires c κs = search needs
+-- src/identifier.rt:135:9
+bare-end-requires : tie.Need-bare-end-requires
+bare-end-requires c κs = search needs
 
--- src/identifier.rt:102:9
-returns : tie.Need-returns
-returns c = search literal-long
+-- src/identifier.rt:137:9
+enter-decoded-requires : tie.Need-enter-decoded-requires
+enter-decoded-requires c κs = search needs
 
--- src/identifier.rt:105:30
-slice-aggregate-decode-into : tie.Need-slice-aggregate-decode-into
-slice-aggregate-decode-into c = search needs
-
--- src/identifier.rt:105:8
-decode-into-requires : tie.Need-decode-into-requires
-decode-into-requires c κs = search needs
-
--- src/identifier.rt:106:48
-array-share-prefix-id : tie.Need-array-share-prefix-id
-array-share-prefix-id c = search needs
-
--- src/identifier.rt:106:48
-slice-aggregate-enter : tie.Need-slice-aggregate-enter
-slice-aggregate-enter c = search (needs, front-of)
-
--- src/identifier.rt:106:9
-enter-requires : tie.Need-enter-requires
-enter-requires c κs = search needs
-
--- src/identifier.rt:106:9
+-- src/identifier.rt:137:9
 same-length : tie.Need-same-length
 same-length c = search needs
 
--- src/identifier.rt:106:9
+-- src/identifier.rt:137:9
 same-length-2 : tie.Need-same-length-2
 same-length-2 c = search needs
 
--- src/identifier.rt:106:9
-returns-2 : tie.Need-returns-2
-returns-2 c = search literal-entered
+-- src/identifier.rt:137:9
+returns : tie.Need-returns
+returns c = search needs
 
--- src/identifier.rt:90:1
+-- src/identifier.rt:139:31
+add-if2 : tie.Need-add-if2
+add-if2 c = search bare-fits
+
+-- src/identifier.rt:139:26
+sub-if2 : tie.Need-sub-if2
+sub-if2 c = search bare-from
+
+-- src/identifier.rt:140:9
+returns-2 : tie.Need-returns-2
+returns-2 c = search bare-long
+
+-- src/identifier.rt:142:40
+add-enter : tie.Need-add-enter
+add-enter c = search bare-fits
+
+-- src/identifier.rt:142:37
+sub-enter : tie.Need-sub-enter
+sub-enter c = search bare-from
+
+-- src/identifier.rt:142:37
+part-enter-start : tie.Need-part-enter-start
+part-enter-start c = search bare-from
+
+-- src/identifier.rt:142:37
+part-enter-end : tie.Need-part-enter-end
+part-enter-end c = search bare-within
+
+-- src/identifier.rt:142:5
+enter-requires : tie.Need-enter-requires
+enter-requires c κs = search needs
+
+-- src/identifier.rt:125:1
+same-length-3 : tie.Need-same-length-3
+same-length-3 c = search needs
+
+-- src/identifier.rt:125:1
+same-length-4 : tie.Need-same-length-4
+same-length-4 c = search needs
+
+-- src/identifier.rt:125:1
 returns-3 : tie.Need-returns-3
-returns-3 c = search literal-never
+returns-3 c = search bare-entered
 
 pub enter-literal-spec : {M : Type 1} → statement M
 enter-literal-spec =
     tie.close
     (tie.spec
-    literal-length-requires
-    returns
-    slice-aggregate-decode-into
-    decode-into-requires
-    array-share-prefix-id
-    slice-aggregate-enter
-    enter-requires
+    bare-end-requires
+    enter-decoded-requires
     same-length
     same-length-2
+    returns
+    add-if2
+    sub-if2
     returns-2
+    add-enter
+    sub-enter
+    part-enter-start
+    part-enter-end
+    enter-requires
+    same-length-3
+    same-length-4
     returns-3)

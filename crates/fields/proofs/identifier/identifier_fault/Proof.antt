@@ -1,44 +1,39 @@
-use Rattle.fields.proofs.identifier.identifier_fault.Statement.{statement}
 use Rattle.fields.specs.Working.Identifying.{fault-literal, fault-name, fault-none}
 use borrow.Author.Needs.{needs}
+use Rattle.fields.proofs.identifier.identifier_fault.Statement.{statement}
 use Rattle.fields.proofs.identifier.identifier_fault.Tie as tie
 use Rattle.fields.proofs.identifier.identifier_fault.Reads as reads
 use Rattle.fields.proofs.identifier.identifier_fault.Lts as lts
+use Rattle.fields.proofs.identifier.literal_fault.Reads as literal-fault-reads
 use Rattle.fields.proofs.identifier.name_fault.Reads as name-fault-reads
-use Rattle.fields.proofs.identifier.size_fault.Reads as size-fault-reads
 use Rattle.fields.proofs.out.refusal_of.Reads as refusal-of-reads
 use Rattle.fields.proofs.out.word.Reads as word-reads
-use Rattle.lexical.proofs.literal_length.Reads as literal-length-reads
 
--- src/identifier.rt:57:13
-literal-length-requires : tie.Need-literal-length-requires
-literal-length-requires c κs = search needs
+-- src/identifier.rt:71:9
+literal-fault-requires : tie.Need-literal-fault-requires
+literal-fault-requires c κs = search needs
 
--- src/identifier.rt:58:9
-size-fault-requires : tie.Need-size-fault-requires
-size-fault-requires c κs = search needs
-
--- src/identifier.rt:58:9
+-- src/identifier.rt:71:9
 returns : tie.Need-returns
 returns c = search fault-literal
 
--- src/identifier.rt:61:13
+-- src/identifier.rt:74:13
 word-requires : tie.Need-word-requires
 word-requires c κs = search needs
 
--- src/identifier.rt:62:9
+-- src/identifier.rt:75:9
 name-fault-requires : tie.Need-name-fault-requires
 name-fault-requires c κs = search needs
 
--- src/identifier.rt:62:9
+-- src/identifier.rt:75:9
 returns-2 : tie.Need-returns-2
 returns-2 c = search fault-name
 
--- src/identifier.rt:64:5
+-- src/identifier.rt:77:5
 refusal-of-requires : tie.Need-refusal-of-requires
 refusal-of-requires c κs = search needs
 
--- src/identifier.rt:53:1
+-- src/identifier.rt:67:1
 returns-3 : tie.Need-returns-3
 returns-3 c = search fault-none
 
@@ -46,8 +41,7 @@ pub identifier-fault-spec : {M : Type 1} → statement M
 identifier-fault-spec =
     tie.close
     (tie.spec
-    literal-length-requires
-    size-fault-requires
+    literal-fault-requires
     returns
     word-requires
     name-fault-requires

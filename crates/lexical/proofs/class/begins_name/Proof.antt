@@ -1,18 +1,29 @@
-use Rattle.lexical.proofs.ClassWays.{has-letter}
+use Rattle.lexical.proofs.ClassWays.{name-low, name-high, name-small, name-capital, name-bar}
 use borrow.Author.Needs.{needs}
 use Rattle.lexical.proofs.class.begins_name.Statement.{statement}
 use Rattle.lexical.proofs.class.begins_name.Tie as tie
 use Rattle.lexical.proofs.class.begins_name.Reads as reads
 use Rattle.lexical.proofs.class.begins_name.Lts as lts
-use Rattle.lexical.proofs.class.is_letter.Reads as is-letter-reads
 
--- src/class.rt:341:5
-is-letter-requires : tie.Need-is-letter-requires
-is-letter-requires c κs = search needs
-
--- src/class.rt:338:1
+-- src/class.rt:344:9
 returns : tie.Need-returns
-returns c = search has-letter
+returns c = search name-low
+
+-- src/class.rt:347:9
+returns-2 : tie.Need-returns-2
+returns-2 c = search name-high
+
+-- src/class.rt:350:9
+returns-3 : tie.Need-returns-3
+returns-3 c = search name-small
+
+-- src/class.rt:353:9
+returns-4 : tie.Need-returns-4
+returns-4 c = search name-capital
+
+-- src/class.rt:340:1
+returns-5 : tie.Need-returns-5
+returns-5 c = search name-bar
 
 pub begins-name-spec : {M : Type 1} → statement M
-begins-name-spec = tie.close (tie.spec is-letter-requires returns)
+begins-name-spec = tie.close (tie.spec returns returns-2 returns-3 returns-4 returns-5)

@@ -1,58 +1,95 @@
-use Rattle.lexical.proofs.LiteralWays.{into-none, into-full, into-past, into-room, into-all}
+use Rattle.lexical.proofs.LiteralWays.{plain-from, plain-within, into-plain}
 use borrow.Author.Needs.{needs}
 use Rattle.lexical.proofs.literal.decode_into.Statement.{statement}
 use Rattle.lexical.proofs.literal.decode_into.Tie as tie
 use Rattle.lexical.proofs.literal.decode_into.Reads as reads
 use Rattle.lexical.proofs.literal.decode_into.Lts as lts
-use Rattle.lexical.proofs.literal.literal_length.Reads as literal-length-reads
-use Rattle.lexical.proofs.literal.write.Reads as write-reads
+use Rattle.lexical.proofs.literal.closes_at.Reads as closes-at-reads
+use Rattle.lexical.proofs.literal.decode_units.Reads as decode-units-reads
+use Rattle.lexical.proofs.literal.plain_end.Reads as plain-end-reads
+use Rattle.text.proofs.copy_at.Reads as copy-at-reads
 
--- src/literal.rt:78:9
-literal-length-requires : tie.Need-literal-length-requires
-literal-length-requires c κs = search needs
+-- src/literal.rt:176:9
+decode-units-requires : tie.Need-decode-units-requires
+decode-units-requires c κs = search needs
 
--- src/literal.rt:80:9
-returns : tie.Need-returns
-returns c = search into-none
-
--- src/literal.rt:82:8
-sub-if2 : tie.Need-sub-if2
-sub-if2 c = search needs
-
--- src/literal.rt:83:9
-returns-2 : tie.Need-returns-2
-returns-2 c = search into-full
-
--- src/literal.rt:86:9
-returns-3 : tie.Need-returns-3
-returns-3 c = search into-past
-
--- src/literal.rt:88:14
-add-write : tie.Need-add-write
-add-write c = search needs
-
--- src/literal.rt:88:5
-write-requires : tie.Need-write-requires
-write-requires c κs = search into-room
-
--- src/literal.rt:75:1
+-- src/literal.rt:176:9
 same-length : tie.Need-same-length
 same-length c = search needs
 
--- src/literal.rt:75:1
-returns-4 : tie.Need-returns-4
-returns-4 c = search into-all
+-- src/literal.rt:176:9
+returns : tie.Need-returns
+returns c = search needs
+
+-- src/literal.rt:178:26
+add-plain-end : tie.Need-add-plain-end
+add-plain-end c = search needs
+
+-- src/literal.rt:178:9
+plain-end-requires : tie.Need-plain-end-requires
+plain-end-requires c κs = search needs
+
+-- src/literal.rt:179:8
+closes-at-requires : tie.Need-closes-at-requires
+closes-at-requires c κs = search needs
+
+-- src/literal.rt:180:36
+add-copy-at : tie.Need-add-copy-at
+add-copy-at c = search needs
+
+-- src/literal.rt:180:33
+sub-copy-at : tie.Need-sub-copy-at
+sub-copy-at c = search plain-from
+
+-- src/literal.rt:180:33
+part-copy-at-start : tie.Need-part-copy-at-start
+part-copy-at-start c = search plain-from
+
+-- src/literal.rt:180:33
+part-copy-at-end : tie.Need-part-copy-at-end
+part-copy-at-end c = search plain-within
+
+-- src/literal.rt:180:9
+copy-at-requires : tie.Need-copy-at-requires
+copy-at-requires c κs = search needs
+
+-- src/literal.rt:180:9
+same-length-2 : tie.Need-same-length-2
+same-length-2 c = search needs
+
+-- src/literal.rt:180:9
+returns-2 : tie.Need-returns-2
+returns-2 c = search into-plain
+
+-- src/literal.rt:182:5
+decode-units-requires-2 : tie.Need-decode-units-requires-2
+decode-units-requires-2 c κs = search needs
+
+-- src/literal.rt:172:1
+same-length-3 : tie.Need-same-length-3
+same-length-3 c = search needs
+
+-- src/literal.rt:172:1
+returns-3 : tie.Need-returns-3
+returns-3 c = search needs
 
 pub decode-into-spec : {M : Type 1} → statement M
 decode-into-spec =
     tie.close
     (tie.spec
-    literal-length-requires
-    returns
-    sub-if2
-    returns-2
-    returns-3
-    add-write
-    write-requires
+    decode-units-requires
     same-length
-    returns-4)
+    returns
+    add-plain-end
+    plain-end-requires
+    closes-at-requires
+    add-copy-at
+    sub-copy-at
+    part-copy-at-start
+    part-copy-at-end
+    copy-at-requires
+    same-length-2
+    returns-2
+    decode-units-requires-2
+    same-length-3
+    returns-3)

@@ -1,70 +1,44 @@
-use Rattle.lexical.proofs.LiteralWays.{width-fits, width-less}
-use Rattle.lexical.proofs.LiteralWays.{end-closes, end-spoils, end-more, end-end}
-use Rattle.lexical.specs.Literal.{literalEnd}
-use lib.ListN.{length}
-use Prim.Native.Nat.{_-_}
-use mathlib.Core.Path.{_≡_}
+use Rattle.lexical.proofs.LiteralWays.{quote-fits, end-found, end-units}
 use borrow.Author.Needs.{needs}
 use Rattle.lexical.proofs.literal.literal_end.Statement.{statement}
 use Rattle.lexical.proofs.literal.literal_end.Tie as tie
 use Rattle.lexical.proofs.literal.literal_end.Reads as reads
 use Rattle.lexical.proofs.literal.literal_end.Lts as lts
-use Rattle.lexical.proofs.unit.unit_at.Reads as unit-at-reads
+use Rattle.lexical.proofs.literal.closes_at.Reads as closes-at-reads
+use Rattle.lexical.proofs.literal.plain_end.Reads as plain-end-reads
+use Rattle.lexical.proofs.literal.units_end.Reads as units-end-reads
 
-abbrev Inv-loop : tie.InvT-loop
-Inv-loop s from i₀ i = literalEnd s i ≡ literalEnd s from
+-- src/literal.rt:92:9
+plain-end-requires : tie.Need-plain-end-requires
+plain-end-requires c κs = search needs
 
-abbrev μ-loop : tie.MeasureT-loop
-μ-loop s from i₀ i = length s - i
+-- src/literal.rt:93:8
+closes-at-requires : tie.Need-closes-at-requires
+closes-at-requires c κs = search needs
 
--- src/literal.rt:21:5
-loop-holds : tie.Need-loop-holds Inv-loop μ-loop
-loop-holds c = search needs
+-- src/literal.rt:94:16
+add-result : tie.Need-add-result
+add-result c = search quote-fits
 
--- src/literal.rt:22:13
-unit-at-requires : tie.Need-unit-at-requires Inv-loop μ-loop
-unit-at-requires c κs = search needs
+-- src/literal.rt:94:9
+returns : tie.Need-returns
+returns c = search end-found
 
--- src/literal.rt:24:20
-add-result : tie.Need-add-result Inv-loop μ-loop
-add-result c = search needs
+-- src/literal.rt:96:5
+units-end-requires : tie.Need-units-end-requires
+units-end-requires c κs = search needs
 
--- src/literal.rt:24:13
-returns : tie.Need-returns Inv-loop μ-loop
-returns c = search end-closes
-
--- src/literal.rt:27:13
-returns-2 : tie.Need-returns-2 Inv-loop μ-loop
-returns-2 c = search end-spoils
-
--- src/literal.rt:29:9
-add-i : tie.Need-add-i Inv-loop μ-loop
-add-i c = search width-fits
-
--- src/literal.rt:21:5
-loop-less : tie.Need-loop-less Inv-loop μ-loop
-loop-less c = search width-less
-
--- src/literal.rt:21:5
-loop-again : tie.Need-loop-again Inv-loop μ-loop
-loop-again c = search end-more
-
--- src/literal.rt:17:1
-returns-3 : tie.Need-returns-3 Inv-loop μ-loop
-returns-3 c = search end-end
+-- src/literal.rt:89:1
+returns-2 : tie.Need-returns-2
+returns-2 c = search end-units
 
 pub literal-end-spec : {M : Type 1} → statement M
 literal-end-spec =
     tie.close
     (tie.spec
-    Inv-loop
-    μ-loop
-    loop-holds
-    unit-at-requires
+    plain-end-requires
+    closes-at-requires
     add-result
     returns
-    returns-2
-    add-i
-    loop-less
-    loop-again
-    returns-3)
+    units-end-requires
+    returns-2)
