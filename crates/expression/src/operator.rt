@@ -150,6 +150,16 @@ fn of_strings(op: u32, a: &[u8], b: &[u8]) -> Operand
     if op == syntax::JOIN {
         return join(a, b);
     }
+    if op == syntax::TEXT_EQUAL {
+        return Operand::Test {
+            holds: text::same_bytes(a, b),
+        };
+    }
+    if op == syntax::TEXT_UNEQUAL {
+        return Operand::Test {
+            holds: opposite(text::same_bytes(a, b)),
+        };
+    }
     let o = text::compare(a, b);
     let k = minus(op, syntax::TEXT_EQUAL);
     Operand::Test {
