@@ -80,6 +80,13 @@ isTest (Test t) = true
 isTest (Rank n) = false
 isTest Fault = false
 
+unfoldable pub isFault : Operand → Bool
+isFault (Text n) = false
+isFault (Number b m) = false
+isFault (Test t) = false
+isFault (Rank n) = false
+isFault Fault = true
+
 unfoldable pub holdsIn : Operand → Bool
 holdsIn (Text n) = false
 holdsIn (Number b m) = false

@@ -1,7 +1,7 @@
 // What an operand of the machine is: a string by its length, an integer, a test, a rank, or a fault.
 use text::Integer;
 ghost use mathlib.Core.Path.{_≡_};
-ghost use Rattle.expression.specs.Operands.{kindOf, sizeOf, unpacked, width, isText, isNumber, integerIn, isTest, holdsIn, rankIn};
+ghost use Rattle.expression.specs.Operands.{kindOf, sizeOf, unpacked, width, isText, isNumber, integerIn, isTest, isFault, holdsIn, rankIn};
 
 pub enum Operand {
     Text { length: usize },
@@ -164,6 +164,21 @@ pub fn is_test(v: Operand) -> bool
         Operand::Test { holds: _ } => true,
         Operand::Rank { rank: _ } => false,
         Operand::Fault => false,
+    }
+}
+
+pub fn is_fault(v: Operand) -> bool
+    ensures { λ r. ⌜ r ≡ isFault v ⌝ }
+{
+    match v {
+        Operand::Text { length: _ } => false,
+        Operand::Number {
+            negative: _,
+            size: _,
+        } => false,
+        Operand::Test { holds: _ } => false,
+        Operand::Rank { rank: _ } => false,
+        Operand::Fault => true,
     }
 }
 

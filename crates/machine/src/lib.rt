@@ -6,6 +6,7 @@ use expression::operator::RAISE;
 use expression::operator::apply;
 use expression::operator::combine;
 use expression::value::Operand;
+use expression::value::is_fault;
 use expression::value::is_text;
 use expression::value::kind_of;
 use expression::value::size_of;
@@ -22,6 +23,7 @@ ghost use Rattle.text.specs.Counted.{counted};
 ghost use Rattle.lexical.specs.Literal.{decodedAt};
 ghost use Rattle.expression.specs.Tables.{lookupIn};
 ghost use Rattle.machine.specs.Machine.{runAt, textStep, topOf, unaryStep, lookupStep, binaryOn, binaryStep, clauseStep, pushStep, stepOf, exec, resultOf, on};
+ghost use Rattle.machine.specs.Left.{leftIn};
 ghost use Rattle.machine.specs.Live.{Live, landed, putAt, settled};
 
 // How many numbers and bytes the stacks hold; or that the machine can't go on, the code being none or a buffer too small.
@@ -418,4 +420,77 @@ pub fn run<'a>(
         }
     }
     top(stack, n)
+}
+
+// The machine on stacks of its own, with little room for strings.
+fn run_narrow<'a>(
+    code: &[u32],
+    s: &[u8],
+    query: &'a [u8],
+    consts: &'a [u8],
+    values: &[usize],
+    names: &[usize],
+    constants: &[usize],
+) -> Operand
+    ensures { λ r. ⌜ r ≡ leftIn 208 1024 (now (code .entry)) (now (s .entry)) (now (query .entry)) (now (consts .entry)) (now (values .entry)) (now (names .entry)) (now (constants .entry)) ⌝ }
+{
+    let mut stack = [0u64; 208];
+    let mut bytes = [0u8; 1024];
+    run(
+        code,
+        s,
+        query,
+        consts,
+        values,
+        names,
+        constants,
+        &mut stack,
+        &mut bytes,
+    )
+}
+
+// The same with all the room that Conditions may need.
+fn run_wide<'a>(
+    code: &[u32],
+    s: &[u8],
+    query: &'a [u8],
+    consts: &'a [u8],
+    values: &[usize],
+    names: &[usize],
+    constants: &[usize],
+) -> Operand
+    ensures { λ r. ⌜ r ≡ leftIn 208 77824 (now (code .entry)) (now (s .entry)) (now (query .entry)) (now (consts .entry)) (now (values .entry)) (now (names .entry)) (now (constants .entry)) ⌝ }
+{
+    let mut stack = [0u64; 208];
+    let mut bytes = [0u8; 77824];
+    run(
+        code,
+        s,
+        query,
+        consts,
+        values,
+        names,
+        constants,
+        &mut stack,
+        &mut bytes,
+    )
+}
+
+// Runs compiled Conditions on stacks of its own: with little room first, which most need no more than.
+pub fn run_here<'a>(
+    code: &[u32],
+    s: &[u8],
+    query: &'a [u8],
+    consts: &'a [u8],
+    values: &[usize],
+    names: &[usize],
+    constants: &[usize],
+) -> Operand
+    ensures { λ r. ⌜ r ≡ leftIn 208 77824 (now (code .entry)) (now (s .entry)) (now (query .entry)) (now (consts .entry)) (now (values .entry)) (now (names .entry)) (now (constants .entry)) ⌝ }
+{
+    let v = run_narrow(code, s, query, consts, values, names, constants);
+    if is_fault(v) {
+        return run_wide(code, s, query, consts, values, names, constants);
+    }
+    v
 }
