@@ -11,7 +11,7 @@ ghost use Rattle.text.specs.Copy.{copied, put, copyAt};
 ghost use Rattle.text.specs.Class.{isDigit, isLetter, isWord, inClass};
 ghost use Rattle.text.specs.Counted.{pairAt, counted};
 ghost use Rattle.text.specs.Join.{joined};
-ghost use Rattle.text.specs.Digits.{value, limit};
+ghost use Rattle.text.specs.Digits.{digitsAt, value, limit};
 ghost use Rattle.text.specs.Decimal.{inRange, roundedDown, withFraction, unsigned, decimal};
 ghost use Rattle.text.specs.Working.Common.{common, commonFrom};
 ghost use Rattle.text.specs.Working.Blocks.{alike};
@@ -379,6 +379,23 @@ pub fn number(digits: &[u8]) -> u64
     while i < digits.len() {
         v = hold_digit(v, digits[i]);
         i += 1;
+    }
+    v
+}
+
+// The number whose digits start at a place, held at the limit; 0 where none do.
+pub fn number_at(s: &[u8], at: usize) -> u64
+    ensures { λ r. ⌜ r ≡ min (value (digitsAt (now (s .entry)) at)) limit ⌝ }
+{
+    let mut v: u64 = 0;
+    let mut i = at;
+    while i < s.len() {
+        if is_digit(s[i]) {
+            v = hold_digit(v, s[i]);
+            i += 1;
+        } else {
+            return v;
+        }
     }
     v
 }
