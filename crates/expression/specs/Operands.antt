@@ -8,6 +8,7 @@ use Rattle.text.specs.Decimal.{integer as signed}
 use Rattle.text.specs.declared.Integer.{Integer}
 use Rattle.expression.specs.Value.{Value, text, integer, test, rank, fault}
 use Rattle.expression.specs.declared.value.Operand.{Operand}
+use Rattle.expression.specs.declared.value.Packed.{Packed}
 use Rattle.expression.specs.declared.value.Operand.the-variants.{Text, Number, Test, Rank, Fault}
 
 -- the two numbers
@@ -24,6 +25,9 @@ sizeOf (Number b m) = m
 sizeOf (Test t) = 0
 sizeOf (Rank n) = n
 sizeOf Fault = 0
+
+abbrev pub pack : Operand → Packed
+pack v = record { kind = kindOf v; size = sizeOf v }
 
 -- the operand that they say
 unfoldable pub unpacked : ℕ → ℕ → Operand
@@ -79,6 +83,13 @@ isTest (Number b m) = false
 isTest (Test t) = true
 isTest (Rank n) = false
 isTest Fault = false
+
+unfoldable pub isFault : Operand → Bool
+isFault (Text n) = false
+isFault (Number b m) = false
+isFault (Test t) = false
+isFault (Rank n) = false
+isFault Fault = true
 
 unfoldable pub holdsIn : Operand → Bool
 holdsIn (Text n) = false

@@ -1,3 +1,4 @@
 pub mod Arithmetic
 pub mod Searching
 pub mod Operating
+pub mod Packing

@@ -10,22 +10,28 @@ use crate::integer::rest;
 use crate::integer::subtract;
 use crate::name::rank_of;
 use crate::value::Operand;
+use crate::value::Packed;
 use crate::value::holds_in;
 use crate::value::integer_in;
 use crate::value::is_number;
 use crate::value::is_test;
 use crate::value::is_text;
+use crate::value::pack_operand;
 use crate::value::rank_in;
+use crate::value::told;
 use text::Integer;
 use text::Order;
 ghost use mathlib.Core.Path.{_≡_};
+ghost use mathlib.Core.Bool.{true, false};
 ghost use mathlib.Core.List.{map, _++_};
 ghost use Prim.Native.Nat.{_-_, max};
 ghost use lib.ListN.{length};
 ghost use Rattle.text.specs.Choice.{pick};
 ghost use Rattle.text.specs.Counted.{counted};
+ghost use Rattle.text.specs.Decimal.{integer as signed};
 ghost use Rattle.expression.specs.Value.{operand, rank};
-ghost use Rattle.expression.specs.Operands.{valueOf, holdsIn, testIn};
+ghost use Rattle.expression.specs.Operands.{pack, valueOf, holdsIn, testIn};
+ghost use Rattle.expression.specs.Integers.{ranged, apart};
 ghost use Rattle.expression.specs.Operations.{isLess, isEqual, isGreater, relates, held, arithmetic, textual, logical, ofTexts, ofIntegers, ofTests, isTextual, binaryOf, converted, negative, opposite as not-of};
 ghost use Rattle.expression.specs.Conditions.{rankOf};
 ghost use Rattle.expression.specs.Clauses.{applied, combined};
@@ -126,6 +132,69 @@ fn of_integers(op: u32, a: Integer, b: Integer) -> Operand
     }
 }
 
+// An integer without a sign, packed.
+fn natural(size: u64) -> Packed
+    ensures { λ r. ⌜ r ≡ pack (operand (ranged false size)) ⌝ }
+{
+    if size < 2147483648 {
+        return Packed { kind: 1, size };
+    }
+    Packed { kind: 6, size: 0 }
+}
+
+// An integer below 0, packed.
+fn below_zero(size: u64) -> Packed
+    ensures { λ r. ⌜ r ≡ pack (operand (ranged true size)) ⌝ }
+{
+    if size == 0 {
+        return Packed { kind: 1, size: 0 };
+    }
+    if size <= 2147483648 {
+        return Packed { kind: 2, size };
+    }
+    Packed { kind: 6, size: 0 }
+}
+
+// The difference of two integers without a sign, packed.
+fn difference(x: u64, y: u64) -> Packed
+    ensures { λ r. ⌜ r ≡ pack (operand (apart false x y)) ⌝ }
+{
+    if y <= x {
+        return natural(x - y);
+    }
+    below_zero(y - x)
+}
+
+// Two integers without a sign, the result packed: what is asked most is done here.
+pub fn of_naturals(op: u32, x: u64, y: u64) -> Packed
+    ensures { λ r. ⌜ r ≡ pack (operand (arithmetic op (signed false x) (signed false y))) ⌝ }
+{
+    let a = Integer {
+        negative: false,
+        size: x,
+    };
+    let b = Integer {
+        negative: false,
+        size: y,
+    };
+    if op == syntax::PLUS {
+        if x <= 2147483648 {
+            if y <= 2147483648 {
+                return natural(x + y);
+            }
+        }
+    }
+    if op == syntax::MINUS {
+        return difference(x, y);
+    }
+    if op < syntax::EQUAL {
+        return pack_operand(of_integers(op, a, b));
+    }
+    let o = order_of(a, b);
+    let k = minus(op, syntax::EQUAL);
+    told(relation(k, o))
+}
+
 // A string made of two.
 fn join(a: &[u8], b: &[u8]) -> Operand
     ensures { λ r. ⌜ r ≡ operand (held (now (a .entry) ++ now (b .entry))) ⌝ }
@@ -149,6 +218,16 @@ fn of_strings(op: u32, a: &[u8], b: &[u8]) -> Operand
 {
     if op == syntax::JOIN {
         return join(a, b);
+    }
+    if op == syntax::TEXT_EQUAL {
+        return Operand::Test {
+            holds: text::same_bytes(a, b),
+        };
+    }
+    if op == syntax::TEXT_UNEQUAL {
+        return Operand::Test {
+            holds: opposite(text::same_bytes(a, b)),
+        };
     }
     let o = text::compare(a, b);
     let k = minus(op, syntax::TEXT_EQUAL);
@@ -329,7 +408,7 @@ fn oppose(x: Operand, a: &[u8]) -> Operand
 }
 
 // The highest rank.
-fn top_rank(values: &[usize]) -> usize
+pub fn top_rank(values: &[usize]) -> usize
     ensures { λ r. ⌜ r ≡ length (now (values .entry)) - 1 ⌝ }
 {
     if values.len() == 0 {

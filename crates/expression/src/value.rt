@@ -1,7 +1,8 @@
 // What an operand of the machine is: a string by its length, an integer, a test, a rank, or a fault.
 use text::Integer;
 ghost use mathlib.Core.Path.{_≡_};
-ghost use Rattle.expression.specs.Operands.{kindOf, sizeOf, unpacked, width, isText, isNumber, integerIn, isTest, holdsIn, rankIn};
+ghost use Rattle.expression.specs.declared.value.Operand.the-variants.{Test};
+ghost use Rattle.expression.specs.Operands.{kindOf, sizeOf, pack, unpacked, width, isText, isNumber, integerIn, isTest, isFault, holdsIn, rankIn};
 
 pub enum Operand {
     Text { length: usize },
@@ -44,6 +45,30 @@ pub fn size_of(v: Operand) -> u64
         Operand::Rank { rank } => rank as u64,
         Operand::Fault => 0,
     }
+}
+
+// Both.
+pub struct Packed {
+    pub kind: u64,
+    pub size: u64,
+}
+
+pub fn pack_operand(v: Operand) -> Packed
+    ensures { λ r. ⌜ r ≡ pack v ⌝ }
+{
+    let kind = kind_of(v);
+    let size = size_of(v);
+    Packed { kind, size }
+}
+
+// A test, packed.
+pub fn told(holds: bool) -> Packed
+    ensures { λ r. ⌜ r ≡ pack (Test holds) ⌝ }
+{
+    if holds {
+        return Packed { kind: 4, size: 0 };
+    }
+    Packed { kind: 3, size: 0 }
 }
 
 // The operand of a kind and a size.
@@ -164,6 +189,21 @@ pub fn is_test(v: Operand) -> bool
         Operand::Test { holds: _ } => true,
         Operand::Rank { rank: _ } => false,
         Operand::Fault => false,
+    }
+}
+
+pub fn is_fault(v: Operand) -> bool
+    ensures { λ r. ⌜ r ≡ isFault v ⌝ }
+{
+    match v {
+        Operand::Text { length: _ } => false,
+        Operand::Number {
+            negative: _,
+            size: _,
+        } => false,
+        Operand::Test { holds: _ } => false,
+        Operand::Rank { rank: _ } => false,
+        Operand::Fault => true,
     }
 }
 

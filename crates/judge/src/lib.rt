@@ -4,9 +4,10 @@ use conditions::program::conditions;
 use expression::value::rank_in;
 use lexical::token::Token;
 use machine::run;
+use machine::run_here;
 ghost use mathlib.Core.Path.{_≡_};
 ghost use Prim.Native.Nat.{_%_};
-ghost use lib.ListN.{length};
+ghost use lib.ListN.{length, replicate};
 ghost use Rattle.judge.specs.Working.Judging.{judgedIn, judgedHere, rankAt, writtenIn};
 
 // The rank and the token behind the field; or the first fault: reason 0 is that of buffers that are too small.
@@ -95,7 +96,85 @@ pub fn judge<'a>(
     }
 }
 
-// The same, with tables of its own.
+// The rank that the code up to `top` gives, the machine on stacks of its own.
+fn rank_here<'a>(
+    code: &[u32],
+    top: usize,
+    s: &[u8],
+    query: &'a [u8],
+    consts: &'a [u8],
+    values: &[usize],
+    names: &[usize],
+    constants: &[usize],
+) -> u8
+    ensures { λ r. ⌜ r ≡ rankAt (now (code .entry)) top (now (s .entry)) (now (query .entry)) (now (consts .entry)) (now (values .entry)) (now (names .entry)) (now (constants .entry)) 208 77824 ⌝ }
+{
+    if code.len() < top {
+        return 0;
+    }
+    let written = &code[..top];
+    byte(rank_in(run_here(written, s, query, consts, values, names, constants)))
+}
+
+// The field with its code in the table `code`.
+fn judge_in<'a>(
+    s: &[u8],
+    t: Token,
+    query: &'a [u8],
+    consts: &'a [u8],
+    values: &[usize],
+    names: &[usize],
+    constants: &[usize],
+    code: &mut [u32],
+) -> Judged
+    ensures { λ r. ⌜ r ≡ judgedIn (now (s .entry)) t (now (query .entry)) (now (consts .entry)) (now (values .entry)) (now (names .entry)) (now (constants .entry)) (now (code .entry)) 208 77824 ⌝ }
+{
+    match conditions(s, code, 0, t) {
+        Out::Aside { reason, at } => Judged::Aside { reason, place: at },
+        Out::Found {
+            sort: _,
+            place: _,
+            top,
+            next,
+        } => {
+            let rank = rank_here(code, top, s, query, consts, values, names, constants);
+            Judged::On { rank, next }
+        }
+    }
+}
+
+fn judge_short<'a>(
+    s: &[u8],
+    t: Token,
+    query: &'a [u8],
+    consts: &'a [u8],
+    values: &[usize],
+    names: &[usize],
+    constants: &[usize],
+) -> Judged
+    ensures { λ r. ⌜ r ≡ judgedIn (now (s .entry)) t (now (query .entry)) (now (consts .entry)) (now (values .entry)) (now (names .entry)) (now (constants .entry)) (replicate 1024 0) 208 77824 ⌝ }
+{
+    let mut code = [0u32; 1024];
+    judge_in(s, t, query, consts, values, names, constants, &mut code)
+}
+
+fn judge_long<'a>(
+    s: &[u8],
+    t: Token,
+    query: &'a [u8],
+    consts: &'a [u8],
+    values: &[usize],
+    names: &[usize],
+    constants: &[usize],
+) -> Judged
+    ensures { λ r. ⌜ r ≡ judgedIn (now (s .entry)) t (now (query .entry)) (now (consts .entry)) (now (values .entry)) (now (names .entry)) (now (constants .entry)) (replicate 8194 0) 208 77824 ⌝ }
+{
+    let mut code = [0u32; 8194];
+    judge_in(s, t, query, consts, values, names, constants, &mut code)
+}
+
+// The rank of the Conditions field whose first token is t, and the token behind it; or the first fault. The tables are its own: a small one
+// for the code of a short text.
 pub fn judge_field<'a>(
     s: &[u8],
     t: Token,
@@ -107,19 +186,8 @@ pub fn judge_field<'a>(
 ) -> Judged
     ensures { λ r. ⌜ r ≡ judgedHere (now (s .entry)) t (now (query .entry)) (now (consts .entry)) (now (values .entry)) (now (names .entry)) (now (constants .entry)) ⌝ }
 {
-    let mut code = [0u32; 8194];
-    let mut stack = [0u64; 208];
-    let mut bytes = [0u8; 77824];
-    judge(
-        s,
-        t,
-        query,
-        consts,
-        values,
-        names,
-        constants,
-        &mut code,
-        &mut stack,
-        &mut bytes,
-    )
+    if s.len() <= 1022 {
+        return judge_short(s, t, query, consts, values, names, constants);
+    }
+    judge_long(s, t, query, consts, values, names, constants)
 }

@@ -1,4 +1,5 @@
 pub mod Stepping
+pub mod Quick
 pub mod Running
 pub mod Widths
 pub mod Stacking

@@ -5,24 +5,32 @@ use expression::operator::LONGEST;
 use expression::operator::RAISE;
 use expression::operator::apply;
 use expression::operator::combine;
+use expression::operator::of_naturals;
+use expression::operator::top_rank;
 use expression::value::Operand;
+use expression::value::Packed;
+use expression::value::is_fault;
 use expression::value::is_text;
 use expression::value::kind_of;
 use expression::value::size_of;
+use expression::value::told;
 use expression::value::unpack;
 use expression::value::width_of;
 use lexical::literal::decode_into;
 use lexical::literal::literal_length;
 ghost use mathlib.Core.Path.{_≡_};
 ghost use mathlib.Core.List.{[], map};
-ghost use Prim.Native.Nat.{_≤_};
+ghost use Prim.Native.Nat.{_+_, _-_, _≤_, max};
 ghost use lib.Dec.{eqb};
 ghost use lib.ListN.{length, take, drop};
+ghost use Rattle.text.specs.Choice.{pick};
 ghost use Rattle.text.specs.Counted.{counted};
 ghost use Rattle.lexical.specs.Literal.{decodedAt};
 ghost use Rattle.expression.specs.Tables.{lookupIn};
-ghost use Rattle.machine.specs.Machine.{runAt, textStep, topOf, unaryStep, lookupStep, binaryOn, binaryStep, clauseStep, pushStep, stepOf, exec, resultOf, on};
+ghost use Rattle.machine.specs.Machine.{runAt, textStep, topOf, unaryStep, lookupStep, binaryOn, binaryStep, raised, clauseStep, pushStep, stepOf, exec, resultOf, on};
+ghost use Rattle.machine.specs.Left.{leftIn};
 ghost use Rattle.machine.specs.Live.{Live, landed, putAt, settled};
+ghost use Rattle.machine.specs.Working.Quick.{putTwo, isNatural, isTold, isLogical, decides};
 
 // How many numbers and bytes the stacks hold; or that the machine can't go on, the code being none or a buffer too small.
 pub enum Tops {
@@ -237,6 +245,188 @@ fn binary_step(
     binary_on(op, x, y, query, values, stack, n - 4, bytes, t)
 }
 
+// Puts a packed operand on a stack of n numbers that has room for it.
+fn land(stack: &mut [u64], n: usize, t: usize, q: Packed) -> Tops
+    requires { ⌜ n + 2 ≤ length (now stack) ⌝ }
+    ensures { λ r. ⌜ landed r (now (stack .exit)) ≡ putTwo (now (stack .entry)) n t (q .kind) (q .size) ⌝ }
+{
+    stack[n] = q.kind;
+    stack[n + 1] = q.size;
+    Tops::At {
+        numbers: n + 2,
+        bytes: t,
+    }
+}
+
+// Is it an operation on integers, and are both kinds those of integers without a sign?
+fn is_natural(op: u32, x: u64, y: u64) -> bool
+    ensures { λ r. ⌜ r ≡ isNatural op x y ⌝ }
+{
+    if x != 1 {
+        return false;
+    }
+    if y != 1 {
+        return false;
+    }
+    if op < syntax::POWER {
+        return false;
+    }
+    if op <= syntax::MINUS {
+        return true;
+    }
+    if op < syntax::EQUAL {
+        return false;
+    }
+    op <= syntax::AT_LEAST
+}
+
+// Is it the kind of a test?
+fn is_told(kind: u64) -> bool
+    ensures { λ r. ⌜ r ≡ isTold kind ⌝ }
+{
+    if kind == 3 {
+        return true;
+    }
+    kind == 4
+}
+
+// Is it "&&" or "||", and are both kinds those of tests?
+fn is_logical(op: u32, x: u64, y: u64) -> bool
+    ensures { λ r. ⌜ r ≡ isLogical op x y ⌝ }
+{
+    if op < syntax::BOTH {
+        return false;
+    }
+    if syntax::EITHER < op {
+        return false;
+    }
+    if is_told(x) {
+        return is_told(y);
+    }
+    false
+}
+
+fn is_held(kind: u64) -> bool
+    ensures { λ r. ⌜ r ≡ eqb kind 4 ⌝ }
+{
+    kind == 4
+}
+
+// What "&&" or "||" makes of two tests.
+fn decided(op: u32, x: bool, y: bool) -> bool
+    ensures { λ r. ⌜ r ≡ decides op x y ⌝ }
+{
+    if op == syntax::BOTH {
+        if x {
+            return y;
+        }
+        return false;
+    }
+    if x {
+        return true;
+    }
+    y
+}
+
+// An operator of expressions on the two topmost operands; integers without a sign and tests need no more than their numbers.
+fn operator_step(
+    op: u32,
+    query: &[u8],
+    values: &[usize],
+    stack: &mut [u64],
+    n: usize,
+    bytes: &[u8],
+    t: usize,
+) -> Tops
+    requires { ⌜ (n ≤ length (now stack)) × (t ≤ length (now bytes)) ⌝ }
+    ensures { λ r. ⌜ Live r (now (stack .exit)) (now (bytes .entry)) (binaryStep (length (now (stack .entry))) (map (counted (now (query .entry))) (now (values .entry))) op (take n (now (stack .entry))) (take t (now (bytes .entry)))) ⌝ }
+{
+    if n < 4 {
+        return Tops::Stuck;
+    }
+    if is_natural(op, stack[n - 4], stack[n - 2]) {
+        let q = of_naturals(op, stack[n - 3], stack[n - 1]);
+        return land(stack, n - 4, t, q);
+    }
+    if is_logical(op, stack[n - 4], stack[n - 2]) {
+        let x = is_held(stack[n - 4]);
+        let y = is_held(stack[n - 2]);
+        let q = told(decided(op, x, y));
+        return land(stack, n - 4, t, q);
+    }
+    binary_step(op, query, values, stack, n, bytes, t)
+}
+
+fn greater(x: u64, y: u64) -> u64
+    ensures { λ r. ⌜ r ≡ max x y ⌝ }
+{
+    if x < y {
+        return y;
+    }
+    x
+}
+
+// The rank on top is brought to the one below it.
+fn raise_step(
+    query: &[u8],
+    values: &[usize],
+    stack: &mut [u64],
+    n: usize,
+    bytes: &[u8],
+    t: usize,
+) -> Tops
+    requires { ⌜ (n ≤ length (now stack)) × (t ≤ length (now bytes)) ⌝ }
+    ensures { λ r. ⌜ Live r (now (stack .exit)) (now (bytes .entry)) (binaryStep (length (now (stack .entry))) (map (counted (now (query .entry))) (now (values .entry))) 34 (take n (now (stack .entry))) (take t (now (bytes .entry)))) ⌝ }
+{
+    if n < 4 {
+        return Tops::Stuck;
+    }
+    if stack[n - 4] == 5 {
+        if stack[n - 2] == 5 {
+            let m = greater(stack[n - 3], stack[n - 1]);
+            return land(stack, n - 4, t, Packed { kind: 5, size: m });
+        }
+    }
+    binary_step(RAISE, query, values, stack, n, bytes, t)
+}
+
+// The rank of a clause that is a test of that kind.
+fn rank_told(kind: u64, values: &[usize]) -> u64
+    ensures { λ r. ⌜ r ≡ pick (eqb kind 4) (length (now (values .entry)) - 1) 0 ⌝ }
+{
+    if kind == 4 {
+        return top_rank(values) as u64;
+    }
+    0
+}
+
+// Brings a clause that is a test to a rank, and that to its program's.
+fn plain_step(
+    query: &[u8],
+    values: &[usize],
+    stack: &mut [u64],
+    n: usize,
+    bytes: &[u8],
+    t: usize,
+) -> Tops
+    requires { ⌜ (n ≤ length (now stack)) × (t ≤ length (now bytes)) ⌝ }
+    ensures { λ r. ⌜ Live r (now (stack .exit)) (now (bytes .entry)) (raised (length (now (stack .entry))) (map (counted (now (query .entry))) (now (values .entry))) (unaryStep (length (now (stack .entry))) (map (counted (now (query .entry))) (now (values .entry))) 31 (take n (now (stack .entry))) (take t (now (bytes .entry))))) ⌝ }
+{
+    if 4 <= n {
+        if stack[n - 4] == 5 {
+            if is_told(stack[n - 2]) {
+                let m = rank_told(stack[n - 2], values);
+                let k = greater(stack[n - 3], m);
+                return land(stack, n - 4, t, Packed { kind: 5, size: k });
+            }
+        }
+    }
+    match unary_step(syntax::PLAIN, query, values, stack, n, bytes, t) {
+        Tops::Stuck => Tops::Stuck,
+        Tops::At { numbers, bytes: b } => raise_step(query, values, stack, numbers, bytes, b),
+    }
+}
+
 fn is_true(op: u32) -> bool
     ensures { λ r. ⌜ r ≡ eqb op 3 ⌝ }
 {
@@ -276,7 +466,7 @@ fn push_step<'a>(
         return push_text(stack, n, bytes, t, b);
     }
     if op == syntax::NUMBER {
-        let m = text::number(run_at(s, at, text::DIGIT));
+        let m = text::number_at(s, at);
         return put(stack, n, t, in_range(false, m));
     }
     let h = is_true(op);
@@ -300,30 +490,11 @@ fn clause_step(
         return put(stack, n, t, Operand::Rank { rank: 0 });
     }
     if op == syntax::PLAIN {
-        return match unary_step(op, query, values, stack, n, bytes, t) {
-            Tops::Stuck => Tops::Stuck,
-            Tops::At { numbers, bytes: b } => binary_step(
-                RAISE,
-                query,
-                values,
-                stack,
-                numbers,
-                bytes,
-                b,
-            ),
-        };
+        return plain_step(query, values, stack, n, bytes, t);
     }
     match binary_step(op, query, values, stack, n, bytes, t) {
         Tops::Stuck => Tops::Stuck,
-        Tops::At { numbers, bytes: b } => binary_step(
-            RAISE,
-            query,
-            values,
-            stack,
-            numbers,
-            bytes,
-            b,
-        ),
+        Tops::At { numbers, bytes: b } => raise_step(query, values, stack, numbers, bytes, b),
     }
 }
 
@@ -368,7 +539,7 @@ fn step<'a>(
         return unary_step(op, query, values, stack, n, bytes, t);
     }
     if op <= syntax::EITHER {
-        return binary_step(op, query, values, stack, n, bytes, t);
+        return operator_step(op, query, values, stack, n, bytes, t);
     }
     clause_step(op, query, values, stack, n, bytes, t)
 }
@@ -418,4 +589,77 @@ pub fn run<'a>(
         }
     }
     top(stack, n)
+}
+
+// The machine on stacks of its own, with little room for strings.
+fn run_narrow<'a>(
+    code: &[u32],
+    s: &[u8],
+    query: &'a [u8],
+    consts: &'a [u8],
+    values: &[usize],
+    names: &[usize],
+    constants: &[usize],
+) -> Operand
+    ensures { λ r. ⌜ r ≡ leftIn 208 1024 (now (code .entry)) (now (s .entry)) (now (query .entry)) (now (consts .entry)) (now (values .entry)) (now (names .entry)) (now (constants .entry)) ⌝ }
+{
+    let mut stack = [0u64; 208];
+    let mut bytes = [0u8; 1024];
+    run(
+        code,
+        s,
+        query,
+        consts,
+        values,
+        names,
+        constants,
+        &mut stack,
+        &mut bytes,
+    )
+}
+
+// The same with all the room that Conditions may need.
+fn run_wide<'a>(
+    code: &[u32],
+    s: &[u8],
+    query: &'a [u8],
+    consts: &'a [u8],
+    values: &[usize],
+    names: &[usize],
+    constants: &[usize],
+) -> Operand
+    ensures { λ r. ⌜ r ≡ leftIn 208 77824 (now (code .entry)) (now (s .entry)) (now (query .entry)) (now (consts .entry)) (now (values .entry)) (now (names .entry)) (now (constants .entry)) ⌝ }
+{
+    let mut stack = [0u64; 208];
+    let mut bytes = [0u8; 77824];
+    run(
+        code,
+        s,
+        query,
+        consts,
+        values,
+        names,
+        constants,
+        &mut stack,
+        &mut bytes,
+    )
+}
+
+// Runs compiled Conditions on stacks of its own: with little room first, which most need no more than.
+pub fn run_here<'a>(
+    code: &[u32],
+    s: &[u8],
+    query: &'a [u8],
+    consts: &'a [u8],
+    values: &[usize],
+    names: &[usize],
+    constants: &[usize],
+) -> Operand
+    ensures { λ r. ⌜ r ≡ leftIn 208 77824 (now (code .entry)) (now (s .entry)) (now (query .entry)) (now (consts .entry)) (now (values .entry)) (now (names .entry)) (now (constants .entry)) ⌝ }
+{
+    let v = run_narrow(code, s, query, consts, values, names, constants);
+    if is_fault(v) {
+        return run_wide(code, s, query, consts, values, names, constants);
+    }
+    v
 }

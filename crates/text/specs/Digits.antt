@@ -1,6 +1,13 @@
 -- The number that decimal digits write. Assumes nothing.
 use mathlib.Core.List.{List, [], _∷_}
 use Prim.Native.Nat.{ℕ, _+_, _-_, _*_, min}
+use lib.ListN.{take, drop}
+use Rattle.text.specs.Scan.{run}
+use Rattle.text.specs.Class.{inClass, digit}
+
+-- the digits that start at a place
+unfoldable pub digitsAt : List ℕ → ℕ → List ℕ
+digitsAt s at = take (run (inClass digit) (drop at s)) (drop at s)
 
 -- the value of digits behind a value
 unfoldable pub valueFrom : ℕ → List ℕ → ℕ

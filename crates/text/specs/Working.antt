@@ -5,4 +5,5 @@ pub mod Parts
 pub mod Joining
 pub mod Holding
 pub mod Deciding
+pub mod Blocks
 pub mod Backward

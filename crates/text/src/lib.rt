@@ -1,9 +1,9 @@
 // Byte strings: equality, order, copying, joining and decimal numbers, as the layers above need them.
 ghost use mathlib.Core.Path.{_≡_};
 ghost use mathlib.Core.List.{map, _++_};
-ghost use Prim.Native.Nat.{_+_, _-_, _≤_, _<_, min};
+ghost use Prim.Native.Nat.{_+_, _-_, _*_, _≤_, _<_, min};
 ghost use lib.Dec.{leb};
-ghost use lib.ListN.{length};
+ghost use lib.ListN.{length, take};
 ghost use Rattle.text.specs.Scan.{run};
 ghost use Rattle.text.specs.Equal.{equal};
 ghost use Rattle.text.specs.Order.{order};
@@ -11,9 +11,10 @@ ghost use Rattle.text.specs.Copy.{copied, put, copyAt};
 ghost use Rattle.text.specs.Class.{isDigit, isLetter, isWord, inClass};
 ghost use Rattle.text.specs.Counted.{pairAt, counted};
 ghost use Rattle.text.specs.Join.{joined};
-ghost use Rattle.text.specs.Digits.{value, limit};
+ghost use Rattle.text.specs.Digits.{digitsAt, value, limit};
 ghost use Rattle.text.specs.Decimal.{inRange, roundedDown, withFraction, unsigned, decimal};
-ghost use Rattle.text.specs.Working.Common.{common};
+ghost use Rattle.text.specs.Working.Common.{common, commonFrom};
+ghost use Rattle.text.specs.Working.Blocks.{alike};
 ghost use Rattle.text.specs.Working.Holding.{hold};
 ghost use Rattle.text.specs.Working.Joining.{comma};
 
@@ -45,11 +46,45 @@ const ZERO: Integer = Integer {
     size: 0,
 };
 
+// Are the 64 bytes from i on the same in both? The loop has no early end, so that many bytes are compared at once.
+fn same_block(a: &[u8], b: &[u8], i: usize) -> bool
+    requires { ⌜ (i + 64 ≤ length (now a)) × (i + 64 ≤ length (now b)) ⌝ }
+    ensures { λ r. ⌜ r ≡ alike (now (a .entry)) (now (b .entry)) i 64 ⌝ }
+{
+    let mut same = true;
+    let mut j: usize = 0;
+    while j < 64 {
+        if a[i + j] != b[i + j] {
+            same = false;
+        }
+        j += 1;
+    }
+    same
+}
+
+// The bytes of the blocks at the front that are the same in both.
+fn same_blocks(a: &[u8], b: &[u8]) -> usize
+    ensures { λ r. ⌜ commonFrom (now (a .entry)) (now (b .entry)) r ≡ common (now (a .entry)) (now (b .entry)) ⌝ }
+{
+    let mut i: usize = 0;
+    while 64 <= a.len() - i {
+        if b.len() - i < 64 {
+            return i;
+        }
+        if same_block(a, b, i) {
+            i += 64;
+        } else {
+            return i;
+        }
+    }
+    i
+}
+
 // The length of the longest front that both share.
 fn agreement(a: &[u8], b: &[u8]) -> usize
     ensures { λ r. ⌜ r ≡ common (now (a .entry)) (now (b .entry)) ⌝ }
 {
-    let mut i: usize = 0;
+    let mut i = same_blocks(a, b);
     while i < a.len() {
         if b.len() <= i {
             return i;
@@ -62,21 +97,38 @@ fn agreement(a: &[u8], b: &[u8]) -> usize
     i
 }
 
-// Do both hold the same bytes?
+// Are the first n blocks the same in both?
+fn same_below(a: &[u8], b: &[u8], n: usize) -> bool
+    requires { ⌜ (n * 64 ≤ length (now a)) × (n * 64 ≤ length (now b)) ⌝ }
+    ensures { λ r. ⌜ r ≡ equal (take (n * 64) (now (a .entry))) (take (n * 64) (now (b .entry))) ⌝ }
+{
+    let mut k = n;
+    while 0 < k {
+        if same_block(a, b, (k - 1) * 64) {
+            k -= 1;
+        } else {
+            return false;
+        }
+    }
+    true
+}
+
+// Do both hold the same bytes? Strings that differ often share their beginnings, so the last bytes come first.
 pub fn same_bytes(a: &[u8], b: &[u8]) -> bool
     ensures { λ r. ⌜ r ≡ equal (now (a .entry)) (now (b .entry)) ⌝ }
 {
     if a.len() != b.len() {
         return false;
     }
+    let k = a.len() / 64;
     let mut i = a.len();
-    while 0 < i {
+    while k * 64 < i {
         if a[i - 1] != b[i - 1] {
             return false;
         }
         i -= 1;
     }
-    true
+    same_below(a, b, k)
 }
 
 // The order by byte; a proper prefix is less.
@@ -327,6 +379,23 @@ pub fn number(digits: &[u8]) -> u64
     while i < digits.len() {
         v = hold_digit(v, digits[i]);
         i += 1;
+    }
+    v
+}
+
+// The number whose digits start at a place, held at the limit; 0 where none do.
+pub fn number_at(s: &[u8], at: usize) -> u64
+    ensures { λ r. ⌜ r ≡ min (value (digitsAt (now (s .entry)) at)) limit ⌝ }
+{
+    let mut v: u64 = 0;
+    let mut i = at;
+    while i < s.len() {
+        if is_digit(s[i]) {
+            v = hold_digit(v, s[i]);
+            i += 1;
+        } else {
+            return v;
+        }
     }
     v
 }

@@ -6,12 +6,15 @@ use Prim.Native.Nat.{ℕ, _+_, _-_, _<_, _≤_, max}
 use native.Mathlib.Omega.{arith}
 use lib.ListN.{length, length-append, length-map}
 use borrow.Author.Tests.{lt-ltb, le-ltb, le-leb, lt-leb, eq-eqb, ne-eqb}
-use Rattle.text.specs.Choice.{pick}
+use Rattle.text.specs.Choice.{pick, clash, bool-iff}
 use Rattle.text.specs.Counted.{counted}
+use Rattle.text.specs.Equal.{equal, equal-refl, equal-true}
 use Rattle.text.specs.Order.{order}
+use Rattle.text.specs.OrderLaws.{order-refl, order-equal}
 use Rattle.text.specs.Decimal.{integer as signed, decimal}
 use Rattle.text.specs.declared.Integer.{Integer}
 use Rattle.text.specs.declared.Order.{Order}
+use Rattle.text.specs.declared.Order.the-variants.{Less, Equal, Greater}
 use Rattle.expression.specs.Value.{Value, text, integer, test, fault, operand, onText, onInteger, onTest}
 use Rattle.expression.specs.Operands.{valueOf, isText, isNumber, integerIn, isTest, holdsIn, rankIn, testIn}
 use Rattle.expression.specs.Integers.{plus, minus, times, over, remainder, power, negated, compared}
@@ -209,15 +212,37 @@ module _ (a b : List ℕ) where
   unfolding held operand
   join-in h = let e : length (a ++ b) ≡ length a + length b = length-append a b in rw (le-ltb 4096 (length (a ++ b)) (rw e h)) (ap Text (sym e))
 
+-- strings are equal where neither comes first
+is-equal : (o : Order) → isEqual o ≡ true → o ≡ Equal
+is-equal Less h = clash h refl
+is-equal Equal h = refl
+is-equal Greater h = clash h refl
+
+equal-is : (a b : List ℕ) → equal a b ≡ isEqual (order a b)
+equal-is a b =
+    bool-iff (equal a b) (isEqual (order a b))
+    (λ h. ap isEqual (ap (order a) (sym (equal-true a b h)) ∙ order-refl a))
+    (λ h. let q : a ≡ b = order-equal a b (is-equal (order a b) h) in rw q (equal-refl b))
+
 -- the ways out of `of_strings`
 module _ (op : ℕ) (a b : List ℕ) where
   pub does-join : (r : Operand) → op ≡ 9 → r ≡ operand (held (a ++ b)) → r ≡ operand (textual op a b)
   unfolding textual
   does-join r h e = e ∙ simp (eq-eqb _ _ h)
 
-  pub does-order : (op ≡ 9 → ⊥) → (o : Order) → o ≡ order a b → (k : ℕ) → k ≡ op - 16 → (t : Bool) → t ≡ relates k o → Test t ≡ operand (textual op a b)
-  unfolding textual operand
-  does-order n o oe k ke t te = rw (te, ke, oe) (simp (ne-eqb _ _ n))
+  module _ (n9 : op ≡ 9 → ⊥) where
+    pub does-equal : op ≡ 16 → (t : Bool) → t ≡ equal a b → Test t ≡ operand (textual op a b)
+    unfolding textual operand relates
+    does-equal h t te = rw (te, ne-eqb _ _ n9, h) (ap Test (equal-is a b))
+
+    module _ (n16 : op ≡ 16 → ⊥) where
+      pub does-differ : op ≡ 17 → (t : Bool) → t ≡ equal a b → (u : Bool) → u ≡ not t → Test u ≡ operand (textual op a b)
+      unfolding textual operand relates
+      does-differ h t te u ue = rw (ue, te, ne-eqb _ _ n9, h) (ap (λ (k : Bool). Test (not k)) (equal-is a b))
+
+    pub does-order : (o : Order) → o ≡ order a b → (k : ℕ) → k ≡ op - 16 → (t : Bool) → t ≡ relates k o → Test t ≡ operand (textual op a b)
+    unfolding textual operand
+    does-order o oe k ke t te = rw (te, ke, oe) (simp (ne-eqb _ _ n9))
 
 -- the ways out of `texts`, `integers` and `tests`
 module _ (op : ℕ) (x y : Operand) (a b : List ℕ) (t : Bool) where

@@ -1,37 +1,27 @@
-use Rattle.judge.specs.Working.Judging.{here-is}
+use Rattle.judge.specs.Working.Judging.{here-short, here-long}
 use borrow.Author.Needs.{needs}
 use Rattle.judge.proofs.judge_field.Statement.{statement}
 use Rattle.judge.proofs.judge_field.Tie as tie
 use Rattle.judge.proofs.judge_field.Reads as reads
 use Rattle.judge.proofs.judge_field.Lts as lts
-use Rattle.judge.proofs.judge.Reads as judge-reads
+use Rattle.judge.proofs.judge_long.Reads as judge-long-reads
+use Rattle.judge.proofs.judge_short.Reads as judge-short-reads
 
--- src/lib.rt:121:9
-slice-aggregate-judge : tie.Need-slice-aggregate-judge
-slice-aggregate-judge c = search needs
+-- src/lib.rt:198:9
+judge-short-requires : tie.Need-judge-short-requires
+judge-short-requires c κs = search needs
 
--- src/lib.rt:122:9
-slice-aggregate-judge-2 : tie.Need-slice-aggregate-judge-2
-slice-aggregate-judge-2 c = search needs
-
--- src/lib.rt:123:9
-slice-aggregate-judge-3 : tie.Need-slice-aggregate-judge-3
-slice-aggregate-judge-3 c = search needs
-
--- src/lib.rt:113:5
-judge-requires : tie.Need-judge-requires
-judge-requires c κs = search needs
-
--- src/lib.rt:99:1
+-- src/lib.rt:198:9
 returns : tie.Need-returns
-returns c = search here-is
+returns c = search here-short
+
+-- src/lib.rt:200:5
+judge-long-requires : tie.Need-judge-long-requires
+judge-long-requires c κs = search needs
+
+-- src/lib.rt:186:1
+returns-2 : tie.Need-returns-2
+returns-2 c = search here-long
 
 pub judge-field-spec : {M : Type 1} → statement M
-judge-field-spec =
-    tie.close
-    (tie.spec
-    slice-aggregate-judge
-    slice-aggregate-judge-2
-    slice-aggregate-judge-3
-    judge-requires
-    returns)
+judge-field-spec = tie.close (tie.spec judge-short-requires returns judge-long-requires returns-2)

@@ -3,8 +3,10 @@ use mathlib.Core.Path.{_≡_, refl}
 use mathlib.Core.List.{List}
 use Prim.Native.Nat.{ℕ, _+_, _-_, _%_, _<_, _≤_}
 use native.Mathlib.Omega.{arith}
+use lib.Dec.{leb}
 use lib.ListN.{length, take, replicate, length-replicate}
-use borrow.Author.Tests.{le-ltb}
+use borrow.Author.Tests.{le-ltb, leb-true}
+use Rattle.text.specs.Choice.{split}
 use Rattle.lexical.specs.Kind.{IN-FIELD}
 use Rattle.lexical.specs.declared.token.Token.{Token}
 use Rattle.syntax.specs.Expr.{Program}
@@ -23,7 +25,7 @@ use Rattle.conditions.specs.Compiled.{Compiled, refused, compiled, conditions-c
 use Rattle.conditions.specs.Behind.{read-behind}
 use Rattle.conditions.specs.Working.Emit.{Ran}
 use Rattle.conditions.specs.Working.Program.{conditionsAt}
-use Rattle.judge.specs.Working.Judging.{leftBy, rankAt, judgedOf, judgedIn, judgedHere}
+use Rattle.judge.specs.Working.Judging.{leftBy, rankAt, judgedOf, judgedIn, codeRoom, judgedHere}
 use Rattle.judge.specs.Theorems.Rooms.{read-need, read-room}
 use Rattle.judge.specs.declared.Judged.{Judged}
 use Rattle.judge.specs.declared.Judged.the-variants.{On, Aside}
@@ -65,9 +67,16 @@ module _ {rec consts values names constants : List ℕ} {env : Environment} (sho
     unfolding judgedIn
     judge-read = both-judge (readProgram s (nextAt s at)) (conditionsAt s m 0 (nextAt s at)) refl (conditions-compiled s m 0 at short (omega arith) (omega (arith, room)))
 
--- With tables of its own, for a text of at most 8,192 bytes.
-pub judge-field-read : {rec consts values names constants : List ℕ} {env : Environment} → Shows rec consts values names constants env → length (env .values) ≤ 256
-    → (s : List ℕ) → length s ≤ 8192 → (at : ℕ) → Judging s env (readProgram s (nextAt s at)) (judgedHere s (nextAt s at) rec consts values names constants)
-unfolding judgedHere
-judge-field-read shows few s short at =
-    judge-read shows few s (omega (arith, short)) 208 77824 (omega arith) (omega arith) at (replicate 8194 0) (omega (arith, short, length-replicate {A = ℕ} 8194 0))
+-- With at most 256 values and a text of at most 8,192 bytes, `judge_field` gives the field's rank or its first fault.
+module _ {rec consts values names constants : List ℕ} {env : Environment} (shows : Shows rec consts values names constants env) (few : length (env .values) ≤ 256)
+    (s : List ℕ) (short : length s ≤ 8192) (at : ℕ) where
+  code-fits : length s + 2 ≤ length (codeRoom s)
+  unfolding codeRoom
+  code-fits =
+      split (leb (length s) 1022)
+      (λ f. let h : length s ≤ 1022 = leb-true _ _ f in rw f (omega (arith, h, length-replicate {A = ℕ} 1024 0)))
+      (λ f. rw f (omega (arith, short, length-replicate {A = ℕ} 8194 0)))
+
+  pub judge-field-read : Judging s env (readProgram s (nextAt s at)) (judgedHere s (nextAt s at) rec consts values names constants)
+  unfolding judgedHere
+  judge-field-read = judge-read shows few s (omega (arith, short)) 208 77824 (omega arith) (omega arith) at (codeRoom s) code-fits

@@ -2,9 +2,9 @@
 use mathlib.Core.Path.{_≡_, sym}
 use mathlib.Core.List.{List, [], map}
 use Prim.Native.Nat.{ℕ, _%_, _<_, _≤_}
-use lib.Dec.{ltb}
-use lib.ListN.{replicate, length, take}
-use borrow.Author.Tests.{lt-ltb, le-ltb}
+use lib.Dec.{ltb, leb}
+use lib.ListN.{length, take, replicate}
+use borrow.Author.Tests.{lt-ltb, le-ltb, le-leb, lt-leb}
 use Rattle.text.specs.Choice.{pick}
 use Rattle.text.specs.Counted.{counted}
 use Rattle.lexical.specs.declared.token.Token.{Token}
@@ -12,6 +12,7 @@ use Rattle.expression.specs.Operands.{rankIn}
 use Rattle.expression.specs.Tables.{lookupIn}
 use Rattle.expression.specs.declared.value.Operand.{Operand}
 use Rattle.machine.specs.Machine.{on, exec, resultOf}
+use Rattle.machine.specs.Left.{leftIn}
 use Rattle.conditions.specs.Working.Emit.{Ran, ran}
 use Rattle.conditions.specs.Working.Program.{conditionsAt}
 use Rattle.conditions.specs.declared.emit.Out.{Out}
@@ -39,14 +40,13 @@ unfoldable pub judgedIn : List ℕ → Token → List ℕ → List ℕ → List 
 judgedIn s t rec consts values names constants m depth space =
     judgedOf (λ b u. rankAt b u s rec consts values names constants depth space) (conditionsAt s m 0 t)
 
--- with tables that are large enough for every text
-unfoldable pub judgedHere : List ℕ → Token → List ℕ → List ℕ → List ℕ → List ℕ → List ℕ → Judged
-judgedHere s t rec consts values names constants = judgedIn s t rec consts values names constants (replicate 8194 0) 208 77824
+-- a table for the code of a text: an entry for each byte and two more, for texts of at most 8,192 bytes
+unfoldable pub codeRoom : List ℕ → List ℕ
+codeRoom s = pick (leb (length s) 1022) (replicate 1024 0) (replicate 8194 0)
 
-pub here-is : (s : List ℕ) (t : Token) (rec consts values names constants : List ℕ) (r : Judged)
-    → r ≡ judgedIn s t rec consts values names constants (replicate 8194 0) 208 77824 → r ≡ judgedHere s t rec consts values names constants
-unfolding judgedHere
-here-is s t rec consts values names constants r e = e
+-- the same in tables of its own: room for 208 numbers and 77,824 bytes
+unfoldable pub judgedHere : List ℕ → Token → List ℕ → List ℕ → List ℕ → List ℕ → List ℕ → Judged
+judgedHere s t rec consts values names constants = judgedIn s t rec consts values names constants (codeRoom s) 208 77824
 
 -- the code that is written
 abbrev pub writtenBy : Ran → List ℕ
@@ -72,7 +72,14 @@ module _ (s rec consts values names constants : List ℕ) (depth space : ℕ) wh
     unfolding rankAt leftBy
     rank-run h part pe v ve k ke r re = simp (le-ltb _ _ h, re, ke, ve, pe)
 
-  -- `judge`
+    -- `rank_here`
+    pub rank-left : top ≤ length code → (part : List ℕ) → part ≡ take top code → (v : Operand)
+        → v ≡ leftIn depth space part s rec consts values names constants
+        → (k : ℕ) → k ≡ rankIn v → (r : ℕ) → r ≡ k % 256 → r ≡ rankAt code top s rec consts values names constants depth space
+    unfolding leftIn
+    rank-left h part pe v ve k ke r re = rank-run h part pe v ve k ke r re
+
+  -- `judge` and `judge_in`
   module _ (t : Token) (m b : List ℕ) (o : Out) (oe : ran o b ≡ conditionsAt s m 0 t) where
     pub judge-aside : (r p : ℕ) → o ≡ Refused r p → Aside r p ≡ judgedIn s t rec consts values names constants m depth space
     unfolding judgedIn
@@ -82,3 +89,13 @@ module _ (s rec consts values names constants : List ℕ) (depth space : ℕ) wh
         → On k n ≡ judgedIn s t rec consts values names constants m depth space
     unfolding judgedIn
     judge-on x p u n e k ke = simp (sym oe, e, ke)
+
+-- `judge_field`
+module _ (s rec consts values names constants : List ℕ) (t : Token) (r : Judged) where
+  pub here-short : length s ≤ 1022 → r ≡ judgedIn s t rec consts values names constants (replicate 1024 0) 208 77824 → r ≡ judgedHere s t rec consts values names constants
+  unfolding judgedHere codeRoom
+  here-short h e = rw (le-leb (length s) 1022 h) e
+
+  pub here-long : 1022 < length s → r ≡ judgedIn s t rec consts values names constants (replicate 8194 0) 208 77824 → r ≡ judgedHere s t rec consts values names constants
+  unfolding judgedHere codeRoom
+  here-long h e = rw (lt-leb (length s) 1022 h) e

@@ -4,89 +4,89 @@ use Rattle.machine.proofs.step.Statement.{statement}
 use Rattle.machine.proofs.step.Tie as tie
 use Rattle.machine.proofs.step.Reads as reads
 use Rattle.machine.proofs.step.Lts as lts
-use Rattle.machine.proofs.binary_step.Reads as binary-step-reads
 use Rattle.machine.proofs.clause_step.Reads as clause-step-reads
 use Rattle.machine.proofs.lookup_step.Reads as lookup-step-reads
+use Rattle.machine.proofs.operator_step.Reads as operator-step-reads
 use Rattle.machine.proofs.push_step.Reads as push-step-reads
 use Rattle.machine.proofs.unary_step.Reads as unary-step-reads
 
--- src/lib.rt:295:9
+-- src/lib.rt:520:9
 push-step-requires : tie.Need-push-step-requires
 push-step-requires c κs = search needs
 
--- src/lib.rt:295:9
+-- src/lib.rt:520:9
 same-length : tie.Need-same-length
 same-length c = search needs
 
--- src/lib.rt:295:9
+-- src/lib.rt:520:9
 same-length-2 : tie.Need-same-length-2
 same-length-2 c = search needs
 
--- src/lib.rt:295:9
+-- src/lib.rt:520:9
 returns : tie.Need-returns
 returns c = search step-push
 
--- src/lib.rt:298:9
+-- src/lib.rt:536:9
 lookup-step-requires : tie.Need-lookup-step-requires
 lookup-step-requires c κs = search needs
 
--- src/lib.rt:298:9
+-- src/lib.rt:536:9
 same-length-3 : tie.Need-same-length-3
 same-length-3 c = search needs
 
--- src/lib.rt:298:9
+-- src/lib.rt:536:9
 same-length-4 : tie.Need-same-length-4
 same-length-4 c = search needs
 
--- src/lib.rt:298:9
+-- src/lib.rt:536:9
 returns-2 : tie.Need-returns-2
 returns-2 c = search step-lookup
 
--- src/lib.rt:301:9
+-- src/lib.rt:539:9
 unary-step-requires : tie.Need-unary-step-requires
 unary-step-requires c κs = search needs
 
--- src/lib.rt:301:9
+-- src/lib.rt:539:9
 same-length-5 : tie.Need-same-length-5
 same-length-5 c = search needs
 
--- src/lib.rt:301:9
+-- src/lib.rt:539:9
 same-length-6 : tie.Need-same-length-6
 same-length-6 c = search needs
 
--- src/lib.rt:301:9
+-- src/lib.rt:539:9
 returns-3 : tie.Need-returns-3
 returns-3 c = search step-unary
 
--- src/lib.rt:304:9
-binary-step-requires : tie.Need-binary-step-requires
-binary-step-requires c κs = search needs
+-- src/lib.rt:542:9
+operator-step-requires : tie.Need-operator-step-requires
+operator-step-requires c κs = search needs
 
--- src/lib.rt:304:9
+-- src/lib.rt:542:9
 same-length-7 : tie.Need-same-length-7
 same-length-7 c = search needs
 
--- src/lib.rt:304:9
+-- src/lib.rt:542:9
 same-length-8 : tie.Need-same-length-8
 same-length-8 c = search needs
 
--- src/lib.rt:304:9
+-- src/lib.rt:542:9
 returns-4 : tie.Need-returns-4
 returns-4 c = search step-binary
 
--- src/lib.rt:306:5
+-- src/lib.rt:544:5
 clause-step-requires : tie.Need-clause-step-requires
 clause-step-requires c κs = search needs
 
--- src/lib.rt:277:1
+-- src/lib.rt:502:1
 same-length-9 : tie.Need-same-length-9
 same-length-9 c = search needs
 
--- src/lib.rt:277:1
+-- src/lib.rt:502:1
 same-length-10 : tie.Need-same-length-10
 same-length-10 c = search needs
 
--- src/lib.rt:277:1
+-- src/lib.rt:502:1
 returns-5 : tie.Need-returns-5
 returns-5 c = search step-clause
 
@@ -106,7 +106,7 @@ step-spec =
     same-length-5
     same-length-6
     returns-3
-    binary-step-requires
+    operator-step-requires
     same-length-7
     same-length-8
     returns-4

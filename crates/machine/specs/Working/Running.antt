@@ -8,7 +8,7 @@ use lib.Dec.{eqb}
 use lib.ListN.{length, getD, take, drop, drop-of-length-le}
 use lib.Seq.{drop-cons}
 use borrow.Author.Tests.{le-leb, lt-leb, eq-eqb, ne-eqb}
-use Rattle.text.specs.Digits.{value, limit}
+use Rattle.text.specs.Digits.{digitsAt, value, limit}
 use Rattle.lexical.specs.Literal.{decodedAt}
 use Rattle.expression.specs.Value.{operand}
 use Rattle.expression.specs.Integers.{ranged}
@@ -41,16 +41,27 @@ module _ (s : List ℕ) (look : List ℕ → List ℕ) (op at : ℕ) where
       push-name h a ae b be l = let q : b ≡ look (runAt 2 s at) = be ∙ ap look ae in rw (ne-eqb op 0 n0, eq-eqb op 1 h, ← q) l
 
   module _ (n0 : op ≡ 0 → ⊥) (n1 : op ≡ 1 → ⊥) (room : ℕ) (st m : List ℕ) (n t : ℕ) (hn : n ≤ length st) (ht : t ≤ length m) (r : Tops) (st′ : List ℕ) where
-    pub push-number : op ≡ 2 → (a : List ℕ) → a ≡ runAt 1 s at → (k : ℕ) → k ≡ min (value a) 4294967295 → (v : Operand) → v ≡ operand (ranged false k)
+    pub push-number : op ≡ 2 → (k : ℕ) → k ≡ min (value (digitsAt s at)) 4294967295 → (v : Operand) → v ≡ operand (ranged false k)
         → landed r st′ ≡ putAt st n t v → Live r st′ m (pushStep (length st) room s look op at (take n st) (take t m))
-    unfolding pushStep
-    push-number h a ae k ke v ve is =
-        let q : v ≡ operand (ranged false (min (value (runAt 1 s at)) limit)) = ve ∙ ap (λ (j : ℕ). operand (ranged false j)) (ke ∙ ap (λ (x : List ℕ). min (value x) limit) ae) in
+    unfolding pushStep runAt digitsAt
+    push-number h k ke v ve is =
+        let q : v ≡ operand (ranged false (min (value (digitsAt s at)) limit)) = ve ∙ ap (λ (j : ℕ). operand (ranged false j)) ke in
         rw (ne-eqb op 0 n0, ne-eqb op 1 n1, eq-eqb op 2 h, ← q) (put-live st m n t v hn ht r st′ is)
 
     pub push-test : (op ≡ 2 → ⊥) → (b : Bool) → b ≡ eqb op 3 → landed r st′ ≡ putAt st n t (Test b) → Live r st′ m (pushStep (length st) room s look op at (take n st) (take t m))
     unfolding pushStep
     push-test n2 b be is = rw (ne-eqb op 0 n0, ne-eqb op 1 n1, ne-eqb op 2 n2, ← be) (put-live st m n t (Test b) hn ht r st′ is)
+
+-- the ways out of `plain_step`
+module _ (vals : List (List ℕ)) (depth : ℕ) (vs bs m : List ℕ) (r : Tops) (st′ : List ℕ) (l : Live r st′ m (unaryStep depth vals 31 vs bs)) where
+  pub plain-stuck : r ≡ Stuck → Live Stuck st′ m (raised depth vals (unaryStep depth vals 31 vs bs))
+  unfolding raised
+  plain-stuck re = rw (live-out r st′ m _ re l) (record { within = tt; holds = refl })
+
+  pub plain-raised : (n t : ℕ) → r ≡ At n t → length st′ ≡ depth → (r′ : Tops) (st″ : List ℕ) → Live r′ st″ m (binaryStep (length st′) vals 34 (take n st′) (take t m))
+      → Live r′ st″ m (raised depth vals (unaryStep depth vals 31 vs bs))
+  unfolding raised
+  plain-raised n t re de r′ st″ l′ = rw (live-in r st′ m _ n t re l .1 .1, ← de) l′
 
 -- the ways out of `clause_step`
 module _ (vals : List (List ℕ)) (op : ℕ) where
@@ -60,15 +71,9 @@ module _ (vals : List (List ℕ)) (op : ℕ) where
   clause-begin h st m n t hn ht r st′ is = rw (eq-eqb op 30 h) (put-live st m n t (Rank 0) hn ht r st′ is)
 
   module _ (n30 : op ≡ 30 → ⊥) (depth : ℕ) (vs bs m : List ℕ) (r : Tops) (st′ : List ℕ) where
-    module _ (h : op ≡ 31) (l : Live r st′ m (unaryStep depth vals op vs bs)) where
-      pub plain-stuck : r ≡ Stuck → Live Stuck st′ m (clauseStep depth vals op vs bs)
-      unfolding clauseStep raised
-      plain-stuck re = rw (ne-eqb op 30 n30, eq-eqb op 31 h, live-out r st′ m _ re l) (record { within = tt; holds = refl })
-
-      pub plain-raised : (n t : ℕ) → r ≡ At n t → length st′ ≡ depth → (r′ : Tops) (st″ : List ℕ) → Live r′ st″ m (binaryStep (length st′) vals 34 (take n st′) (take t m))
-          → Live r′ st″ m (clauseStep depth vals op vs bs)
-      unfolding clauseStep raised
-      plain-raised n t re de r′ st″ l′ = rw (ne-eqb op 30 n30, eq-eqb op 31 h, live-in r st′ m _ n t re l .1 .1, ← de) l′
+    pub clause-plain : op ≡ 31 → Live r st′ m (raised depth vals (unaryStep depth vals 31 vs bs)) → Live r st′ m (clauseStep depth vals op vs bs)
+    unfolding clauseStep
+    clause-plain h l = rw (h) l
 
     module _ (n31 : op ≡ 31 → ⊥) (l : Live r st′ m (binaryStep depth vals op vs bs)) where
       pub clause-stuck : r ≡ Stuck → Live Stuck st′ m (clauseStep depth vals op vs bs)

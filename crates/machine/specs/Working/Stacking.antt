@@ -36,7 +36,7 @@ unpack-is (Test false) = refl
 unpack-is (Rank n) = refl
 unpack-is Fault = refl
 
-width-is : (v : Value) → width (operand v) ≡ length (bytesOf v)
+pub width-is : (v : Value) → width (operand v) ≡ length (bytesOf v)
 unfolding width operand bytesOf
 width-is (text b) = refl
 width-is (integer i) = refl

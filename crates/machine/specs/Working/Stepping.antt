@@ -179,7 +179,7 @@ module _ (st : List ℕ) (n : ℕ) (hn : n ≤ length st) where
       let q : n - 1 < n = omega arith in
       rw (length-take-le n st hn, le-ltb n 2 h, getD-take n st (n - 2) 0 p, getD-take n st (n - 1) 0 q) e
 
-  below-is : 2 ≤ n → below (take n st) ≡ take (n - 2) st
+  pub below-is : 2 ≤ n → below (take n st) ≡ take (n - 2) st
   unfolding below
   below-is h = rw (length-take-le n st hn) (take-take (n - 2) n st (omega arith))
 

@@ -1,12 +1,13 @@
 use mathlib.Core.Path.{_≡_}
 use Prim.Native.Nat.{_-_}
 use lib.ListN.{length}
-use Rattle.text.specs.Working.Common.{common, commonFrom, common-start, common-end, common-short, common-stop, common-more}
+use Rattle.text.specs.Working.Common.{common, commonFrom, common-end, common-short, common-stop, common-more}
 use borrow.Author.Needs.{needs}
 use Rattle.text.proofs.agreement.Statement.{statement}
 use Rattle.text.proofs.agreement.Tie as tie
 use Rattle.text.proofs.agreement.Reads as reads
 use Rattle.text.proofs.agreement.Lts as lts
+use Rattle.text.proofs.same_blocks.Reads as same-blocks-reads
 
 abbrev Inv-loop : tie.InvT-loop
 Inv-loop a b i₀ i = commonFrom a b i ≡ common a b
@@ -14,39 +15,43 @@ Inv-loop a b i₀ i = commonFrom a b i ≡ common a b
 abbrev μ-loop : tie.MeasureT-loop
 μ-loop a b i₀ i = length a - i
 
--- src/lib.rt:20:5
-loop-holds : tie.Need-loop-holds Inv-loop μ-loop
-loop-holds c = search common-start
+-- src/lib.rt:87:9
+same-blocks-requires : tie.Need-same-blocks-requires Inv-loop μ-loop
+same-blocks-requires c κs = search needs
 
--- src/lib.rt:22:13
+-- src/lib.rt:88:5
+loop-holds : tie.Need-loop-holds Inv-loop μ-loop
+loop-holds c = search needs
+
+-- src/lib.rt:90:13
 returns : tie.Need-returns Inv-loop μ-loop
 returns c = search common-short
 
--- src/lib.rt:24:12
+-- src/lib.rt:92:12
 shared-slice-read-if2 : tie.Need-shared-slice-read-if2 Inv-loop μ-loop
 shared-slice-read-if2 c = search needs
 
--- src/lib.rt:24:20
+-- src/lib.rt:92:20
 shared-slice-read-if2-2 : tie.Need-shared-slice-read-if2-2 Inv-loop μ-loop
 shared-slice-read-if2-2 c = search needs
 
--- src/lib.rt:25:13
+-- src/lib.rt:93:13
 returns-2 : tie.Need-returns-2 Inv-loop μ-loop
 returns-2 c = search common-stop
 
--- src/lib.rt:27:9
+-- src/lib.rt:95:9
 add-i : tie.Need-add-i Inv-loop μ-loop
 add-i c = search needs
 
--- src/lib.rt:20:5
+-- src/lib.rt:88:5
 loop-less : tie.Need-loop-less Inv-loop μ-loop
 loop-less c = search needs
 
--- src/lib.rt:20:5
+-- src/lib.rt:88:5
 loop-again : tie.Need-loop-again Inv-loop μ-loop
 loop-again c = search common-more
 
--- src/lib.rt:16:1
+-- src/lib.rt:84:1
 returns-3 : tie.Need-returns-3 Inv-loop μ-loop
 returns-3 c = search common-end
 
@@ -56,6 +61,7 @@ agreement-spec =
     (tie.spec
     Inv-loop
     μ-loop
+    same-blocks-requires
     loop-holds
     returns
     shared-slice-read-if2

@@ -8,7 +8,8 @@ use native.Mathlib.Numerals.{add-one}
 use lib.Dec.{leb}
 use lib.ListN.{length, getD, drop, drop-of-length-le}
 use lib.Seq.{drop-cons}
-use Rattle.text.specs.Digits.{valueFrom, value, limit}
+use Rattle.text.specs.Class.{isDigit, inClass}
+use Rattle.text.specs.Digits.{digitsAt, valueFrom, value, limit}
 
 -- one digit more, held at the limit
 unfoldable pub hold : ℕ → ℕ → ℕ
@@ -43,6 +44,28 @@ module _ (s : List ℕ) (i v r : ℕ) (inv : holdRest s i v ≡ r) where
   pub hold-end : length s ≤ i → v ≡ r
   unfolding holdRest holdAll
   hold-end h = rw (drop-of-length-le s h) at inv
+
+-- the same over the digits that start at a place
+unfoldable pub holdDigits : List ℕ → ℕ → ℕ → ℕ
+holdDigits s i v = holdAll v (digitsAt s i)
+
+pub digits-start : (s : List ℕ) (at : ℕ) → holdDigits s at 0 ≡ min (value (digitsAt s at)) limit
+unfolding holdDigits value
+digits-start s at = hold-all (digitsAt s at) 0
+
+module _ (s : List ℕ) (i v r : ℕ) (inv : holdDigits s i v ≡ r) where
+  pub digits-end : length s ≤ i → v ≡ r
+  unfolding holdDigits holdAll digitsAt
+  digits-end h = rw (drop-of-length-le s h) at inv
+
+  module _ (h : i < length s) (t : Bool) (te : t ≡ isDigit (getD s i 0)) where
+    pub digits-more : t ≡ true → (w : ℕ) → w ≡ hold v (getD s i 0) → holdDigits s (i + 1) w ≡ r
+    unfolding holdDigits holdAll digitsAt inClass
+    digits-more tt w e = rw (add-one i, e) (rw (drop-cons s i 0 h, sym te ∙ tt) at inv)
+
+    pub digits-stop : t ≡ false → v ≡ r
+    unfolding holdDigits holdAll digitsAt inClass
+    digits-stop tf = rw (drop-cons s i 0 h, sym te ∙ tf) at inv
 
 -- the ways out of `hold`
 module _ (v b : ℕ) where

@@ -1,0 +1,26 @@
+use Rattle.machine.specs.Theorems.Wider.{run-left}
+use borrow.Author.Needs.{needs}
+use Rattle.machine.proofs.run_wide.Statement.{statement}
+use Rattle.machine.proofs.run_wide.Tie as tie
+use Rattle.machine.proofs.run_wide.Reads as reads
+use Rattle.machine.proofs.run_wide.Lts as lts
+use Rattle.machine.proofs.run.Reads as run-reads
+
+-- src/lib.rt:456:59
+slice-aggregate-run : tie.Need-slice-aggregate-run
+slice-aggregate-run c = search needs
+
+-- src/lib.rt:456:71
+slice-aggregate-run-2 : tie.Need-slice-aggregate-run-2
+slice-aggregate-run-2 c = search needs
+
+-- src/lib.rt:456:5
+run-requires : tie.Need-run-requires
+run-requires c κs = search needs
+
+-- src/lib.rt:443:1
+returns : tie.Need-returns
+returns c = search run-left
+
+pub run-wide-spec : {M : Type 1} → statement M
+run-wide-spec = tie.close (tie.spec slice-aggregate-run slice-aggregate-run-2 run-requires returns)

@@ -1,0 +1,85 @@
+-- What is left is the same with more room, but where the machine could not go on. Assumes nothing.
+use mathlib.Core.Path.{_≡_, refl, sym, ap, _∙_}
+use mathlib.Core.Bool.{Bool, true, false}
+use mathlib.Core.List.{List, [], _∷_, _++_, map}
+use Prim.Native.Nat.{ℕ, _+_, _-_, _/_, _%_, _≤_}
+use native.Mathlib.Omega.{arith}
+use lib.Dec.{eqb, leb, ltb}
+use lib.ListN.{length, take, drop}
+use borrow.Author.Tests.{le-leb, leb-true}
+use Rattle.text.specs.Choice.{pick, split, clash}
+use Rattle.text.specs.Counted.{counted}
+use Rattle.expression.specs.Operands.{width, isText, isFault}
+use Rattle.expression.specs.Tables.{lookupIn}
+use Rattle.expression.specs.declared.value.Operand.{Operand}
+use Rattle.expression.specs.declared.value.Operand.the-variants.{Fault}
+use Rattle.machine.specs.Machine.{State, on, stuck, placed, textStep, topOf, below, lookupOn, lookupStep, pushStep, stepOf, stepped, exec, resultOf}
+use Rattle.machine.specs.Left.{leftIn}
+
+-- the machine could not go on, or is where it is with more room
+data Kept : State → State → Type 0 where
+  lost : {b : State} → Kept stuck b
+  same : {a : State} → Kept a a
+
+kept-pick : (t : Bool) {a b c d : State} → Kept a c → Kept b d → Kept (pick t a b) (pick t c d)
+kept-pick true k l = k
+kept-pick false k l = l
+
+module _ (depth room room′ : ℕ) (h : room ≤ room′) (look : List ℕ → List ℕ) where
+  text-kept : (b vs bs : List ℕ) → Kept (textStep depth room b vs bs) (textStep depth room′ b vs bs)
+  unfolding textStep
+  text-kept b vs bs =
+      kept-pick (ltb 4096 (length b)) same
+      (split (leb (length bs + length b) room)
+      (λ f. let l : length bs + length b ≤ room = leb-true _ _ f in rw (f, le-leb (length bs + length b) room′ (omega (arith, l, h))) same)
+      (λ f. rw f lost))
+
+  lookup-kept : (vs bs : List ℕ) → Kept (lookupStep depth room look vs bs) (lookupStep depth room′ look vs bs)
+  unfolding lookupStep lookupOn
+  lookup-kept vs bs =
+      kept-pick (ltb (length vs) 2) (same {a = stuck})
+      (kept-pick (ltb (length bs) (width (topOf vs))) (same {a = stuck})
+      (kept-pick (isText (topOf vs)) (text-kept (look (drop (length bs - width (topOf vs)) bs)) (below vs) (take (length bs - width (topOf vs)) bs))
+      (same {a = placed depth (below vs) (take (length bs - width (topOf vs)) bs) Fault})))
+
+  module _ (s : List ℕ) (vals : List (List ℕ)) where
+    push-kept : (op at : ℕ) (vs bs : List ℕ) → Kept (pushStep depth room s look op at vs bs) (pushStep depth room′ s look op at vs bs)
+    unfolding pushStep
+    push-kept op at vs bs = kept-pick (eqb op 0) (text-kept _ vs bs) (kept-pick (eqb op 1) (text-kept _ vs bs) same)
+
+    step-kept : (e : ℕ) (vs bs : List ℕ) → Kept (stepped depth room s look vals e vs bs) (stepped depth room′ s look vals e vs bs)
+    unfolding stepped stepOf
+    step-kept e vs bs =
+        kept-pick (leb (e / 65536) 4) (push-kept (e / 65536) (e % 65536) vs bs) (kept-pick (eqb (e / 65536) 5) (lookup-kept vs bs) same)
+
+    exec-kept : (c : List ℕ) (a b : State) → Kept a b → Kept (exec depth room s look vals c a) (exec depth room′ s look vals c b)
+    unfolding exec
+    exec-kept [] a b k = k
+    exec-kept (e ∷ c) _ _ lost = lost
+    exec-kept (e ∷ c) (on vs bs) _ same = exec-kept c (stepped depth room s look vals e vs bs) (stepped depth room′ s look vals e vs bs) (step-kept e vs bs)
+    exec-kept (e ∷ c) stuck _ same = same
+
+kept-result : (a b : State) → Kept a b → isFault (resultOf a) ≡ false → resultOf a ≡ resultOf b
+unfolding resultOf isFault
+kept-result _ _ lost f = clash refl f
+kept-result _ _ same f = refl
+
+-- an operand that is no fault is left with more room too
+pub left-wider : (depth room room′ : ℕ) (code s rec consts values names constants : List ℕ) → room ≤ room′
+    → isFault (leftIn depth room code s rec consts values names constants) ≡ false
+    → leftIn depth room code s rec consts values names constants ≡ leftIn depth room′ code s rec consts values names constants
+unfolding leftIn
+left-wider depth room room′ code s rec consts values names constants h f =
+    kept-result _ _ (exec-kept depth room room′ h (lookupIn rec consts values names constants) s (map (counted rec) values) code (on [] []) (on [] []) same) f
+
+-- the ways out of `run_narrow`, `run_wide` and `run_here`
+module _ (code s rec consts values names constants : List ℕ) where
+  pub run-left : (depth room : ℕ) (v : Operand)
+      → v ≡ resultOf (exec depth room s (lookupIn rec consts values names constants) (map (counted rec) values) code (on [] []))
+      → v ≡ leftIn depth room code s rec consts values names constants
+  unfolding leftIn
+  run-left depth room v e = e
+
+  module _ (v : Operand) (ve : v ≡ leftIn 208 1024 code s rec consts values names constants) (f : Bool) (fe : f ≡ isFault v) where
+    pub run-enough : f ≡ false → v ≡ leftIn 208 77824 code s rec consts values names constants
+    run-enough ff = ve ∙ left-wider 208 1024 77824 code s rec consts values names constants (omega arith) (ap isFault (sym ve) ∙ sym fe ∙ ff)

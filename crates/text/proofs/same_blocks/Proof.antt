@@ -1,0 +1,74 @@
+use mathlib.Core.Path.{_≡_}
+use Prim.Native.Nat.{_-_, _≤_}
+use lib.ListN.{length}
+use Rattle.text.specs.Working.Common.{common, commonFrom, common-start}
+use Rattle.text.specs.Working.Blocks.{blocks-more}
+use borrow.Author.Needs.{needs}
+use Rattle.text.proofs.same_blocks.Statement.{statement}
+use Rattle.text.proofs.same_blocks.Tie as tie
+use Rattle.text.proofs.same_blocks.Reads as reads
+use Rattle.text.proofs.same_blocks.Lts as lts
+use Rattle.text.proofs.same_block.Reads as same-block-reads
+
+abbrev Inv-loop : tie.InvT-loop
+Inv-loop a b i₀ i = (i ≤ length a) × (i ≤ length b) × (commonFrom a b i ≡ common a b)
+
+abbrev μ-loop : tie.MeasureT-loop
+μ-loop a b i₀ i = length a - i
+
+-- src/lib.rt:70:5
+loop-holds : tie.Need-loop-holds Inv-loop μ-loop
+loop-holds c = (search needs, search needs, search common-start)
+
+-- src/lib.rt:70:17
+sub-loop : tie.Need-sub-loop Inv-loop μ-loop
+sub-loop c = search needs
+
+-- src/lib.rt:71:12
+sub-if1 : tie.Need-sub-if1 Inv-loop μ-loop
+sub-if1 c = search needs
+
+-- src/lib.rt:72:13
+returns : tie.Need-returns Inv-loop μ-loop
+returns c = search needs
+
+-- src/lib.rt:74:12
+same-block-requires : tie.Need-same-block-requires Inv-loop μ-loop
+same-block-requires c κs = search needs
+
+-- src/lib.rt:75:13
+add-i : tie.Need-add-i Inv-loop μ-loop
+add-i c = search needs
+
+-- src/lib.rt:70:5
+loop-less : tie.Need-loop-less Inv-loop μ-loop
+loop-less c = search needs
+
+-- src/lib.rt:70:5
+loop-again : tie.Need-loop-again Inv-loop μ-loop
+loop-again c = (search needs, search needs, blocks-more _ _ (c .before .before .before .before .loop .i) 64 _ (c .before .before .before .loop-test .taken) _ (c .before .same-block .ensures) (c .if2 .taken) (c .before .before .before .before .loop .inv .2))
+
+-- src/lib.rt:77:13
+returns-2 : tie.Need-returns-2 Inv-loop μ-loop
+returns-2 c = search needs
+
+-- src/lib.rt:66:1
+returns-3 : tie.Need-returns-3 Inv-loop μ-loop
+returns-3 c = search needs
+
+pub same-blocks-spec : {M : Type 1} → statement M
+same-blocks-spec =
+    tie.close
+    (tie.spec
+    Inv-loop
+    μ-loop
+    loop-holds
+    sub-loop
+    sub-if1
+    returns
+    same-block-requires
+    add-i
+    loop-less
+    loop-again
+    returns-2
+    returns-3)

@@ -1,0 +1,136 @@
+-- Strings compared by blocks: equality of parts, and the ways out of the functions that test blocks. Assumes nothing.
+use mathlib.Core.Path.{_≡_, refl, sym, ap, _∙_}
+use mathlib.Core.Bool.{Bool, true, false, _&&_}
+use mathlib.Core.List.{List, [], _∷_, _++_}
+use Prim.Native.Nat.{ℕ, zero, suc, _+_, _-_, _*_, _<_, _≤_}
+use native.Mathlib.Omega.{arith}
+use native.Mathlib.Nat.{zero-add, suc-add}
+use native.Mathlib.Numerals.{add-one}
+use lib.Dec.{eqb}
+use lib.ListN.{length, getD, take, drop, length-drop, take-append-drop}
+use lib.Seq.{take-nil, take-suc, drop-drop, getD-drop, length-take-le}
+use borrow.Author.Tests.{eq-eqb, ne-eqb}
+use Rattle.text.specs.Choice.{pick, split}
+use Rattle.text.specs.Equal.{equal, equal-true}
+use Rattle.text.specs.Working.Common.{common, commonFrom}
+
+-- the n bytes from i on are the same in both
+unfoldable pub alike : List ℕ → List ℕ → ℕ → ℕ → Bool
+alike a b i n = equal (take n (drop i a)) (take n (drop i b))
+
+and-false : (p : Bool) → (p && false) ≡ false
+and-false true = refl
+and-false false = refl
+
+and-true : (p : Bool) → (p && true) ≡ p
+and-true true = refl
+and-true false = refl
+
+-- strings whose fronts have one length
+equal-append : (x y u v : List ℕ) → length x ≡ length y → equal (x ++ u) (y ++ v) ≡ (equal x y && equal u v)
+unfolding equal
+equal-append [] [] u v h = refl
+equal-append [] (b ∷ y) u v h = let no : ⊥ = omega (arith, h) in absurd no
+equal-append (a ∷ x) [] u v h = let no : ⊥ = omega (arith, h) in absurd no
+equal-append (a ∷ x) (b ∷ y) u v h = split (eqb a b) (λ e. rw e (equal-append x y u v (omega (arith, h)))) (λ e. rw e)
+
+-- one byte
+equal-byte : (x y : ℕ) → equal (x ∷ []) (y ∷ []) ≡ eqb x y
+unfolding equal
+equal-byte x y = and-true (eqb x y)
+
+-- what a string's front and a part behind it make
+module _ (x y u v : List ℕ) (h : length x ≡ length y) where
+  pub append-unlike : equal u v ≡ false → equal (x ++ u) (y ++ v) ≡ false
+  append-unlike e = equal-append x y u v h ∙ rw e (and-false (equal x y))
+
+  pub append-like : equal u v ≡ true → equal (x ++ u) (y ++ v) ≡ equal x y
+  append-like e = equal-append x y u v h ∙ rw e (and-true (equal x y))
+
+module _ (x y : List ℕ) (u v : ℕ) (h : length x ≡ length y) where
+  pub byte-unlike : (u ≡ v → ⊥) → equal (x ++ (u ∷ [])) (y ++ (v ∷ [])) ≡ false
+  byte-unlike n = append-unlike x y (u ∷ []) (v ∷ []) h (equal-byte u v ∙ ne-eqb u v n)
+
+  pub byte-like : u ≡ v → equal (x ++ (u ∷ [])) (y ++ (v ∷ [])) ≡ equal x y
+  byte-like e = append-like x y (u ∷ []) (v ∷ []) h (equal-byte u v ∙ eq-eqb u v e)
+
+-- the ways out of `same_block`
+pub alike-none : (a b : List ℕ) (i : ℕ) → true ≡ alike a b i 0
+unfolding alike equal
+alike-none a b i = refl
+
+pub alike-done : (a b : List ℕ) (i j : ℕ) (s : Bool) → s ≡ alike a b i j → j ≤ 64 → 64 ≤ j → s ≡ alike a b i 64
+alike-done a b i j s e l h = let z : j ≡ 64 = omega (arith, l, h) in e ∙ ap (alike a b i) z
+
+module _ (a b : List ℕ) (i j : ℕ) (ha : i + 64 ≤ length a) (hb : i + 64 ≤ length b) (l : j < 64) where
+  part-more : (c : List ℕ) → i + 64 ≤ length c → take (suc j) (drop i c) ≡ take j (drop i c) ++ (getD c (i + j) 0 ∷ [])
+  part-more c h =
+      let k : j < length (drop i c) = rw (length-drop i c) (omega (arith, h, l)) in
+      take-suc (drop i c) j 0 k ∙ ap (λ (x : ℕ). take j (drop i c) ++ (x ∷ [])) (getD-drop i c j 0)
+
+  part-length : (c : List ℕ) → i + 64 ≤ length c → length (take j (drop i c)) ≡ j
+  part-length c h = length-take-le j (drop i c) (rw (length-drop i c) (omega (arith, h, l)))
+
+  same-length : length (take j (drop i a)) ≡ length (take j (drop i b))
+  same-length = part-length a ha ∙ sym (part-length b hb)
+
+  pub alike-unlike : (getD a (i + j) 0 ≡ getD b (i + j) 0 → ⊥) → (f : Bool) → f ≡ false → f ≡ alike a b i (j + 1)
+  unfolding alike
+  alike-unlike n f e =
+      rw (add-one j, part-more a ha, part-more b hb)
+      (e ∙ sym (byte-unlike (take j (drop i a)) (take j (drop i b)) (getD a (i + j) 0) (getD b (i + j) 0) same-length n))
+
+  pub alike-like : getD a (i + j) 0 ≡ getD b (i + j) 0 → (s f : Bool) → s ≡ alike a b i j → f ≡ s → f ≡ alike a b i (j + 1)
+  unfolding alike
+  alike-like q s f e g =
+      rw (add-one j, part-more a ha, part-more b hb)
+      (g ∙ e ∙ sym (byte-like (take j (drop i a)) (take j (drop i b)) (getD a (i + j) 0) (getD b (i + j) 0) same-length q))
+
+-- the ways out of `same_blocks`
+common-front : (x u v : List ℕ) → common (x ++ u) (x ++ v) ≡ length x + common u v
+unfolding common
+common-front [] u v = sym (zero-add (common u v))
+common-front (c ∷ x) u v = rw (eq-eqb c c refl, common-front x u v) (sym (suc-add (length x) (common u v)))
+
+pub blocks-more : (a b : List ℕ) (i n r : ℕ) → n ≤ length a - i → (t : Bool) → t ≡ alike a b i n → t ≡ true → commonFrom a b i ≡ r → commonFrom a b (i + n) ≡ r
+unfolding commonFrom alike
+blocks-more a b i n r h t te tt inv =
+    let x : List ℕ = take n (drop i a) in
+    let q : x ≡ take n (drop i b) = equal-true x (take n (drop i b)) (sym te ∙ tt) in
+    let m : length x ≡ n = length-take-le n (drop i a) (rw (length-drop i a) h) in
+    let u : drop i a ≡ x ++ drop (i + n) a = sym (take-append-drop n (drop i a)) ∙ ap (λ (k : List ℕ). x ++ k) (drop-drop n i a) in
+    let v : drop i b ≡ x ++ drop (i + n) b =
+    sym (take-append-drop n (drop i b)) ∙ ap (λ (k : List ℕ). k ++ drop n (drop i b)) (sym q) ∙ ap (λ (k : List ℕ). x ++ k) (drop-drop n i b) in
+    let w : common (drop i a) (drop i b) ≡ length x + common (drop (i + n) a) (drop (i + n) b) =
+    ap (λ (k : List ℕ). common k (drop i b)) u ∙ ap (common (x ++ drop (i + n) a)) v ∙ common-front x (drop (i + n) a) (drop (i + n) b) in
+    omega (arith, inv, w, m)
+
+-- the ways out of `same_below`
+take-more : (m n : ℕ) (l : List ℕ) → take (m + n) l ≡ take m l ++ take n (drop m l)
+take-more zero n l = rw (zero-add n)
+take-more (suc m) n [] = rw (take-nil (suc m + n), take-nil n)
+take-more (suc m) n (x ∷ l) = rw (suc-add m n, take-more m n l)
+
+pub below-none : (a b : List ℕ) (k : ℕ) (r : Bool) → equal (take (k * 64) a) (take (k * 64) b) ≡ r → k ≤ 0 → true ≡ r
+unfolding equal
+below-none a b k r inv h = let n : k ≡ 0 = omega (arith, h) in let z : equal (take 0 a) (take 0 b) ≡ r = rw n at inv in z
+
+module _ (a b : List ℕ) (k : ℕ) (r : Bool) (inv : equal (take (k * 64) a) (take (k * 64) b) ≡ r) (more : 0 < k) (ha : k * 64 ≤ length a) (hb : k * 64 ≤ length b)
+    (t : Bool) (te : t ≡ alike a b ((k - 1) * 64) 64) where
+  whole : (c : List ℕ) → take (k * 64) c ≡ take ((k - 1) * 64) c ++ take 64 (drop ((k - 1) * 64) c)
+  whole c = let z : k * 64 ≡ (k - 1) * 64 + 64 = omega (arith, more) in ap (λ (n : ℕ). take n c) z ∙ take-more ((k - 1) * 64) 64 c
+
+  fronts : length (take ((k - 1) * 64) a) ≡ length (take ((k - 1) * 64) b)
+  fronts = length-take-le ((k - 1) * 64) a (omega (arith, ha)) ∙ sym (length-take-le ((k - 1) * 64) b (omega (arith, hb)))
+
+  pub below-unlike : t ≡ false → false ≡ r
+  unfolding alike
+  below-unlike tf =
+      sym (append-unlike (take ((k - 1) * 64) a) (take ((k - 1) * 64) b) (take 64 (drop ((k - 1) * 64) a)) (take 64 (drop ((k - 1) * 64) b)) fronts (sym te ∙ tf))
+      ∙ (rw (whole a, whole b) at inv)
+
+  pub below-like : t ≡ true → equal (take ((k - 1) * 64) a) (take ((k - 1) * 64) b) ≡ r
+  unfolding alike
+  below-like tt =
+      sym (append-like (take ((k - 1) * 64) a) (take ((k - 1) * 64) b) (take 64 (drop ((k - 1) * 64) a)) (take 64 (drop ((k - 1) * 64) b)) fronts (sym te ∙ tt))
+      ∙ (rw (whole a, whole b) at inv)
