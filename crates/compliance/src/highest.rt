@@ -52,6 +52,16 @@ fn candidate(values: &[u8], k: usize, x: u8) -> u8
     0
 }
 
+// The higher of `best` and the candidate x. A value that is no higher needs no count.
+fn better(values: &[u8], k: usize, best: u8, x: u8) -> u8
+    ensures { λ r. ⌜ r ≡ max best (candidateOf k (now (values .entry)) x) ⌝ }
+{
+    if x <= best {
+        return best;
+    }
+    greater(best, candidate(values, k, x))
+}
+
 // The K-th highest of two.
 fn kth_of_two(a: u8, b: u8, k: usize) -> u8
     ensures { λ r. ⌜ r ≡ highest k (a ∷ b ∷ []) ⌝ }
@@ -75,7 +85,7 @@ fn kth_of_many(values: &[u8], k: usize) -> u8
     let mut best: u8 = 0;
     let mut i: usize = 0;
     while i < values.len() {
-        best = greater(best, candidate(values, k, values[i]));
+        best = better(values, k, best, values[i]);
         i += 1;
     }
     best

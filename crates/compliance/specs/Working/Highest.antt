@@ -1,5 +1,5 @@
 -- The K-th highest as the code finds it, and that it is the K-th highest. Assumes nothing.
-use mathlib.Core.Path.{_≡_, refl, sym}
+use mathlib.Core.Path.{_≡_, refl, sym, _∙_}
 use mathlib.Core.Logic.{_⊎_, inl, inr, ⊎-elim}
 use mathlib.Core.List.{List, [], _∷_, List·Memᴰ as Mem, List·Memᴰ·head as here, List·Memᴰ·tail as there}
 use Prim.Native.Nat.{ℕ, zero, suc, _+_, _≤_, _<_, min, max, zero-le}
@@ -53,6 +53,14 @@ module _ (k : ℕ) (all : List ℕ) (x c : ℕ) (ce : c ≡ atLeast x all) where
   pub candidate-out : c < k → 0 ≡ candidateOf k all x
   unfolding candidateOf
   candidate-out h = simp (sym ce, lt-leb _ _ h)
+
+-- `better`
+pub better-no : (k : ℕ) (all : List ℕ) (best x : ℕ) → x ≤ best → best ≡ max best (candidateOf k all x)
+unfolding candidateOf
+better-no k all best x h = split (leb k (atLeast x all)) (λ e. rw e (omega (arith, h))) (λ e. rw e (omega arith))
+
+pub better-yes : (k : ℕ) (all : List ℕ) (best x c r : ℕ) → c ≡ candidateOf k all x → r ≡ max best c → r ≡ max best (candidateOf k all x)
+better-yes k all best x c r ce re = re ∙ rw ce
 
 -- ---- the candidates' highest is the K-th highest
 
@@ -117,9 +125,9 @@ best-begin zero all n = absurd (n refl)
 best-begin (suc k) all n = best-highest k all
 
 module _ (k : ℕ) (all : List ℕ) (i best r : ℕ) (inv : bestFrom k all i best ≡ r) where
-  pub best-more : i < length all → (c b : ℕ) → c ≡ candidateOf k all (getD all i 0) → b ≡ max best c → bestFrom k all (i + 1) b ≡ r
+  pub best-more : i < length all → (b : ℕ) → b ≡ max best (candidateOf k all (getD all i 0)) → bestFrom k all (i + 1) b ≡ r
   unfolding bestFrom bestOf
-  best-more h c b ce be = rw (add-one i, be, ce) (rw (drop-cons all i 0 h) at inv)
+  best-more h b be = rw (add-one i, be) (rw (drop-cons all i 0 h) at inv)
 
   pub best-end : length all ≤ i → best ≡ r
   unfolding bestFrom bestOf

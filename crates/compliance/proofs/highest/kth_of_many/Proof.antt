@@ -1,15 +1,14 @@
+use borrow.Author.Needs.{needs}
 use mathlib.Core.Path.{_≡_}
 use Prim.Native.Nat.{_-_}
 use lib.ListN.{length}
 use Rattle.compliance.specs.Highest.{highest}
 use Rattle.compliance.specs.Working.Highest.{bestFrom, best-none, best-begin, best-more, best-end}
-use borrow.Author.Needs.{needs}
 use Rattle.compliance.proofs.highest.kth_of_many.Statement.{statement}
 use Rattle.compliance.proofs.highest.kth_of_many.Tie as tie
 use Rattle.compliance.proofs.highest.kth_of_many.Reads as reads
 use Rattle.compliance.proofs.highest.kth_of_many.Lts as lts
-use Rattle.compliance.proofs.highest.candidate.Reads as candidate-reads
-use Rattle.compliance.proofs.highest.greater.Reads as greater-reads
+use Rattle.compliance.proofs.highest.better.Reads as better-reads
 
 abbrev Inv-loop : tie.InvT-loop
 Inv-loop values k best₀ i₀ best i = bestFrom k values i best ≡ highest k values
@@ -17,30 +16,35 @@ Inv-loop values k best₀ i₀ best i = bestFrom k values i best ≡ highest k v
 abbrev μ-loop : tie.MeasureT-loop
 μ-loop values k best₀ i₀ best i = length values - i
 
+-- src/highest.rt:83:9
 returns : tie.Need-returns Inv-loop μ-loop
 returns c = search best-none
 
+-- src/highest.rt:87:5
 loop-holds : tie.Need-loop-holds Inv-loop μ-loop
 loop-holds c = search best-begin
 
-shared-slice-read-candidate : tie.Need-shared-slice-read-candidate Inv-loop μ-loop
-shared-slice-read-candidate c = search needs
+-- src/highest.rt:88:40
+shared-slice-read-better : tie.Need-shared-slice-read-better Inv-loop μ-loop
+shared-slice-read-better c = search needs
 
-candidate-requires : tie.Need-candidate-requires Inv-loop μ-loop
-candidate-requires c κs = search needs
+-- src/highest.rt:88:9
+better-requires : tie.Need-better-requires Inv-loop μ-loop
+better-requires c κs = search needs
 
-greater-requires : tie.Need-greater-requires Inv-loop μ-loop
-greater-requires c κs = search needs
-
+-- src/highest.rt:89:9
 add-i : tie.Need-add-i Inv-loop μ-loop
 add-i c = search needs
 
+-- src/highest.rt:87:5
 loop-less : tie.Need-loop-less Inv-loop μ-loop
 loop-less c = search needs
 
+-- src/highest.rt:87:5
 loop-again : tie.Need-loop-again Inv-loop μ-loop
 loop-again c = search best-more
 
+-- src/highest.rt:79:1
 returns-2 : tie.Need-returns-2 Inv-loop μ-loop
 returns-2 c = search best-end
 
@@ -52,9 +56,8 @@ kth-of-many-spec =
     μ-loop
     returns
     loop-holds
-    shared-slice-read-candidate
-    candidate-requires
-    greater-requires
+    shared-slice-read-better
+    better-requires
     add-i
     loop-less
     loop-again
