@@ -5,7 +5,7 @@ use Prim.Native.Nat.{ℕ, _≤_, _<_}
 use native.Mathlib.Omega.{arith}
 use lib.Dec.{eqb}
 use borrow.Author.Tests.{le-leb, lt-leb, ne-eqb}
-use Rattle.lexical.specs.Class.{classOf, within, BLANK, NEWLINE, LETTER, DIGIT, QUOTE, HASH}
+use Rattle.lexical.specs.Class.{classOf, or, within, BLANK, NEWLINE, LETTER, DIGIT, QUOTE, HASH}
 use Rattle.lexical.specs.Runs.{blank, letter, numeral, blank-class, letter-class, numeral-class, newline-class, quote-class, hash-class}
 
 module _ (b : ℕ) (t : Bool) (te : t ≡ within 97 122 b) where
@@ -46,6 +46,25 @@ module _ (b : ℕ) (h : b < 256) where
 
     pub has-digit : r ≡ numeral b → r ≡ eqb (classOf b) DIGIT
     has-digit e = e ∙ numeral-class b h
+
+pub blank-high : (b : ℕ) → 32 < b → false ≡ blank b
+unfolding blank
+blank-high b l = simp (ne-eqb b 32 (λ z. let no : ⊥ = omega (arith, l, z) in no), ne-eqb b 9 (λ z. let no : ⊥ = omega (arith, l, z) in no))
+
+-- newline or "#"
+module _ (b : ℕ) (h : b < 256) where
+  pub break-high : 35 < b → false ≡ or (eqb (classOf b) NEWLINE) (eqb (classOf b) HASH)
+  break-high l =
+      let n : false ≡ eqb (classOf b) NEWLINE = sym (ne-eqb b 10 (λ z. let no : ⊥ = omega (arith, l, z) in no)) ∙ newline-class b h in
+      let k : false ≡ eqb (classOf b) HASH = sym (ne-eqb b 35 (λ z. let no : ⊥ = omega (arith, l, z) in no)) ∙ hash-class b h in
+      simp (sym n, sym k)
+
+module _ (b : ℕ) (t : Bool) (te : t ≡ eqb (classOf b) NEWLINE) where
+  pub break-newline : t ≡ true → true ≡ or (eqb (classOf b) NEWLINE) (eqb (classOf b) HASH)
+  break-newline e = simp (sym te, e)
+
+  pub break-hash : (r : Bool) → t ≡ false → r ≡ eqb (classOf b) HASH → r ≡ or (eqb (classOf b) NEWLINE) (eqb (classOf b) HASH)
+  break-hash r e re = simp (sym te, e) re
 
 -- a letter by its place among the bytes
 module _ (b : ℕ) (h : b < 256) where

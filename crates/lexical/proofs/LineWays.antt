@@ -1,5 +1,5 @@
 -- The ways out of the functions of `line`. Assumes nothing.
-use mathlib.Core.Path.{_≡_, sym, ap, _∙_}
+use mathlib.Core.Path.{_≡_, refl, sym, ap, _∙_}
 use mathlib.Core.Bool.{Bool, true, false}
 use mathlib.Core.List.{List}
 use Prim.Native.Nat.{ℕ, _+_, _-_, _≤_, _<_, _^_}
@@ -10,10 +10,11 @@ use mir.Val.{Fits}
 use lib.Dec.{eqb}
 use lib.ListN.{length, getD}
 use borrow.Author.Tests.{le-leb, lt-leb, eq-eqb, ne-eqb}
+use Rattle.text.specs.Choice.{clash}
 use Rattle.text.specs.Loop.{loop-next, loop-done}
 use Rattle.text.specs.Scan.{past}
 use Rattle.lexical.specs.Kind
-use Rattle.lexical.specs.Class.{classOf, BLANK, NEWLINE, HASH}
+use Rattle.lexical.specs.Class.{classOf, or, BLANK, NEWLINE, HASH}
 use Rattle.lexical.specs.Run.{inRun, BLANKS, FREE}
 use Rattle.lexical.specs.Label.{labelKind}
 use Rattle.lexical.specs.Token.{endOf, illegalAt, badLine, nextLine, widthOf, fixed, tokenFrom, token}
@@ -37,24 +38,35 @@ module _ (s : List ℕ) (i e : ℕ) (ee : e ≡ past (inRun FREE) s i) where
     unfolding restOfLine
     rest-next z = simp (sym ee, lt-leb _ _ h, ne-eqb _ _ z)
 
+-- two tests of which none holds
+neither : (t u : Bool) → or t u ≡ false → (t ≡ false) × (u ≡ false)
+neither true u h = clash refl h
+neither false u h = (refl, h)
+
 module _ (s : List ℕ) (mode i : ℕ) where
   pub visible-end : length s ≤ i → endOf s ≡ visible s mode i
   unfolding visible
   visible-end h = simp (le-leb _ _ h)
 
-  module _ (h : i < length s) (t : Bool) (te : t ≡ eqb (classOf (getD s i 0)) NEWLINE) where
-    pub visible-next : t ≡ true → nextLine (i + 1) ≡ visible s mode i
+  module _ (h : i < length s) where
+    pub visible-next : (t : Bool) → t ≡ eqb (classOf (getD s i 0)) NEWLINE → t ≡ true → nextLine (i + 1) ≡ visible s mode i
     unfolding visible
-    visible-next e = simp (lt-leb _ _ h, sym te, e)
+    visible-next t te e = simp (lt-leb _ _ h, sym te, e)
 
-    module _ (n : t ≡ false) (u : Bool) (ue : u ≡ eqb (classOf (getD s i 0)) HASH) (r : Token) where
-      pub visible-hash : u ≡ true → r ≡ restOfLine s i → r ≡ visible s mode i
+    module _ (u : Bool) (ue : u ≡ or (eqb (classOf (getD s i 0)) NEWLINE) (eqb (classOf (getD s i 0)) HASH)) (r : Token) where
+      pub visible-hash : (t : Bool) → t ≡ eqb (classOf (getD s i 0)) NEWLINE → u ≡ true → t ≡ false → r ≡ restOfLine s i → r ≡ visible s mode i
       unfolding visible
-      visible-hash e re = simp (lt-leb _ _ h, sym te, n, sym ue, e) re
+      visible-hash t te e n re =
+          let k : u ≡ eqb (classOf (getD s i 0)) HASH = rw (sym te, n) at ue in
+          simp (lt-leb _ _ h, sym te, n, sym k, e) re
 
       pub visible-token : u ≡ false → r ≡ tokenFrom s mode i → r ≡ visible s mode i
       unfolding visible
-      visible-token e re = simp (lt-leb _ _ h, sym te, n, sym ue, e) re
+      visible-token e re =
+          let k : (eqb (classOf (getD s i 0)) NEWLINE ≡ false) × (eqb (classOf (getD s i 0)) HASH ≡ false) = neither _ _ (sym ue ∙ e) in
+          let n : eqb (classOf (getD s i 0)) NEWLINE ≡ false = k .0 in
+          let m : eqb (classOf (getD s i 0)) HASH ≡ false = k .1 in
+          simp (lt-leb _ _ h, n, m) re
 
   module _ (r : Token) where
     pub in-comment : mode ≡ Kind.IN-COMMENT → r ≡ restOfLine s i → r ≡ inLine s mode i

@@ -1,5 +1,5 @@
 -- The ways out of the functions of `number`. Assumes nothing.
-use mathlib.Core.Path.{_≡_, refl, _∙_}
+use mathlib.Core.Path.{_≡_, refl, ap, _∙_}
 use mathlib.Core.List.{List, [], _∷_}
 use Prim.Native.Nat.{ℕ, zero, suc, _+_, _-_, _*_, _≤_, _<_}
 use native.Mathlib.Omega.{arith}
@@ -80,3 +80,17 @@ module _ (s : List ℕ) (i end v r : ℕ) (inv : numberRest s i end v ≡ r) whe
 
     pub number-low : w ≤ LIMIT
     number-low = omega (arith, we, held-low (v * 10 + d))
+
+-- no digit, and one
+module _ (s : List ℕ) (start end : ℕ) where
+  pub number-none : end ≤ start → 0 ≡ numberAt s start end
+  number-none h = number-end s start end 0 (numberAt s start end) (number-start s start end) (omega arith) h
+
+  pub number-out : length s ≤ start → 0 ≡ numberAt s start end
+  number-out h = number-past s start end 0 (numberAt s start end) (number-start s start end) (omega arith) h
+
+  pub number-one : (d : ℕ) → start < length s → start < end → end - start ≡ 1 → d ≡ getD s start 0 - 48 → d < 256 → d ≡ numberAt s start end
+  number-one d l h o de small =
+      let e : d ≡ 0 * 10 + d = omega arith in
+      let w : d ≡ held (0 * 10 + d) = low-held d (omega (arith, small)) ∙ ap held e in
+      number-end s (start + 1) end d (numberAt s start end) (number-more s start end 0 (numberAt s start end) (number-start s start end) h l d de d w) (omega (arith, small)) (omega (arith, o))

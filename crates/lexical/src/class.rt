@@ -3,7 +3,7 @@ use crate::kind;
 ghost use mathlib.Core.Path.{_≡_};
 ghost use lib.Dec.{eqb};
 ghost use Rattle.lexical.specs.Class;
-ghost use Rattle.lexical.specs.Class.{classOf, within};
+ghost use Rattle.lexical.specs.Class.{classOf, or, within};
 ghost use Rattle.lexical.specs.Runs.{blank, letter, numeral};
 
 pub const OTHER: u8 = 0;
@@ -299,6 +299,9 @@ fn is_within(lo: u8, hi: u8, b: u8) -> bool
 pub fn is_blank(b: u8) -> bool
     ensures { λ r. ⌜ r ≡ blank b ⌝ }
 {
+    if b' ' < b {
+        return false;
+    }
     if b == b' ' {
         return true;
     }
@@ -371,6 +374,19 @@ pub fn is_hash(b: u8) -> bool
     ensures { λ r. ⌜ r ≡ eqb (classOf b) Class.HASH ⌝ }
 {
     b == b'#'
+}
+
+// Does it end what can be seen of a line: is it a newline or "#"?
+pub fn is_break(b: u8) -> bool
+    ensures { λ r. ⌜ r ≡ or (eqb (classOf b) Class.NEWLINE) (eqb (classOf b) Class.HASH) ⌝ }
+{
+    if b'#' < b {
+        return false;
+    }
+    if is_newline(b) {
+        return true;
+    }
+    is_hash(b)
 }
 
 // The class of any byte, by the table.

@@ -1,4 +1,5 @@
 // Lines, and the token that comes next in a text.
+use crate::class::is_break;
 use crate::class::is_hash;
 use crate::class::is_indent;
 use crate::class::is_newline;
@@ -54,14 +55,14 @@ fn visible_at(s: &[u8], mode: u8, i: usize) -> Token
         };
     }
     let b = s[i];
-    if is_newline(b) {
-        return Token {
-            kind: kind::NEXT,
-            start: i + 1,
-            end: i + 1,
-        };
-    }
-    if is_hash(b) {
+    if is_break(b) {
+        if is_newline(b) {
+            return Token {
+                kind: kind::NEXT,
+                start: i + 1,
+                end: i + 1,
+            };
+        }
         return rest_of_line(s, i);
     }
     token_from(s, mode, i)

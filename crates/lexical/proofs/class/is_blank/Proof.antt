@@ -1,20 +1,25 @@
-use Rattle.text.specs.Choice.{tests}
+use Rattle.lexical.proofs.ClassWays.{blank-high}
 use Rattle.lexical.specs.Runs.{blank}
+use Rattle.text.specs.Choice.{tests}
 use borrow.Author.Needs.{needs}
 use Rattle.lexical.proofs.class.is_blank.Statement.{statement}
 use Rattle.lexical.proofs.class.is_blank.Tie as tie
 use Rattle.lexical.proofs.class.is_blank.Reads as reads
 use Rattle.lexical.proofs.class.is_blank.Lts as lts
 
--- src/class.rt:300:9
+-- src/class.rt:303:9
 returns : tie.Need-returns
-unfolding blank
-returns c = search (needs, tests)
+returns c = search blank-high
 
--- src/class.rt:296:1
+-- src/class.rt:306:9
 returns-2 : tie.Need-returns-2
 unfolding blank
 returns-2 c = search (needs, tests)
 
+-- src/class.rt:299:1
+returns-3 : tie.Need-returns-3
+unfolding blank
+returns-3 c = search (needs, tests)
+
 pub is-blank-spec : {M : Type 1} → statement M
-is-blank-spec = tie.close (tie.spec returns returns-2)
+is-blank-spec = tie.close (tie.spec returns returns-2 returns-3)

@@ -1,80 +1,53 @@
-use Rattle.lexical.proofs.NumberWays.{numberRest, number-start, number-end, number-past, number-more, number-low}
-use Rattle.lexical.specs.Number.{LIMIT, numberAt}
-use Prim.Native.Nat.{_≤_}
-use Prim.Native.Nat.{_-_}
-use mathlib.Core.Path.{_≡_}
+use Rattle.lexical.proofs.NumberWays.{number-none, number-out, number-one}
 use borrow.Author.Needs.{needs}
 use Rattle.lexical.proofs.number.number_at.Statement.{statement}
 use Rattle.lexical.proofs.number.number_at.Tie as tie
 use Rattle.lexical.proofs.number.number_at.Reads as reads
 use Rattle.lexical.proofs.number.number_at.Lts as lts
 use Rattle.lexical.proofs.number.digit.Reads as digit-reads
-use Rattle.lexical.proofs.number.hold.Reads as hold-reads
+use Rattle.lexical.proofs.number.number_from.Reads as number-from-reads
 
-abbrev Inv-loop : tie.InvT-loop
-Inv-loop s start end i₀ v₀ i v = (numberRest s i end v ≡ numberAt s start end) × (v ≤ LIMIT)
+-- src/number.rt:57:9
+returns : tie.Need-returns
+returns c = search number-out
 
-abbrev μ-loop : tie.MeasureT-loop
-μ-loop s start end i₀ v₀ i v = end - i
+-- src/number.rt:60:9
+returns-2 : tie.Need-returns-2
+returns-2 c = search number-none
 
--- src/number.rt:41:5
-loop-holds : tie.Need-loop-holds Inv-loop μ-loop
-loop-holds c = (search number-start, search needs)
+-- src/number.rt:62:8
+sub-if3 : tie.Need-sub-if3
+sub-if3 c = search needs
 
--- src/number.rt:43:13
-returns : tie.Need-returns Inv-loop μ-loop
-returns c = search number-past
+-- src/number.rt:63:9
+number-from-requires : tie.Need-number-from-requires
+number-from-requires c κs = search needs
 
--- src/number.rt:45:18
-mul-hold : tie.Need-mul-hold Inv-loop μ-loop
-mul-hold c = search needs
+-- src/number.rt:63:9
+returns-3 : tie.Need-returns-3
+returns-3 c = search needs
 
--- src/number.rt:45:33
-shared-slice-read-digit : tie.Need-shared-slice-read-digit Inv-loop μ-loop
+-- src/number.rt:65:11
+shared-slice-read-digit : tie.Need-shared-slice-read-digit
 shared-slice-read-digit c = search needs
 
--- src/number.rt:45:27
-digit-requires : tie.Need-digit-requires Inv-loop μ-loop
+-- src/number.rt:65:5
+digit-requires : tie.Need-digit-requires
 digit-requires c κs = search needs
 
--- src/number.rt:45:18
-add-hold : tie.Need-add-hold Inv-loop μ-loop
-add-hold c = search needs
-
--- src/number.rt:45:9
-hold-requires : tie.Need-hold-requires Inv-loop μ-loop
-hold-requires c κs = search needs
-
--- src/number.rt:46:9
-add-i : tie.Need-add-i Inv-loop μ-loop
-add-i c = search needs
-
--- src/number.rt:41:5
-loop-less : tie.Need-loop-less Inv-loop μ-loop
-loop-less c = search needs
-
--- src/number.rt:41:5
-loop-again : tie.Need-loop-again Inv-loop μ-loop
-loop-again c = (search number-more, search number-low)
-
--- src/number.rt:36:1
-returns-2 : tie.Need-returns-2 Inv-loop μ-loop
-returns-2 c = search number-end
+-- src/number.rt:53:1
+returns-4 : tie.Need-returns-4
+returns-4 c = search number-one
 
 pub number-at-spec : {M : Type 1} → statement M
 number-at-spec =
     tie.close
     (tie.spec
-    Inv-loop
-    μ-loop
-    loop-holds
     returns
-    mul-hold
+    returns-2
+    sub-if3
+    number-from-requires
+    returns-3
     shared-slice-read-digit
     digit-requires
-    add-hold
-    hold-requires
-    add-i
-    loop-less
-    loop-again
-    returns-2)
+    returns-4)
