@@ -152,9 +152,24 @@ fn judge_short<'a>(
     names: &[usize],
     constants: &[usize],
 ) -> Judged
-    ensures { λ r. ⌜ r ≡ judgedIn (now (s .entry)) t (now (query .entry)) (now (consts .entry)) (now (values .entry)) (now (names .entry)) (now (constants .entry)) (replicate 1024 0) 208 77824 ⌝ }
+    ensures { λ r. ⌜ r ≡ judgedIn (now (s .entry)) t (now (query .entry)) (now (consts .entry)) (now (values .entry)) (now (names .entry)) (now (constants .entry)) (replicate 512 0) 208 77824 ⌝ }
 {
-    let mut code = [0u32; 1024];
+    let mut code = [0u32; 512];
+    judge_in(s, t, query, consts, values, names, constants, &mut code)
+}
+
+fn judge_middle<'a>(
+    s: &[u8],
+    t: Token,
+    query: &'a [u8],
+    consts: &'a [u8],
+    values: &[usize],
+    names: &[usize],
+    constants: &[usize],
+) -> Judged
+    ensures { λ r. ⌜ r ≡ judgedIn (now (s .entry)) t (now (query .entry)) (now (consts .entry)) (now (values .entry)) (now (names .entry)) (now (constants .entry)) (replicate 2048 0) 208 77824 ⌝ }
+{
+    let mut code = [0u32; 2048];
     judge_in(s, t, query, consts, values, names, constants, &mut code)
 }
 
@@ -173,8 +188,8 @@ fn judge_long<'a>(
     judge_in(s, t, query, consts, values, names, constants, &mut code)
 }
 
-// The rank of the Conditions field whose first token is t, and the token behind it; or the first fault. The tables are its own: a small one
-// for the code of a short text.
+// The rank of the Conditions field whose first token is t, and the token behind it; or the first fault. The tables are its own: small ones
+// for the code of short texts.
 pub fn judge_field<'a>(
     s: &[u8],
     t: Token,
@@ -186,8 +201,11 @@ pub fn judge_field<'a>(
 ) -> Judged
     ensures { λ r. ⌜ r ≡ judgedHere (now (s .entry)) t (now (query .entry)) (now (consts .entry)) (now (values .entry)) (now (names .entry)) (now (constants .entry)) ⌝ }
 {
-    if s.len() <= 1022 {
+    if s.len() <= 510 {
         return judge_short(s, t, query, consts, values, names, constants);
+    }
+    if s.len() <= 2046 {
+        return judge_middle(s, t, query, consts, values, names, constants);
     }
     judge_long(s, t, query, consts, values, names, constants)
 }

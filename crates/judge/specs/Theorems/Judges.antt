@@ -73,9 +73,11 @@ module _ {rec consts values names constants : List ℕ} {env : Environment} (sho
   code-fits : length s + 2 ≤ length (codeRoom s)
   unfolding codeRoom
   code-fits =
-      split (leb (length s) 1022)
-      (λ f. let h : length s ≤ 1022 = leb-true _ _ f in rw f (omega (arith, h, length-replicate {A = ℕ} 1024 0)))
-      (λ f. rw f (omega (arith, short, length-replicate {A = ℕ} 8194 0)))
+      split (leb (length s) 510)
+      (λ f. let h : length s ≤ 510 = leb-true _ _ f in rw f (omega (arith, h, length-replicate {A = ℕ} 512 0)))
+      (λ f. split (leb (length s) 2046)
+      (λ e. let h : length s ≤ 2046 = leb-true _ _ e in rw (f, e) (omega (arith, h, length-replicate {A = ℕ} 2048 0)))
+      (λ e. rw (f, e) (omega (arith, short, length-replicate {A = ℕ} 8194 0))))
 
   pub judge-field-read : Judging s env (readProgram s (nextAt s at)) (judgedHere s (nextAt s at) rec consts values names constants)
   unfolding judgedHere
