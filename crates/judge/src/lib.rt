@@ -152,9 +152,9 @@ fn judge_short<'a>(
     names: &[usize],
     constants: &[usize],
 ) -> Judged
-    ensures { λ r. ⌜ r ≡ judgedIn (now (s .entry)) t (now (query .entry)) (now (consts .entry)) (now (values .entry)) (now (names .entry)) (now (constants .entry)) (replicate 512 0) 208 77824 ⌝ }
+    ensures { λ r. ⌜ r ≡ judgedIn (now (s .entry)) t (now (query .entry)) (now (consts .entry)) (now (values .entry)) (now (names .entry)) (now (constants .entry)) (replicate 256 0) 208 77824 ⌝ }
 {
-    let mut code = [0u32; 512];
+    let mut code = [0u32; 256];
     judge_in(s, t, query, consts, values, names, constants, &mut code)
 }
 
@@ -201,7 +201,7 @@ pub fn judge_field<'a>(
 ) -> Judged
     ensures { λ r. ⌜ r ≡ judgedHere (now (s .entry)) t (now (query .entry)) (now (consts .entry)) (now (values .entry)) (now (names .entry)) (now (constants .entry)) ⌝ }
 {
-    if s.len() <= 510 {
+    if s.len() <= 254 {
         return judge_short(s, t, query, consts, values, names, constants);
     }
     if s.len() <= 2046 {

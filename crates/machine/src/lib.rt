@@ -601,10 +601,10 @@ fn run_narrow<'a>(
     names: &[usize],
     constants: &[usize],
 ) -> Operand
-    ensures { λ r. ⌜ r ≡ leftIn 208 2048 (now (code .entry)) (now (s .entry)) (now (query .entry)) (now (consts .entry)) (now (values .entry)) (now (names .entry)) (now (constants .entry)) ⌝ }
+    ensures { λ r. ⌜ r ≡ leftIn 208 512 (now (code .entry)) (now (s .entry)) (now (query .entry)) (now (consts .entry)) (now (values .entry)) (now (names .entry)) (now (constants .entry)) ⌝ }
 {
     let mut stack = [0u64; 208];
-    let mut bytes = [0u8; 2048];
+    let mut bytes = [0u8; 512];
     run(
         code,
         s,

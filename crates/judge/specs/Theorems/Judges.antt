@@ -73,8 +73,8 @@ module _ {rec consts values names constants : List ℕ} {env : Environment} (sho
   code-fits : length s + 2 ≤ length (codeRoom s)
   unfolding codeRoom
   code-fits =
-      split (leb (length s) 510)
-      (λ f. let h : length s ≤ 510 = leb-true _ _ f in rw f (omega (arith, h, length-replicate {A = ℕ} 512 0)))
+      split (leb (length s) 254)
+      (λ f. let h : length s ≤ 254 = leb-true _ _ f in rw f (omega (arith, h, length-replicate {A = ℕ} 256 0)))
       (λ f. split (leb (length s) 2046)
       (λ e. let h : length s ≤ 2046 = leb-true _ _ e in rw (f, e) (omega (arith, h, length-replicate {A = ℕ} 2048 0)))
       (λ e. rw (f, e) (omega (arith, short, length-replicate {A = ℕ} 8194 0))))

@@ -42,7 +42,7 @@ judgedIn s t rec consts values names constants m depth space =
 
 -- a table for the code of a text: an entry for each byte and two more, for texts of at most 8,192 bytes
 unfoldable pub codeRoom : List ℕ → List ℕ
-codeRoom s = pick (leb (length s) 510) (replicate 512 0) (pick (leb (length s) 2046) (replicate 2048 0) (replicate 8194 0))
+codeRoom s = pick (leb (length s) 254) (replicate 256 0) (pick (leb (length s) 2046) (replicate 2048 0) (replicate 8194 0))
 
 -- the same in tables of its own: room for 208 numbers and 77,824 bytes
 unfoldable pub judgedHere : List ℕ → Token → List ℕ → List ℕ → List ℕ → List ℕ → List ℕ → Judged
@@ -92,15 +92,15 @@ module _ (s rec consts values names constants : List ℕ) (depth space : ℕ) wh
 
 -- `judge_field`
 module _ (s rec consts values names constants : List ℕ) (t : Token) (r : Judged) where
-  pub here-short : length s ≤ 510 → r ≡ judgedIn s t rec consts values names constants (replicate 512 0) 208 77824 → r ≡ judgedHere s t rec consts values names constants
+  pub here-short : length s ≤ 254 → r ≡ judgedIn s t rec consts values names constants (replicate 256 0) 208 77824 → r ≡ judgedHere s t rec consts values names constants
   unfolding judgedHere codeRoom
-  here-short h e = rw (le-leb (length s) 510 h) e
+  here-short h e = rw (le-leb (length s) 254 h) e
 
-  module _ (more : 510 < length s) where
+  module _ (more : 254 < length s) where
     pub here-middle : length s ≤ 2046 → r ≡ judgedIn s t rec consts values names constants (replicate 2048 0) 208 77824 → r ≡ judgedHere s t rec consts values names constants
     unfolding judgedHere codeRoom
-    here-middle h e = rw (lt-leb (length s) 510 more, le-leb (length s) 2046 h) e
+    here-middle h e = rw (lt-leb (length s) 254 more, le-leb (length s) 2046 h) e
 
     pub here-long : 2046 < length s → r ≡ judgedIn s t rec consts values names constants (replicate 8194 0) 208 77824 → r ≡ judgedHere s t rec consts values names constants
     unfolding judgedHere codeRoom
-    here-long h e = rw (lt-leb (length s) 510 more, lt-leb (length s) 2046 h) e
+    here-long h e = rw (lt-leb (length s) 254 more, lt-leb (length s) 2046 h) e

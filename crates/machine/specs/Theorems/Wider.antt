@@ -80,6 +80,6 @@ module _ (code s rec consts values names constants : List ℕ) where
   unfolding leftIn
   run-left depth room v e = e
 
-  module _ (v : Operand) (ve : v ≡ leftIn 208 2048 code s rec consts values names constants) (f : Bool) (fe : f ≡ isFault v) where
+  module _ (v : Operand) (ve : v ≡ leftIn 208 512 code s rec consts values names constants) (f : Bool) (fe : f ≡ isFault v) where
     pub run-enough : f ≡ false → v ≡ leftIn 208 77824 code s rec consts values names constants
-    run-enough ff = ve ∙ left-wider 208 2048 77824 code s rec consts values names constants (omega arith) (ap isFault (sym ve) ∙ sym fe ∙ ff)
+    run-enough ff = ve ∙ left-wider 208 512 77824 code s rec consts values names constants (omega arith) (ap isFault (sym ve) ∙ sym fe ∙ ff)
