@@ -3,12 +3,11 @@ use conditions::emit::Out;
 use conditions::program::conditions;
 use expression::value::rank_in;
 use lexical::token::Token;
-use machine::run;
 use machine::run_here;
 ghost use mathlib.Core.Path.{_≡_};
 ghost use Prim.Native.Nat.{_%_};
-ghost use lib.ListN.{length, replicate};
-ghost use Rattle.judge.specs.Working.Judging.{judgedIn, judgedHere, rankAt, writtenIn};
+ghost use lib.ListN.{replicate};
+ghost use Rattle.judge.specs.Working.Judging.{judgedIn, judgedHere, rankAt};
 
 // The rank and the token behind the field; or the first fault: reason 0 is that of buffers that are too small.
 pub enum Judged {
@@ -23,80 +22,7 @@ fn byte(rank: usize) -> u8
     (rank % 256) as u8
 }
 
-// The rank that the code up to `top` gives; 0 where the code is shorter.
-fn rank_at<'a>(
-    code: &[u32],
-    top: usize,
-    s: &[u8],
-    query: &'a [u8],
-    consts: &'a [u8],
-    values: &[usize],
-    names: &[usize],
-    constants: &[usize],
-    stack: &mut [u64],
-    bytes: &mut [u8],
-) -> u8
-    ensures { λ r. ⌜ r ≡ rankAt (now (code .entry)) top (now (s .entry)) (now (query .entry)) (now (consts .entry)) (now (values .entry)) (now (names .entry)) (now (constants .entry)) (length (now (stack .entry))) (length (now (bytes .entry))) ⌝ }
-{
-    if code.len() < top {
-        return 0;
-    }
-    let part = &code[..top];
-    byte(rank_in(run(
-        part,
-        s,
-        query,
-        consts,
-        values,
-        names,
-        constants,
-        stack,
-        bytes,
-    )))
-}
-
-// The rank of the Conditions field whose first token is t, and the token behind it; or the first fault.
-pub fn judge<'a>(
-    s: &[u8],
-    t: Token,
-    query: &'a [u8],
-    consts: &'a [u8],
-    values: &[usize],
-    names: &[usize],
-    constants: &[usize],
-    code: &mut [u32],
-    stack: &mut [u64],
-    bytes: &mut [u8],
-) -> Judged
-    ensures { λ r. ⌜ r ≡ judgedIn (now (s .entry)) t (now (query .entry)) (now (consts .entry)) (now (values .entry)) (now (names .entry)) (now (constants .entry)) (now (code .entry)) (length (now (stack .entry))) (length (now (bytes .entry))) ⌝ }
-    ensures { λ _. ⌜ now (code .exit) ≡ writtenIn (now (s .entry)) t (now (code .entry)) ⌝ }
-{
-    match conditions(s, code, 0, t) {
-        Out::Aside { reason, at } => Judged::Aside { reason, place: at },
-        Out::Found {
-            sort: _,
-            place: _,
-            top,
-            next,
-        } => {
-            let rank = rank_at(
-                code,
-                top,
-                s,
-                query,
-                consts,
-                values,
-                names,
-                constants,
-                stack,
-                bytes,
-            );
-            Judged::On { rank, next }
-        }
-    }
-}
-
-// The rank that the code up to `top` gives, the machine on stacks of its own.
+// The rank that the code up to `top` gives, the machine on stacks of its own; 0 where the code is shorter.
 fn rank_here<'a>(
     code: &[u32],
     top: usize,

@@ -48,19 +48,8 @@ codeRoom s = pick (leb (length s) 254) (replicate 256 0) (pick (leb (length s) 2
 unfoldable pub judgedHere : List ℕ → Token → List ℕ → List ℕ → List ℕ → List ℕ → List ℕ → Judged
 judgedHere s t rec consts values names constants = judgedIn s t rec consts values names constants (codeRoom s) 208 77824
 
--- the code that is written
-abbrev pub writtenBy : Ran → List ℕ
-writtenBy (ran o b) = b
-
-unfoldable pub writtenIn : List ℕ → Token → List ℕ → List ℕ
-writtenIn s t m = writtenBy (conditionsAt s m 0 t)
-
-pub written-is : (s : List ℕ) (t : Token) (m b : List ℕ) (o : Out) → ran o b ≡ conditionsAt s m 0 t → b ≡ writtenIn s t m
-unfolding writtenIn
-written-is s t m b o e = rw (← e)
-
 module _ (s rec consts values names constants : List ℕ) (depth space : ℕ) where
-  -- `rank_at`
+  -- `rank_here`
   module _ (code : List ℕ) (top : ℕ) where
     pub rank-short : length code < top → 0 ≡ rankAt code top s rec consts values names constants depth space
     unfolding rankAt
