@@ -11,6 +11,7 @@ use Rattle.lexical.specs.Kind.{ILLEGAL, OPEN, ASSIGN, NOT, LESS, GREATER
 use Rattle.lexical.specs.Class.{BAR, TILDE}
 use Rattle.lexical.specs.Operator.{equalPair, pairOf, markKind, isOf, operatorKind}
 use Rattle.lexical.specs.Token.{widthOf}
+use Rattle.lexical.specs.Plain.{open-not}
 
 -- is it the class of such an operator?
 unfoldable pub lone : ℕ → Bool
@@ -20,10 +21,6 @@ lone c = pick (ltb c OPEN) false (pick (ltb c ASSIGN) true (pick (ltb c DOT) fal
 Alone : ℕ → Type 0
 Alone c = (OPEN ≤ c) × (c ≡ ASSIGN → ⊥) × (c ≡ NOT → ⊥) × (c ≡ LESS → ⊥) × (c ≡ GREATER → ⊥) × (c ≡ AMPERSAND → ⊥) × (c ≡ MINUS → ⊥)
 
-not-true : (t : Bool) → not t ≡ true → t ≡ false
-not-true true h = clash h refl
-not-true false h = refl
-
 lone-alone : (c : ℕ) → lone c ≡ true → Alone c
 unfolding lone Alone
 lone-alone c =
@@ -32,7 +29,7 @@ lone-alone c =
     (λ f h. low (ltb-false c OPEN e) (ltb-true c ASSIGN f))
     (λ f. chosen Then (ltb c DOT) false _ (λ g h. clash h refl)
     (λ g. chosen Then (eqb c AMPERSAND) false _ (λ a h. clash h refl)
-    (λ a h. high (ltb-false c DOT g) (eqb-false _ _ a) (eqb-false _ _ (not-true (eqb c MINUS) h))))))
+    (λ a h. high (ltb-false c DOT g) (eqb-false _ _ a) (eqb-false _ _ (open-not (eqb c MINUS) h))))))
   where
     Then : Bool → Type 0
     Then t = t ≡ true → Alone c

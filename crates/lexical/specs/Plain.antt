@@ -26,7 +26,7 @@ both : (t u : Bool) → pick t false u ≡ true → (t ≡ false) × (u ≡ true
 both true u h = clash h refl
 both false u h = (refl, h)
 
-open-not : (t : Bool) → not t ≡ true → t ≡ false
+pub open-not : (t : Bool) → not t ≡ true → t ≡ false
 open-not true h = clash h refl
 open-not false h = refl
 
