@@ -1,72 +1,180 @@
 // What is printed for a record: the class, the rounds, the reach and what became of each assertion, or the refusal.
 use keynote::Outcome;
 use keynote::lampsickle_answer;
-use libc::STDOUT_FILENO;
+use text::copy_at;
 use text::pair_at;
+ghost use mathlib.Core.Path.{_≡_};
+ghost use mathlib.Core.List.{_++_};
+ghost use Prim.Native.Nat.{_+_, _*_, _/_, _%_};
+ghost use lib.ListN.{getD, take};
+ghost use Rattle.text.specs.Counted.{pairAt};
+ghost use Rattle.printed.specs.Numeral.{decimal};
+ghost use Rattle.printed.specs.Fill.{filled, fillAt};
+ghost use Rattle.printed.specs.Lines.{said, line, pairLine, headLines, assertionLine, assertionLines, refusalLine, lines};
 
 // A page that any report fits on: 3 bytes, and 3 for each of 32 assertions.
 const PAGE: usize = 99;
 
-fn put(text: &[u8]) {
-    io::write_all(STDOUT_FILENO, text);
+// Room for the lines of any answer with an `end` of one byte: three lines, and one of at most 31 bytes for each of 32 assertions.
+pub const LINES: usize = 2048;
+
+// The first n bytes, or all of them.
+pub fn cut(text: &[u8], n: usize) -> &[u8]
+    ensures { λ r. ⌜ now r ≡ take n (now (text .entry)) ⌝ }
+{
+    if text.len() <= n {
+        return text;
+    }
+    &text[..n]
 }
 
-fn put_number(word: &[u8], n: usize) {
-    put(word);
-    io::print_decimal(STDOUT_FILENO, n as u64);
+// Writes at a place as much of a text as fits, and gives the place behind it.
+fn add(out: &mut [u8], at: usize, text: &[u8]) -> usize
+    ensures { λ r. ⌜ filled r (now (out .exit)) ≡ fillAt (now (out .entry)) at (now (text .entry)) ⌝ }
+{
+    if out.len() <= at {
+        return at;
+    }
+    let part = cut(text, out.len() - at);
+    copy_at(out, at, part);
+    at + part.len()
 }
 
-fn put_byte(word: &[u8], b: u8) {
-    put_number(word, b as usize);
+fn digit(n: usize) -> u8
+    ensures { λ r. ⌜ r ≡ 48 + n % 10 ⌝ }
+{
+    48 + (n % 10) as u8
+}
+
+fn add_number(out: &mut [u8], at: usize, n: usize) -> usize
+    ensures { λ r. ⌜ filled r (now (out .exit)) ≡ fillAt (now (out .entry)) at (decimal n) ⌝ }
+{
+    let last = [digit(n)];
+    if n < 10 {
+        return add(out, at, &last);
+    }
+    let next = add_number(out, at, n / 10);
+    add(out, next, &last)
+}
+
+// A text and a number.
+fn say(out: &mut [u8], at: usize, word: &[u8], n: usize) -> usize
+    ensures { λ r. ⌜ filled r (now (out .exit)) ≡ fillAt (now (out .entry)) at (said (now (word .entry)) n) ⌝ }
+{
+    let next = add(out, at, word);
+    add_number(out, next, n)
+}
+
+// A line with one number.
+fn add_line(out: &mut [u8], at: usize, word: &[u8], n: usize, end: &[u8]) -> usize
+    ensures { λ r. ⌜ filled r (now (out .exit)) ≡ fillAt (now (out .entry)) at (line (now (word .entry)) n (now (end .entry))) ⌝ }
+{
+    let next = say(out, at, word, n);
+    add(out, next, end)
+}
+
+// A line with two numbers.
+fn add_pair(
+    out: &mut [u8],
+    at: usize,
+    first: &[u8],
+    m: usize,
+    second: &[u8],
+    n: usize,
+    end: &[u8],
+) -> usize
+    ensures { λ r. ⌜ filled r (now (out .exit)) ≡ fillAt (now (out .entry)) at (pairLine (now (first .entry)) m (now (second .entry)) n (now (end .entry))) ⌝ }
+{
+    let a = say(out, at, first, m);
+    let b = say(out, a, second, n);
+    add(out, b, end)
+}
+
+fn wide(b: u8) -> usize
+    ensures { λ r. ⌜ r ≡ b ⌝ }
+{
+    b as usize
 }
 
 // The byte at a place, 0 past the end.
-fn byte_at(bytes: &[u8], at: usize) -> u8 {
-    if at < bytes.len() {
-        return bytes[at];
+fn byte_at(s: &[u8], at: usize) -> usize
+    ensures { λ r. ⌜ r ≡ getD (now (s .entry)) at 0 ⌝ }
+{
+    if s.len() <= at {
+        return 0;
     }
-    0
+    wide(s[at])
 }
 
-// The report's entries: 3n bytes from place 3 on, a reason byte and a two-byte place for each assertion.
-fn put_report(page: &[u8], end: &[u8]) {
-    let mut left = pair_at(page, 1);
-    let mut at: usize = 3;
+// The reason in the report's entry i.
+fn reason_at(page: &[u8], i: usize) -> usize
+    ensures { λ r. ⌜ r ≡ getD (now (page .entry)) (3 + 3 * i) 0 ⌝ }
+{
+    if page.len() / 3 <= i {
+        return 0;
+    }
+    byte_at(page, 3 + 3 * i)
+}
+
+// The place in the report's entry i.
+fn place_at(page: &[u8], i: usize) -> usize
+    ensures { λ r. ⌜ r ≡ pairAt (now (page .entry)) (4 + 3 * i) ⌝ }
+{
+    if page.len() / 3 <= i {
+        return 0;
+    }
+    pair_at(page, 4 + 3 * i)
+}
+
+fn add_assertion(out: &mut [u8], at: usize, page: &[u8], end: &[u8], i: usize) -> usize
+    ensures { λ r. ⌜ filled r (now (out .exit)) ≡ fillAt (now (out .entry)) at (assertionLine (now (page .entry)) (now (end .entry)) i) ⌝ }
+{
+    let reason = reason_at(page, i);
+    let place = place_at(page, i);
+    let next = say(out, at, b"assertion ", i);
+    add_pair(out, next, b" reason ", reason, b" at ", place, end)
+}
+
+fn add_assertions(out: &mut [u8], at: usize, page: &[u8], end: &[u8], n: usize) -> usize
+    ensures { λ r. ⌜ filled r (now (out .exit)) ≡ fillAt (now (out .entry)) at (assertionLines (now (page .entry)) (now (end .entry)) n) ⌝ }
+{
+    let mut to = at;
     let mut i: usize = 0;
-    while 3 <= left {
-        if page.len() <= at {
-            return;
-        }
-        put_number(b"assertion ", i);
-        put_byte(b" reason ", byte_at(page, at));
-        put_number(b" at ", pair_at(page, at + 1));
-        put(end);
-        left -= 3;
-        at += 3;
+    while i < n {
+        to = add_assertion(out, to, page, end, i);
         i += 1;
     }
+    to
 }
 
-fn put_answer(answer: Outcome, values: u8, page: &[u8], end: &[u8]) {
-    put_byte(b"rank ", answer.rank);
-    put_byte(b" of ", values);
-    put(end);
-    put_number(b"rounds ", answer.rounds);
-    put(end);
-    put_number(b"reached ", answer.reached);
-    put(end);
-    put_report(page, end);
+// Rank, rounds and reached.
+fn add_head(out: &mut [u8], answer: Outcome, values: usize, end: &[u8]) -> usize
+    ensures { λ r. ⌜ filled r (now (out .exit)) ≡ fillAt (now (out .entry)) 0 (headLines answer values (now (end .entry))) ⌝ }
+{
+    let rank = wide(answer.rank);
+    let a = add_pair(out, 0, b"rank ", rank, b" of ", values, end);
+    let b = add_line(out, a, b"rounds ", answer.rounds, end);
+    add_line(out, b, b"reached ", answer.reached, end)
 }
 
-// Prints a record's answer or its refusal, with `end` behind each line. How many compliance values there are stands in the record's byte 1.
-pub fn print_answer(query: &[u8], end: &[u8]) {
+fn add_refusal(out: &mut [u8], answer: Outcome, end: &[u8]) -> usize
+    ensures { λ r. ⌜ filled r (now (out .exit)) ≡ fillAt (now (out .entry)) 0 (refusalLine answer (now (end .entry))) ⌝ }
+{
+    let number = wide(answer.number);
+    add_pair(out, 0, b"refused ", number, b" at ", answer.place, end)
+}
+
+// Writes the lines of a record's answer or refusal, each with `end` behind it, as far as they fit; gives how many bytes they take there.
+pub fn answer_lines(query: &[u8], end: &[u8], out: &mut [u8]) -> usize
+    ensures { λ r. ⌜ filled r (now (out .exit)) ≡ fillAt (now (out .entry)) 0 (lines (now (query .entry)) (now (end .entry))) ⌝ }
+{
     let mut page = [0u8; PAGE];
     let answer = lampsickle_answer(query, &mut page);
-    if answer.number == 0 {
-        put_answer(answer, byte_at(query, 1), &page, end);
-        return;
+    if answer.number != 0 {
+        return add_refusal(out, answer, end);
     }
-    put_byte(b"refused ", answer.number);
-    put_number(b" at ", answer.place);
-    put(end);
+    let values = byte_at(query, 1);
+    let next = add_head(out, answer, values, end);
+    let n = pair_at(&page, 1) / 3;
+    add_assertions(out, next, &page, end, n)
 }

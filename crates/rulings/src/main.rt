@@ -1,6 +1,8 @@
 // Prints for each record of the file `rulings` its name and its answer in one line, with `|` for each newline.
 use libc::STDOUT_FILENO;
-use printed::print_answer;
+use printed::LINES;
+use printed::answer_lines;
+use printed::cut;
 use text::counted_at;
 
 // Room for the file.
@@ -9,7 +11,9 @@ const ROOM: usize = 131072;
 fn put_ruling(name: &[u8], record: &[u8]) {
     io::write_all(STDOUT_FILENO, name);
     io::write_all(STDOUT_FILENO, b" ");
-    print_answer(record, b"|");
+    let mut out = [0u8; LINES];
+    let size = answer_lines(record, b"|", &mut out);
+    io::write_all(STDOUT_FILENO, cut(&out, size));
     io::write_all(STDOUT_FILENO, b"\n");
 }
 

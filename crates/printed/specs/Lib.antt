@@ -1,0 +1,5 @@
+pub mod Numeral
+pub mod Lines
+pub mod Fill
+pub mod Working
+pub mod Examples
