@@ -217,7 +217,7 @@ fn conditions_field<'a>(
 
 // The field with that label, whose first token is t.
 pub fn field(
-    k: u8,
+    k: usize,
     s: &[u8],
     standing: u8,
     query: &[u8],

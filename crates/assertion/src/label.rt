@@ -5,34 +5,26 @@ ghost use lib.Dec.{eqb};
 ghost use lib.ListN.{getD, set};
 ghost use Rattle.assertion.specs.Draft.{without};
 
-fn wide(k: u8) -> usize
-    ensures { λ r. ⌜ r ≡ k ⌝ }
-{
-    k as usize
-}
-
-pub fn is_free(free: &[u8], k: u8) -> bool
+pub fn is_free(free: &[u8], k: usize) -> bool
     ensures { λ r. ⌜ r ≡ eqb (getD (now (free .entry)) k 0) 1 ⌝ }
 {
-    let i = wide(k);
-    if free.len() <= i {
+    if free.len() <= k {
         return false;
     }
-    free[i] == 1
+    free[k] == 1
 }
 
-fn clear(free: &mut [u8], k: u8)
+fn clear(free: &mut [u8], k: usize)
     ensures { λ _. ⌜ now (free .exit) ≡ set (now (free .entry)) k 0 ⌝ }
 {
-    let i = wide(k);
-    if free.len() <= i {
+    if free.len() <= k {
         return;
     }
-    free[i] = 0;
+    free[k] = 0;
 }
 
 // The label is used up, and KeyNote-Version may no longer come first.
-pub fn use_label(free: &mut [u8], k: u8)
+pub fn use_label(free: &mut [u8], k: usize)
     ensures { λ _. ⌜ now (free .exit) ≡ without (now (free .entry)) k ⌝ }
 {
     clear(free, kind::KEYNOTE_VERSION);

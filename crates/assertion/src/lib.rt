@@ -85,7 +85,7 @@ fn signed(s: &[u8], code: &mut [u16], d: Partial, t: Token) -> Reading
 }
 
 // Is t's field none that is read on from: the end, no label, a label that may not stand here, or Signature?
-fn is_last(free: &[u8], k: u8) -> bool
+fn is_last(free: &[u8], k: usize) -> bool
     ensures { λ r. ⌜ r ≡ lastAt (now (free .entry)) k ⌝ }
 {
     if k == kind::END {

@@ -27,7 +27,7 @@ pub const NONE: u32 = 0;
 pub const MATCH: u32 = 34;
 
 // May a token of this kind stand where this is wanted?
-pub fn is_allowed(want: u8, k: u8) -> bool
+pub fn is_allowed(want: u8, k: usize) -> bool
     ensures { λ r. ⌜ r ≡ allows want k ⌝ }
 {
     if k == kind::OPEN {
@@ -55,7 +55,7 @@ pub fn is_allowed(want: u8, k: u8) -> bool
 }
 
 // Does a string begin with it?
-pub fn is_string(k: u8) -> bool
+pub fn is_string(k: usize) -> bool
     ensures { λ r. ⌜ r ≡ beginsString k ⌝ }
 {
     if k == kind::LITERAL {
@@ -68,7 +68,7 @@ pub fn is_string(k: u8) -> bool
 }
 
 // Does an integer begin with it?
-pub fn is_number(k: u8) -> bool
+pub fn is_number(k: usize) -> bool
     ensures { λ r. ⌜ r ≡ beginsNumber k ⌝ }
 {
     if k == kind::DIGITS {
@@ -81,7 +81,7 @@ pub fn is_number(k: u8) -> bool
 }
 
 // Does only a float begin with it?
-pub fn is_float(k: u8) -> bool
+pub fn is_float(k: usize) -> bool
     ensures { λ r. ⌜ r ≡ beginsFloat k ⌝ }
 {
     if k == kind::FLOAT {
@@ -91,7 +91,7 @@ pub fn is_float(k: u8) -> bool
 }
 
 // The reason for a token that may not stand where it stands.
-pub fn refusal_of(k: u8) -> u8
+pub fn refusal_of(k: usize) -> u8
     ensures { λ r. ⌜ r ≡ refusal k ⌝ }
 {
     if k == kind::ILLEGAL {
@@ -104,7 +104,7 @@ pub fn refusal_of(k: u8) -> u8
 }
 
 // The comparison of strings, or NONE.
-pub fn comparison_of(k: u8) -> u32
+pub fn comparison_of(k: usize) -> u32
     ensures { λ r. ⌜ r ≡ comparison k ⌝ }
     ensures { λ r. ⌜ r < 22 ⌝ }
 {
@@ -130,7 +130,7 @@ pub fn comparison_of(k: u8) -> u32
 }
 
 // The operator behind an integer, or NONE.
-pub fn number_operator(k: u8) -> u32
+pub fn number_operator(k: usize) -> u32
     ensures { λ r. ⌜ r ≡ numberOperator k ⌝ }
 {
     if k == kind::POWER {
@@ -159,7 +159,7 @@ pub fn number_operator(k: u8) -> u32
 }
 
 // The operator behind a string, or NONE.
-pub fn text_operator(k: u8) -> u32
+pub fn text_operator(k: usize) -> u32
     ensures { λ r. ⌜ r ≡ textOperator k ⌝ }
 {
     if k == kind::DOT {
@@ -172,7 +172,7 @@ pub fn text_operator(k: u8) -> u32
 }
 
 // The operator behind a test, or NONE.
-pub fn test_operator(k: u8) -> u32
+pub fn test_operator(k: usize) -> u32
     ensures { λ r. ⌜ r ≡ testOperator k ⌝ }
 {
     if k == kind::AND {
@@ -185,7 +185,7 @@ pub fn test_operator(k: u8) -> u32
 }
 
 // The operator behind what was read, or NONE.
-pub fn operator_of(sort: u8, k: u8) -> u32
+pub fn operator_of(sort: u8, k: usize) -> u32
     ensures { λ r. ⌜ r ≡ operator sort k ⌝ }
 {
     if sort == NUMBER {
@@ -205,7 +205,7 @@ pub fn operator_of(sort: u8, k: u8) -> u32
 }
 
 // The operator before an operand, or NONE.
-pub fn prefix_operator(k: u8) -> u32
+pub fn prefix_operator(k: usize) -> u32
     ensures { λ r. ⌜ r ≡ prefixOperator k ⌝ }
 {
     if k == kind::MINUS {
@@ -383,7 +383,7 @@ pub fn is_fit(wanted: u8, sort: u8) -> bool
 }
 
 // Does a program in so many brackets end before a token of this kind?
-pub fn is_stop(nest: usize, k: u8) -> bool
+pub fn is_stop(nest: usize, k: usize) -> bool
     ensures { λ r. ⌜ r ≡ stops nest k ⌝ }
 {
     if nest != 0 {

@@ -26,7 +26,7 @@ const ANY: usize = 1;
 pub const MOST_CODE: usize = 48;
 
 // The token that joins operands at a level.
-fn joint_of(level: usize) -> u8
+fn joint_of(level: usize) -> usize
     ensures { λ r. ⌜ r ≡ jointOf level ⌝ }
 {
     if level == ALL {

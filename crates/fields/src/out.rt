@@ -16,7 +16,7 @@ pub enum Out {
 }
 
 // Does a token of this kind end the field before it?
-pub fn is_ending(k: u8) -> bool
+pub fn is_ending(k: usize) -> bool
     ensures { λ r. ⌜ r ≡ ending k ⌝ }
 {
     if k == kind::END {
@@ -29,7 +29,7 @@ pub fn is_ending(k: u8) -> bool
 }
 
 // The reason against a token of this kind where the field's grammar has none.
-pub fn refusal_of(k: u8) -> u8
+pub fn refusal_of(k: usize) -> u8
     ensures { λ r. ⌜ r ≡ refusal k ⌝ }
 {
     if k == kind::ILLEGAL {

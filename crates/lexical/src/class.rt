@@ -6,25 +6,25 @@ ghost use Rattle.lexical.specs.Class;
 ghost use Rattle.lexical.specs.Class.{classOf, or, within};
 ghost use Rattle.lexical.specs.Runs.{blank, letter, numeral};
 
-pub const OTHER: u8 = 0;
+pub const OTHER: usize = 0;
 
-pub const BLANK: u8 = 1;
+pub const BLANK: usize = 1;
 
-pub const NEWLINE: u8 = 2;
+pub const NEWLINE: usize = 2;
 
-pub const LETTER: u8 = 3;
+pub const LETTER: usize = 3;
 
-pub const DIGIT: u8 = 4;
+pub const DIGIT: usize = 4;
 
-pub const QUOTE: u8 = 5;
+pub const QUOTE: usize = 5;
 
-pub const HASH: u8 = 6;
+pub const HASH: usize = 6;
 
-pub const NUL: u8 = 7;
+pub const NUL: usize = 7;
 
-pub const BAR: u8 = 8;
+pub const BAR: usize = 8;
 
-pub const TILDE: u8 = 9;
+pub const TILDE: usize = 9;
 
 // Entry b is the class of byte b; a one-byte operator's class is its token's kind.
 const CLASS: [u8; 256] = [
@@ -389,7 +389,6 @@ pub fn is_break(b: u8) -> bool
     is_hash(b)
 }
 
-// The class of any byte, by the table.
 fn class_in_table(b: u8) -> u8
     ensures { λ r. ⌜ r ≡ classOf b ⌝ }
 {
@@ -397,8 +396,21 @@ fn class_in_table(b: u8) -> u8
     CLASS[i]
 }
 
+fn wide(c: u8) -> usize
+    ensures { λ r. ⌜ r ≡ c ⌝ }
+{
+    c as usize
+}
+
+// The class of any byte, by the table.
+fn class_by_table(b: u8) -> usize
+    ensures { λ r. ⌜ r ≡ classOf b ⌝ }
+{
+    wide(class_in_table(b))
+}
+
 // The class of a byte with which more than one operator begins; by the table for any other.
-fn class_of_first(b: u8) -> u8
+fn class_of_first(b: u8) -> usize
     ensures { λ r. ⌜ r ≡ classOf b ⌝ }
 {
     if b == b'=' {
@@ -422,11 +434,11 @@ fn class_of_first(b: u8) -> u8
     if b == b'|' {
         return BAR;
     }
-    class_in_table(b)
+    class_by_table(b)
 }
 
 // The class of a mark that is less common; of any other byte as before.
-fn class_of_rare(b: u8) -> u8
+fn class_of_rare(b: u8) -> usize
     ensures { λ r. ⌜ r ≡ classOf b ⌝ }
 {
     if b == b'{' {
@@ -448,7 +460,7 @@ fn class_of_rare(b: u8) -> u8
 }
 
 // The class of a byte: common marks are told by comparisons.
-pub fn class_of(b: u8) -> u8
+pub fn class_of(b: u8) -> usize
     ensures { λ r. ⌜ r ≡ classOf b ⌝ }
 {
     if b == b'(' {

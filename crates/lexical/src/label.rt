@@ -5,7 +5,7 @@ ghost use mathlib.Core.Path.{_≡_};
 ghost use Rattle.lexical.specs.Label.{labelKind};
 
 // The kind of the label that stands at i, or BAD_LINE where none does.
-pub fn label_kind(s: &[u8], i: usize) -> u8
+pub fn label_kind(s: &[u8], i: usize) -> usize
     ensures { λ r. ⌜ r ≡ labelKind (now (s .entry)) i ⌝ }
 {
     if stands_at(s, i, b"keynote-version:") {

@@ -5,7 +5,7 @@ ghost use mathlib.Core.Path.{_≡_};
 ghost use Rattle.lexical.specs.Operator.{equalPair, pairOf, markKind, isOf, operatorKind};
 
 // == != <= >= ~=, by the first byte's class.
-fn equal_pair(c: u8) -> u8
+fn equal_pair(c: usize) -> usize
     ensures { λ r. ⌜ r ≡ equalPair c ⌝ }
 {
     if c == kind::ASSIGN {
@@ -27,7 +27,7 @@ fn equal_pair(c: u8) -> u8
 }
 
 // An operator of two bytes, by the first one's class and the second.
-fn pair_of(c: u8, b: u8) -> u8
+fn pair_of(c: usize, b: u8) -> usize
     ensures { λ r. ⌜ r ≡ pairOf c b ⌝ }
 {
     if b == b'=' {
@@ -55,7 +55,7 @@ fn pair_of(c: u8, b: u8) -> u8
 }
 
 // An operator of one byte: the class is its kind.
-fn mark_kind(c: u8) -> u8
+fn mark_kind(c: usize) -> usize
     ensures { λ r. ⌜ r ≡ markKind c ⌝ }
 {
     if c < kind::OPEN {
@@ -65,7 +65,7 @@ fn mark_kind(c: u8) -> u8
 }
 
 // Is it "-of", in Licensees?
-fn is_of(mode: u8, c: u8, b: u8, d: u8) -> bool
+fn is_of(mode: u8, c: usize, b: u8, d: u8) -> bool
     ensures { λ r. ⌜ r ≡ isOf mode c b d ⌝ }
 {
     if mode != kind::IN_LICENSEES {
@@ -81,7 +81,7 @@ fn is_of(mode: u8, c: u8, b: u8, d: u8) -> bool
 }
 
 // The operator that begins with a byte of class c, then b and d; ILLEGAL where none does.
-pub fn operator_kind(mode: u8, c: u8, b: u8, d: u8) -> u8
+pub fn operator_kind(mode: u8, c: usize, b: u8, d: u8) -> usize
     ensures { λ r. ⌜ r ≡ operatorKind mode c b d ⌝ }
 {
     if is_of(mode, c, b, d) {

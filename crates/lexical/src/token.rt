@@ -18,13 +18,13 @@ ghost use Rattle.lexical.specs.Token.{widthOf, operatorAt, operatorToken
 
 // A token of the text: its kind, its first byte, and the place behind its last byte. At the end and at a fault the two places are one.
 pub struct Token {
-    pub kind: u8,
+    pub kind: usize,
     pub start: usize,
     pub end: usize,
 }
 
 // The bytes of a label with its colon or of an operator; 0 for the end and the faults.
-pub fn width(k: u8) -> usize
+pub fn width(k: usize) -> usize
     ensures { λ r. ⌜ r ≡ widthOf k ⌝ }
 {
     if k < kind::KEYNOTE_VERSION {
@@ -58,14 +58,14 @@ pub fn width(k: u8) -> usize
 }
 
 // The kind of the operator that stands at i, where a byte of class c stands, or ILLEGAL.
-fn operator_at(s: &[u8], mode: u8, i: usize, c: u8) -> u8
+fn operator_at(s: &[u8], mode: u8, i: usize, c: usize) -> usize
     requires { ⌜ c ≡ classOf (getD (now s) i 0) ⌝ }
     ensures { λ r. ⌜ r ≡ operatorAt (now (s .entry)) mode i ⌝ }
 {
     operator_kind(mode, c, byte_at(s, i, 1), byte_at(s, i, 2))
 }
 
-fn operator_token(s: &[u8], mode: u8, i: usize, c: u8) -> Token
+fn operator_token(s: &[u8], mode: u8, i: usize, c: usize) -> Token
     requires { ⌜ c ≡ classOf (getD (now s) i 0) ⌝ }
     ensures { λ r. ⌜ r ≡ operatorToken (now (s .entry)) mode i ⌝ }
 {
@@ -141,7 +141,7 @@ fn number_token(s: &[u8], i: usize) -> Token
 }
 
 // Is it the class of an operator that begins no longer one?
-fn is_lone(c: u8) -> bool
+fn is_lone(c: usize) -> bool
     ensures { λ r. ⌜ r ≡ lone c ⌝ }
 {
     if c < kind::OPEN {

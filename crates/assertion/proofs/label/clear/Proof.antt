@@ -3,12 +3,7 @@ use Rattle.assertion.proofs.label.clear.Statement.{statement}
 use Rattle.assertion.proofs.label.clear.Tie as tie
 use Rattle.assertion.proofs.label.clear.Reads as reads
 use Rattle.assertion.proofs.label.clear.Lts as lts
-use Rattle.assertion.proofs.label.wide.Reads as wide-reads
 use Rattle.assertion.specs.Working.FieldWays.{clear-past, clear-at}
-
--- src/label.rt:27:9
-wide-requires : tie.Need-wide-requires
-wide-requires c κs = search needs
 
 -- src/label.rt:29:9
 returns : tie.Need-returns
@@ -27,4 +22,4 @@ returns-2 : tie.Need-returns-2
 returns-2 c = search clear-at
 
 pub clear-spec : {M : Type 1} → statement M
-clear-spec = tie.close (tie.spec wide-requires returns slice-write-free same-length returns-2)
+clear-spec = tie.close (tie.spec returns slice-write-free same-length returns-2)

@@ -3,12 +3,7 @@ use Rattle.assertion.proofs.label.is_free.Statement.{statement}
 use Rattle.assertion.proofs.label.is_free.Tie as tie
 use Rattle.assertion.proofs.label.is_free.Reads as reads
 use Rattle.assertion.proofs.label.is_free.Lts as lts
-use Rattle.assertion.proofs.label.wide.Reads as wide-reads
 use Rattle.assertion.specs.Working.FieldWays.{free-past, free-at}
-
--- src/label.rt:17:9
-wide-requires : tie.Need-wide-requires
-wide-requires c κs = search needs
 
 -- src/label.rt:19:9
 returns : tie.Need-returns
@@ -23,4 +18,4 @@ returns-2 : tie.Need-returns-2
 returns-2 c = search free-at
 
 pub is-free-spec : {M : Type 1} → statement M
-is-free-spec = tie.close (tie.spec wide-requires returns shared-slice-read-result returns-2)
+is-free-spec = tie.close (tie.spec returns shared-slice-read-result returns-2)

@@ -5,7 +5,7 @@ use Rattle.lexical.proofs.class.class_of_first.Statement.{statement}
 use Rattle.lexical.proofs.class.class_of_first.Tie as tie
 use Rattle.lexical.proofs.class.class_of_first.Reads as reads
 use Rattle.lexical.proofs.class.class_of_first.Lts as lts
-use Rattle.lexical.proofs.class.class_in_table.Reads as class-in-table-reads
+use Rattle.lexical.proofs.class.class_in_table.Reads as class-by-table-reads
 
 -- src/class.rt:389:9
 returns : tie.Need-returns
@@ -43,8 +43,8 @@ unfolding classOf
 returns-7 c = search (class-at 124)
 
 -- src/class.rt:409:5
-class-in-table-requires : tie.Need-class-in-table-requires
-class-in-table-requires c κs = search needs
+class-by-table-requires : tie.Need-class-by-table-requires
+class-by-table-requires c κs = search needs
 
 -- src/class.rt:385:1
 returns-8 : tie.Need-returns-8
@@ -61,5 +61,5 @@ class-of-first-spec =
     returns-5
     returns-6
     returns-7
-    class-in-table-requires
+    class-by-table-requires
     returns-8)
