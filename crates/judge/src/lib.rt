@@ -69,6 +69,21 @@ fn judge_in<'a>(
     }
 }
 
+fn judge_tiny<'a>(
+    s: &[u8],
+    t: Token,
+    query: &'a [u8],
+    consts: &'a [u8],
+    values: &[usize],
+    names: &[usize],
+    constants: &[usize],
+) -> Judged
+    ensures { λ r. ⌜ r ≡ judgedIn (now (s .entry)) t (now (query .entry)) (now (consts .entry)) (now (values .entry)) (now (names .entry)) (now (constants .entry)) (replicate 128 0) 208 77824 ⌝ }
+{
+    let mut code = [0u32; 128];
+    judge_in(s, t, query, consts, values, names, constants, &mut code)
+}
+
 fn judge_short<'a>(
     s: &[u8],
     t: Token,
@@ -78,9 +93,9 @@ fn judge_short<'a>(
     names: &[usize],
     constants: &[usize],
 ) -> Judged
-    ensures { λ r. ⌜ r ≡ judgedIn (now (s .entry)) t (now (query .entry)) (now (consts .entry)) (now (values .entry)) (now (names .entry)) (now (constants .entry)) (replicate 256 0) 208 77824 ⌝ }
+    ensures { λ r. ⌜ r ≡ judgedIn (now (s .entry)) t (now (query .entry)) (now (consts .entry)) (now (values .entry)) (now (names .entry)) (now (constants .entry)) (replicate 512 0) 208 77824 ⌝ }
 {
-    let mut code = [0u32; 256];
+    let mut code = [0u32; 512];
     judge_in(s, t, query, consts, values, names, constants, &mut code)
 }
 
@@ -127,7 +142,10 @@ pub fn judge_field<'a>(
 ) -> Judged
     ensures { λ r. ⌜ r ≡ judgedHere (now (s .entry)) t (now (query .entry)) (now (consts .entry)) (now (values .entry)) (now (names .entry)) (now (constants .entry)) ⌝ }
 {
-    if s.len() <= 254 {
+    if s.len() <= 126 {
+        return judge_tiny(s, t, query, consts, values, names, constants);
+    }
+    if s.len() <= 510 {
         return judge_short(s, t, query, consts, values, names, constants);
     }
     if s.len() <= 2046 {

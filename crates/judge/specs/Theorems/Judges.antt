@@ -25,7 +25,7 @@ use Rattle.conditions.specs.Compiled.{Compiled, refused, compiled, conditions-c
 use Rattle.conditions.specs.Behind.{read-behind}
 use Rattle.conditions.specs.Working.Emit.{Ran}
 use Rattle.conditions.specs.Working.Program.{conditionsAt}
-use Rattle.judge.specs.Working.Judging.{leftBy, rankAt, judgedOf, judgedIn, codeRoom, judgedHere}
+use Rattle.judge.specs.Working.Judging.{leftBy, rankAt, judgedOf, judgedIn, codeSize, codeRoom, judgedHere}
 use Rattle.judge.specs.Theorems.Rooms.{read-need, read-room}
 use Rattle.judge.specs.declared.Judged.{Judged}
 use Rattle.judge.specs.declared.Judged.the-variants.{On, Aside}
@@ -70,14 +70,15 @@ module _ {rec consts values names constants : List ℕ} {env : Environment} (sho
 -- With at most 256 values and a text of at most 8,192 bytes, `judge_field` gives the field's rank or its first fault.
 module _ {rec consts values names constants : List ℕ} {env : Environment} (shows : Shows rec consts values names constants env) (few : length (env .values) ≤ 256)
     (s : List ℕ) (short : length s ≤ 8192) (at : ℕ) where
+  size-fits : length s + 2 ≤ codeSize (length s)
+  unfolding codeSize
+  size-fits =
+      split (leb (length s) 126) (λ f. rw f (omega (arith, leb-true (length s) 126 f)))
+      (λ f. split (leb (length s) 510) (λ g. rw (f, g) (omega (arith, leb-true (length s) 510 g)))
+      (λ g. split (leb (length s) 2046) (λ e. rw (f, g, e) (omega (arith, leb-true (length s) 2046 e))) (λ e. rw (f, g, e) (omega (arith, short)))))
+
   code-fits : length s + 2 ≤ length (codeRoom s)
-  unfolding codeRoom
-  code-fits =
-      split (leb (length s) 254)
-      (λ f. let h : length s ≤ 254 = leb-true _ _ f in rw f (omega (arith, h, length-replicate {A = ℕ} 256 0)))
-      (λ f. split (leb (length s) 2046)
-      (λ e. let h : length s ≤ 2046 = leb-true _ _ e in rw (f, e) (omega (arith, h, length-replicate {A = ℕ} 2048 0)))
-      (λ e. rw (f, e) (omega (arith, short, length-replicate {A = ℕ} 8194 0))))
+  code-fits = rw (length-replicate {A = ℕ} (codeSize (length s)) 0) size-fits
 
   pub judge-field-read : Judging s env (readProgram s (nextAt s at)) (judgedHere s (nextAt s at) rec consts values names constants)
   unfolding judgedHere

@@ -40,9 +40,12 @@ unfoldable pub judgedIn : List ℕ → Token → List ℕ → List ℕ → List 
 judgedIn s t rec consts values names constants m depth space =
     judgedOf (λ b u. rankAt b u s rec consts values names constants depth space) (conditionsAt s m 0 t)
 
--- a table for the code of a text: an entry for each byte and two more, for texts of at most 8,192 bytes
-unfoldable pub codeRoom : List ℕ → List ℕ
-codeRoom s = pick (leb (length s) 254) (replicate 256 0) (pick (leb (length s) 2046) (replicate 2048 0) (replicate 8194 0))
+-- the entries of a table for the code of a text of n bytes: one for each byte and two more, for texts of at most 8,192 bytes
+unfoldable pub codeSize : ℕ → ℕ
+codeSize n = pick (leb n 126) 128 (pick (leb n 510) 512 (pick (leb n 2046) 2048 8194))
+
+abbrev pub codeRoom : List ℕ → List ℕ
+codeRoom s = replicate (codeSize (length s)) 0
 
 -- the same in tables of its own: room for 208 numbers and 77,824 bytes
 unfoldable pub judgedHere : List ℕ → Token → List ℕ → List ℕ → List ℕ → List ℕ → List ℕ → Judged
@@ -81,15 +84,24 @@ module _ (s rec consts values names constants : List ℕ) (depth space : ℕ) wh
 
 -- `judge_field`
 module _ (s rec consts values names constants : List ℕ) (t : Token) (r : Judged) where
-  pub here-short : length s ≤ 254 → r ≡ judgedIn s t rec consts values names constants (replicate 256 0) 208 77824 → r ≡ judgedHere s t rec consts values names constants
-  unfolding judgedHere codeRoom
-  here-short h e = rw (le-leb (length s) 254 h) e
+  here : (n : ℕ) → codeSize (length s) ≡ n → r ≡ judgedIn s t rec consts values names constants (replicate n 0) 208 77824 → r ≡ judgedHere s t rec consts values names constants
+  unfolding judgedHere
+  here n h e = rw h e
 
-  module _ (more : 254 < length s) where
-    pub here-middle : length s ≤ 2046 → r ≡ judgedIn s t rec consts values names constants (replicate 2048 0) 208 77824 → r ≡ judgedHere s t rec consts values names constants
-    unfolding judgedHere codeRoom
-    here-middle h e = rw (lt-leb (length s) 254 more, le-leb (length s) 2046 h) e
+  pub here-tiny : length s ≤ 126 → r ≡ judgedIn s t rec consts values names constants (replicate 128 0) 208 77824 → r ≡ judgedHere s t rec consts values names constants
+  unfolding codeSize
+  here-tiny h = here 128 (rw (le-leb (length s) 126 h))
 
-    pub here-long : 2046 < length s → r ≡ judgedIn s t rec consts values names constants (replicate 8194 0) 208 77824 → r ≡ judgedHere s t rec consts values names constants
-    unfolding judgedHere codeRoom
-    here-long h e = rw (lt-leb (length s) 254 more, lt-leb (length s) 2046 h) e
+  module _ (more : 126 < length s) where
+    pub here-short : length s ≤ 510 → r ≡ judgedIn s t rec consts values names constants (replicate 512 0) 208 77824 → r ≡ judgedHere s t rec consts values names constants
+    unfolding codeSize
+    here-short h = here 512 (rw (lt-leb (length s) 126 more, le-leb (length s) 510 h))
+
+    module _ (yet : 510 < length s) where
+      pub here-middle : length s ≤ 2046 → r ≡ judgedIn s t rec consts values names constants (replicate 2048 0) 208 77824 → r ≡ judgedHere s t rec consts values names constants
+      unfolding codeSize
+      here-middle h = here 2048 (rw (lt-leb (length s) 126 more, lt-leb (length s) 510 yet, le-leb (length s) 2046 h))
+
+      pub here-long : 2046 < length s → r ≡ judgedIn s t rec consts values names constants (replicate 8194 0) 208 77824 → r ≡ judgedHere s t rec consts values names constants
+      unfolding codeSize
+      here-long h = here 8194 (rw (lt-leb (length s) 126 more, lt-leb (length s) 510 yet, lt-leb (length s) 2046 h))
