@@ -6,7 +6,7 @@ use Prim.Native.Nat.{ℕ, zero, suc, _≤_, _<_}
 use native.Mathlib.Omega.{arith}
 use lib.Dec.{eqb}
 use lib.ListN.{length, take, getD, set, List·getD-eq-default}
-use lib.Seq.{take-all, length-take-le}
+use lib.Seq.{take-all, length-take-le, set-out}
 use borrow.Author.Tests.{eq-eqb, ne-eqb}
 use Rattle.text.specs.Choice.{pick}
 use Rattle.lexical.specs.Kind
@@ -43,22 +43,11 @@ pub front-short : (l : List ℕ) (n : ℕ) → n < length l → n ≡ length (ta
 front-short l n h = sym (length-take-le n l (omega (arith, h)))
 
 -- `is_free` and `use_label`
-pub free-past : (l : List ℕ) (k i : ℕ) → i ≡ k → length l ≤ i → false ≡ eqb (getD l k 0) 1
-free-past l k i e h = let z : length l ≤ k = rw (← e) h in rw (List·getD-eq-default l 0 z)
+pub free-past : (l : List ℕ) (k : ℕ) → length l ≤ k → false ≡ eqb (getD l k 0) 1
+free-past l k h = rw (List·getD-eq-default l 0 h)
 
-pub free-at : (l : List ℕ) (k i : ℕ) → i ≡ k → eqb (getD l i 0) 1 ≡ eqb (getD l k 0) 1
-free-at l k i e = rw e
-
-set-past : (l : List ℕ) (k x : ℕ) → length l ≤ k → l ≡ set l k x
-set-past [] k x h = refl
-set-past (y ∷ l) zero x h = let no : ⊥ = omega (arith, h) in absurd no
-set-past (y ∷ l) (suc k) x h = ap (λ (m : List ℕ). y ∷ m) (set-past l k x (omega (arith, h)))
-
-pub clear-past : (l : List ℕ) (k i : ℕ) → i ≡ k → length l ≤ i → l ≡ set l k 0
-clear-past l k i e h = set-past l k 0 (rw (sym e) h)
-
-pub clear-at : (l : List ℕ) (k i : ℕ) → i ≡ k → set l i 0 ≡ set l k 0
-clear-at l k i e = rw e
+pub clear-past : (l : List ℕ) (k : ℕ) → length l ≤ k → l ≡ set l k 0
+clear-past l k h = sym (set-out l k 0 h)
 
 pub used : (l m : List ℕ) (k : ℕ) → m ≡ set l Kind.KEYNOTE-VERSION 0 → (n : List ℕ) → n ≡ set m k 0 → n ≡ without l k
 unfolding without

@@ -5,7 +5,7 @@ use Prim.Native.Nat.{ℕ, zero, suc, _+_, _<_, _≤_}
 use native.Mathlib.Omega.{arith}
 use native.Mathlib.Numerals.{add-one}
 use lib.ListN.{length, getD, drop, set, drop-of-length-le}
-use lib.Seq.{drop-cons}
+use lib.Seq.{drop-cons, set-out}
 use Rattle.text.specs.Counted.{counted}
 use Rattle.principal.specs.Principal.{policy}
 use Rattle.fields.specs.Working.Identifying.{Kept, entry, enterIn}
@@ -33,13 +33,8 @@ allFrom s [] a = a
 allFrom s (p ∷ ps) (asked x pool places direct) = allFrom s ps (askIn pool places direct x (counted s p))
 
 -- `mark`
-set-past : (l : List ℕ) (k x : ℕ) → length l ≤ k → l ≡ set l k x
-set-past [] k x h = refl
-set-past (y ∷ l) zero x h = let no : ⊥ = omega (arith, h) in absurd no
-set-past (y ∷ l) (suc k) x h = ap (λ (m : List ℕ). y ∷ m) (set-past l k x (omega (arith, h)))
-
 pub mark-past : (l : List ℕ) (k : ℕ) → length l ≤ k → l ≡ set l k 1
-mark-past l k h = set-past l k 1 h
+mark-past l k h = sym (set-out l k 1 h)
 
 -- `ask`
 module _ (pool places direct : List ℕ) (x : Index) (id : List ℕ) (r : Entry) (p l : List ℕ) (e : entry r p l ≡ enterIn pool places (x .count) (x .end) id) where

@@ -3,7 +3,7 @@ use Rattle.assertion.proofs.label.clear.Statement.{statement}
 use Rattle.assertion.proofs.label.clear.Tie as tie
 use Rattle.assertion.proofs.label.clear.Reads as reads
 use Rattle.assertion.proofs.label.clear.Lts as lts
-use Rattle.assertion.specs.Working.FieldWays.{clear-past, clear-at}
+use Rattle.assertion.specs.Working.FieldWays.{clear-past}
 
 -- src/label.rt:29:9
 returns : tie.Need-returns
@@ -19,7 +19,7 @@ same-length c = search needs
 
 -- src/label.rt:24:1
 returns-2 : tie.Need-returns-2
-returns-2 c = search clear-at
+returns-2 c = search needs
 
 pub clear-spec : {M : Type 1} → statement M
 clear-spec = tie.close (tie.spec returns slice-write-free same-length returns-2)

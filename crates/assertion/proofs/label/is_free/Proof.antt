@@ -3,7 +3,7 @@ use Rattle.assertion.proofs.label.is_free.Statement.{statement}
 use Rattle.assertion.proofs.label.is_free.Tie as tie
 use Rattle.assertion.proofs.label.is_free.Reads as reads
 use Rattle.assertion.proofs.label.is_free.Lts as lts
-use Rattle.assertion.specs.Working.FieldWays.{free-past, free-at}
+use Rattle.assertion.specs.Working.FieldWays.{free-past}
 
 -- src/label.rt:19:9
 returns : tie.Need-returns
@@ -15,7 +15,7 @@ shared-slice-read-result c = search needs
 
 -- src/label.rt:14:1
 returns-2 : tie.Need-returns-2
-returns-2 c = search free-at
+returns-2 c = search needs
 
 pub is-free-spec : {M : Type 1} → statement M
 is-free-spec = tie.close (tie.spec returns shared-slice-read-result returns-2)
