@@ -1,7 +1,7 @@
 -- The machine, over lists: the numbers of its operands, two each, and the bytes of its strings; the last one is on top. Assumes nothing.
-use mathlib.Core.Bool.{false}
+use mathlib.Core.Bool.{Bool, true, false, not}
 use mathlib.Core.List.{List, [], _∷_, _++_}
-use Prim.Native.Nat.{ℕ, _+_, _-_, _/_, _%_, min}
+use Prim.Native.Nat.{ℕ, zero, suc, _+_, _-_, _/_, _%_, min}
 use lib.Dec.{eqb, leb, ltb}
 use lib.ListN.{length, getD, take, drop}
 use Rattle.text.specs.Choice.{pick}
@@ -9,7 +9,7 @@ use Rattle.text.specs.Scan.{run}
 use Rattle.text.specs.Class.{inClass, digit, word}
 use Rattle.text.specs.Digits.{value, limit}
 use Rattle.lexical.specs.Literal.{decodedAt}
-use Rattle.syntax.specs.Op.{LITERAL, NAME, NUMBER, TRUE, FALSE, LOOKUP, OPPOSITE, EITHER, BEGIN, PLAIN}
+use Rattle.syntax.specs.Op.{LITERAL, NAME, NUMBER, TRUE, FALSE, LOOKUP, OPPOSITE, BOTH, EITHER, BEGIN, PLAIN}
 use Rattle.expression.specs.Value.{operand}
 use Rattle.expression.specs.Operands.{kindOf, sizeOf, unpacked, width, valueOf, isText}
 use Rattle.expression.specs.Integers.{ranged}
@@ -105,11 +105,48 @@ stepOf depth room s look vals op at vs bs =
 unfoldable pub stepped : ℕ → ℕ → List ℕ → (List ℕ → List ℕ) → List (List ℕ) → ℕ → List ℕ → List ℕ → State
 stepped depth room s look vals e vs bs = stepOf depth room s look vals (e / 65536) (e % 65536) vs bs
 
+-- is a test on top that doesn't hold? 3 is its kind
+unfoldable pub isFalse : List ℕ → Bool
+isFalse vs = pick (ltb (length vs) 2) false (eqb (getD vs (length vs - 2) 0) 3)
+
+-- Such a test lies below k operands when an operation comes: is it no left side of "&&" any more, or not known to be one?
+unfoldable pub outer : ℕ → ℕ → Bool
+outer op k =
+    pick (leb op FALSE) false
+    (pick (ltb EITHER op) true (pick (eqb k 0) true (pick (leb op OPPOSITE) false (pick (eqb k 1) (not (eqb op BOTH)) false))))
+
+-- how many operands lie above it then
+unfoldable pub above : ℕ → ℕ → ℕ
+above op k = pick (leb op FALSE) (k + 1) (pick (leb op OPPOSITE) k (k - 1))
+
+-- and which entry is the next to be run, as far as is known: the one behind the operation where that is the "&&"
+unfoldable pub behindOf : ℕ → ℕ → ℕ → ℕ → ℕ
+behindOf op k known next = pick (leb op OPPOSITE) known (pick (eqb k 1) next known)
+
+-- "stop once decided": which entry is run next, from the code at j on
+unfoldable pub goOn : ℕ → ℕ → ℕ → List ℕ → ℕ
+goOn k known j [] = known
+goOn k known j (e ∷ es) = pick (outer (e / 65536) k) known (goOn (above (e / 65536) k) (behindOf (e / 65536) k known (j + 1)) (j + 1) es)
+
+-- how many entries the operand on top makes needless
+unfoldable pub needless : List ℕ → List ℕ → ℕ
+needless vs es = pick (isFalse vs) (goOn 0 0 0 es) 0
+
+abbrev pub ahead : State → List ℕ → ℕ
+ahead (on vs bs) es = needless vs es
+ahead stuck es = 0
+
+-- the entries behind the first m
+unfoldable pub execBehind : ℕ → ℕ → List ℕ → (List ℕ → List ℕ) → List (List ℕ) → ℕ → List ℕ → State → State
+execBehind depth room s look vals m [] st = st
+execBehind depth room s look vals (suc m) (e ∷ es) st = execBehind depth room s look vals m es st
+execBehind depth room s look vals zero (e ∷ es) (on vs bs) =
+    execBehind depth room s look vals (ahead (stepped depth room s look vals e vs bs) es) es (stepped depth room s look vals e vs bs)
+execBehind depth room s look vals zero (e ∷ es) stuck = stuck
+
 -- all entries
-unfoldable pub exec : ℕ → ℕ → List ℕ → (List ℕ → List ℕ) → List (List ℕ) → List ℕ → State → State
-exec depth room s look vals [] st = st
-exec depth room s look vals (e ∷ es) (on vs bs) = exec depth room s look vals es (stepped depth room s look vals e vs bs)
-exec depth room s look vals (e ∷ es) stuck = stuck
+abbrev pub exec : ℕ → ℕ → List ℕ → (List ℕ → List ℕ) → List (List ℕ) → List ℕ → State → State
+exec depth room s look vals c st = execBehind depth room s look vals 0 c st
 
 -- the operand left
 unfoldable pub resultOf : State → Operand

@@ -20,14 +20,14 @@ use lexical::literal::decode_into;
 use lexical::literal::literal_length;
 ghost use mathlib.Core.Path.{_≡_};
 ghost use mathlib.Core.List.{[], map};
-ghost use Prim.Native.Nat.{_+_, _-_, _≤_, max};
+ghost use Prim.Native.Nat.{_+_, _-_, _≤_, _<_, max};
 ghost use lib.Dec.{eqb};
 ghost use lib.ListN.{length, take, drop};
 ghost use Rattle.text.specs.Choice.{pick};
 ghost use Rattle.text.specs.Counted.{counted};
 ghost use Rattle.lexical.specs.Literal.{decodedAt};
 ghost use Rattle.expression.specs.Tables.{lookupIn};
-ghost use Rattle.machine.specs.Machine.{runAt, textStep, topOf, unaryStep, lookupStep, binaryOn, binaryStep, raised, clauseStep, pushStep, stepOf, exec, resultOf, on};
+ghost use Rattle.machine.specs.Machine.{runAt, textStep, topOf, unaryStep, lookupStep, binaryOn, binaryStep, raised, clauseStep, pushStep, stepOf, outer, above, behindOf, goOn, needless, exec, resultOf, on};
 ghost use Rattle.machine.specs.Left.{leftIn};
 ghost use Rattle.machine.specs.Live.{Live, landed, putAt, settled};
 ghost use Rattle.machine.specs.Working.Quick.{putTwo, isNatural, isTold, isLogical, decides};
@@ -544,6 +544,91 @@ fn step<'a>(
     clause_step(op, query, values, stack, n, bytes, t)
 }
 
+// A test that doesn't hold lies below k operands when an operation comes: is it no left side of "&&" any more?
+fn is_outer(op: u32, k: usize) -> bool
+    ensures { λ r. ⌜ r ≡ outer op k ⌝ }
+{
+    if op <= syntax::FALSE {
+        return false;
+    }
+    if syntax::EITHER < op {
+        return true;
+    }
+    if k == 0 {
+        return true;
+    }
+    if op <= syntax::OPPOSITE {
+        return false;
+    }
+    if k != 1 {
+        return false;
+    }
+    op != syntax::BOTH
+}
+
+// How many operands lie above it then.
+fn above_it(op: u32, k: usize) -> usize
+    requires { ⌜ k < 18446744073709551615 ⌝ }
+    ensures { λ r. ⌜ r ≡ above op k ⌝ }
+{
+    if op <= syntax::FALSE {
+        return k + 1;
+    }
+    if op <= syntax::OPPOSITE {
+        return k;
+    }
+    if k == 0 {
+        return 0;
+    }
+    k - 1
+}
+
+// The entry to be run next, as far as is known.
+fn behind_it(op: u32, k: usize, known: usize, next: usize) -> usize
+    ensures { λ r. ⌜ r ≡ behindOf op k known next ⌝ }
+{
+    if op <= syntax::OPPOSITE {
+        return known;
+    }
+    if k == 1 {
+        return next;
+    }
+    known
+}
+
+// With a test on top that doesn't hold, the entry to be run next: behind each "&&" whose left side it is.
+fn passed(code: &[u32], from: usize) -> usize
+    ensures { λ r. ⌜ r ≡ goOn 0 from from (drop from (now (code .entry))) ⌝ }
+{
+    let mut known = from;
+    let mut j = from;
+    let mut k: usize = 0;
+    while j < code.len() {
+        let op = code[j] / 65536;
+        if is_outer(op, k) {
+            return known;
+        }
+        j += 1;
+        known = behind_it(op, k, known, j);
+        k = above_it(op, k);
+    }
+    known
+}
+
+// The entry to be run next, from entry i on.
+fn onward(code: &[u32], i: usize, stack: &[u64], n: usize) -> usize
+    requires { ⌜ n ≤ length (now stack) ⌝ }
+    ensures { λ r. ⌜ r ≡ i + needless (take n (now (stack .entry))) (drop i (now (code .entry))) ⌝ }
+{
+    if n < 2 {
+        return i;
+    }
+    if stack[n - 2] == 3 {
+        return passed(code, i);
+    }
+    i
+}
+
 // Runs compiled Conditions over the assertion's text: the operand left on top, for a program its rank. Where the code is none or
 // a buffer is too small, a fault.
 pub fn run<'a>(
@@ -584,7 +669,7 @@ pub fn run<'a>(
             Tops::At { numbers, bytes: b } => {
                 n = numbers;
                 t = b;
-                i += 1;
+                i = onward(code, i + 1, stack, n);
             }
         }
     }

@@ -5,12 +5,13 @@ use lib.ListN.{length, take}
 use Rattle.text.specs.Counted.{counted}
 use Rattle.expression.specs.Tables.{lookupIn}
 use Rattle.machine.specs.Machine.{exec, on}
-use Rattle.machine.specs.Working.Running.{execFrom, exec-start, exec-end, exec-fault, exec-more, numbers-within, bytes-within}
+use Rattle.machine.specs.Working.Running.{execFrom, exec-start, exec-end, exec-fault, exec-more, exec-less, live-in, numbers-within, bytes-within}
 use borrow.Author.Needs.{needs}
 use Rattle.machine.proofs.run.Statement.{statement}
 use Rattle.machine.proofs.run.Tie as tie
 use Rattle.machine.proofs.run.Reads as reads
 use Rattle.machine.proofs.run.Lts as lts
+use Rattle.machine.proofs.onward.Reads as onward-reads
 use Rattle.machine.proofs.step.Reads as step-reads
 use Rattle.machine.proofs.top.Reads as top-reads
 use Rattle.machine.proofs.wide.Reads as wide-reads
@@ -21,71 +22,75 @@ Inv-loop code s query consts values names constants stack₀ bytes₀ n₀ t₀ 
 abbrev μ-loop : tie.MeasureT-loop
 μ-loop code s query consts values names constants stack₀ bytes₀ n₀ t₀ i₀ stack bytes n t i = length code - i
 
--- src/lib.rt:327:5
+-- src/lib.rt:650:5
 loop-holds : tie.Need-loop-holds Inv-loop μ-loop
 loop-holds c = (search needs, (search needs, (search needs, (search needs, search exec-start))))
 
--- src/lib.rt:328:17
+-- src/lib.rt:651:17
 mul-e : tie.Need-mul-e Inv-loop μ-loop
 mul-e c = search needs
 
--- src/lib.rt:328:17
+-- src/lib.rt:651:17
 shared-slice-read-e : tie.Need-shared-slice-read-e Inv-loop μ-loop
 shared-slice-read-e c = search needs
 
--- src/lib.rt:329:31
+-- src/lib.rt:654:13
 wide-requires : tie.Need-wide-requires Inv-loop μ-loop
 wide-requires c κs = search needs
 
--- src/lib.rt:329:15
+-- src/lib.rt:652:15
 step-requires : tie.Need-step-requires Inv-loop μ-loop
 step-requires c κs = search needs
 
--- src/lib.rt:331:17
+-- src/lib.rt:667:17
 enum-told : tie.Need-enum-told Inv-loop μ-loop
 enum-told c = search needs
 
--- src/lib.rt:331:17
+-- src/lib.rt:667:17
 same-length : tie.Need-same-length Inv-loop μ-loop
 same-length c = search needs
 
--- src/lib.rt:331:17
+-- src/lib.rt:667:17
 same-length-2 : tie.Need-same-length-2 Inv-loop μ-loop
 same-length-2 c = search needs
 
--- src/lib.rt:331:17
+-- src/lib.rt:667:17
 returns : tie.Need-returns Inv-loop μ-loop
 returns c = search exec-fault
 
--- src/lib.rt:333:24
+-- src/lib.rt:669:24
 enum-known-numbers : tie.Need-enum-known-numbers Inv-loop μ-loop
 enum-known-numbers c = search needs
 
--- src/lib.rt:336:17
-add-i : tie.Need-add-i Inv-loop μ-loop
-add-i c = search needs
+-- src/lib.rt:672:34
+add-onward : tie.Need-add-onward Inv-loop μ-loop
+add-onward c = search needs
 
--- src/lib.rt:327:5
+-- src/lib.rt:672:17
+onward-requires : tie.Need-onward-requires Inv-loop μ-loop
+onward-requires c κs = let l : _ = (c .before .before .before .before .before .before .before .before .step .ensures) in search (numbers-within, l)
+
+-- src/lib.rt:650:5
 loop-less : tie.Need-loop-less Inv-loop μ-loop
-loop-less c = search needs
+loop-less c = search exec-less
 
--- src/lib.rt:327:5
+-- src/lib.rt:650:5
 loop-again : tie.Need-loop-again Inv-loop μ-loop
 loop-again c = (search needs, (search needs, (search numbers-within, (search bytes-within, search exec-more))))
 
--- src/lib.rt:340:5
+-- src/lib.rt:676:5
 top-requires : tie.Need-top-requires Inv-loop μ-loop
 top-requires c κs = search needs
 
--- src/lib.rt:311:1
+-- src/lib.rt:634:1
 same-length-3 : tie.Need-same-length-3 Inv-loop μ-loop
 same-length-3 c = search needs
 
--- src/lib.rt:311:1
+-- src/lib.rt:634:1
 same-length-4 : tie.Need-same-length-4 Inv-loop μ-loop
 same-length-4 c = search needs
 
--- src/lib.rt:311:1
+-- src/lib.rt:634:1
 returns-2 : tie.Need-returns-2 Inv-loop μ-loop
 returns-2 c = search exec-end
 
@@ -105,7 +110,8 @@ run-spec =
     same-length-2
     returns
     enum-known-numbers
-    add-i
+    add-onward
+    onward-requires
     loop-less
     loop-again
     top-requires

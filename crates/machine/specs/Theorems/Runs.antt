@@ -4,29 +4,30 @@ use mathlib.Core.Bool.{true, false}
 use mathlib.Core.List.{List, [], _∷_, _++_, map, append-assoc, append-nil}
 use Prim.Native.Nat.{ℕ, _+_, _-_, _*_, _/_, _%_, _<_, _≤_, max}
 use native.Mathlib.Omega.{arith}
-use lib.Dec.{eqb}
+use lib.Dec.{eqb, ltb}
 use lib.ListN.{length, length-append}
-use borrow.Author.Tests.{le-leb, lt-leb, eq-eqb, ne-eqb, eqb-true, eqb-false}
-use Rattle.text.specs.Choice.{split}
+use borrow.Author.Tests.{le-leb, lt-leb, eq-eqb, ne-eqb, eqb-true, eqb-false, ltb-true, ltb-false}
+use Rattle.text.specs.Choice.{split, clash}
 use Rattle.text.specs.Counted.{counted}
 use Rattle.lexical.specs.Literal.{decodedAt}
 use Rattle.syntax.specs.Expr.{Expr, Program, none, also, Clause, plain, valued, nested}
 use Rattle.syntax.specs.Code.{entry, nameAt, numberAt, Codes, code-literal, code-name, code-number, code-true, code-false, code-unary, code-binary, ProgramCodes, code-none, code-also, ClauseCodes, code-plain, code-valued, code-nested}
-use Rattle.expression.specs.Value.{Value, rank, test, operand, bytesOf}
-use Rattle.expression.specs.Operands.{rankIn}
+use Rattle.expression.specs.Value.{Value, text, integer, rank, test, fault, operand, bytesOf}
+use Rattle.expression.specs.Operands.{rankIn, kindOf}
 use Rattle.expression.specs.Integers.{ranged}
 use Rattle.expression.specs.Names.{Environment, lookup}
-use Rattle.expression.specs.Operations.{held, unaryOf, binaryOf}
+use Rattle.expression.specs.Operations.{held, unaryOf, isTextual, ofTests, logical, binaryOf}
 use Rattle.expression.specs.Conditions.{evaluate, conditions, clause, gate, top, rankOf}
 use Rattle.expression.specs.Clauses.{applied, combined}
 use Rattle.expression.specs.Tables.{lookupIn, Shows}
 use Rattle.expression.specs.Theorems.Shown.{values-are, lookup-is as shown-is}
 use Rattle.expression.specs.declared.value.Operand.the-variants.{Rank}
-use Rattle.machine.specs.Machine.{State, on, raised, runAt, pushStep, clauseStep, stepOf, stepped, exec, resultOf}
+use Rattle.machine.specs.Machine.{State, on, raised, runAt, pushStep, clauseStep, stepOf, stepped, isFalse, goOn, needless, ahead, execBehind, exec, resultOf}
 use Rattle.machine.specs.Need.{need, programNeed, clauseNeed, room, programRoom, clauseRoom}
 use Rattle.machine.specs.Theorems.Bounds.{need-some}
 use Rattle.machine.specs.Working.Widths.{plain-rank, plain-ranged, within-span}
-use Rattle.machine.specs.Working.Stacking.{pair, topped, count-is, top-is, place-is, text-is, unary-is, lookup-is, binary-is}
+use Rattle.machine.specs.Working.Passing.{exec-pass, on-clause, on-none, on-both, on-other, entry-op, on-code, on-program, on-shift}
+use Rattle.machine.specs.Working.Stacking.{pair, topped, count-is, top-is, false-top, place-is, text-is, unary-is, lookup-is, binary-is}
 
 -- an operator on one operand is the machine's operation, but for "$"
 applied-is : (vals : List (List ℕ)) (look : List ℕ → List ℕ) (op : ℕ) (v : Value) → 5 ≤ op → op ≤ 8 → eqb op 5 ≡ false → applied vals op v ≡ unaryOf look op v
@@ -43,6 +44,20 @@ applied-is vals look op v l h f =
 combined-is : (vals : List (List ℕ)) (op : ℕ) (v w : Value) → op ≤ 29 → combined vals op v w ≡ binaryOf op v w
 unfolding combined
 combined-is vals op v w h = rw (le-leb op 29 h)
+
+-- a test that fails, and what "&&" makes of it
+failing : (v : Value) → eqb (kindOf (operand v)) 3 ≡ true → v ≡ test false
+unfolding operand kindOf
+failing (text b) h = clash h refl
+failing (integer i) h = split (i .negative) (λ f. clash (rw f at h) refl) (λ f. clash (rw f at h) refl)
+failing (test true) h = clash h refl
+failing (test false) h = refl
+failing (rank n) h = clash h refl
+failing fault h = clash h refl
+
+both-false : (w : Value) → binaryOf 28 (test false) w ≡ test false
+unfolding binaryOf isTextual ofTests logical
+both-false w = refl
 
 -- what the machine makes of a clause
 module _ (vals : List (List ℕ)) where
@@ -66,16 +81,72 @@ module _ (depth space : ℕ) (s : List ℕ) (look : List ℕ → List ℕ) (env 
   abbrev run : List ℕ → State → State
   run c st = exec depth space s look (env .values) c st
 
-  step-entry : (op at : ℕ) → at < 65536 → (rest vs bs : List ℕ) → run (entry op at ∷ rest) (on vs bs) ≡ run rest (stepOf depth space s look (env .values) op at vs bs)
-  unfolding exec stepped entry
+  -- the same behind what a decided test makes needless
+  abbrev after : List ℕ → State → State
+  after c st = execBehind depth space s look (env .values) (ahead st c) c st
+
+  step-entry : (op at : ℕ) → at < 65536 → (rest vs bs : List ℕ) → run (entry op at ∷ rest) (on vs bs) ≡ after rest (stepOf depth space s look (env .values) op at vs bs)
+  unfolding execBehind stepped entry
   step-entry op at h rest vs bs =
       let a : (op * 65536 + at) / 65536 ≡ op = omega arith in
       let b : (op * 65536 + at) % 65536 ≡ at = omega arith in
       rw (a, b)
 
   -- an entry whose step is known
-  enter : (op at : ℕ) → at < 65536 → (rest vs bs : List ℕ) (st : State) → stepOf depth space s look (env .values) op at vs bs ≡ st → run (entry op at ∷ rest) (on vs bs) ≡ run rest st
-  enter op at h rest vs bs st e = step-entry op at h rest vs bs ∙ ap (run rest) e
+  enter : (op at : ℕ) → at < 65536 → (rest vs bs : List ℕ) (st : State) → stepOf depth space s look (env .values) op at vs bs ≡ st → run (entry op at ∷ rest) (on vs bs) ≡ after rest st
+  enter op at h rest vs bs st e = step-entry op at h rest vs bs ∙ ap (after rest) e
+
+  -- nothing is passed by where the machine goes on at once, nor where the top is no test that fails
+  unmoved : (c vs bs : List ℕ) → goOn 0 0 0 c ≡ 0 → after c (on vs bs) ≡ run c (on vs bs)
+  unfolding needless
+  unmoved c vs bs z = split (isFalse vs) (λ f. rw (f, z)) (λ f. rw f)
+
+  ranked : (rest vs bs : List ℕ) (n : ℕ) → after rest (topped vs bs (rank n)) ≡ run rest (topped vs bs (rank n))
+  unfolding needless topped operand kindOf
+  ranked rest vs bs n = let f : isFalse (vs ++ pair (rank n)) ≡ false = false-top vs (rank n) in rw f
+
+  stays : (op : ℕ) → 4 < op → (rest vs bs : List ℕ) → after (entry op 0 ∷ rest) (on vs bs) ≡ run (entry op 0 ∷ rest) (on vs bs)
+  stays op h rest vs bs =
+      unmoved (entry op 0 ∷ rest) vs bs
+      (split (ltb 29 op) (λ f. on-clause 0 0 0 (entry op 0) rest op (entry-op op 0 (omega arith)) h (ltb-true 29 op f))
+      (λ f. on-none 0 0 0 (entry op 0) rest op (entry-op op 0 (omega arith)) h (ltb-false 29 op f) refl))
+
+  -- a test that fails decides "&&": its right side is passed by
+  decided : {f : Expr} {d : List ℕ} → Codes s f d → (rest vs bs : List ℕ)
+      → after (d ++ (entry 28 0 ∷ rest)) (topped vs bs (test false)) ≡ after rest (topped vs bs (test false))
+  unfolding needless topped operand kindOf
+  decided {d = d} k rest vs bs =
+      let t : isFalse (vs ++ pair (test false)) ≡ true = false-top vs (test false) in
+      let x : List ℕ = entry 28 0 ∷ [] in
+      let y : d ++ (entry 28 0 ∷ rest) ≡ (d ++ x) ++ rest = sym (append-assoc d x rest) in
+      let a : length d + 1 ≡ length (d ++ x) = sym (length-append d x) in
+      let z : goOn 0 0 0 (d ++ (entry 28 0 ∷ rest)) ≡ length (d ++ x) + goOn 0 0 0 rest =
+      on-code k 0 0 0 (entry 28 0 ∷ rest)
+      ∙ on-both 1 0 (0 + length d) (entry 28 0) rest 28 (entry-op 28 0 (omega arith)) (omega arith) (omega arith) (λ z. omega arith) (omega arith) refl refl
+      ∙ (let b : 0 + length d + 1 ≡ length (d ++ x) + 0 = omega (arith, a) in ap (λ (n : ℕ). goOn 0 n n rest) b)
+      ∙ on-shift (length (d ++ x)) 0 0 0 rest in
+      rw (t, z) (ap (λ (l : List ℕ). execBehind depth space s look (env .values) (length (d ++ x) + goOn 0 0 0 rest) l (on (vs ++ pair (test false)) (bs ++ bytesOf (test false)))) y
+      ∙ exec-pass depth space s look (env .values) (d ++ x) rest (goOn 0 0 0 rest) (on (vs ++ pair (test false)) (bs ++ bytesOf (test false))))
+
+  -- nothing else is passed by
+  undecided : (op : ℕ) → 9 ≤ op → op ≤ 29 → {f : Expr} {d : List ℕ} → Codes s f d → (rest vs bs : List ℕ) → (isFalse vs ≡ true → op ≡ 28 → ⊥)
+      → after (d ++ (entry op 0 ∷ rest)) (on vs bs) ≡ run (d ++ (entry op 0 ∷ rest)) (on vs bs)
+  unfolding needless
+  undecided op low high {d = d} k rest vs bs bar =
+      split (isFalse vs)
+      (λ t. let z : goOn 0 0 0 (d ++ (entry op 0 ∷ rest)) ≡ 0 =
+      on-code k 0 0 0 (entry op 0 ∷ rest)
+      ∙ on-other 1 0 (0 + length d) (entry op 0) rest op (entry-op op 0 (omega arith)) (omega arith) high (λ z. omega arith) (omega arith) refl (bar t) in
+      rw (t, z))
+      (λ t. rw t)
+
+  to-value : {f : Expr} {d : List ℕ} → Codes s f d → (rest vs bs : List ℕ) → after (d ++ (entry 32 0 ∷ rest)) (on vs bs) ≡ run (d ++ (entry 32 0 ∷ rest)) (on vs bs)
+  to-value {d = d} k rest vs bs =
+      unmoved (d ++ (entry 32 0 ∷ rest)) vs bs
+      (on-code k 0 0 0 (entry 32 0 ∷ rest) ∙ on-clause 1 0 (0 + length d) (entry 32 0) rest 32 (entry-op 32 0 (omega arith)) (omega arith) (omega arith))
+
+  to-program : (rest vs bs : List ℕ) (p : Program) {d : List ℕ} → ProgramCodes s p d → after (d ++ rest) (on vs bs) ≡ run (d ++ rest) (on vs bs)
+  to-program rest vs bs p {d = d} k = unmoved (d ++ rest) vs bs (on-program k rest)
 
   module _ (vs bs : List ℕ) (h : length vs + 2 ≤ depth) where
     literal-step : (at : ℕ) → length bs + 4096 ≤ space → stepOf depth space s look (env .values) 0 at vs bs ≡ topped vs bs (held (decodedAt s at))
@@ -123,9 +194,21 @@ module _ (depth space : ℕ) (s : List ℕ) (look : List ℕ → List ℕ) (env 
     unfolding raised topped
     raise-step r m = binary-is depth vs h (env .values) 34 bs (rank r) (rank m) ∙ ap (topped vs bs) (raise-is (env .values) r m)
 
+  -- a right side that a test decides, or one that is run
+  decide : (op : ℕ) (v w : Value) {f : Expr} {d : List ℕ} → Codes s f d → (rest vs bs : List ℕ)
+      → ((isFalse (vs ++ pair v) ≡ true → op ≡ 28 → ⊥) → after (d ++ (entry op 0 ∷ rest)) (topped vs bs v) ≡ after rest (topped vs bs (binaryOf op v w)))
+      → after (d ++ (entry op 0 ∷ rest)) (topped vs bs v) ≡ after rest (topped vs bs (binaryOf op v w))
+  decide op v w {d = d} k rest vs bs go =
+      split (isFalse (vs ++ pair v))
+      (λ t. split (eqb op 28)
+      (λ b. let o : op ≡ 28 = eqb-true op 28 b in let e : v ≡ test false = failing v (sym (false-top vs v) ∙ t) in
+      rw (o, e, both-false w) (decided k rest vs bs))
+      (λ b. go (λ y o. eqb-false op 28 b o)))
+      (λ t. go (λ y o. clash y t))
+
   -- an expression's code leaves its value on top
   pub run-expression : {e : Expr} {c : List ℕ} → Codes s e c → (rest vs bs : List ℕ) → length vs + 2 * need e ≤ depth → length bs + room e ≤ space
-      → run (c ++ rest) (on vs bs) ≡ run rest (topped vs bs (evaluate env e))
+      → run (c ++ rest) (on vs bs) ≡ after rest (topped vs bs (evaluate env e))
   unfolding evaluate need room topped
   run-expression (code-literal at p) rest vs bs h k = enter 0 at p rest vs bs _ (literal-step vs bs (omega arith) at k)
   run-expression (code-name at p) rest vs bs h k = enter 1 at p rest vs bs _ (name-step vs bs (omega arith) at k)
@@ -137,15 +220,19 @@ module _ (depth space : ℕ) (s : List ℕ) (look : List ℕ → List ℕ) (env 
       let q : op ≡ 5 → length bs + 4096 ≤ space = λ o. (let m′ : length bs + max (room e) 4096 ≤ space = rw (eq-eqb op 5 o) at m in omega arith) in
       ap (λ (l : List ℕ). run l (on vs bs)) (append-assoc c (entry op 0 ∷ []) rest)
       ∙ run-expression k (entry op 0 ∷ rest) vs bs h (omega arith)
+      ∙ stays op (omega arith) rest (vs ++ pair v) (bs ++ bytesOf v)
       ∙ enter op 0 (omega arith) rest (vs ++ pair v) (bs ++ bytesOf v) _ (unary-step vs bs (omega (arith, need-some e)) op v low high q)
   run-expression (code-binary {op = op} {e = e} {f = f} {c = c} {d = d} low high k l) rest vs bs h m =
       let v : Value = evaluate env e in
       let w : Value = evaluate env f in
       ap (λ (l : List ℕ). run l (on vs bs)) (append-assoc (c ++ d) (entry op 0 ∷ []) rest ∙ append-assoc c d (entry op 0 ∷ rest))
       ∙ run-expression k (d ++ (entry op 0 ∷ rest)) vs bs (omega arith) (omega arith)
+      ∙ decide op v w l rest vs bs
+      (λ bar. undecided op low high l rest (vs ++ pair v) (bs ++ bytesOf v) bar
       ∙ run-expression l (entry op 0 ∷ rest) (vs ++ pair v) (bs ++ bytesOf v) (rw (count-is vs v) (omega arith))
       (rw (length-append bs (bytesOf v)) (omega (arith, within-span env e)))
-      ∙ enter op 0 (omega arith) rest ((vs ++ pair v) ++ pair w) ((bs ++ bytesOf v) ++ bytesOf w) _ (binary-step vs bs (omega (arith, need-some e)) op v w low high)
+      ∙ stays op (omega arith) rest ((vs ++ pair v) ++ pair w) ((bs ++ bytesOf v) ++ bytesOf w)
+      ∙ enter op 0 (omega arith) rest ((vs ++ pair v) ++ pair w) ((bs ++ bytesOf v) ++ bytesOf w) _ (binary-step vs bs (omega (arith, need-some e)) op v w low high))
 
   -- the entries that end a clause, above the rank r of the program so far
   module _ (vs bs : List ℕ) (h : length vs + 4 ≤ depth) (r : ℕ) where
@@ -187,7 +274,7 @@ module _ (depth space : ℕ) (s : List ℕ) (look : List ℕ → List ℕ) (env 
     -- a program's code leaves its rank on top
     pub run-program : (p : Program) {c : List ℕ} → ProgramCodes s p c → (rest vs bs : List ℕ)
         → length vs + 2 * programNeed p ≤ depth → length bs + programRoom p ≤ space → run (c ++ rest) (on vs bs) ≡ run rest (topped vs bs (rank (conditions env p)))
-    run-program none code-none rest vs bs h m = enter 30 0 (omega arith) rest vs bs _ (begin-step vs bs (omega arith))
+    run-program none code-none rest vs bs h m = enter 30 0 (omega arith) rest vs bs _ (begin-step vs bs (omega arith)) ∙ ranked rest vs bs 0
     run-program (also p q) (code-also {c = c} {d = d} k l) rest vs bs h m =
         ap (λ (x : List ℕ). run x (on vs bs)) (append-assoc c d rest)
         ∙ run-program p k (d ++ rest) vs bs (omega arith) (omega arith)
@@ -200,7 +287,9 @@ module _ (depth space : ℕ) (s : List ℕ) (look : List ℕ → List ℕ) (env 
         let v : Value = evaluate env e in
         ap (λ (x : List ℕ). run x (topped vs bs (rank r))) (append-assoc c (entry 31 0 ∷ []) rest)
         ∙ run-expression k (entry 31 0 ∷ rest) (vs ++ pair (rank r)) (bs ++ bytesOf (rank r)) (rw (count-is vs (rank r)) (omega arith)) (rw (flat bs r) m)
+        ∙ stays 31 (omega arith) rest ((vs ++ pair (rank r)) ++ pair v) ((bs ++ bytesOf (rank r)) ++ bytesOf v)
         ∙ enter 31 0 (omega arith) rest ((vs ++ pair (rank r)) ++ pair v) ((bs ++ bytesOf (rank r)) ++ bytesOf v) _ (plain-step vs bs (omega (arith, need-some e)) r v)
+        ∙ ranked rest vs bs _
     run-clause (valued e f) (code-valued {c = c} {d = d} k l) rest vs bs r h m =
         let v : Value = evaluate env e in
         let w : Value = evaluate env f in
@@ -208,9 +297,12 @@ module _ (depth space : ℕ) (s : List ℕ) (look : List ℕ → List ℕ) (env 
         let bs1 : List ℕ = bs ++ bytesOf (rank r) in
         ap (λ (x : List ℕ). run x (topped vs bs (rank r))) (append-assoc (c ++ d) (entry 32 0 ∷ []) rest ∙ append-assoc c d (entry 32 0 ∷ rest))
         ∙ run-expression k (d ++ (entry 32 0 ∷ rest)) vs1 bs1 (rw (count-is vs (rank r)) (omega arith)) (rw (flat bs r) (omega arith))
+        ∙ to-value l rest (vs1 ++ pair v) (bs1 ++ bytesOf v)
         ∙ run-expression l (entry 32 0 ∷ rest) (vs1 ++ pair v) (bs1 ++ bytesOf v) (rw (count-is vs1 v, count-is vs (rank r)) (omega arith))
         (rw (length-append bs1 (bytesOf v), flat bs r) (omega (arith, within-span env e)))
+        ∙ stays 32 (omega arith) rest ((vs1 ++ pair v) ++ pair w) ((bs1 ++ bytesOf v) ++ bytesOf w)
         ∙ enter 32 0 (omega arith) rest ((vs1 ++ pair v) ++ pair w) ((bs1 ++ bytesOf v) ++ bytesOf w) _ (valued-step vs bs (omega (arith, need-some e)) r v w)
+        ∙ ranked rest vs bs _
     run-clause (nested e p) (code-nested {c = c} {d = d} k l) rest vs bs r h m =
         let v : Value = evaluate env e in
         let n : ℕ = conditions env p in
@@ -218,15 +310,17 @@ module _ (depth space : ℕ) (s : List ℕ) (look : List ℕ → List ℕ) (env 
         let bs1 : List ℕ = bs ++ bytesOf (rank r) in
         ap (λ (x : List ℕ). run x (topped vs bs (rank r))) (append-assoc (c ++ d) (entry 33 0 ∷ []) rest ∙ append-assoc c d (entry 33 0 ∷ rest))
         ∙ run-expression k (d ++ (entry 33 0 ∷ rest)) vs1 bs1 (rw (count-is vs (rank r)) (omega arith)) (rw (flat bs r) (omega arith))
+        ∙ to-program (entry 33 0 ∷ rest) (vs1 ++ pair v) (bs1 ++ bytesOf v) p l
         ∙ run-program p l (entry 33 0 ∷ rest) (vs1 ++ pair v) (bs1 ++ bytesOf v) (rw (count-is vs1 v, count-is vs (rank r)) (omega arith))
         (rw (length-append bs1 (bytesOf v), flat bs r) (omega (arith, within-span env e)))
         ∙ enter 33 0 (omega arith) rest ((vs1 ++ pair v) ++ pair (rank n)) ((bs1 ++ bytesOf v) ++ bytesOf (rank n)) _ (nested-step vs bs (omega (arith, need-some e)) r v n)
+        ∙ ranked rest vs bs _
 
 -- "Conditions": in buffers large enough the machine's result is the program's rank
 module _ {rec consts values names constants : List ℕ} {env : Environment} (shows : Shows rec consts values names constants env) (depth space : ℕ) where
   pub run-conditions : (s : List ℕ) (p : Program) (code : List ℕ) → ProgramCodes s p code → 2 * programNeed p ≤ depth → programRoom p ≤ space
       → resultOf (exec depth space s (lookupIn rec consts values names constants) (map (counted rec) values) code (on [] [])) ≡ Rank (conditions env p)
-  unfolding resultOf exec topped operand
+  unfolding resultOf execBehind topped operand
   run-conditions s p code k h m =
       rw (values-are shows)
       (ap (λ (c : List ℕ). resultOf (exec depth space s (lookupIn rec consts values names constants) (env .values) c (on [] []))) (sym (append-nil code))

@@ -2,7 +2,7 @@
 use mathlib.Core.Path.{_≡_, refl, sym, ap, _∙_}
 use mathlib.Core.Bool.{Bool, true, false}
 use mathlib.Core.List.{List, [], _∷_, _++_, map}
-use Prim.Native.Nat.{ℕ, _+_, _-_, _/_, _%_, _≤_}
+use Prim.Native.Nat.{ℕ, zero, suc, _+_, _-_, _/_, _%_, _≤_}
 use native.Mathlib.Omega.{arith}
 use lib.Dec.{eqb, leb, ltb}
 use lib.ListN.{length, take, drop}
@@ -13,7 +13,8 @@ use Rattle.expression.specs.Operands.{width, isText, isFault}
 use Rattle.expression.specs.Tables.{lookupIn}
 use Rattle.expression.specs.declared.value.Operand.{Operand}
 use Rattle.expression.specs.declared.value.Operand.the-variants.{Fault}
-use Rattle.machine.specs.Machine.{State, on, stuck, placed, textStep, topOf, below, lookupOn, lookupStep, pushStep, stepOf, stepped, exec, resultOf}
+use Rattle.machine.specs.Machine.{State, on, stuck, placed, textStep, topOf, below, lookupOn, lookupStep, pushStep, stepOf, stepped, ahead, execBehind, exec, resultOf}
+use Rattle.machine.specs.Working.Passing.{exec-stuck}
 use Rattle.machine.specs.Left.{leftIn}
 
 -- the machine could not go on, or is where it is with more room
@@ -52,12 +53,20 @@ module _ (depth room room′ : ℕ) (h : room ≤ room′) (look : List ℕ → 
     step-kept e vs bs =
         kept-pick (leb (e / 65536) 4) (push-kept (e / 65536) (e % 65536) vs bs) (kept-pick (eqb (e / 65536) 5) (lookup-kept vs bs) same)
 
-    exec-kept : (c : List ℕ) (a b : State) → Kept a b → Kept (exec depth room s look vals c a) (exec depth room′ s look vals c b)
-    unfolding exec
-    exec-kept [] a b k = k
-    exec-kept (e ∷ c) _ _ lost = lost
-    exec-kept (e ∷ c) (on vs bs) _ same = exec-kept c (stepped depth room s look vals e vs bs) (stepped depth room′ s look vals e vs bs) (step-kept e vs bs)
-    exec-kept (e ∷ c) stuck _ same = same
+    -- over code of which it holds behind any number of entries
+    after-kept : (c : List ℕ) → ((m : ℕ) (a b : State) → Kept a b → Kept (execBehind depth room s look vals m c a) (execBehind depth room′ s look vals m c b))
+        → (a b : State) → Kept a b → Kept (execBehind depth room s look vals (ahead a c) c a) (execBehind depth room′ s look vals (ahead b c) c b)
+    after-kept c behind _ b lost = rw (exec-stuck depth room s look vals c) lost
+    after-kept c behind a _ same = behind (ahead a c) a a same
+
+    exec-kept : (m : ℕ) (c : List ℕ) (a b : State) → Kept a b → Kept (execBehind depth room s look vals m c a) (execBehind depth room′ s look vals m c b)
+    unfolding execBehind
+    exec-kept m [] a b k = k
+    exec-kept (suc m) (e ∷ c) a b k = exec-kept m c a b k
+    exec-kept zero (e ∷ c) _ _ lost = lost
+    exec-kept zero (e ∷ c) (on vs bs) _ same =
+        after-kept c (λ m a b k. exec-kept m c a b k) (stepped depth room s look vals e vs bs) (stepped depth room′ s look vals e vs bs) (step-kept e vs bs)
+    exec-kept zero (e ∷ c) stuck _ same = same
 
 kept-result : (a b : State) → Kept a b → isFault (resultOf a) ≡ false → resultOf a ≡ resultOf b
 unfolding resultOf isFault
@@ -70,7 +79,7 @@ pub left-wider : (depth room room′ : ℕ) (code s rec consts values names cons
     → leftIn depth room code s rec consts values names constants ≡ leftIn depth room′ code s rec consts values names constants
 unfolding leftIn
 left-wider depth room room′ code s rec consts values names constants h f =
-    kept-result _ _ (exec-kept depth room room′ h (lookupIn rec consts values names constants) s (map (counted rec) values) code (on [] []) (on [] []) same) f
+    kept-result _ _ (exec-kept depth room room′ h (lookupIn rec consts values names constants) s (map (counted rec) values) 0 code (on [] []) (on [] []) same) f
 
 -- the ways out of `run_narrow`, `run_wide` and `run_here`
 module _ (code s rec consts values names constants : List ℕ) where

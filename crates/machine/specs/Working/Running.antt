@@ -3,10 +3,11 @@ use mathlib.Core.Path.{_≡_, refl, sym, ap, _∙_}
 use mathlib.Core.Bool.{Bool, false}
 use mathlib.Core.List.{List, [], _∷_}
 use Prim.Native.Nat.{ℕ, suc, _+_, _-_, _/_, _%_, _<_, _≤_, min}
+use native.Mathlib.Omega.{arith}
 use native.Mathlib.Numerals.{add-one}
 use lib.Dec.{eqb}
 use lib.ListN.{length, getD, take, drop, drop-of-length-le}
-use lib.Seq.{drop-cons}
+use lib.Seq.{drop-cons, drop-drop}
 use borrow.Author.Tests.{le-leb, lt-leb, eq-eqb, ne-eqb}
 use Rattle.text.specs.Digits.{digitsAt, value, limit}
 use Rattle.lexical.specs.Literal.{decodedAt}
@@ -14,8 +15,9 @@ use Rattle.expression.specs.Value.{operand}
 use Rattle.expression.specs.Integers.{ranged}
 use Rattle.expression.specs.declared.value.Operand.{Operand}
 use Rattle.expression.specs.declared.value.Operand.the-variants.{Test, Rank, Fault}
-use Rattle.machine.specs.Machine.{State, on, stuck, textStep, topOf, unaryStep, lookupStep, binaryStep, raised, runAt, pushStep, clauseStep, stepOf, stepped, exec, resultOf}
+use Rattle.machine.specs.Machine.{State, on, stuck, textStep, topOf, unaryStep, lookupStep, binaryStep, raised, runAt, pushStep, clauseStep, stepOf, stepped, needless, ahead, execBehind, exec, resultOf}
 use Rattle.machine.specs.Live.{Live, landed, putAt}
+use Rattle.machine.specs.Working.Passing.{exec-stuck, exec-drop}
 use Rattle.machine.specs.Working.Stepping.{put-live}
 use Rattle.machine.specs.declared.Tops.{Tops}
 use Rattle.machine.specs.declared.Tops.the-variants.{At, Stuck}
@@ -119,33 +121,41 @@ pub exec-start : (depth room : ℕ) (s : List ℕ) (look : List ℕ → List ℕ
 unfolding execFrom
 exec-start depth room s look vals code st m = refl
 
-exec-stuck : (depth room : ℕ) (s : List ℕ) (look : List ℕ → List ℕ) (vals : List (List ℕ)) (code : List ℕ) → exec depth room s look vals code stuck ≡ stuck
-unfolding exec
-exec-stuck depth room s look vals [] = refl
-exec-stuck depth room s look vals (e ∷ es) = refl
-
 module _ (depth room : ℕ) (s : List ℕ) (look : List ℕ → List ℕ) (vals : List (List ℕ)) (code : List ℕ) (i : ℕ) (st m : List ℕ) (n t : ℕ) (a : State)
     (inv : execFrom depth room s look vals code i (take n st) (take t m) ≡ a) where
   pub exec-end : length code ≤ i → (v : Operand) → v ≡ topOf (take n st) → v ≡ resultOf a
-  unfolding execFrom exec resultOf
+  unfolding execFrom execBehind resultOf
   exec-end h v ve = let q : on (take n st) (take t m) ≡ a = rw (drop-of-length-le code h) at inv in ve ∙ ap resultOf q
 
   module _ (h : i < length code) (e : ℕ) (ee : e ≡ getD code i 0) (p : ℕ) (pe : p ≡ e % 65536) (de : length st ≡ depth) (me : length m ≡ room)
       (r : Tops) (st′ m′ : List ℕ) (l : Live r st′ m′ (stepOf (length st) (length m) s look vals (e / 65536) p (take n st) (take t m))) where
-    step-is : exec depth room s look vals (drop (suc i) code) (stepOf (length st) (length m) s look vals (e / 65536) p (take n st) (take t m)) ≡ a
-    unfolding execFrom exec stepped
+    abbrev made : State
+    made = stepOf (length st) (length m) s look vals (e / 65536) p (take n st) (take t m)
+
+    step-is : execBehind depth room s look vals (ahead made (drop (suc i) code)) (drop (suc i) code) made ≡ a
+    unfolding execFrom execBehind stepped
     step-is = rw (de, me, pe, ee) (rw (drop-cons code i 0 h) at inv)
 
     pub exec-fault : r ≡ Stuck → Fault ≡ resultOf a
     unfolding resultOf
     exec-fault re =
-        let q : stepOf (length st) (length m) s look vals (e / 65536) p (take n st) (take t m) ≡ stuck = live-out r st′ m′ _ re l in
+        let q : made ≡ stuck = live-out r st′ m′ _ re l in
         let z : stuck ≡ a = sym (exec-stuck depth room s look vals (drop (suc i) code)) ∙ (rw q at step-is) in
         ap resultOf z
 
-    pub exec-more : (n′ t′ : ℕ) → r ≡ At n′ t′ → execFrom depth room s look vals code (i + 1) (take n′ st′) (take t′ m′) ≡ a
+    pub exec-more : (n′ t′ : ℕ) → r ≡ At n′ t′ → (j : ℕ) → j ≡ i + 1 + needless (take n′ st′) (drop (i + 1) code)
+        → execFrom depth room s look vals code j (take n′ st′) (take t′ m′) ≡ a
     unfolding execFrom
-    exec-more n′ t′ re = rw (add-one i) (rw (live-in r st′ m′ _ n′ t′ re l .1 .1) at step-is)
+    exec-more n′ t′ re j je =
+        let c : List ℕ = drop (suc i) code in
+        let x : State = on (take n′ st′) (take t′ m′) in
+        let q : execBehind depth room s look vals (ahead x c) c x ≡ a = rw (live-in r st′ m′ _ n′ t′ re l .1 .1) at step-is in
+        let je′ : j ≡ suc i + needless (take n′ st′) c = rw (add-one i) at je in
+        rw (je′, ← drop-drop (ahead x c) (suc i) code) (sym (exec-drop depth room s look vals (ahead x c) c x) ∙ q)
+
+-- the loop comes nearer to the code's end
+pub exec-less : (l i j x : ℕ) → i < l → j ≡ i + 1 + x → l - j < l - i
+exec-less l i j x h e = omega (arith, h, e)
 
 -- the tops stay within the buffers
 pub numbers-within : (r : Tops) (st m : List ℕ) (x : State) (n t : ℕ) → r ≡ At n t → Live r st m x → n ≤ length st
