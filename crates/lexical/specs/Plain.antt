@@ -10,8 +10,8 @@ use lib.ListN.{length, getD, take, drop}
 use lib.Seq.{drop-cons}
 use borrow.Author.Tests.{lt-leb, le-leb, eq-eqb, eqb-true, ltb-true, ltb-false}
 use Rattle.text.specs.Choice.{pick, split, clash}
-use Rattle.text.specs.Scan.{past, past-more, past-stop, past-end}
-use Rattle.lexical.specs.Bounds.{chosen, past-from, byte-within}
+use Rattle.text.specs.Scan.{past, past-more, past-stop, past-end, past-from}
+use Rattle.lexical.specs.Bounds.{chosen, byte-within}
 use Rattle.lexical.specs.declared.unit.Unit.{Unit}
 use Rattle.lexical.specs.Unit.{GIVES, CLOSES, gives, closes, barred, unitAt}
 use Rattle.lexical.specs.Literal.{unitsAt, closing, given, literalEnd, decodedAt}

@@ -54,9 +54,13 @@ unfolding past
 past-within p s i h = omega (arith, run-length p (drop i s), length-drop i s)
 
 -- tests that agree have the same runs
-pub run-alike : (p q : ℕ → Bool) → ((b : ℕ) → p b ≡ q b) → (xs : List ℕ) → run p xs ≡ run q xs
+run-alike : (p q : ℕ → Bool) → ((b : ℕ) → p b ≡ q b) → (xs : List ℕ) → run p xs ≡ run q xs
 run-alike p q f [] = refl
 run-alike p q f (x ∷ xs) = rw (f x, run-alike p q f xs)
+
+pub past-alike : (p q : ℕ → Bool) → ((b : ℕ) → p b ≡ q b) → (s : List ℕ) (i : ℕ) → past p s i ≡ past q s i
+unfolding past
+past-alike p q f s i = ap (λ (k : ℕ). i + k) (run-alike p q f (drop i s))
 
 -- a run goes on behind a run of fewer elements
 module _ (p q : ℕ → Bool) (f : (b : ℕ) → p b ≡ true → q b ≡ true) (s : List ℕ) where
