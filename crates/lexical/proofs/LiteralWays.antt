@@ -19,9 +19,8 @@ use Rattle.lexical.specs.UnitLaws.{unit-moves}
 use Rattle.lexical.specs.Literal.{units, unitsAt, given, literalEnd, decodedAt}
 use Rattle.lexical.specs.LiteralLaws.{units-more, units-last, units-end}
 use Rattle.lexical.specs.Decode.{Ran, ran, decodeInto}
-use Rattle.text.specs.Scan.{past, past-end}
+use Rattle.text.specs.Scan.{past, past-end, past-from}
 use Rattle.text.specs.Copy.{Copied, copied, put, copyAt}
-use Rattle.lexical.specs.Bounds.{past-from}
 use Rattle.lexical.specs.DecodeLaws.{decode-fits, decode-full}
 use Rattle.lexical.specs.Short.{near, near-short, sized}
 use Rattle.lexical.specs.Plain.{plain, bareEnd, end-plain, quote-within, end-quote, given-plain}

@@ -11,10 +11,12 @@ use lib.Dec.{eqb, ltb}
 use lib.ListN.{length, getD}
 use borrow.Author.Tests.{lt-ltb, le-leb, lt-leb, eq-eqb, ne-eqb, ltb-true, ltb-false}
 use Rattle.text.specs.Choice.{split, clash}
-use Rattle.text.specs.Scan.{past}
+use Rattle.text.specs.Scan.{past, past-alike}
+use Rattle.text.specs.Class.{isWord}
 use Rattle.lexical.specs.Kind
 use Rattle.lexical.specs.Class.{classOf, LETTER, DIGIT, QUOTE}
 use Rattle.lexical.specs.Run.{inRun, WORD, NUMERALS}
+use Rattle.lexical.specs.Runs.{word-same}
 use Rattle.lexical.specs.Operator.{operatorKind}
 use Rattle.lexical.specs.Literal.{literalEnd}
 use Rattle.lexical.specs.declared.token.Token.{Token}
@@ -75,9 +77,9 @@ module _ (s : List ℕ) (mode i b : ℕ) (be : b ≡ getD s (i + 0) 0) (t : Bool
   at-i : b ≡ getD s i 0
   at-i = first-byte s i b be
 
-  pub from-name : (e : ℕ) → t ≡ true → e ≡ past (inRun WORD) s i → token Kind.NAME i e ≡ tokenFrom s mode i
+  pub from-name : (e : ℕ) → t ≡ true → e ≡ past isWord s i → token Kind.NAME i e ≡ tokenFrom s mode i
   unfolding tokenFrom
-  from-name e h ee = simp (sym at-i, sym te, h, sym ee)
+  from-name e h ee = simp (sym at-i, sym te, h, past-alike (inRun WORD) isWord word-same s i, sym ee)
 
   module _ (tn : t ≡ false) (u : Bool) (ue : u ≡ eqb (classOf b) DIGIT) where
     pub from-number : (r : Token) → u ≡ true → r ≡ numberToken s i → r ≡ tokenFrom s mode i

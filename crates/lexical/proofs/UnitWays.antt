@@ -6,8 +6,7 @@ use Prim.Native.Nat.{ℕ, _+_, _-_, _*_, _≤_, _<_}
 use native.Mathlib.Omega.{arith}
 use lib.ListN.{length, getD}
 use borrow.Author.Tests.{le-leb, lt-leb, eq-eqb, ne-eqb}
-use Rattle.text.specs.Scan.{past}
-use Rattle.lexical.specs.Bounds.{past-from}
+use Rattle.text.specs.Scan.{past, past-from}
 use Rattle.lexical.specs.Run.{inRun, WHITE}
 use Rattle.lexical.specs.declared.unit.Unit.{Unit}
 use Rattle.lexical.specs.Unit.{gives, drops, closes, spoils, bare, octal, control, coded, octalUnit, escapeUnit, barred, unitAt}

@@ -10,8 +10,8 @@ use lib.ListN.{length, getD, take, drop, length-drop, List·getD-eq-default}
 use lib.Seq.{slice, getD-take, getD-drop, drop-drop, length-take-le}
 use borrow.Author.Tests.{le-leb, lt-leb, ne-eqb, eqb-true, leb-true, ltb-true, ltb-false}
 use Rattle.text.specs.Choice.{split, bool-iff}
-use Rattle.text.specs.Scan.{past, past-more, past-stop, past-end}
-use Rattle.lexical.specs.Bounds.{chosen, past-from}
+use Rattle.text.specs.Scan.{past, past-more, past-stop, past-end, past-from}
+use Rattle.lexical.specs.Bounds.{chosen}
 use Rattle.lexical.specs.Run.{inRun, WHITE}
 use Rattle.lexical.specs.declared.unit.Unit.{Unit}
 use Rattle.lexical.specs.Unit.{GIVES, CLOSES, gives, drops, spoils, closes, bare, octal, control, coded, octalUnit, escapeUnit, barred, unitAt}

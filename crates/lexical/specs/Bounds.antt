@@ -1,35 +1,19 @@
--- Bounds of scans and of bytes read behind the end, and what holds of a choice. Assumes nothing.
+-- The elements of a run, bytes read behind the end, and what holds of a choice. Assumes nothing.
 use mathlib.Core.Path.{_≡_, refl, sym}
 use mathlib.Core.Bool.{Bool, true, false}
 use mathlib.Core.List.{List, [], _∷_}
 use Prim.Native.Nat.{ℕ, zero, suc, _+_, _-_, _≤_, _<_}
 use native.Mathlib.Omega.{arith}
 use lib.Dec.{ltb}
-use lib.ListN.{length, getD, drop, length-drop, List·getD-eq-default}
+use lib.ListN.{length, getD, List·getD-eq-default}
 use borrow.Author.Tests.{ltb-true, ltb-false}
 use Rattle.text.specs.Choice.{pick, split}
-use Rattle.text.specs.Scan.{run, past, past-more, past-stop, past-end}
+use Rattle.text.specs.Scan.{past, past-more, past-stop, past-end}
 
 -- what holds of both answers holds of a choice between them
 pub chosen : {A : Type 0} (P : A → Type 0) (t : Bool) (a b : A) → (t ≡ true → P a) → (t ≡ false → P b) → P (pick t a b)
 chosen P true a b f g = f refl
 chosen P false a b f g = g refl
-
--- the end of a run is not before its start
-pub past-from : (p : ℕ → Bool) (s : List ℕ) (i : ℕ) → i ≤ past p s i
-unfolding past
-past-from p s i = omega arith
-
-run-length : (p : ℕ → Bool) (xs : List ℕ) → run p xs ≤ length xs
-run-length p [] = omega arith
-run-length p (x ∷ xs) =
-    chosen (λ (n : ℕ). n ≤ suc (length xs)) (p x) (suc (run p xs)) 0
-    (λ e. omega (arith, run-length p xs)) (λ e. omega arith)
-
--- nor behind the text's, where it starts within
-pub past-within : (p : ℕ → Bool) (s : List ℕ) (i : ℕ) → i ≤ length s → past p s i ≤ length s
-unfolding past
-past-within p s i h = omega (arith, run-length p (drop i s), length-drop i s)
 
 -- each element of a run passes
 module _ (p : ℕ → Bool) (s : List ℕ) where

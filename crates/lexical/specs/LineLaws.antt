@@ -7,8 +7,8 @@ use lib.Dec.{eqb, leb}
 use lib.ListN.{length, getD}
 use borrow.Author.Tests.{eqb-true, eqb-false, leb-false}
 use Rattle.text.specs.Loop.{Step, next, done, loop-ind}
-use Rattle.text.specs.Scan.{past}
-use Rattle.lexical.specs.Bounds.{chosen, past-from}
+use Rattle.text.specs.Scan.{past, past-from}
+use Rattle.lexical.specs.Bounds.{chosen}
 use Rattle.lexical.specs.Kind
 use Rattle.lexical.specs.Class.{classOf, BLANK, NEWLINE, HASH}
 use Rattle.lexical.specs.Run.{inRun, BLANKS, FREE}

@@ -2,16 +2,19 @@
 use mathlib.Core.Path.{_≡_, refl, sym, ap, _∙_}
 use mathlib.Core.Bool.{Bool, true, false, not}
 use mathlib.Core.List.{List, [], _∷_}
-use Prim.Native.Nat.{ℕ, zero, suc, _+_, _-_, _≤_, _<_}
+use Prim.Native.Nat.{ℕ, zero, suc, _+_, _-_, _≤_, _<_, _^_}
 use native.Mathlib.Omega.{arith}
+use native.Mathlib.Nat.{lt-of-le-of-lt}
 use native.Mathlib.Numerals.{add-one}
+use mir.Syntax.{w64}
+use mir.Val.{Fits}
 use lib.Dec.{eqb, ltb}
 use lib.ListN.{length, getD, take, drop}
 use lib.Seq.{drop-cons}
 use borrow.Author.Tests.{lt-leb, le-leb, eq-eqb, eqb-true, ltb-true, ltb-false}
 use Rattle.text.specs.Choice.{pick, split, clash}
-use Rattle.text.specs.Scan.{past, past-more, past-stop, past-end}
-use Rattle.lexical.specs.Bounds.{chosen, past-from, byte-within}
+use Rattle.text.specs.Scan.{past, past-more, past-stop, past-end, past-from}
+use Rattle.lexical.specs.Bounds.{chosen, byte-within}
 use Rattle.lexical.specs.declared.unit.Unit.{Unit}
 use Rattle.lexical.specs.Unit.{GIVES, CLOSES, gives, closes, barred, unitAt}
 use Rattle.lexical.specs.Literal.{unitsAt, closing, given, literalEnd, decodedAt}
@@ -125,6 +128,23 @@ bare-decoded s start =
     let e : getD s (past plain s (start + 1)) 0 ≡ 34 = eqb-true _ _ q in
     (past-from plain s (start + 1), omega (arith, quote-within s (past plain s (start + 1)) e), given-plain s (start + 1) e))
     (λ q z. absurd (z refl))
+
+-- the same of a place that was found
+module _ (s : List ℕ) (start e : ℕ) (ee : e ≡ bareEnd s start) (n : e ≡ 0 → ⊥) where
+  bare : (start + 1 ≤ e) × (e ≤ length s) × (decodedAt s start ≡ take (e - (start + 1)) (drop (start + 1) s))
+  bare = rw ee (bare-decoded s start (λ z. n (ee ∙ z)))
+
+  pub bare-from : start + 1 ≤ e
+  bare-from = bare .0
+
+  pub bare-within : e ≤ length s
+  bare-within = bare .1
+
+  pub bare-given : decodedAt s start ≡ take (e - (start + 1)) (drop (start + 1) s)
+  bare-given = bare .2
+
+  pub bare-fits : length s < 2 ^ 64 → Fits w64 (start + 1)
+  bare-fits l = let k : start + 1 ≤ length s = omega (arith, bare-from, bare-within) in record { fits = lt-of-le-of-lt k l }
 
 -- a plain byte is given
 pub plain-some : (s : List ℕ) (start : ℕ) → plain (getD s (start + 1) 0) ≡ true → 1 ≤ length (decodedAt s start)

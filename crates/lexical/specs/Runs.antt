@@ -1,10 +1,13 @@
 -- The runs of bytes by comparisons, as the code scans them, and that they are the runs by class. Assumes nothing.
-use mathlib.Core.Path.{_≡_, refl, ap, _∙_}
+use mathlib.Core.Path.{_≡_, refl, sym, ap, _∙_}
 use mathlib.Core.Bool.{Bool, true, false, not}
-use Prim.Native.Nat.{ℕ, _<_}
-use lib.Dec.{T, eqb}
+use Prim.Native.Nat.{ℕ, _<_, _≤_}
+use native.Mathlib.Omega.{arith}
+use lib.Dec.{T, eqb, leb, ltb}
 use lib.ListN.{getD}
-use Rattle.text.specs.Choice.{pick}
+use borrow.Author.Tests.{le-leb, lt-leb, ne-eqb, leb-true, ltb-true, ltb-false}
+use Rattle.text.specs.Choice.{pick, split}
+use Rattle.text.specs.Class.{isDigit, isLetter, isWord}
 use Rattle.text.specs.Table.{at}
 use Rattle.lexical.specs.Class.{classOf, or, within, BLANK, NEWLINE, LETTER, DIGIT, QUOTE, HASH}
 use Rattle.lexical.specs.Classes.{classes, class-rule}
@@ -105,3 +108,30 @@ module _ (b : ℕ) (h : b < 256) where
   pub numeral-run : numeral b ≡ inRun NUMERALS b
   unfolding agrees hasClass numeral
   numeral-run = same-eq (numeral b) _ (at (agrees NUMERALS numeral) classes tt b h) ∙ by-class NUMERALS
+
+  word-here : isWord b ≡ inRun WORD b
+  unfolding agrees hasClass isWord isLetter isDigit
+  word-here = same-eq (isWord b) _ (at (agrees WORD isWord) classes tt b h) ∙ by-class WORD
+
+-- what is no byte is in no word
+module _ (b : ℕ) (h : 256 ≤ b) where
+  other : (n : ℕ) → leb n 255 ≡ true → eqb b n ≡ false
+  other n l = ne-eqb b n (λ z. let no : ⊥ = omega (arith, h, z, leb-true n 255 l) in no)
+
+  above : (n : ℕ) → leb n 255 ≡ true → leb b n ≡ false
+  above n l = lt-leb b n (omega (arith, h, leb-true n 255 l))
+
+  below : (n : ℕ) → leb n 255 ≡ true → leb n b ≡ true
+  below n l = le-leb n b (omega (arith, h, leb-true n 255 l))
+
+  high-run : inRun WORD b ≡ false
+  unfolding inRun hasClass classOf
+  high-run = simp (other, above, below)
+
+  high-word : isWord b ≡ false
+  unfolding isWord isLetter isDigit
+  high-word = simp (other, above, below)
+
+-- the words of texts
+pub word-same : (b : ℕ) → inRun WORD b ≡ isWord b
+word-same b = split (ltb b 256) (λ l. sym (word-here b (ltb-true _ _ l))) (λ l. high-run b (ltb-false _ _ l) ∙ sym (high-word b (ltb-false _ _ l)))

@@ -8,8 +8,8 @@ use lib.Dec.{eqb, leb, ltb}
 use lib.ListN.{length, getD}
 use borrow.Author.Tests.{eqb-true, eqb-false, ltb-true, ltb-false, lt-ltb, leb-false}
 use Rattle.text.specs.Choice.{pick, split}
-use Rattle.text.specs.Scan.{past, past-more}
-use Rattle.lexical.specs.Bounds.{chosen, past-from, past-within}
+use Rattle.text.specs.Scan.{past, past-more, past-from, past-within}
+use Rattle.lexical.specs.Bounds.{chosen}
 use Rattle.lexical.specs.Kind
 use Rattle.lexical.specs.Class.{classOf, LETTER, DIGIT, QUOTE}
 use Rattle.lexical.specs.Run.{hasClass, inRun, WORD, NUMERALS}

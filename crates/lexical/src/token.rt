@@ -7,7 +7,6 @@ use crate::kind;
 use crate::literal::literal_end;
 use crate::operator::operator_kind;
 use crate::scan::NUMERALS;
-use crate::scan::WORD;
 use crate::scan::byte_at;
 use crate::scan::skip;
 ghost use mathlib.Core.Path.{_≡_};
@@ -165,7 +164,7 @@ pub fn token_from(s: &[u8], mode: u8, i: usize) -> Token
 {
     let b = byte_at(s, i, 0);
     if begins_name(b) {
-        let e = skip(s, i, WORD);
+        let e = text::word_end(s, i);
         return Token {
             kind: kind::NAME,
             start: i,

@@ -16,6 +16,7 @@ use expression::value::size_of;
 use expression::value::told;
 use expression::value::unpack;
 use expression::value::width_of;
+use lexical::literal::bare_end;
 use lexical::literal::decode_into;
 use lexical::literal::literal_length;
 ghost use mathlib.Core.Path.{_≡_};
@@ -24,6 +25,7 @@ ghost use Prim.Native.Nat.{_+_, _-_, _≤_, _<_, max};
 ghost use lib.Dec.{eqb};
 ghost use lib.ListN.{length, take, drop};
 ghost use Rattle.text.specs.Choice.{pick};
+ghost use Rattle.text.specs.Class.{word};
 ghost use Rattle.text.specs.Counted.{counted};
 ghost use Rattle.lexical.specs.Literal.{decodedAt};
 ghost use Rattle.expression.specs.Tables.{lookupIn};
@@ -44,18 +46,15 @@ fn wide(x: u32) -> usize
     x as usize
 }
 
-// The longest part from a place on whose bytes are of the class.
-fn run_at(s: &[u8], at: usize, class: u8) -> &[u8]
-    ensures { λ r. ⌜ now r ≡ runAt class (now (s .entry)) at ⌝ }
+// The longest part from a place on whose bytes are letters, digits and underscores.
+fn word_at(s: &[u8], at: usize) -> &[u8]
+    ensures { λ r. ⌜ now r ≡ runAt word (now (s .entry)) at ⌝ }
 {
     if s.len() <= at {
         return &s[..0];
     }
-    let k = text::front(&s[at..], class);
-    if s.len() - at < k {
-        return &s[..0];
-    }
-    &s[at..at + k]
+    let e = text::word_end(s, at);
+    &s[at..e]
 }
 
 // Puts an operand on a stack of n numbers; t is where its string ends.
@@ -93,7 +92,7 @@ fn push_text(stack: &mut [u64], n: usize, bytes: &mut [u8], t: usize, b: &[u8]) 
     Tops::Stuck
 }
 
-// Puts what a literal gives on the stacks.
+// Puts what a literal gives on the stacks; one of plain bytes as it stands.
 fn push_literal(
     s: &[u8],
     at: usize,
@@ -105,6 +104,10 @@ fn push_literal(
     requires { ⌜ (n ≤ length (now stack)) × (t ≤ length (now bytes)) ⌝ }
     ensures { λ r. ⌜ Live r (now (stack .exit)) (now (bytes .exit)) (textStep (length (now (stack .entry))) (length (now (bytes .entry))) (decodedAt (now (s .entry)) at) (take n (now (stack .entry))) (take t (now (bytes .entry)))) ⌝ }
 {
+    let e = bare_end(s, at);
+    if e != 0 {
+        return push_text(stack, n, bytes, t, &s[at + 1..e]);
+    }
     let k = literal_length(s, at);
     if LONGEST < k {
         return put(stack, n, t, Operand::Fault);
@@ -455,14 +458,7 @@ fn push_step<'a>(
         return push_literal(s, at, stack, n, bytes, t);
     }
     if op == syntax::NAME {
-        let b = lookup(
-            query,
-            consts,
-            values,
-            names,
-            constants,
-            run_at(s, at, text::WORD),
-        );
+        let b = lookup(query, consts, values, names, constants, word_at(s, at));
         return push_text(stack, n, bytes, t, b);
     }
     if op == syntax::NUMBER {

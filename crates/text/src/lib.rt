@@ -4,11 +4,11 @@ ghost use mathlib.Core.List.{map, _++_};
 ghost use Prim.Native.Nat.{_+_, _-_, _*_, _≤_, _<_, min};
 ghost use lib.Dec.{leb};
 ghost use lib.ListN.{length, take};
-ghost use Rattle.text.specs.Scan.{run};
+ghost use Rattle.text.specs.Scan.{run, past};
 ghost use Rattle.text.specs.Equal.{equal};
 ghost use Rattle.text.specs.Order.{order};
 ghost use Rattle.text.specs.Copy.{copied, put, copyAt};
-ghost use Rattle.text.specs.Class.{isDigit, isLetter, isWord, inClass};
+ghost use Rattle.text.specs.Class.{isDigit, isSmall, isLetter, isWord, inClass};
 ghost use Rattle.text.specs.Counted.{pairAt, counted};
 ghost use Rattle.text.specs.Join.{joined};
 ghost use Rattle.text.specs.Digits.{digitsAt, value, limit};
@@ -222,6 +222,46 @@ pub fn front(s: &[u8], k: u8) -> usize
     while i < s.len() {
         if in_class(k, s[i]) {
             i += 1;
+        } else {
+            return i;
+        }
+    }
+    i
+}
+
+// Is it a small letter?
+fn is_small(b: u8) -> bool
+    ensures { λ r. ⌜ r ≡ isSmall b ⌝ }
+{
+    if b < 97 {
+        return false;
+    }
+    b <= 122
+}
+
+// The end of the run of small letters that starts at a place.
+fn small_end(s: &[u8], at: usize) -> usize
+    ensures { λ r. ⌜ r ≡ past isSmall (now (s .entry)) at ⌝ }
+{
+    let mut i = at;
+    while i < s.len() {
+        if is_small(s[i]) {
+            i += 1;
+        } else {
+            return i;
+        }
+    }
+    i
+}
+
+// The end of the word that starts at a place: letters, digits and underscores. Small letters are the commonest, so runs of them are passed at once.
+pub fn word_end(s: &[u8], at: usize) -> usize
+    ensures { λ r. ⌜ r ≡ past isWord (now (s .entry)) at ⌝ }
+{
+    let mut i = small_end(s, at);
+    while i < s.len() {
+        if is_word(s[i]) {
+            i = small_end(s, i + 1);
         } else {
             return i;
         }

@@ -3,11 +3,8 @@
 use mathlib.Core.Path.{_≡_, refl, sym, ap, _∙_}
 use mathlib.Core.Bool.{Bool, true, false}
 use mathlib.Core.List.{List, [], _∷_, _++_}
-use Prim.Native.Nat.{ℕ, zero, suc, _+_, _-_, _<_, _≤_, _^_}
+use Prim.Native.Nat.{ℕ, zero, suc, _+_, _-_, _<_, _≤_}
 use native.Mathlib.Omega.{arith}
-use native.Mathlib.Nat.{lt-of-le-of-lt}
-use mir.Syntax.{w64}
-use mir.Val.{Fits}
 use lib.Dec.{eqb, leb, ltb}
 use lib.ListN.{length, getD, take, drop, length-drop}
 use lib.Seq.{take-append-seam, length-take-le}
@@ -17,7 +14,7 @@ use Rattle.lexical.specs.Kind
 use Rattle.lexical.specs.Literal.{decodedAt}
 use Rattle.lexical.specs.Decode.{Ran, ran, decodeInto}
 use Rattle.lexical.specs.DecodeLaws.{decode-fits}
-use Rattle.lexical.specs.Plain.{bareEnd, bare-decoded}
+use Rattle.lexical.specs.Plain.{bareEnd, bare-within, bare-given}
 use Rattle.lexical.specs.Short.{sized, sized-length}
 use Rattle.lexical.specs.declared.token.Token.{Token}
 use Rattle.principal.specs.Principal.{Principal}
@@ -151,32 +148,19 @@ module _ (s pool places : List ℕ) (count end start n : ℕ) (ne : n ≡ length
     literal-never f = clash (front .0) f
 
 -- `enter_literal`
-module _ (s : List ℕ) (start e : ℕ) (ee : e ≡ bareEnd s start) (n : e ≡ 0 → ⊥) where
-  bare : (start + 1 ≤ e) × (e ≤ length s) × (decodedAt s start ≡ take (e - (start + 1)) (drop (start + 1) s))
-  bare = rw ee (bare-decoded s start (λ z. n (ee ∙ z)))
+module _ (s : List ℕ) (start e : ℕ) (ee : e ≡ bareEnd s start) (n : e ≡ 0 → ⊥) (pool places : List ℕ) (count end : ℕ) where
+  counted : e - (start + 1) ≡ length (decodedAt s start)
+  counted =
+      let l : e - (start + 1) ≤ length (drop (start + 1) s) = omega (arith, length-drop (start + 1) s, bare-within s start e ee n) in
+      sym (ap length (bare-given s start e ee n) ∙ length-take-le (e - (start + 1)) (drop (start + 1) s) l)
 
-  pub bare-from : start + 1 ≤ e
-  bare-from = bare .0
+  pub bare-long : mostIdentifier < e - (start + 1) → entry Full pool places ≡ literalIn pool places count end (decodedAt s start)
+  bare-long h = literal-long s pool places count end start (e - (start + 1)) counted h
 
-  pub bare-within : e ≤ length s
-  bare-within = bare .1
-
-  pub bare-fits : length s < 2 ^ 64 → Fits w64 (start + 1)
-  bare-fits l = let k : start + 1 ≤ length s = omega (arith, bare .0, bare .1) in record { fits = lt-of-le-of-lt k l }
-
-  module _ (pool places : List ℕ) (count end : ℕ) where
-    counted : e - (start + 1) ≡ length (decodedAt s start)
-    counted =
-        let l : e - (start + 1) ≤ length (drop (start + 1) s) = omega (arith, length-drop (start + 1) s, bare .1) in
-        sym (ap length (bare .2) ∙ length-take-le (e - (start + 1)) (drop (start + 1) s) l)
-
-    pub bare-long : mostIdentifier < e - (start + 1) → entry Full pool places ≡ literalIn pool places count end (decodedAt s start)
-    bare-long h = literal-long s pool places count end start (e - (start + 1)) counted h
-
-    pub bare-entered : (r : Kept) → e - (start + 1) ≤ mostIdentifier → r ≡ enterIn pool places count end (take (e - (start + 1)) (drop (start + 1) s))
-        → r ≡ literalIn pool places count end (decodedAt s start)
-    unfolding literalIn
-    bare-entered r h re = (rw (sym (bare .2)) at re) ∙ simp (sym counted, le-ltb _ _ h)
+  pub bare-entered : (r : Kept) → e - (start + 1) ≤ mostIdentifier → r ≡ enterIn pool places count end (take (e - (start + 1)) (drop (start + 1) s))
+      → r ≡ literalIn pool places count end (decodedAt s start)
+  unfolding literalIn
+  bare-entered r h re = (rw (sym (bare-given s start e ee n)) at re) ∙ simp (sym counted, le-ltb _ _ h)
 
 -- `enter_token`
 module _ (s consts constants pool places : List ℕ) (count end : ℕ) (t : Token) (r : Kept) where

@@ -10,8 +10,8 @@ use lib.ListN.{length, getD, take, drop}
 use lib.Seq.{drop-cons}
 use borrow.Author.Tests.{eqb-true, eqb-false, leb-true, ltb-true, ltb-false, ne-eqb, eq-eqb}
 use Rattle.text.specs.Choice.{pick, split, clash}
-use Rattle.text.specs.Scan.{past, past-more, past-stop}
-use Rattle.lexical.specs.Bounds.{chosen, past-from}
+use Rattle.text.specs.Scan.{past, past-more, past-stop, past-from}
+use Rattle.lexical.specs.Bounds.{chosen}
 use Rattle.lexical.specs.Class.{classOf}
 use Rattle.lexical.specs.Run.{hasClass, inRun, WHITE}
 use Rattle.lexical.specs.declared.unit.Unit.{Unit}

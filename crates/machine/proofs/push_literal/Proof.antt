@@ -1,74 +1,122 @@
-use Rattle.machine.specs.Working.Stepping.{literal-over, literal-in, literal-none}
+use Rattle.lexical.specs.Plain.{bare-from, bare-within, bare-fits}
+use Rattle.machine.specs.Working.Stepping.{literal-bare, literal-over, literal-in, literal-none}
 use borrow.Author.Needs.{needs}
 use Rattle.machine.proofs.push_literal.Statement.{statement}
 use Rattle.machine.proofs.push_literal.Tie as tie
 use Rattle.machine.proofs.push_literal.Reads as reads
 use Rattle.machine.proofs.push_literal.Lts as lts
+use Rattle.lexical.proofs.literal.bare_end.Reads as bare-end-reads
 use Rattle.lexical.proofs.literal.decode_into.Reads as decode-into-reads
 use Rattle.lexical.proofs.literal.literal_length.Reads as literal-length-reads
+use Rattle.machine.proofs.push_text.Reads as push-text-reads
 use Rattle.machine.proofs.put.Reads as put-reads
 
--- src/lib.rt:93:9
-literal-length-requires : tie.Need-literal-length-requires
-literal-length-requires c κs = search needs
+-- src/lib.rt:107:9
+bare-end-requires : tie.Need-bare-end-requires
+bare-end-requires c κs = search needs
 
--- src/lib.rt:95:9
-put-requires : tie.Need-put-requires
-put-requires c κs = search needs
+-- src/lib.rt:109:49
+add-push-text : tie.Need-add-push-text
+add-push-text c = search bare-fits
 
--- src/lib.rt:95:9
+-- src/lib.rt:109:46
+sub-push-text : tie.Need-sub-push-text
+sub-push-text c = search bare-from
+
+-- src/lib.rt:109:46
+part-push-text-start : tie.Need-part-push-text-start
+part-push-text-start c = search bare-from
+
+-- src/lib.rt:109:46
+part-push-text-end : tie.Need-part-push-text-end
+part-push-text-end c = search bare-within
+
+-- src/lib.rt:109:9
+push-text-requires : tie.Need-push-text-requires
+push-text-requires c κs = search needs
+
+-- src/lib.rt:109:9
 same-length : tie.Need-same-length
 same-length c = search needs
 
--- src/lib.rt:95:9
-returns : tie.Need-returns
-returns c = search literal-over
-
--- src/lib.rt:97:8
-decode-into-requires : tie.Need-decode-into-requires
-decode-into-requires c κs = search needs
-
--- src/lib.rt:98:30
-add-put : tie.Need-add-put
-add-put c = search needs
-
--- src/lib.rt:98:9
-put-requires-2 : tie.Need-put-requires-2
-put-requires-2 c κs = search needs
-
--- src/lib.rt:98:9
+-- src/lib.rt:109:9
 same-length-2 : tie.Need-same-length-2
 same-length-2 c = search needs
 
--- src/lib.rt:98:9
+-- src/lib.rt:109:9
+returns : tie.Need-returns
+returns c = search literal-bare
+
+-- src/lib.rt:111:9
+literal-length-requires : tie.Need-literal-length-requires
+literal-length-requires c κs = search needs
+
+-- src/lib.rt:113:9
+put-requires : tie.Need-put-requires
+put-requires c κs = search needs
+
+-- src/lib.rt:113:9
 same-length-3 : tie.Need-same-length-3
 same-length-3 c = search needs
 
--- src/lib.rt:98:9
+-- src/lib.rt:113:9
 returns-2 : tie.Need-returns-2
-returns-2 c = search literal-in
+returns-2 c = search literal-over
 
--- src/lib.rt:89:1
+-- src/lib.rt:115:8
+decode-into-requires : tie.Need-decode-into-requires
+decode-into-requires c κs = search needs
+
+-- src/lib.rt:116:30
+add-put : tie.Need-add-put
+add-put c = search needs
+
+-- src/lib.rt:116:9
+put-requires-2 : tie.Need-put-requires-2
+put-requires-2 c κs = search needs
+
+-- src/lib.rt:116:9
 same-length-4 : tie.Need-same-length-4
 same-length-4 c = search needs
 
--- src/lib.rt:89:1
+-- src/lib.rt:116:9
+same-length-5 : tie.Need-same-length-5
+same-length-5 c = search needs
+
+-- src/lib.rt:116:9
 returns-3 : tie.Need-returns-3
-returns-3 c = search literal-none
+returns-3 c = search literal-in
+
+-- src/lib.rt:96:1
+same-length-6 : tie.Need-same-length-6
+same-length-6 c = search needs
+
+-- src/lib.rt:96:1
+returns-4 : tie.Need-returns-4
+returns-4 c = search literal-none
 
 pub push-literal-spec : {M : Type 1} → statement M
 push-literal-spec =
     tie.close
     (tie.spec
+    bare-end-requires
+    add-push-text
+    sub-push-text
+    part-push-text-start
+    part-push-text-end
+    push-text-requires
+    same-length
+    same-length-2
+    returns
     literal-length-requires
     put-requires
-    same-length
-    returns
+    same-length-3
+    returns-2
     decode-into-requires
     add-put
     put-requires-2
-    same-length-2
-    same-length-3
-    returns-2
     same-length-4
-    returns-3)
+    same-length-5
+    returns-3
+    same-length-6
+    returns-4)

@@ -10,7 +10,7 @@ use Rattle.machine.proofs.is_true.Reads as is-true-reads
 use Rattle.machine.proofs.push_literal.Reads as push-literal-reads
 use Rattle.machine.proofs.push_text.Reads as push-text-reads
 use Rattle.machine.proofs.put.Reads as put-reads
-use Rattle.machine.proofs.run_at.Reads as run-at-reads
+use Rattle.machine.proofs.word_at.Reads as word-at-reads
 use Rattle.text.proofs.number_at.Reads as number-at-reads
 
 -- src/lib.rt:455:9
@@ -30,8 +30,8 @@ returns : tie.Need-returns
 returns c = search push-literal
 
 -- src/lib.rt:464:13
-run-at-requires : tie.Need-run-at-requires
-run-at-requires c κs = search needs
+word-at-requires : tie.Need-word-at-requires
+word-at-requires c κs = search needs
 
 -- src/lib.rt:458:13
 lookup-requires : tie.Need-lookup-requires
@@ -97,7 +97,7 @@ push-step-spec =
     same-length
     same-length-2
     returns
-    run-at-requires
+    word-at-requires
     lookup-requires
     push-text-requires
     same-length-3

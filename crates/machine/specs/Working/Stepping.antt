@@ -6,16 +6,17 @@ use Prim.Native.Nat.{ℕ, zero, suc, _+_, _-_, _<_, _≤_}
 use native.Mathlib.Omega.{arith}
 use native.Mathlib.Numerals.{add-one}
 use lib.Dec.{leb, ltb}
-use lib.ListN.{length, getD, take, drop, set, length-set, length-drop, length-append, drop-of-length-le}
-use lib.Seq.{take-suc-set, length-take-le, take-take, getD-take, take-at, take-all, take-nil, sets, sets-eq, length-sets}
+use lib.ListN.{length, getD, take, drop, set, length-set, length-append, drop-of-length-le}
+use lib.Seq.{take-suc-set, length-take-le, take-take, getD-take, take-at, take-nil, sets, sets-eq, length-sets}
 use borrow.Author.Tests.{lt-ltb, le-ltb, le-leb, lt-leb, ltb-true, ltb-false, leb-true, leb-false}
 use Rattle.text.specs.Choice.{split, clash}
-use Rattle.text.specs.Scan.{run}
-use Rattle.text.specs.Class.{inClass}
+use Rattle.text.specs.Scan.{run, past, past-from, past-within}
+use Rattle.text.specs.Class.{inClass, isWord, word}
 use Rattle.text.specs.Copy.{copied, put, copyAt}
 use Rattle.text.specs.CopyLaws.{put-length}
 use Rattle.lexical.specs.Literal.{decodedAt}
 use Rattle.lexical.specs.Decode.{ran, decodeInto}
+use Rattle.lexical.specs.Plain.{bareEnd, bare-given}
 use Rattle.expression.specs.Value.{operand}
 use Rattle.expression.specs.Operands.{kindOf, sizeOf, unpacked, width, valueOf, isText}
 use Rattle.expression.specs.Clauses.{applied, combined}
@@ -166,6 +167,11 @@ module _ (s : List ℕ) (at : ℕ) (st m : List ℕ) (n t : ℕ) (hn : n ≤ len
         text-stuck st m n t hn ht (decodedAt s at) (rw ke at short) (omega arith) st′ m′)
         (λ f. let q : ran c m′ ≡ ran true (sets m t (decodedAt s at)) = rw (le-ltb (length m) t ht, f) at ce in clash (ran-is q .0) cf)
 
+-- a literal of plain bytes
+pub literal-bare : (s : List ℕ) (at e : ℕ) → e ≡ bareEnd s at → (e ≡ 0 → ⊥) → (depth room : ℕ) (vs bs : List ℕ) (r : Tops) (st m : List ℕ)
+    → Live r st m (textStep depth room (take (e - (at + 1)) (drop (at + 1) s)) vs bs) → Live r st m (textStep depth room (decodedAt s at) vs bs)
+literal-bare s at e ee n depth room vs bs r st m l = rw (bare-given s at e ee n) l
+
 -- the ways out of `top`
 module _ (st : List ℕ) (n : ℕ) (hn : n ≤ length st) where
   pub top-none : n < 2 → Fault ≡ topOf (take n st)
@@ -294,29 +300,19 @@ module _ (depth : ℕ) (vals : List (List ℕ)) (op : ℕ) (st m : List ℕ) (n 
       let c : below (take (n - 2) st) ≡ take (n - 4) st = below-is st (n - 2) (omega arith) (omega arith) ∙ ap (λ (k : ℕ). take k st) e in
       rw (length-take-le n st hn, le-ltb n 4 h, b, c, ← ye, ← xe) l
 
--- the ways out of `run_at`
-run-least : (p : ℕ → Bool) (l : List ℕ) → run p l ≤ length l
-run-least p [] = omega arith
-run-least p (x ∷ l) = split (p x) (λ e. rw e (omega (arith, run-least p l))) (λ e. rw e (omega arith))
-
-tail-is : (s : List ℕ) (k : ℕ) → take (length s - k) (drop k s) ≡ drop k s
-tail-is s k = take-all (length s - k) (drop k s) (simp length-drop (omega arith))
-
-module _ (c : ℕ) (s : List ℕ) (at : ℕ) where
-  pub run-past : length s ≤ at → [] ≡ runAt c s at
+-- the ways out of `word_at`
+module _ (s : List ℕ) (at : ℕ) where
+  pub word-past : length s ≤ at → [] ≡ runAt word s at
   unfolding runAt
-  run-past h = rw (drop-of-length-le s h)
+  word-past h = rw (drop-of-length-le s h)
 
-  module _ (k : ℕ) (ke : k ≡ run (inClass c) (take (length s - at) (drop at s))) where
-    count-is : k ≡ run (inClass c) (drop at s)
-    count-is = ke ∙ ap (run (inClass c)) (tail-is s at)
+  module _ (e : ℕ) (ee : e ≡ past isWord s at) where
+    pub word-from : at ≤ e
+    word-from = rw ee (past-from isWord s at)
 
-    pub run-out : length s - at < k → [] ≡ runAt c s at
-    run-out h =
-        let l : run (inClass c) (drop at s) ≤ length (drop at s) = run-least (inClass c) (drop at s) in
-        let d : length (drop at s) ≡ length s - at = length-drop at s in
-        let no-way : ⊥ = omega (arith, count-is) in absurd no-way
+    pub word-within : at < length s → e ≤ length s
+    word-within h = rw ee (past-within isWord s at (omega arith))
 
-    pub run-in : take (at + k - at) (drop at s) ≡ runAt c s at
-    unfolding runAt
-    run-in = let e : at + k - at ≡ k = omega arith in rw (e, count-is)
+    pub word-in : take (e - at) (drop at s) ≡ runAt word s at
+    unfolding runAt past inClass
+    word-in = let k : e - at ≡ run isWord (drop at s) = omega (arith, ee) in rw k

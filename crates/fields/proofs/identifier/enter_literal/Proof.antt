@@ -1,4 +1,5 @@
-use Rattle.fields.specs.Working.Identifying.{bare-from, bare-within, bare-fits, bare-long, bare-entered}
+use Rattle.lexical.specs.Plain.{bare-from, bare-within, bare-fits}
+use Rattle.fields.specs.Working.Identifying.{bare-long, bare-entered}
 use borrow.Author.Needs.{needs}
 use Rattle.fields.proofs.identifier.enter_literal.Statement.{statement}
 use Rattle.fields.proofs.identifier.enter_literal.Tie as tie

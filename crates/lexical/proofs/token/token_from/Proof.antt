@@ -9,11 +9,11 @@ use Rattle.lexical.proofs.class.begins_number.Reads as begins-number-re
 use Rattle.lexical.proofs.class.class_of.Reads as class-of-reads
 use Rattle.lexical.proofs.class.is_quote.Reads as is-quote-reads
 use Rattle.lexical.proofs.scan.byte_at.Reads as byte-at-reads
-use Rattle.lexical.proofs.scan.skip.Reads as skip-reads
 use Rattle.lexical.proofs.token.is_lone.Reads as is-lone-reads
 use Rattle.lexical.proofs.token.literal_token.Reads as literal-token-reads
 use Rattle.lexical.proofs.token.number_token.Reads as number-token-reads
 use Rattle.lexical.proofs.token.operator_token.Reads as operator-token-reads
+use Rattle.text.proofs.word_end.Reads as word-end-reads
 
 -- src/token.rt:166:9
 byte-at-requires : tie.Need-byte-at-requires
@@ -24,8 +24,8 @@ begins-name-requires : tie.Need-begins-name-requires
 begins-name-requires c κs = search needs
 
 -- src/token.rt:168:13
-skip-requires : tie.Need-skip-requires
-skip-requires c κs = search needs
+word-end-requires : tie.Need-word-end-requires
+word-end-requires c κs = search needs
 
 -- src/token.rt:169:9
 returns : tie.Need-returns
@@ -85,7 +85,7 @@ token-from-spec =
     (tie.spec
     byte-at-requires
     begins-name-requires
-    skip-requires
+    word-end-requires
     returns
     begins-number-requires
     number-token-requires
