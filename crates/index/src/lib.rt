@@ -1,11 +1,13 @@
 // The index of principals: each distinct identifier gets a number when it is first read. Identifiers lie in a lent pool, each behind its
 // two-byte length; a lent table holds an entry for each.
 ghost use mathlib.Core.Path.{_≡_};
-ghost use lib.ListN.{take, set};
+ghost use Prim.Native.Nat.{_+_, _≤_};
+ghost use lib.ListN.{length, take, set};
 ghost use Rattle.text.specs.Copy.{copied};
 ghost use Rattle.principal.specs.Tag.{tag};
 ghost use Rattle.index.specs.Entry.{nameAt, isAt};
-ghost use Rattle.index.specs.Working.Finding.{found};
+ghost use Rattle.index.specs.Working.Finding.{found, findRest};
+ghost use Rattle.index.specs.Working.Blocks.{othersAt};
 ghost use Rattle.index.specs.Working.Adding.{countedInto, entered, addInto, principalInto};
 
 // Is it the entry of the identifier, whose tag is t? It has its own tag in its low half.
@@ -19,12 +21,28 @@ fn is_entry(pool: &[u8], e: usize, id: &[u8], t: usize) -> bool
     false
 }
 
-// The index of an identifier among the first n, or n where it is none of them.
-pub fn find(pool: &[u8], places: &[usize], n: usize, id: &[u8]) -> usize
-    ensures { λ r. ⌜ r ≡ found (now (pool .entry)) (now (id .entry)) (take n (now (places .entry))) ⌝ }
+// Have the 16 entries from i on other tags than t? The loop has no early end, so that several are compared at once.
+fn is_other_block(places: &[usize], i: usize, t: usize) -> bool
+    requires { ⌜ i + 16 ≤ length (now places) ⌝ }
+    ensures { λ r. ⌜ r ≡ othersAt (now (places .entry)) i 16 t ⌝ }
 {
-    let t = principal::tag_of(id);
-    let mut i: usize = 0;
+    let mut none = true;
+    let mut j: usize = 0;
+    while j < 16 {
+        if places[i + j] % 4294967296 == t {
+            none = false;
+        }
+        j += 1;
+    }
+    none
+}
+
+// The index of an identifier, whose tag is t, among the entries from `from` to n, or where they end.
+fn find_from(pool: &[u8], places: &[usize], from: usize, n: usize, id: &[u8], t: usize) -> usize
+    requires { ⌜ t ≡ tag (now id) ⌝ }
+    ensures { λ r. ⌜ r ≡ findRest (now (pool .entry)) (now (places .entry)) n (now (id .entry)) from ⌝ }
+{
+    let mut i = from;
     while i < n {
         if places.len() <= i {
             return i;
@@ -36,6 +54,36 @@ pub fn find(pool: &[u8], places: &[usize], n: usize, id: &[u8]) -> usize
         i += 1;
     }
     i
+}
+
+// The same among the 16 entries from i on.
+fn find_in_block(pool: &[u8], places: &[usize], i: usize, id: &[u8], t: usize) -> usize
+    requires { ⌜ (i + 16 ≤ length (now places)) × (t ≡ tag (now id)) ⌝ }
+    ensures { λ r. ⌜ r ≡ findRest (now (pool .entry)) (now (places .entry)) (i + 16) (now (id .entry)) i ⌝ }
+{
+    if is_other_block(places, i, t) {
+        return i + 16;
+    }
+    find_from(pool, places, i, i + 16, id, t)
+}
+
+// The index of an identifier among the first n, or n where it is none of them.
+pub fn find(pool: &[u8], places: &[usize], n: usize, id: &[u8]) -> usize
+    ensures { λ r. ⌜ r ≡ found (now (pool .entry)) (now (id .entry)) (take n (now (places .entry))) ⌝ }
+{
+    let t = principal::tag_of(id);
+    let mut i: usize = 0;
+    while 16 <= n - i {
+        if places.len() - i < 16 {
+            return find_from(pool, places, i, n, id, t);
+        }
+        let r = find_in_block(pool, places, i, id, t);
+        if r < i + 16 {
+            return r;
+        }
+        i += 16;
+    }
+    find_from(pool, places, i, n, id, t)
 }
 
 // The identifier of an entry.

@@ -12,6 +12,7 @@ pub mod UnitLaws
 pub mod Literal
 pub mod LiteralLaws
 pub mod Plain
+pub mod Bare
 pub mod Decode
 pub mod Token
 pub mod Line

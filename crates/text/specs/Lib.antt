@@ -1,6 +1,7 @@
 pub mod Choice
 pub mod Loop
 pub mod Scan
+pub mod All
 pub mod Table
 pub mod Equal
 pub mod Order
