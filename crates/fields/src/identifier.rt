@@ -6,12 +6,14 @@ use expression::name::find;
 use lexical::kind;
 use lexical::literal::bare_end;
 use lexical::literal::decode_into;
+use lexical::literal::is_bare;
 use lexical::literal::is_sized;
 use lexical::literal::literal_length;
 use lexical::token::Token;
 ghost use mathlib.Core.Path.{_≡_};
 ghost use lib.ListN.{length};
 ghost use Rattle.lexical.specs.Literal.{decodedAt};
+ghost use Rattle.lexical.specs.Plain.{bareEnd};
 ghost use Rattle.fields.specs.Identifier.{sizeFault};
 ghost use Rattle.fields.specs.Working.Identifying.{entry, nameFaultIn, faultIn, enterIn, literalIn, tokenIn};
 
@@ -99,6 +101,24 @@ pub fn enter(pool: &mut [u8], places: &mut [usize], count: usize, end: usize, id
     }
 }
 
+// As `enter`, with the answer built anew: a copy of the whole would wait for the stores of its parts.
+fn entered(pool: &mut [u8], places: &mut [usize], count: usize, end: usize, id: &[u8]) -> Entry
+    ensures { λ r. ⌜ entry r (now (pool .exit)) (now (places .exit)) ≡ enterIn (now (pool .entry)) (now (places .entry)) count end (now (id .entry)) ⌝ }
+{
+    match enter(pool, places, count, end, id) {
+        Entry::Full => Entry::Full,
+        Entry::At {
+            number,
+            count: c,
+            end: m,
+        } => Entry::At {
+            number,
+            count: c,
+            end: m,
+        },
+    }
+}
+
 // Enters what the literal at `start` gives, decoded apart.
 fn enter_decoded(
     s: &[u8],
@@ -116,12 +136,22 @@ fn enter_decoded(
     }
     let mut id = [0u8; 256];
     if decode_into(s, start, &mut id, 0) {
-        return enter(pool, places, count, end, &id[..n]);
+        return entered(pool, places, count, end, &id[..n]);
     }
     Entry::Full
 }
 
-// Enters what the literal at `start` gives; one of plain bytes as it stands.
+// Where the literal at `start` closes, if it holds plain bytes only; else 0. It is read at once where it is bare up to `stop`.
+fn plain_end(s: &[u8], start: usize, stop: usize) -> usize
+    ensures { λ r. ⌜ r ≡ bareEnd (now (s .entry)) start ⌝ }
+{
+    if is_bare(s, start, stop) {
+        return stop - 1;
+    }
+    bare_end(s, start)
+}
+
+// Enters what the literal from `start` to `stop` gives; one of plain bytes as it stands.
 fn enter_literal(
     s: &[u8],
     pool: &mut [u8],
@@ -129,17 +159,18 @@ fn enter_literal(
     count: usize,
     end: usize,
     start: usize,
+    stop: usize,
 ) -> Entry
     ensures { λ r. ⌜ entry r (now (pool .exit)) (now (places .exit)) ≡ literalIn (now (pool .entry)) (now (places .entry)) count end (decodedAt (now (s .entry)) start) ⌝ }
 {
-    let e = bare_end(s, start);
+    let e = plain_end(s, start, stop);
     if e == 0 {
         return enter_decoded(s, pool, places, count, end, start);
     }
     if MOST_IDENTIFIER < e - (start + 1) {
         return Entry::Full;
     }
-    enter(pool, places, count, end, &s[start + 1..e])
+    entered(pool, places, count, end, &s[start + 1..e])
 }
 
 // Enters the principal that t identifies.
@@ -156,8 +187,8 @@ pub fn enter_token(
     ensures { λ r. ⌜ entry r (now (pool .exit)) (now (places .exit)) ≡ tokenIn (now (s .entry)) (now (consts .entry)) (now (constants .entry)) (now (pool .entry)) (now (places .entry)) count end t ⌝ }
 {
     if t.kind == kind::LITERAL {
-        return enter_literal(s, pool, places, count, end, t.start);
+        return enter_literal(s, pool, places, count, end, t.start, t.end);
     }
     let name = word(s, t);
-    enter(pool, places, count, end, attribute(consts, constants, name))
+    entered(pool, places, count, end, attribute(consts, constants, name))
 }

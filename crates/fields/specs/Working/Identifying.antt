@@ -15,6 +15,7 @@ use Rattle.lexical.specs.Literal.{decodedAt}
 use Rattle.lexical.specs.Decode.{Ran, ran, decodeInto}
 use Rattle.lexical.specs.DecodeLaws.{decode-fits}
 use Rattle.lexical.specs.Plain.{bareEnd, bare-within, bare-given}
+use Rattle.lexical.specs.Bare.{bare as bareTo, bare-some, bare-end}
 use Rattle.lexical.specs.Short.{sized, sized-length}
 use Rattle.lexical.specs.declared.token.Token.{Token}
 use Rattle.principal.specs.Principal.{Principal}
@@ -114,6 +115,10 @@ module _ (pool places : List ℕ) (count end : ℕ) (id : List ℕ) (i : ℕ) (i
     unfolding enterIn
     enter-full k = simp (sym ie, le-ltb _ _ h, sym re, k)
 
+-- `entered`
+pub enter-anew : (e f : Entry) (p q : List ℕ) (k : Kept) → entry e p q ≡ k → e ≡ f → entry f p q ≡ k
+enter-anew e f p q k h ef = ap (λ (x : Entry). entry x p q) (sym ef) ∙ h
+
 -- `enter_decoded`
 pub front-of : (s : List ℕ) (k n : ℕ) → k ≤ n → length s ≡ n → k ≡ length (take k s)
 front-of s k n h l = sym (length-take-le k s (omega arith))
@@ -146,6 +151,14 @@ module _ (s pool places : List ℕ) (count end start n : ℕ) (ne : n ≡ length
 
     pub literal-never : t ≡ false → entry Full pool places ≡ literalIn pool places count end (decodedAt s start)
     literal-never f = clash (front .0) f
+
+-- `plain_end`
+module _ (s : List ℕ) (start stop : ℕ) (t : Bool) (te : t ≡ bareTo s start stop) (h : t ≡ true) where
+  pub plain-some : 1 ≤ stop
+  plain-some = omega (arith, bare-some s start stop (sym te ∙ h))
+
+  pub plain-bare : stop - 1 ≡ bareEnd s start
+  plain-bare = sym (bare-end s start stop (sym te ∙ h))
 
 -- `enter_literal`
 module _ (s : List ℕ) (start e : ℕ) (ee : e ≡ bareEnd s start) (n : e ≡ 0 → ⊥) (pool places : List ℕ) (count end : ℕ) where

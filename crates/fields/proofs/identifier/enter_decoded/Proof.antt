@@ -4,7 +4,7 @@ use borrow.Author.Needs.{needs}
 use Rattle.fields.proofs.identifier.enter_decoded.Tie as tie
 use Rattle.fields.proofs.identifier.enter_decoded.Reads as reads
 use Rattle.fields.proofs.identifier.enter_decoded.Lts as lts
-use Rattle.fields.proofs.identifier.enter.Reads as enter-reads
+use Rattle.fields.proofs.identifier.entered.Reads as entered-reads
 use Rattle.lexical.proofs.decode_into.Reads as decode-into-reads
 use Rattle.lexical.proofs.literal_length.Reads as literal-length-reads
 
@@ -29,12 +29,12 @@ array-share-prefix-id : tie.Need-array-share-prefix-id
 array-share-prefix-id c = search needs
 
 -- src/identifier.rt:106:48
-slice-aggregate-enter : tie.Need-slice-aggregate-enter
-slice-aggregate-enter c = search (needs, front-of)
+slice-aggregate-entered : tie.Need-slice-aggregate-entered
+slice-aggregate-entered c = search (needs, front-of)
 
 -- src/identifier.rt:106:9
-enter-requires : tie.Need-enter-requires
-enter-requires c κs = search needs
+entered-requires : tie.Need-entered-requires
+entered-requires c κs = search needs
 
 -- src/identifier.rt:106:9
 same-length : tie.Need-same-length
@@ -61,8 +61,8 @@ enter-decoded-spec =
     slice-aggregate-decode-into
     decode-into-requires
     array-share-prefix-id
-    slice-aggregate-enter
-    enter-requires
+    slice-aggregate-entered
+    entered-requires
     same-length
     same-length-2
     returns-2

@@ -5,13 +5,13 @@ use Rattle.fields.proofs.identifier.enter_literal.Statement.{statement}
 use Rattle.fields.proofs.identifier.enter_literal.Tie as tie
 use Rattle.fields.proofs.identifier.enter_literal.Reads as reads
 use Rattle.fields.proofs.identifier.enter_literal.Lts as lts
-use Rattle.fields.proofs.identifier.enter.Reads as enter-reads
+use Rattle.fields.proofs.identifier.entered.Reads as entered-reads
 use Rattle.fields.proofs.identifier.enter_decoded.Reads as enter-decoded-reads
-use Rattle.lexical.proofs.literal.bare_end.Reads as bare-end-reads
+use Rattle.fields.proofs.identifier.plain_end.Reads as plain-end-reads
 
 -- src/identifier.rt:135:9
-bare-end-requires : tie.Need-bare-end-requires
-bare-end-requires c κs = search needs
+plain-end-requires : tie.Need-plain-end-requires
+plain-end-requires c κs = search needs
 
 -- src/identifier.rt:137:9
 enter-decoded-requires : tie.Need-enter-decoded-requires
@@ -42,24 +42,24 @@ returns-2 : tie.Need-returns-2
 returns-2 c = search bare-long
 
 -- src/identifier.rt:142:40
-add-enter : tie.Need-add-enter
-add-enter c = search bare-fits
+add-entered : tie.Need-add-entered
+add-entered c = search bare-fits
 
 -- src/identifier.rt:142:37
-sub-enter : tie.Need-sub-enter
-sub-enter c = search bare-from
+sub-entered : tie.Need-sub-entered
+sub-entered c = search bare-from
 
 -- src/identifier.rt:142:37
-part-enter-start : tie.Need-part-enter-start
-part-enter-start c = search bare-from
+part-entered-start : tie.Need-part-entered-start
+part-entered-start c = search bare-from
 
 -- src/identifier.rt:142:37
-part-enter-end : tie.Need-part-enter-end
-part-enter-end c = search bare-within
+part-entered-end : tie.Need-part-entered-end
+part-entered-end c = search bare-within
 
 -- src/identifier.rt:142:5
-enter-requires : tie.Need-enter-requires
-enter-requires c κs = search needs
+entered-requires : tie.Need-entered-requires
+entered-requires c κs = search needs
 
 -- src/identifier.rt:125:1
 same-length-3 : tie.Need-same-length-3
@@ -77,7 +77,7 @@ pub enter-literal-spec : {M : Type 1} → statement M
 enter-literal-spec =
     tie.close
     (tie.spec
-    bare-end-requires
+    plain-end-requires
     enter-decoded-requires
     same-length
     same-length-2
@@ -85,11 +85,11 @@ enter-literal-spec =
     add-if2
     sub-if2
     returns-2
-    add-enter
-    sub-enter
-    part-enter-start
-    part-enter-end
-    enter-requires
+    add-entered
+    sub-entered
+    part-entered-start
+    part-entered-end
+    entered-requires
     same-length-3
     same-length-4
     returns-3)
