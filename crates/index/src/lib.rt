@@ -21,7 +21,7 @@ fn is_entry(pool: &[u8], e: usize, id: &[u8], t: usize) -> bool
     false
 }
 
-// Have the 16 entries from i on other tags than t? The loop has no early end, so that several are compared at once.
+// Have the 16 entries from i on other tags than t? The loop has no early end and asks for no length.
 fn is_other_block(places: &[usize], i: usize, t: usize) -> bool
     requires { ⌜ i + 16 ≤ length (now places) ⌝ }
     ensures { λ r. ⌜ r ≡ othersAt (now (places .entry)) i 16 t ⌝ }
