@@ -1,5 +1,6 @@
 pub mod Stepping
 pub mod Quick
+pub mod Alike
 pub mod Passing
 pub mod Running
 pub mod Widths

@@ -33,6 +33,7 @@ ghost use Rattle.machine.specs.Machine.{runAt, textStep, topOf, unarySte
 ghost use Rattle.machine.specs.Left.{leftIn};
 ghost use Rattle.machine.specs.Live.{Live, landed, putAt, settled};
 ghost use Rattle.machine.specs.Working.Quick.{putTwo, isNatural, isTold, isLogical, decides};
+ghost use Rattle.machine.specs.Working.Alike.{isAlike, agrees, alikeOn};
 
 // How many numbers and bytes the stacks hold; or that the machine can't go on, the code being none or a buffer too small.
 pub enum Tops {
@@ -331,6 +332,67 @@ fn decided(op: u32, x: bool, y: bool) -> bool
     y
 }
 
+// Is it "==" or "!=" of strings, and are both kinds those of strings?
+fn is_alike(op: u32, x: u64, y: u64) -> bool
+    ensures { λ r. ⌜ r ≡ isAlike op x y ⌝ }
+{
+    if x != 0 {
+        return false;
+    }
+    if y != 0 {
+        return false;
+    }
+    if op == syntax::TEXT_EQUAL {
+        return true;
+    }
+    op == syntax::TEXT_UNEQUAL
+}
+
+// What "==" or "!=" makes of strings that are the same or not.
+fn agreed(op: u32, same: bool) -> bool
+    ensures { λ r. ⌜ r ≡ agrees op same ⌝ }
+{
+    if op == syntax::TEXT_EQUAL {
+        return same;
+    }
+    if same {
+        return false;
+    }
+    true
+}
+
+fn count_of(size: u64) -> usize
+    ensures { λ r. ⌜ r ≡ size ⌝ }
+{
+    size as usize
+}
+
+// Two strings that end the bytes give way to the test whether they are the same.
+fn texts_step(
+    op: u32,
+    wx: usize,
+    wy: usize,
+    stack: &mut [u64],
+    n: usize,
+    bytes: &[u8],
+    t: usize,
+) -> Tops
+    requires { ⌜ (n + 2 ≤ length (now stack)) × (t ≤ length (now bytes)) ⌝ }
+    ensures { λ r. ⌜ Live r (now (stack .exit)) (now (bytes .entry)) (alikeOn (length (now (stack .entry))) op wx wy (take n (now (stack .entry))) (take t (now (bytes .entry)))) ⌝ }
+{
+    if t < wy {
+        return Tops::Stuck;
+    }
+    let mid = t - wy;
+    if mid < wx {
+        return Tops::Stuck;
+    }
+    let base = mid - wx;
+    let same = text::same_bytes(&bytes[base..mid], &bytes[mid..t]);
+    let q = told(agreed(op, same));
+    land(stack, n, base, q)
+}
+
 // An operator of expressions on the two topmost operands; integers without a sign and tests need no more than their numbers.
 fn operator_step(
     op: u32,
@@ -356,6 +418,11 @@ fn operator_step(
         let y = is_held(stack[n - 2]);
         let q = told(decided(op, x, y));
         return land(stack, n - 4, t, q);
+    }
+    if is_alike(op, stack[n - 4], stack[n - 2]) {
+        let wx = count_of(stack[n - 3]);
+        let wy = count_of(stack[n - 1]);
+        return texts_step(op, wx, wy, stack, n - 4, bytes, t);
     }
     binary_step(op, query, values, stack, n, bytes, t)
 }

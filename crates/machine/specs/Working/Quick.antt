@@ -93,7 +93,7 @@ pub land-in : (st : List ℕ) (n t k m : ℕ) → landed (At (n + 2) t) (set (se
 unfolding putTwo
 land-in st n t k m = refl
 
-two-put : (st : List ℕ) (n t : ℕ) (v : Operand) → n + 2 ≤ length st → putTwo st n t (kindOf v) (sizeOf v) ≡ putAt st n t v
+pub two-put : (st : List ℕ) (n t : ℕ) (v : Operand) → n + 2 ≤ length st → putTwo st n t (kindOf v) (sizeOf v) ≡ putAt st n t v
 unfolding putTwo putAt
 two-put st n t v h = rw (le-ltb (length st) n (omega (arith, h)), le-ltb (length st - n) 2 (omega (arith, h)))
 
@@ -182,7 +182,7 @@ module _ (st : List ℕ) (n : ℕ) (hn : n ≤ length st) (four : 4 ≤ n) where
       let b : n - 3 ≡ n - 2 - 1 = omega (arith, four) in
       top-some st (n - 2) (omega (arith, hn)) (omega (arith, four)) x (rw (a, b) at e)
 
-pick-both : (a b : Bool) → pick a b false ≡ true → (a ≡ true) × (b ≡ true)
+pub pick-both : (a b : Bool) → pick a b false ≡ true → (a ≡ true) × (b ≡ true)
 pick-both true b h = (refl, h)
 pick-both false b h = clash h refl
 

@@ -65,7 +65,7 @@ landed-is e = (cc, cc)
 live-at : (r : Tops) (st′ m : List ℕ) (s : State) → (n t : ℕ) → r ≡ At n t → n ≤ length st′ → t ≤ length m → on (take n st′) (take t m) ≡ s → Live r st′ m s
 live-at r st′ m s n t re h k e = rw re (record { within = (h, k); holds = e })
 
-live-stuck : (r : Tops) (st′ m : List ℕ) (s : State) → r ≡ Stuck → stuck ≡ s → Live r st′ m s
+pub live-stuck : (r : Tops) (st′ m : List ℕ) (s : State) → r ≡ Stuck → stuck ≡ s → Live r st′ m s
 live-stuck r st′ m s re e = rw re (record { within = tt; holds = e })
 
 module _ (st m : List ℕ) (n t : ℕ) (v : Operand) (hn : n ≤ length st) (ht : t ≤ length m) (r : Tops) (st′ : List ℕ) (is : landed r st′ ≡ putAt st n t v) where
