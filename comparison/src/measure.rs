@@ -7,21 +7,17 @@ use second::compare::Implementation;
 use second::print::PAGE;
 
 /// How often each is measured; odd, so that there is a median.
-const RUNS: usize = 9;
+const RUNS: usize = 25;
 const RUN_TIME: Duration = Duration::from_millis(20);
 
-/// Nanoseconds for one query: the medians of two implementations.
+/// Nanoseconds for one query: the medians of two implementations. The ratio is
+/// how many times as fast as the second evaluator the library is: the median
+/// over the turns, since a machine may change its pace between them.
 #[derive(Clone, Copy, Debug)]
 pub struct Medians {
     pub library: f64,
     pub second: f64,
-}
-
-impl Medians {
-    /// How many times as fast as the second evaluator the library is.
-    pub fn ratio(&self) -> f64 {
-        self.second / self.library
-    }
+    pub ratio: f64,
 }
 
 /// Measures both in turns. Panics where they don't answer alike.
@@ -34,7 +30,8 @@ pub fn measure(library: Implementation, second: Implementation, record: &[u8]) -
         times.0.push(time(library, record));
         times.1.push(time(second, record));
     }
-    Medians { library: median(times.0), second: median(times.1) }
+    let ratios = times.0.iter().zip(&times.1).map(|(library, second)| second / library).collect();
+    Medians { library: median(times.0), second: median(times.1), ratio: median(ratios) }
 }
 
 fn median(mut times: Vec<f64>) -> f64 {

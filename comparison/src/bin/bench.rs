@@ -33,7 +33,7 @@ struct Row {
 
 fn main() {
     let wanted: Vec<String> = std::env::args().skip(1).collect();
-    println!("Machine: {}. Medians of 9 runs in turns; the page is not cleared between queries.\n", machine());
+    println!("Machine: {}. Medians of 25 runs in turns; the page is not cleared between queries.\n", machine());
     println!("| Query | Bytes | Library, µs | Second, µs | Library, answers/s | Second, answers/s | Ratio |");
     println!("|---|--:|--:|--:|--:|--:|--:|");
     let rows: Vec<Row> = workload::all().into_iter().filter(|item| named(item, &wanted)).map(row).collect();
@@ -57,7 +57,7 @@ fn row(workload: Workload) -> Row {
         row.medians.second / 1e3,
         1e9 / row.medians.library,
         1e9 / row.medians.second,
-        row.medians.ratio(),
+        row.medians.ratio,
     );
     row
 }
@@ -84,7 +84,7 @@ fn growth(rows: &[Row]) {
 
 /// The workloads on which the library is slower by more than measuring errs.
 fn slower(rows: &[Row]) {
-    let slow = rows.iter().filter(|row| row.medians.ratio() < 1.0 - ERROR);
+    let slow = rows.iter().filter(|row| row.medians.ratio < 1.0 - ERROR);
     let slow: Vec<&str> = slow.map(|row| row.name.as_str()).collect();
     match slow.is_empty() {
         true => println!("\nThe library is as fast on every query, or faster, within 5 %."),
