@@ -37,7 +37,7 @@ fn raise(next: &mut [u8], i: usize, v: u8)
     }
 }
 
-// Raises the rank of the authorizer of assertion j, if it is reached, to the assertion's.
+// Raises the rank of the authorizer of assertion j, if it is reached, to the assertion's. Conditions that rank no higher raise nothing.
 fn relax(
     authors: &[u16],
     conds: &[u8],
@@ -54,8 +54,10 @@ fn relax(
 {
     let p = index_at(authors, j);
     if number_at(reach, p) == 1 {
-        let v = granted(conds, ends, code, top, ranks, stack, j);
-        raise(next, p, v);
+        if number_at(next, p) < number_at(conds, j) {
+            let v = granted(conds, ends, code, top, ranks, stack, j);
+            raise(next, p, v);
+        }
     }
 }
 
@@ -95,8 +97,10 @@ fn relax_all(
 fn direct_rank(direct: &[u8], reach: &[u8], top: u8, i: usize) -> u8
     ensures { λ r. ⌜ r ≡ directAt (now (direct .entry)) (now (reach .entry)) top i ⌝ }
 {
-    if number_at(reach, i) == 1 {
-        if number_at(direct, i) == 1 {
+    let f = number_at(reach, i);
+    let d = number_at(direct, i);
+    if f == 1 {
+        if d == 1 {
             return top;
         }
         return 0;

@@ -8,7 +8,7 @@ use native.Mathlib.Numerals.{add-one}
 use native.Mathlib.Nat.{sub-zero}
 use lib.Dec.{eqb}
 use lib.ListN.{length, getD, set, take, drop, length-append, drop-of-length-le}
-use lib.Seq.{drop-cons, set-out, set-at, take-suc, take-all, length-take-le, append-snoc, getD-at, drop-length}
+use lib.Seq.{drop-cons, set-getD, set-out, set-at, take-suc, take-all, length-take-le, append-snoc, getD-at, drop-length}
 use borrow.Author.Tests.{eq-eqb, ne-eqb}
 use Rattle.text.specs.Choice.{pick}
 use Rattle.compliance.specs.Working.Machine.{worth}
@@ -35,6 +35,13 @@ module _ (authors conds ends code : List ℕ) (top depth : ℕ) (reach ranks : L
       → z ≡ relaxedAt authors conds ends code top depth reach ranks j next
   unfolding relaxedAt
   relax-in h v z ve ze = simp (ze, ve, sym pe, sym fe, eq-eqb f 1 h)
+
+  -- conditions that rank no higher than the authorizer raise nothing
+  pub relax-idle : f ≡ 1 → (g c : ℕ) → g ≡ getD next p 0 → c ≡ getD conds j 0 → c ≤ g → next ≡ relaxedAt authors conds ends code top depth reach ranks j next
+  unfolding relaxedAt raised grantedOf
+  relax-idle h g c ge ce l =
+      let e : max (getD next p 0) (min (getD conds j 0) (worth ranks top depth (programOf ends code j))) ≡ getD next p 0 = rw (← ge, ← ce) (omega arith) in
+      simp (sym pe, sym fe, eq-eqb f 1 h, e, set-getD next p 0)
 
   pub relax-out : (f ≡ 1 → ⊥) → next ≡ relaxedAt authors conds ends code top depth reach ranks j next
   unfolding relaxedAt

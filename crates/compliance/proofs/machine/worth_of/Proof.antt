@@ -1,65 +1,46 @@
-use mathlib.Core.Path.{_≡_}
-use mathlib.Core.List.{[]}
-use Prim.Native.Nat.{_-_, _≤_}
-use lib.ListN.{length, take}
-use Rattle.compliance.specs.Working.Machine.{exec, execFrom, exec-start, exec-more, worth-is}
+use Rattle.compliance.specs.Working.Machine.{worth-alone}
 use borrow.Author.Needs.{needs}
 use Rattle.compliance.proofs.machine.worth_of.Statement.{statement}
 use Rattle.compliance.proofs.machine.worth_of.Tie as tie
 use Rattle.compliance.proofs.machine.worth_of.Reads as reads
 use Rattle.compliance.proofs.machine.worth_of.Lts as lts
-use Rattle.compliance.proofs.machine.last.Reads as last-reads
-use Rattle.compliance.proofs.machine.step.Reads as step-reads
+use Rattle.compliance.proofs.machine.number_at.Reads as number-at-reads
+use Rattle.compliance.proofs.machine.run.Reads as run-reads
+use Rattle.compliance.proofs.machine.wide.Reads as wide-reads
 
-abbrev Inv-loop : tie.InvT-loop
-Inv-loop code ranks top stack₀ sp₀ i₀ stack sp i = (sp ≤ length stack) × (length stack ≡ length stack₀) × (execFrom ranks top (length stack₀) code i (take sp stack) ≡ exec ranks top (length stack₀) code [])
+shared-slice-read-if3 : tie.Need-shared-slice-read-if3
+shared-slice-read-if3 c = search needs
 
-abbrev μ-loop : tie.MeasureT-loop
-μ-loop code ranks top stack₀ sp₀ i₀ stack sp i = length code - i
+shared-slice-read-wide : tie.Need-shared-slice-read-wide
+shared-slice-read-wide c = search needs
 
-loop-holds : tie.Need-loop-holds Inv-loop μ-loop
-loop-holds c = (search needs, search needs, search exec-start)
+wide-requires : tie.Need-wide-requires
+wide-requires c κs = search needs
 
-mul-step : tie.Need-mul-step Inv-loop μ-loop
-mul-step c = search needs
+number-at-requires : tie.Need-number-at-requires
+number-at-requires c κs = search needs
 
-shared-slice-read-step : tie.Need-shared-slice-read-step Inv-loop μ-loop
-shared-slice-read-step c = search needs
+returns : tie.Need-returns
+returns c = search worth-alone
 
-step-requires : tie.Need-step-requires Inv-loop μ-loop
-step-requires c κs = search needs
+run-requires : tie.Need-run-requires
+run-requires c κs = search needs
 
-add-i : tie.Need-add-i Inv-loop μ-loop
-add-i c = search needs
-
-loop-less : tie.Need-loop-less Inv-loop μ-loop
-loop-less c = search needs
-
-loop-again : tie.Need-loop-again Inv-loop μ-loop
-loop-again c = (search needs, search needs, search exec-more)
-
-last-requires : tie.Need-last-requires Inv-loop μ-loop
-last-requires c κs = search needs
-
-same-length : tie.Need-same-length Inv-loop μ-loop
+same-length : tie.Need-same-length
 same-length c = search needs
 
-returns : tie.Need-returns Inv-loop μ-loop
-returns c = search worth-is
+returns-2 : tie.Need-returns-2
+returns-2 c = search needs
 
 pub worth-of-spec : {M : Type 1} → statement M
 worth-of-spec =
     tie.close
     (tie.spec
-    Inv-loop
-    μ-loop
-    loop-holds
-    mul-step
-    shared-slice-read-step
-    step-requires
-    add-i
-    loop-less
-    loop-again
-    last-requires
+    shared-slice-read-if3
+    shared-slice-read-wide
+    wide-requires
+    number-at-requires
+    returns
+    run-requires
     same-length
-    returns)
+    returns-2)

@@ -1,4 +1,4 @@
-use Rattle.compliance.specs.Working.RoundWays.{relax-in, relax-out}
+use Rattle.compliance.specs.Working.RoundWays.{relax-in, relax-idle, relax-out}
 use borrow.Author.Needs.{needs}
 use Rattle.compliance.proofs.rounds.relax.Statement.{statement}
 use Rattle.compliance.proofs.rounds.relax.Tie as tie
@@ -15,6 +15,12 @@ index-at-requires c κs = search needs
 number-at-requires : tie.Need-number-at-requires
 number-at-requires c κs = search needs
 
+number-at-requires-2 : tie.Need-number-at-requires-2
+number-at-requires-2 c κs = search needs
+
+number-at-requires-3 : tie.Need-number-at-requires-3
+number-at-requires-3 c κs = search needs
+
 granted-requires : tie.Need-granted-requires
 granted-requires c κs = search needs
 
@@ -30,8 +36,14 @@ same-length-2 c = search needs
 returns : tie.Need-returns
 returns c = search relax-in
 
+same-length-3 : tie.Need-same-length-3
+same-length-3 c = search needs
+
 returns-2 : tie.Need-returns-2
-returns-2 c = search relax-out
+returns-2 c = search relax-idle
+
+returns-3 : tie.Need-returns-3
+returns-3 c = search relax-out
 
 pub relax-spec : {M : Type 1} → statement M
 relax-spec =
@@ -39,9 +51,13 @@ relax-spec =
     (tie.spec
     index-at-requires
     number-at-requires
+    number-at-requires-2
+    number-at-requires-3
     granted-requires
     raise-requires
     same-length
     same-length-2
     returns
-    returns-2)
+    same-length-3
+    returns-2
+    returns-3)
