@@ -239,7 +239,8 @@ fn chain(
     }
 }
 
-// The right operand of an operator that ends at `at`, and the operator.
+// The right operand of an operator that ends at `at`, and the operator. Its first token is built anew: a copy of the whole would wait for
+// the stores of its parts.
 fn joined(
     s: &[u8],
     code: &mut [u32],
@@ -260,7 +261,12 @@ fn joined(
     let n = token_at(s, kind::IN_FIELD, at);
     let l = right_level(op);
     let v = right_want(op);
-    match expression(s, code, u, l, v, 0, nest, n, d - 1) {
+    let right = Token {
+        kind: n.kind,
+        start: n.start,
+        end: n.end,
+    };
+    match expression(s, code, u, l, v, 0, nest, right, d - 1) {
         Out::Aside { reason, at: p } => Out::Aside { reason, at: p },
         Out::Found {
             sort: x,
