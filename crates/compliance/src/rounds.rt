@@ -8,9 +8,9 @@ use crate::tables::program;
 ghost use mathlib.Core.Path.{_≡_};
 ghost use Prim.Native.Nat.{_≤_};
 ghost use lib.Dec.{eqb};
-ghost use lib.ListN.{length};
+ghost use lib.ListN.{length, replicate};
 ghost use Rattle.text.specs.Choice.{pick};
-ghost use Rattle.compliance.specs.Working.Rounds.{grantedOf, raised, relaxedAt, relaxFrom, directAt, directTable, roundOf, Advanced, settledAt, settleFrom};
+ghost use Rattle.compliance.specs.Working.Rounds.{grantedOf, raised, relaxedAt, relaxFrom, directAt, directTable, Advanced, settledAt, settleFrom, settleOn};
 
 // The rank of assertion j: the lesser of its conditions' and its licensees'.
 fn granted(
@@ -119,25 +119,6 @@ fn set_direct(direct: &[u8], reach: &[u8], top: u8, next: &mut [u8])
     }
 }
 
-// The round after `ranks`.
-fn round(
-    authors: &[u16],
-    conds: &[u8],
-    ends: &[u16],
-    code: &[u16],
-    direct: &[u8],
-    top: u8,
-    reach: &[u8],
-    ranks: &[u8],
-    next: &mut [u8],
-    stack: &mut [u8],
-)
-    ensures { λ _. ⌜ now (next .exit) ≡ roundOf (now (authors .entry)) (now (conds .entry)) (now (ends .entry)) (now (code .entry)) (now (direct .entry)) top (length (now (stack .entry))) (now (reach .entry)) (length (now (next .entry))) (now (ranks .entry)) ⌝ }
-{
-    set_direct(direct, reach, top, next);
-    relax_all(authors, conds, ends, code, top, reach, ranks, next, stack);
-}
-
 // 0 where two ranks are equal, else 1.
 fn unlike(a: u8, b: u8) -> usize
     ensures { λ r. ⌜ (r ≡ pick (eqb a b) 0 1) × (r ≤ 1) ⌝ }
@@ -163,35 +144,32 @@ fn adopt(ranks: &mut [u8], next: &[u8]) -> usize
     changed
 }
 
-// The round after `ranks` takes their place; how many ranks changed.
-fn advance(
+// Rounds from a table of direct ranks on, until one changes nothing, at most limit; how many changed something. Ranks only rise, so each
+// round goes on from the table of the one before.
+fn settle_on(
     authors: &[u16],
     conds: &[u8],
     ends: &[u16],
     code: &[u16],
-    direct: &[u8],
     top: u8,
     reach: &[u8],
     ranks: &mut [u8],
     next: &mut [u8],
     stack: &mut [u8],
+    limit: usize,
 ) -> usize
-    requires { ⌜ length (now ranks) ≡ length (now next) ⌝ }
-    ensures { λ r. ⌜ Advanced r (now (ranks .exit)) (now (ranks .entry)) (roundOf (now (authors .entry)) (now (conds .entry)) (now (ends .entry)) (now (code .entry)) (now (direct .entry)) top (length (now (stack .entry))) (now (reach .entry)) (length (now (next .entry))) (now (ranks .entry))) ⌝ }
+    requires { ⌜ now ranks ≡ replicate (length (now next)) 0 ⌝ }
+    ensures { λ r. ⌜ settledAt r (now (ranks .exit)) ≡ settleOn (now (authors .entry)) (now (conds .entry)) (now (ends .entry)) (now (code .entry)) top (length (now (stack .entry))) (now (reach .entry)) (now (next .entry)) limit 0 (now (ranks .entry)) ⌝ }
 {
-    round(
-        authors,
-        conds,
-        ends,
-        code,
-        direct,
-        top,
-        reach,
-        ranks,
-        next,
-        stack,
-    );
-    adopt(ranks, next)
+    let mut n: usize = 0;
+    while n < limit {
+        relax_all(authors, conds, ends, code, top, reach, ranks, next, stack);
+        if adopt(ranks, next) == 0 {
+            return n;
+        }
+        n += 1;
+    }
+    n
 }
 
 // Rounds until one changes nothing, at most limit; how many changed something.
@@ -208,28 +186,20 @@ pub(crate) fn settle(
     stack: &mut [u8],
     limit: usize,
 ) -> usize
-    requires { ⌜ length (now ranks) ≡ length (now next) ⌝ }
+    requires { ⌜ now ranks ≡ replicate (length (now next)) 0 ⌝ }
     ensures { λ r. ⌜ settledAt r (now (ranks .exit)) ≡ settleFrom (now (authors .entry)) (now (conds .entry)) (now (ends .entry)) (now (code .entry)) (now (direct .entry)) top (length (now (stack .entry))) (now (reach .entry)) (length (now (next .entry))) limit 0 (now (ranks .entry)) ⌝ }
 {
-    let mut n: usize = 0;
-    while n < limit {
-        if advance(
-            authors,
-            conds,
-            ends,
-            code,
-            direct,
-            top,
-            reach,
-            ranks,
-            next,
-            stack,
-        )
-            == 0
-        {
-            return n;
-        }
-        n += 1;
-    }
-    n
+    set_direct(direct, reach, top, next);
+    settle_on(
+        authors,
+        conds,
+        ends,
+        code,
+        top,
+        reach,
+        ranks,
+        next,
+        stack,
+        limit,
+    )
 }

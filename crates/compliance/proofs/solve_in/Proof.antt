@@ -1,4 +1,4 @@
-use Rattle.compliance.specs.Working.Solve.{solved-is}
+use Rattle.compliance.specs.Working.Solve.{blank-ranks, solved-is}
 use borrow.Author.Needs.{needs}
 use Rattle.compliance.proofs.solve_in.Statement.{statement}
 use Rattle.compliance.proofs.solve_in.Tie as tie
@@ -16,7 +16,7 @@ at-least-requires : tie.Need-at-least-requires
 at-least-requires c κs = search needs
 
 settle-requires : tie.Need-settle-requires
-settle-requires c κs = search needs
+settle-requires c κs = search blank-ranks
 
 number-at-requires : tie.Need-number-at-requires
 number-at-requires c κs = search needs

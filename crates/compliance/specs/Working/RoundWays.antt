@@ -7,14 +7,14 @@ use native.Mathlib.Omega.{arith}
 use native.Mathlib.Numerals.{add-one}
 use native.Mathlib.Nat.{sub-zero}
 use lib.Dec.{eqb}
-use lib.ListN.{length, getD, set, take, drop, length-append, drop-of-length-le}
+use lib.ListN.{length, getD, set, take, drop, replicate, length-append, drop-of-length-le}
 use lib.Seq.{drop-cons, set-getD, set-out, set-at, take-suc, take-all, length-take-le, append-snoc, getD-at, drop-length}
 use borrow.Author.Tests.{eq-eqb, ne-eqb}
 use Rattle.text.specs.Choice.{pick}
 use Rattle.compliance.specs.Working.Machine.{worth}
 use Rattle.compliance.specs.Tables.{programOf}
 use Rattle.compliance.specs.Working.Tables.{one-less}
-use Rattle.compliance.specs.Working.Rounds.{grantedOf, raised, directAt, directTable, changesOf, Advanced, Settled, settledAt, relaxedAt, relaxFrom, roundOf, settleFrom}
+use Rattle.compliance.specs.Working.Rounds.{grantedOf, raised, directAt, directTable, changesOf, Advanced, Settled, relaxedAt, relaxFrom, roundOf, settleFrom, roundOn, settleOn}
 
 pub granted-is : (conds ends code : List ℕ) (top depth : ℕ) (ranks : List ℕ) (j : ℕ) (prog : List ℕ) (w c r : ℕ)
     → prog ≡ programOf ends code j → w ≡ worth ranks top depth prog → c ≡ getD conds j 0 → r ≡ min c w → r ≡ grantedOf conds ends code top depth ranks j
@@ -97,12 +97,6 @@ module _ (direct reach : List ℕ) (top i : ℕ) (d next : List ℕ) (inv : next
       let e : i ≡ length d = omega arith in
       inv ∙ rw (e, drop-length d) (append-nil _)
 
-pub round-is : (authors conds ends code direct : List ℕ) (top depth : ℕ) (reach ranks : List ℕ) (n : ℕ) (d z : List ℕ)
-    → d ≡ directTable direct reach top n → z ≡ relaxFrom authors conds ends code top depth reach ranks (length authors) 0 d
-    → z ≡ roundOf authors conds ends code direct top depth reach n ranks
-unfolding roundOf
-round-is authors conds ends code direct top depth reach ranks n d z de ze = ze ∙ rw de
-
 -- ---- adopt: a becomes b, and the changes are counted
 
 unfoldable pub changesFrom : List ℕ → List ℕ → ℕ → ℕ → ℕ
@@ -146,30 +140,17 @@ module _ (a b : List ℕ) (l : length a ≡ length b) (i : ℕ) (r : List ℕ) (
       let u : count + 0 ≡ changesOf a b = rw z at e in
       record { count = omega arith; ranks = inv ∙ rw (z, take-all i b (omega arith)) (append-nil b) }
 
-pub advance-is : (old new z now : List ℕ) (n : ℕ) → z ≡ new → Advanced n now old z → Advanced n now old new
-advance-is old new z now n e a = record { count = a .count ∙ ap (changesOf old) e; ranks = a .ranks ∙ e }
+-- ---- `settle`
 
--- ---- settle
+pub blank-kept : (ranks next d : List ℕ) → ranks ≡ replicate (length next) 0 → length d ≡ length next → ranks ≡ replicate (length d) 0
+blank-kept ranks next d e l = e ∙ rw l
 
-module _ (authors conds ends code direct : List ℕ) (top depth : ℕ) (reach : List ℕ) (n : ℕ) where
-  pub settle-start : (limit : ℕ) (ranks : List ℕ) → settleFrom authors conds ends code direct top depth reach n (limit - 0) 0 ranks ≡ settleFrom authors conds ends code direct top depth reach n limit 0 ranks
-  settle-start limit ranks = rw sub-zero
+settle-tables : (authors conds ends code direct : List ℕ) (top depth : ℕ) (reach : List ℕ) (n k m : ℕ) (ranks : List ℕ)
+    → settleOn authors conds ends code top depth reach (directTable direct reach top n) k m ranks ≡ settleFrom authors conds ends code direct top depth reach n k m ranks
+unfolding settleOn settleFrom roundOn roundOf
+settle-tables authors conds ends code direct top depth reach n zero m ranks = refl
+settle-tables authors conds ends code direct top depth reach n (suc k) m ranks = rw (settle-tables authors conds ends code direct top depth reach n k (suc m) (roundOf authors conds ends code direct top depth reach n ranks))
 
-  module _ (limit m : ℕ) (ranks : List ℕ) (a : Settled) (inv : settleFrom authors conds ends code direct top depth reach n (limit - m) m ranks ≡ a) where
-    pub settle-end : limit ≤ m → settledAt m ranks ≡ a
-    unfolding settleFrom
-    settle-end h = let z : limit - m ≡ 0 = omega arith in rw z at inv
-
-    module _ (h : m < limit) (st w : ℕ) (se : st ≡ depth) (we : w ≡ n) (c : ℕ) (y : List ℕ)
-        (adv : Advanced c y ranks (roundOf authors conds ends code direct top st reach w ranks)) where
-      pub settle-stop : c ≡ 0 → settledAt m y ≡ a
-      unfolding settleFrom
-      settle-stop q =
-          let t : eqb (changesOf ranks (roundOf authors conds ends code direct top depth reach n ranks)) 0 ≡ true = eq-eqb (changesOf ranks (roundOf authors conds ends code direct top depth reach n ranks)) 0 (rw (← se, ← we) (sym (adv .count) ∙ q)) in
-          rw (adv .ranks, se, we) (rw (one-less limit m h, t) at inv)
-
-      pub settle-more : (c ≡ 0 → ⊥) → settleFrom authors conds ends code direct top depth reach n (limit - (m + 1)) (m + 1) y ≡ a
-      unfolding settleFrom
-      settle-more q =
-          let t : eqb (changesOf ranks (roundOf authors conds ends code direct top depth reach n ranks)) 0 ≡ false = ne-eqb (changesOf ranks (roundOf authors conds ends code direct top depth reach n ranks)) 0 (λ e. q (adv .count ∙ rw (se, we) e)) in
-          rw (adv .ranks, se, we, add-one m) (rw (one-less limit m h, t, add-one m) at inv)
+pub settle-is : (authors conds ends code direct : List ℕ) (top depth : ℕ) (reach : List ℕ) (n k : ℕ) (ranks d : List ℕ) → d ≡ directTable direct reach top n
+    → (s : Settled) → s ≡ settleOn authors conds ends code top depth reach d k 0 ranks → s ≡ settleFrom authors conds ends code direct top depth reach n k 0 ranks
+settle-is authors conds ends code direct top depth reach n k ranks d de s se = (rw de at se) ∙ settle-tables authors conds ends code direct top depth reach n k 0 ranks

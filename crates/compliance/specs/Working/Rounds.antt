@@ -61,3 +61,13 @@ module _ (authors conds ends code : List ℕ) where
   settleFrom direct top depth reach n (suc k) m ranks =
       pick (eqb (changesOf ranks (roundOf direct top depth reach n ranks)) 0) (settledAt m (roundOf direct top depth reach n ranks))
       (settleFrom direct top depth reach n k (suc m) (roundOf direct top depth reach n ranks))
+
+  -- the round after `ranks` from a table of direct ranks on, and at most k rounds more
+  unfoldable pub roundOn : ℕ → ℕ → List ℕ → List ℕ → List ℕ → List ℕ
+  roundOn top depth reach d ranks = relaxFrom top depth reach ranks (length authors) 0 d
+
+  unfoldable pub settleOn : ℕ → ℕ → List ℕ → List ℕ → ℕ → ℕ → List ℕ → Settled
+  settleOn top depth reach d zero m ranks = settledAt m ranks
+  settleOn top depth reach d (suc k) m ranks =
+      pick (eqb (changesOf ranks (roundOn top depth reach d ranks)) 0) (settledAt m (roundOn top depth reach d ranks))
+      (settleOn top depth reach d k (suc m) (roundOn top depth reach d ranks))

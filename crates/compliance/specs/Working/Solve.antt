@@ -45,9 +45,11 @@ solutionOf authors conds ends code direct top =
 pub record Blank (m n : ℕ) (ranks next reach done : List ℕ) : Type 0 where
   pub noRanks : ranks ≡ blank n
   pub nextLong : length next ≡ n
-  pub paired : length ranks ≡ length next
   pub noReach : reach ≡ blank n
   pub noneDone : done ≡ blank m
+
+pub blank-ranks : (m n : ℕ) (ranks next reach done : List ℕ) → Blank m n ranks next reach done → ranks ≡ replicate (length next) 0
+blank-ranks m n ranks next reach done b = b .noRanks ∙ rw (b .nextLong)
 
 take-blank : (n k : ℕ) → n ≤ k → take n (blank k) ≡ blank n
 take-blank zero k h = refl
@@ -63,7 +65,6 @@ module _ (k n : ℕ) (h : n ≤ k) where
   part-blank j m i = record {
     noRanks = take-blank n k h;
     nextLong = sym part-long;
-    paired = refl;
     noReach = take-blank n k h;
     noneDone = take-blank m j i;
   }
