@@ -120,7 +120,12 @@ fn prefixed(
     let n = token_at(s, kind::IN_FIELD, t.end);
     let l = operand_level(op);
     let w = operand_want(op, want);
-    match expression(s, code, top, l, w, row + 1, nest, n, d - 1) {
+    let first = Token {
+        kind: n.kind,
+        start: n.start,
+        end: n.end,
+    };
+    match expression(s, code, top, l, w, row + 1, nest, first, d - 1) {
         Out::Aside { reason, at } => Out::Aside { reason, at },
         Out::Found {
             sort,
@@ -157,7 +162,12 @@ fn bracketed(
     }
     let n = token_at(s, kind::IN_FIELD, t.end);
     let l = inside_level(want);
-    match expression(s, code, top, l, want, 0, nest + 1, n, d - 1) {
+    let first = Token {
+        kind: n.kind,
+        start: n.start,
+        end: n.end,
+    };
+    match expression(s, code, top, l, want, 0, nest + 1, first, d - 1) {
         Out::Aside { reason, at } => Out::Aside { reason, at },
         Out::Found {
             sort,

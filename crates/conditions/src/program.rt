@@ -33,7 +33,12 @@ fn clause(s: &[u8], code: &mut [u32], top: usize, nest: usize, t: Token, d: usiz
             at: t.start,
         };
     }
-    match expression(s, code, top, 0, ANY, 0, nest, t, d - 1) {
+    let first = Token {
+        kind: t.kind,
+        start: t.start,
+        end: t.end,
+    };
+    match expression(s, code, top, 0, ANY, 0, nest, first, d - 1) {
         Out::Aside { reason, at } => Out::Aside { reason, at },
         Out::Found {
             sort,
@@ -87,7 +92,12 @@ fn value(s: &[u8], code: &mut [u32], top: usize, nest: usize, t: Token, d: usize
     if t.kind == kind::OPEN_BRACE {
         return nested(s, code, top, nest, t, d - 1);
     }
-    match expression(s, code, top, 3, TEXT, 0, nest, t, d - 1) {
+    let first = Token {
+        kind: t.kind,
+        start: t.start,
+        end: t.end,
+    };
+    match expression(s, code, top, 3, TEXT, 0, nest, first, d - 1) {
         Out::Aside { reason, at } => Out::Aside { reason, at },
         Out::Found {
             sort,
