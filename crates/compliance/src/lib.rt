@@ -23,6 +23,9 @@ pub const PRINCIPALS: usize = 1
     + MOST_ASSERTIONS
     + MOST_ASSERTIONS * MOST_LICENSEES;
 
+// Most queries have no more.
+const FEW: usize = 64;
+
 // The rank of POLICY, the rounds that changed a rank in the reach, and how many principals are in it.
 pub struct Solution {
     pub rank: u8,
@@ -70,6 +73,74 @@ fn solve_in(
     }
 }
 
+// The answer, worked out in tables for all the principals that there may be.
+fn solve_many(
+    authors: &[u16],
+    conds: &[u8],
+    ends: &[u16],
+    code: &[u16],
+    direct: &[u8],
+    top: u8,
+) -> Solution
+    requires { ⌜ (length (now authors) ≤ 32) × (length (now direct) ≤ 553) ⌝ }
+    ensures { λ r. ⌜ r ≡ solvedBy (now (authors .entry)) (now (conds .entry)) (now (ends .entry)) (now (code .entry)) (now (direct .entry)) top 16 ⌝ }
+{
+    let n = direct.len();
+    let m = authors.len();
+    let mut ranks = [0u8; PRINCIPALS];
+    let mut next = [0u8; PRINCIPALS];
+    let mut reach = [0u8; PRINCIPALS];
+    let mut done = [0u8; MOST_ASSERTIONS];
+    let mut stack = [0u8; MOST_LICENSEES];
+    solve_in(
+        authors,
+        conds,
+        ends,
+        code,
+        direct,
+        top,
+        &mut ranks[..n],
+        &mut next[..n],
+        &mut reach[..n],
+        &mut done[..m],
+        &mut stack,
+    )
+}
+
+// The same in tables for few principals.
+fn solve_few(
+    authors: &[u16],
+    conds: &[u8],
+    ends: &[u16],
+    code: &[u16],
+    direct: &[u8],
+    top: u8,
+) -> Solution
+    requires { ⌜ (length (now authors) ≤ 32) × (length (now direct) ≤ 64) ⌝ }
+    ensures { λ r. ⌜ r ≡ solvedBy (now (authors .entry)) (now (conds .entry)) (now (ends .entry)) (now (code .entry)) (now (direct .entry)) top 16 ⌝ }
+{
+    let n = direct.len();
+    let m = authors.len();
+    let mut ranks = [0u8; FEW];
+    let mut next = [0u8; FEW];
+    let mut reach = [0u8; FEW];
+    let mut done = [0u8; MOST_ASSERTIONS];
+    let mut stack = [0u8; MOST_LICENSEES];
+    solve_in(
+        authors,
+        conds,
+        ends,
+        code,
+        direct,
+        top,
+        &mut ranks[..n],
+        &mut next[..n],
+        &mut reach[..n],
+        &mut done[..m],
+        &mut stack,
+    )
+}
+
 // The rank of POLICY in the least solution, with the rounds that it took and the number of principals reached.
 // authors: the authorizer of each assertion. conds: the rank of its conditions. ends: where its program ends in code, and the next
 // begins. code: its licensees as a program (see `machine`). direct: for each principal, 1 if it is a requester. top: the highest rank.
@@ -101,22 +172,8 @@ pub fn solve(
             reached: 0,
         };
     }
-    let mut ranks = [0u8; PRINCIPALS];
-    let mut next = [0u8; PRINCIPALS];
-    let mut reach = [0u8; PRINCIPALS];
-    let mut done = [0u8; MOST_ASSERTIONS];
-    let mut stack = [0u8; MOST_LICENSEES];
-    solve_in(
-        authors,
-        conds,
-        ends,
-        code,
-        direct,
-        top,
-        &mut ranks[..n],
-        &mut next[..n],
-        &mut reach[..n],
-        &mut done[..m],
-        &mut stack,
-    )
+    if n <= FEW {
+        return solve_few(authors, conds, ends, code, direct, top);
+    }
+    solve_many(authors, conds, ends, code, direct, top)
 }

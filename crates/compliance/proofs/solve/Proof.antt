@@ -1,12 +1,11 @@
-use Rattle.limits.specs.Limits.{mostAssertions}
-use Rattle.compliance.specs.Limits.{principalsMost}
-use Rattle.compliance.specs.Working.Solve.{solve-wide, solve-long, solve-is, solve-within, part-long, part-blank}
+use Rattle.compliance.specs.Working.Solve.{solve-wide, solve-long, solve-is, solve-within}
 use borrow.Author.Needs.{needs}
 use Rattle.compliance.proofs.solve.Statement.{statement}
 use Rattle.compliance.proofs.solve.Tie as tie
 use Rattle.compliance.proofs.solve.Reads as reads
 use Rattle.compliance.proofs.solve.Lts as lts
-use Rattle.compliance.proofs.solve_in.Reads as solve-in-reads
+use Rattle.compliance.proofs.solve_few.Reads as solve-few-reads
+use Rattle.compliance.proofs.solve_many.Reads as solve-many-reads
 
 returns : tie.Need-returns
 returns c = (search solve-wide, search needs)
@@ -14,53 +13,19 @@ returns c = (search solve-wide, search needs)
 returns-2 : tie.Need-returns-2
 returns-2 c = (search solve-long, search needs)
 
-array-borrow-prefix-ranks : tie.Need-array-borrow-prefix-ranks
-array-borrow-prefix-ranks c = search needs
-
-slice-aggregate-solve-in : tie.Need-slice-aggregate-solve-in
-slice-aggregate-solve-in c = part-long principalsMost _ (search needs)
-
-array-borrow-prefix-next : tie.Need-array-borrow-prefix-next
-array-borrow-prefix-next c = search needs
-
-slice-aggregate-solve-in-2 : tie.Need-slice-aggregate-solve-in-2
-slice-aggregate-solve-in-2 c = part-long principalsMost _ (search needs)
-
-array-borrow-prefix-reach : tie.Need-array-borrow-prefix-reach
-array-borrow-prefix-reach c = search needs
-
-slice-aggregate-solve-in-3 : tie.Need-slice-aggregate-solve-in-3
-slice-aggregate-solve-in-3 c = part-long principalsMost _ (search needs)
-
-array-borrow-prefix-done : tie.Need-array-borrow-prefix-done
-array-borrow-prefix-done c = search needs
-
-slice-aggregate-solve-in-4 : tie.Need-slice-aggregate-solve-in-4
-slice-aggregate-solve-in-4 c = part-long mostAssertions _ (search needs)
-
-slice-aggregate-solve-in-5 : tie.Need-slice-aggregate-solve-in-5
-slice-aggregate-solve-in-5 c = search needs
-
-solve-in-requires : tie.Need-solve-in-requires
-solve-in-requires c κs = part-blank principalsMost _ (search needs) mostAssertions _ (search needs)
+solve-few-requires : tie.Need-solve-few-requires
+solve-few-requires c κs = search needs
 
 returns-3 : tie.Need-returns-3
 returns-3 c = (search solve-is, search solve-within)
 
+solve-many-requires : tie.Need-solve-many-requires
+solve-many-requires c κs = search needs
+
+returns-4 : tie.Need-returns-4
+returns-4 c = (search solve-is, search solve-within)
+
 pub solve-spec : {M : Type 1} → statement M
 solve-spec =
     tie.close
-    (tie.spec
-    returns
-    returns-2
-    array-borrow-prefix-ranks
-    slice-aggregate-solve-in
-    array-borrow-prefix-next
-    slice-aggregate-solve-in-2
-    array-borrow-prefix-reach
-    slice-aggregate-solve-in-3
-    array-borrow-prefix-done
-    slice-aggregate-solve-in-4
-    slice-aggregate-solve-in-5
-    solve-in-requires
-    returns-3)
+    (tie.spec returns returns-2 solve-few-requires returns-3 solve-many-requires returns-4)
