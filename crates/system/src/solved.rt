@@ -15,7 +15,7 @@ ghost use lib.ListN.{take};
 ghost use Prim.Native.Nat.{_-_, _%_};
 ghost use Rattle.text.specs.Copy.{copied, copyAt};
 ghost use Rattle.system.specs.Working.Each.{fixed};
-ghost use Rattle.system.specs.Working.Solving.{solvedBy, rowsGive, grownIn, filledIn, solvedIn};
+ghost use Rattle.system.specs.Working.Solving.{solvedBy, rowsGive, grownIn, filledIn, filledLong, solvedIn};
 
 // Tables for most queries: the two joined texts and 16 constants of a text, principals, and their identifiers.
 const SOME_CONSTS: usize = 4096;
@@ -28,6 +28,9 @@ const SOME_POOL: usize = 8192;
 const CONSTS: usize = 11400;
 
 const POOL: usize = 142674;
+
+// Longer records mostly need the larger tables.
+const LONG: usize = 16384;
 
 // The instructions of a field Licensees, for each assertion.
 const CODE: usize = 1536;
@@ -229,6 +232,55 @@ fn fill(
     solve_rows(&authors, &conds, &ends, &code, direct, e, top)
 }
 
+// The same for a long record: into the larger tables at once. A second call of `grown` also has the compiler keep those apart from the small ones.
+fn fill_long(
+    query: &[u8],
+    values: &[usize],
+    names: &[usize],
+    texts: &[usize],
+    start: usize,
+    consts: &[u8],
+    pool: &[u8],
+    places: &[usize],
+    direct: &[u8],
+    index: Index,
+    page: &mut [u8],
+) -> Solution
+    ensures { λ r. ⌜ solvedBy r (now (page .exit)) ≡ filledLong (now (query .entry)) (now (values .entry)) (now (names .entry)) (now (texts .entry)) start (now (consts .entry)) (now (pool .entry)) (now (places .entry)) (now (direct .entry)) index (now (page .entry)) ⌝ }
+{
+    let mut code = [0u16; CODE];
+    let mut authors = [0u16; MOST_ASSERTIONS];
+    let mut conds = [0u8; MOST_ASSERTIONS];
+    let mut ends = [0u16; MOST_ASSERTIONS];
+    let top = top_of(values.len());
+    put_header(page, texts.len());
+    let e = Ends {
+        count: index.count,
+        end: index.end,
+        size: 0,
+        kept: 0,
+    };
+    grown(
+        query,
+        values,
+        names,
+        top,
+        start,
+        texts,
+        front_bytes(consts, start),
+        front_bytes(pool, e.end),
+        front_places(places, e.count),
+        &mut code,
+        direct,
+        &mut authors,
+        &mut conds,
+        &mut ends,
+        page,
+        0,
+        e,
+    )
+}
+
 // The query whose items are at those places of its record: its class, and the report on the page.
 pub fn solved(
     query: &[u8],
@@ -254,6 +306,21 @@ pub fn solved(
         &mut direct,
         alone,
     );
+    if LONG < query.len() {
+        return fill_long(
+            query,
+            values,
+            names,
+            texts,
+            start,
+            &consts,
+            &pool,
+            &places,
+            &direct,
+            index,
+            page,
+        );
+    }
     fill(
         query,
         values,

@@ -37,7 +37,7 @@ use Rattle.assertion.specs.Theorems.Ready.{Ready, ReadAs}
 use Rattle.assertion.specs.Theorems.Reads.{read-as}
 use Rattle.system.specs.Working.Noting.{endsOf, headerInto}
 use Rattle.system.specs.Working.Each.{Fixed, fixed, Store, store, oneIn, Each, eachBy, onOne, full, fullAt, Went, wentBy, eachFrom}
-use Rattle.system.specs.Working.Solving.{Solved, solvedBy, topOf, rowsGive, onWent, grownIn, onStretch, filledIn}
+use Rattle.system.specs.Working.Solving.{Solved, solvedBy, topOf, rowsGive, onWent, grownIn, onStretch, filledIn, filledLong}
 use Rattle.system.specs.declared.asked.Index.{Index}
 use Rattle.system.specs.declared.note.Ends.{Ends}
 use Rattle.keynote.specs.Answer.{ranked, reading, readings, keptOf, system, classOf, roundsOf, reachedOf}
@@ -268,34 +268,59 @@ top-same q values e h = omega (arith, e, h)
 
 module _ (s : List ℕ) (q : Query) (page : List ℕ) (start : ℕ) (consts : List ℕ) (x : Index) (pool places direct : List ℕ) (st : Started s q start consts x pool places direct)
     (values names texts : List ℕ) where
-  filled-from : Lie (StringAt s) values (q .values) → Lie (AttributeAt s) names (q .attributes) → Lie (AssertionAt s) texts (q .assertions) → All SuppliedOk [] (q .assertions)
-      → AllSmall (map reading (q .assertions)) → length (q .values) ≤ 256 → length (q .assertions) ≤ 32 → 3 + 3 * length (q .assertions) ≤ length page
-      → filledIn s values names texts start consts pool places direct x page
-      ≡ solvedBy (record { rank = classOf q; rounds = roundsOf q; reached = reachedOf q }) (report (readings q) ++ drop (needed q) page)
-  unfolding filledIn classOf roundsOf reachedOf system readings
-  filled-from vl nl tl oks smalls low few room =
-      let n : length texts ≡ length (q .assertions) = lie-length tl in
-      let te : topOf values ≡ top (q .values) = top-same q values (lie-length vl) low in
-      let fit : Fit s q values names start (topOf values) page (length (q .assertions)) = record {
-        values-lie = vl;
-        names-lie = nl;
-        start-low = st .start-low;
-        values-short = st .values-short;
-        requesters-short = st .requesters-short;
-        few = low;
-        top-is = te;
-        at-most = few;
-        room = room;
-      } in
-      let made : Made small q start direct [] 0 (endsOf (x .count) (x .end) 0 0) (store consts pool places (replicate 1536 0)) (replicate 32 0) (replicate 32 0) (replicate 32 0)
-      = start-made s q start consts x pool places direct st (replicate 1536 0) (replicate 32 0) (replicate 32 0) (replicate 32 0)
-      (length-replicate {A = ℕ} 1536 0) (length-replicate {A = ℕ} 32 0) (length-replicate {A = ℕ} 32 0) (length-replicate {A = ℕ} 32 0) in
-      let begin : Reached small q start direct page [] 0 (1 ∷ pairBytes (3 * length texts))
-      (eachBy (endsOf (x .count) (x .end) 0 0) (store consts pool places (replicate 1536 0)) (replicate 32 0) (replicate 32 0) (replicate 32 0) (headerInto page (length texts)))
-      = reached-at (endsOf (x .count) (x .end) 0 0) (store consts pool places (replicate 1536 0)) (replicate 32 0) (replicate 32 0) (replicate 32 0) (headerInto page (length texts))
-      made (front-start (3 * length texts)) (header-is page (length texts) (omega (arith, room)) (omega (arith, n, few))) in
-      each-small direct fit texts tl oks smalls [] 0 (1 ∷ pairBytes (3 * length texts)) _ (omega arith) (omega (arith, n)) refl begin
-      ∙ ap (solvedBy (record { rank = rank (system q) policy; rounds = rounds (system q); reached = reached (system q) })) (page-end q (length texts) page n)
+  module _ (vl : Lie (StringAt s) values (q .values)) (nl : Lie (AttributeAt s) names (q .attributes)) (tl : Lie (AssertionAt s) texts (q .assertions))
+      (oks : All SuppliedOk [] (q .assertions)) (smalls : AllSmall (map reading (q .assertions))) (low : length (q .values) ≤ 256) (few : length (q .assertions) ≤ 32)
+      (room : 3 + 3 * length (q .assertions) ≤ length page) where
+    n : length texts ≡ length (q .assertions)
+    n = lie-length tl
+
+    te : topOf values ≡ top (q .values)
+    te = top-same q values (lie-length vl) low
+
+    fit : Fit s q values names start (topOf values) page (length (q .assertions))
+    fit = record {
+      values-lie = vl;
+      names-lie = nl;
+      start-low = st .start-low;
+      values-short = st .values-short;
+      requesters-short = st .requesters-short;
+      few = low;
+      top-is = te;
+      at-most = few;
+      room = room;
+    }
+
+    made : Made small q start direct [] 0 (endsOf (x .count) (x .end) 0 0) (store consts pool places (replicate 1536 0)) (replicate 32 0) (replicate 32 0) (replicate 32 0)
+    made = start-made s q start consts x pool places direct st (replicate 1536 0) (replicate 32 0) (replicate 32 0) (replicate 32 0)
+        (length-replicate {A = ℕ} 1536 0) (length-replicate {A = ℕ} 32 0) (length-replicate {A = ℕ} 32 0) (length-replicate {A = ℕ} 32 0)
+
+    head-is : headerInto page (length texts) ≡ (1 ∷ pairBytes (3 * length texts)) ++ drop 3 page
+    head-is = header-is page (length texts) (omega (arith, room)) (omega (arith, n, few))
+
+    page-is : _≡_ {A = Solved} (gives q (map (ranked q) (keptOf (map reading (q .assertions)))) (((1 ∷ pairBytes (3 * length texts)) ++ entriesBytes (map reading (q .assertions))) ++ drop (3 + 3 * (0 + length (q .assertions))) page))
+        (solvedBy (record { rank = classOf q; rounds = roundsOf q; reached = reachedOf q }) (report (readings q) ++ drop (needed q) page))
+    unfolding classOf roundsOf reachedOf system readings
+    page-is = ap (solvedBy (record { rank = rank (system q) policy; rounds = rounds (system q); reached = reached (system q) })) (page-end q (length texts) page n)
+
+    -- in small tables first
+    filled-from : filledIn s values names texts start consts pool places direct x page
+        ≡ solvedBy (record { rank = classOf q; rounds = roundsOf q; reached = reachedOf q }) (report (readings q) ++ drop (needed q) page)
+    unfolding filledIn
+    filled-from =
+        each-small direct fit texts tl oks smalls [] 0 (1 ∷ pairBytes (3 * length texts)) _ (omega arith) (omega (arith, n)) refl
+        (reached-at (endsOf (x .count) (x .end) 0 0) (store consts pool places (replicate 1536 0)) (replicate 32 0) (replicate 32 0) (replicate 32 0) (headerInto page (length texts))
+        made (front-start (3 * length texts)) head-is)
+        ∙ page-is
+
+    -- in large tables at once
+    long-from : filledLong s values names texts start consts pool places direct x page
+        ≡ solvedBy (record { rank = classOf q; rounds = roundsOf q; reached = reachedOf q }) (report (readings q) ++ drop (needed q) page)
+    unfolding filledLong grownIn
+    long-from =
+        solved-ended (topOf values) te (each-large direct fit tl oks smalls [] 0 (1 ∷ pairBytes (3 * length texts)) _ (omega arith)
+        (reached-at (endsOf (x .count) (x .end) 0 0) _ (replicate 32 0) (replicate 32 0) (replicate 32 0) (headerInto page (length texts))
+        (made-larger made (st .start-low) (omega arith)) (front-start (3 * length texts)) head-is))
+        ∙ page-is
 
 small-readings : (s : List ℕ) (q : Query) → Bytes s → readRecord s ≡ accepted q → AllSmall (map reading (q .assertions))
 unfolding readings
@@ -305,15 +330,27 @@ page-room : (q : Query) (page : List ℕ) → needed q ≤ length page → 3 + 3
 unfolding needed reportSize
 page-room q page h = h
 
--- The tables that are filled with the assertions of an accepted query give its answer, and the page its report.
-pub filled-is : (s : List ℕ) (q : Query) → Bytes s → readRecord s ≡ accepted q → (page : List ℕ) → needed q ≤ length page
-    → (start : ℕ) (consts : List ℕ) (x : Index) (pool places direct : List ℕ) → Started s q start consts x pool places direct
-    → filledIn s (placesFrom stringSize 2 2 (q .values)) (placesFrom attributeSize 2 (attributesStart q) (q .attributes)) (placesFrom assertionSize 3 (assertionsStart q) (q .assertions))
-    start consts pool places direct x page
-    ≡ solvedBy (record { rank = classOf q; rounds = roundsOf q; reached = reachedOf q }) (report (readings q) ++ drop (needed q) page)
-filled-is s q b e page room start consts x pool places direct st =
-    let v : Valid q = read-back s b q e .0 in
-    let lies : Lies s q = read-lies s q e in
-    filled-from s q page start consts x pool places direct st (placesFrom stringSize 2 2 (q .values)) (placesFrom attributeSize 2 (attributesStart q) (q .attributes))
-    (placesFrom assertionSize 3 (assertionsStart q) (q .assertions)) (lies .values) (lies .attributes) (lies .assertions) (v .assertions .1)
-    (small-readings s q b e) (omega (arith, v .values .0 .1)) (v .assertions .0 .1) (page-room q page room)
+-- The tables that are filled with the assertions of an accepted query give its answer, and the page its report: small ones first, or large ones at once.
+module _ (s : List ℕ) (q : Query) (b : Bytes s) (e : readRecord s ≡ accepted q) (page : List ℕ) (room : needed q ≤ length page)
+    (start : ℕ) (consts : List ℕ) (x : Index) (pool places direct : List ℕ) (st : Started s q start consts x pool places direct) where
+  valid : Valid q
+  valid = read-back s b q e .0
+
+  lies : Lies s q
+  lies = read-lies s q e
+
+  pub filled-is : filledIn s (placesFrom stringSize 2 2 (q .values)) (placesFrom attributeSize 2 (attributesStart q) (q .attributes)) (placesFrom assertionSize 3 (assertionsStart q) (q .assertions))
+      start consts pool places direct x page
+      ≡ solvedBy (record { rank = classOf q; rounds = roundsOf q; reached = reachedOf q }) (report (readings q) ++ drop (needed q) page)
+  filled-is =
+      filled-from s q page start consts x pool places direct st (placesFrom stringSize 2 2 (q .values)) (placesFrom attributeSize 2 (attributesStart q) (q .attributes))
+      (placesFrom assertionSize 3 (assertionsStart q) (q .assertions)) (lies .values) (lies .attributes) (lies .assertions) (valid .assertions .1)
+      (small-readings s q b e) (omega (arith, valid .values .0 .1)) (valid .assertions .0 .1) (page-room q page room)
+
+  pub long-is : filledLong s (placesFrom stringSize 2 2 (q .values)) (placesFrom attributeSize 2 (attributesStart q) (q .attributes)) (placesFrom assertionSize 3 (assertionsStart q) (q .assertions))
+      start consts pool places direct x page
+      ≡ solvedBy (record { rank = classOf q; rounds = roundsOf q; reached = reachedOf q }) (report (readings q) ++ drop (needed q) page)
+  long-is =
+      long-from s q page start consts x pool places direct st (placesFrom stringSize 2 2 (q .values)) (placesFrom attributeSize 2 (attributesStart q) (q .attributes))
+      (placesFrom assertionSize 3 (assertionsStart q) (q .assertions)) (lies .values) (lies .attributes) (lies .assertions) (valid .assertions .1)
+      (small-readings s q b e) (omega (arith, valid .values .0 .1)) (valid .assertions .0 .1) (page-room q page room)

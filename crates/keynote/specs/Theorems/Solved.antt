@@ -3,9 +3,11 @@ use mathlib.Core.Path.{_≡_, refl, _∙_}
 use mathlib.Core.List.{List, [], _++_}
 use Prim.Native.Nat.{ℕ, _+_, _≤_}
 use native.Mathlib.Omega.{arith}
+use lib.Dec.{ltb}
 use lib.ListN.{length, take, drop, replicate, length-replicate}
 use Rattle.text.specs.CopyLaws.{put-length}
 use Rattle.text.specs.Copy.{put}
+use Rattle.text.specs.Choice.{split}
 use Rattle.text.specs.Join.{joined}
 use Rattle.record.specs.Query.{Query}
 use Rattle.record.specs.Encode.{stringBytes}
@@ -21,11 +23,11 @@ use Rattle.constants.specs.Theorems.Begun.{begun-is}
 use Rattle.expression.specs.Conditions.{top}
 use Rattle.system.specs.declared.asked.Index.{Index}
 use Rattle.system.specs.Working.Asking.{Asked, Begun, begun}
-use Rattle.system.specs.Working.Solving.{Solved, solvedBy, filledIn, onAsked, onBegun, onWritten, solvedIn}
+use Rattle.system.specs.Working.Solving.{Solved, solvedBy, filledIn, filledLong, onAsked, onBegun, onWritten, solvedIn}
 use Rattle.keynote.specs.Answer.{readings, classOf, roundsOf, reachedOf}
 use Rattle.keynote.specs.Report.{report}
 use Rattle.keynote.specs.Outcome.{needed}
-use Rattle.keynote.specs.Theorems.Filled.{filled-is}
+use Rattle.keynote.specs.Theorems.Filled.{long-is, filled-is}
 use Rattle.keynote.specs.Theorems.Started.{startNames, Started}
 use Rattle.keynote.specs.Theorems.Marked.{Stage, Staged, staged, all-staged}
 use Rattle.keynote.specs.Theorems.Starting.{lie-strings, values-joined, requesters-joined, string-length, beginning, begun-fits, Rooted, rooted, begin-rooted}
@@ -51,7 +53,8 @@ solvedAs q page = solvedBy (record { rank = classOf q; rounds = roundsOf q; reac
 abbrev pub Filled : List ℕ → Query → List ℕ → Type 0
 Filled s q page =
     (start : ℕ) (consts : List ℕ) (x : Index) (pool places direct : List ℕ) → Started s q start consts x pool places direct
-    → filledIn s (valuesAt q) (attributesAt q) (assertionsAt q) start consts pool places direct x page ≡ solvedAs q page
+    → (filledLong s (valuesAt q) (attributesAt q) (assertionsAt q) start consts pool places direct x page ≡ solvedAs q page)
+    × (filledIn s (valuesAt q) (attributesAt q) (assertionsAt q) start consts pool places direct x page ≡ solvedAs q page)
 
 -- the buffer of constants as begun
 pub data Opened (q : Query) : Written → Type 0 where
@@ -103,7 +106,9 @@ module _ (s : List ℕ) (q : Query) (b : Bytes s) (e : readRecord s ≡ accepted
       (low : start ≤ 3100) (long : length consts ≡ 4096) where
     on-asked : {a : Asked} → Staged (q .requesters) (top (q .values)) (q .requesters) (startNames q) a
         → onAsked s (valuesAt q) (attributesAt q) (assertionsAt q) start consts page a ≡ solvedAs q page
-    on-asked (staged x pool places direct st) = filled start consts x pool places direct (started-is s q valid start consts begins low long x pool places direct st)
+    on-asked (staged x pool places direct st) =
+        let both = filled start consts x pool places direct (started-is s q valid start consts begins low long x pool places direct st) in
+        split (ltb 16384 (length s)) (λ h. rw h (both .0)) (λ h. rw h (both .1))
 
     on-begun : {k : Begun} → Rooted (q .requesters) (top (q .values)) (replicate 553 0) k
         → onBegun s (valuesAt q) (requestersAt q) (attributesAt q) (assertionsAt q) start consts page k ≡ solvedAs q page
@@ -123,4 +128,4 @@ module _ (s : List ℕ) (q : Query) (b : Bytes s) (e : readRecord s ≡ accepted
 -- an accepted query solved by the tables is what the definition answers
 pub solved-is : (s : List ℕ) (q : Query) → Bytes s → readRecord s ≡ accepted q → (page : List ℕ) → needed q ≤ length page
     → solvedIn s (valuesAt q) (requestersAt q) (attributesAt q) (assertionsAt q) page ≡ solvedAs q page
-solved-is s q b e page h = solved-by s q b e page (λ start consts x pool places direct st. filled-is s q b e page h start consts x pool places direct st)
+solved-is s q b e page h = solved-by s q b e page (λ start consts x pool places direct st. (long-is s q b e page h start consts x pool places direct st, filled-is s q b e page h start consts x pool places direct st))

@@ -64,8 +64,16 @@ filledIn s values names texts start consts pool places direct x page =
     (eachFrom (fixed s values names (topOf values) start) texts 0
     (eachBy (endsOf (x .count) (x .end) 0 0) (store consts pool places (replicate 1536 0)) (replicate 32 0) (replicate 32 0) (replicate 32 0) (headerInto page (length texts))))
 
+-- all of them read into larger tables
+unfoldable pub filledLong : List ℕ → List ℕ → List ℕ → List ℕ → ℕ → List ℕ → List ℕ → List ℕ → List ℕ → Index → List ℕ → Solved
+filledLong s values names texts start consts pool places direct x page =
+    grownIn (fixed s values names (topOf values) start) texts (take start consts) (take (x .end) pool) (take (x .count) places) (replicate 1536 0) direct
+    (replicate 32 0) (replicate 32 0) (replicate 32 0) (headerInto page (length texts)) 0 (endsOf (x .count) (x .end) 0 0)
+
+-- small tables first, but for a long record
 abbrev pub onAsked : List ℕ → List ℕ → List ℕ → List ℕ → ℕ → List ℕ → List ℕ → Asked → Solved
-onAsked s values names texts start consts page (asked x pool places direct) = filledIn s values names texts start consts pool places direct x page
+onAsked s values names texts start consts page (asked x pool places direct) =
+    pick (ltb 16384 (length s)) (filledLong s values names texts start consts pool places direct x page) (filledIn s values names texts start consts pool places direct x page)
 
 abbrev pub onBegun : List ℕ → List ℕ → List ℕ → List ℕ → List ℕ → ℕ → List ℕ → List ℕ → Begun → Solved
 onBegun s values requesters names texts start consts page (begun x pool places) =
@@ -126,11 +134,24 @@ module _ (s values names texts : List ℕ) (start : ℕ) (consts pool places dir
   unfolding filledIn
   fill-rest h old-consts old-pool old-places ce pe le r page′ re = re ∙ rw (← went, lt-ltb _ _ h, te, ce, pe, le)
 
+-- `fill_long`
+pub fill-at-once : (s values names texts : List ℕ) (start : ℕ) (consts pool places direct : List ℕ) (x : Index) (page : List ℕ)
+    → (top : ℕ) → top ≡ (length values - 1) % 256 → (head : List ℕ) → head ≡ headerInto page (length texts)
+    → (old-consts old-pool old-places : List ℕ) → old-consts ≡ take start consts → old-pool ≡ take (x .end) pool → old-places ≡ take (x .count) places
+    → (r : Solved) → r ≡ grownIn (fixed s values names top start) texts old-consts old-pool old-places (replicate 1536 0) direct (replicate 32 0) (replicate 32 0) (replicate 32 0) head 0 (endsOf (x .count) (x .end) 0 0)
+    → r ≡ filledLong s values names texts start consts pool places direct x page
+unfolding filledLong
+fill-at-once s values names texts start consts pool places direct x page top te head he old-consts old-pool old-places ce pe le r re = re ∙ rw (te, he, ce, pe, le)
+
 -- `solved`
-pub solve-is : (s values requesters names texts page : List ℕ) (start : ℕ) (consts : List ℕ)
-    → written start consts ≡ begunInto (replicate 4096 0) (joined (map (counted s) values)) (joined (map (counted s) requesters))
-    → (x : Index) (pool places : List ℕ) → begun x pool places ≡ beginIn (replicate 8192 0) (replicate 128 0)
-    → (y : Index) (pool′ places′ direct : List ℕ) → asked y pool′ places′ direct ≡ allFrom s requesters (asked x pool places (replicate 553 0))
-    → (r : Solved) → r ≡ filledIn s values names texts start consts pool′ places′ direct y page → r ≡ solvedIn s values requesters names texts page
-unfolding solvedIn
-solve-is s values requesters names texts page start consts we x pool places be y pool′ places′ direct ae r re = re ∙ rw (← we, ← be, ← ae)
+module _ (s values requesters names texts page : List ℕ) (start : ℕ) (consts : List ℕ)
+    (we : written start consts ≡ begunInto (replicate 4096 0) (joined (map (counted s) values)) (joined (map (counted s) requesters)))
+    (x : Index) (pool places : List ℕ) (be : begun x pool places ≡ beginIn (replicate 8192 0) (replicate 128 0))
+    (y : Index) (pool′ places′ direct : List ℕ) (ae : asked y pool′ places′ direct ≡ allFrom s requesters (asked x pool places (replicate 553 0))) (r : Solved) where
+  pub solve-long : 16384 < length s → r ≡ filledLong s values names texts start consts pool′ places′ direct y page → r ≡ solvedIn s values requesters names texts page
+  unfolding solvedIn
+  solve-long h re = re ∙ rw (← we, ← be, ← ae, lt-ltb 16384 (length s) h)
+
+  pub solve-is : length s ≤ 16384 → r ≡ filledIn s values names texts start consts pool′ places′ direct y page → r ≡ solvedIn s values requesters names texts page
+  unfolding solvedIn
+  solve-is h re = re ∙ rw (← we, ← be, ← ae, le-ltb 16384 (length s) h)
