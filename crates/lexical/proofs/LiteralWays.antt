@@ -204,6 +204,9 @@ module _ (b : ℕ) where
     pub plain-high : 34 < b → true ≡ plain b
     plain-high h = plain-middle (λ e. let no : ⊥ = omega (arith, h, e) in no) (omega (arith, h))
 
+  pub plain-above : 92 < b → true ≡ plain b
+  plain-above h = plain-high (λ e. let no : ⊥ = omega (arith, h, e) in no) (omega (arith, h))
+
 pub closes-not : (s : List ℕ) (i : ℕ) → length s ≤ i → false ≡ eqb (getD s i 0) 34
 closes-not s i h = rw (List·getD-eq-default s 0 h) refl
 

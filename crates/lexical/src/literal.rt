@@ -24,10 +24,13 @@ fn count(kind: u8) -> usize
     kind as usize
 }
 
-// Does a literal hold this byte as it stands?
+// Does a literal hold this byte as it stands? Small letters are the commonest.
 fn is_plain(b: u8) -> bool
     ensures { λ r. ⌜ r ≡ plain b ⌝ }
 {
+    if b'\\' < b {
+        return true;
+    }
     if b == b'\\' {
         return false;
     }
