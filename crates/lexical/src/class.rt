@@ -286,7 +286,8 @@ const CLASS: [u8; 256] = [
     0,
 ];
 
-fn is_within(lo: u8, hi: u8, b: u8) -> bool
+// Is it one of the bytes from lo to hi?
+pub fn is_within(lo: u8, hi: u8, b: u8) -> bool
     ensures { λ r. ⌜ r ≡ within lo hi b ⌝ }
 {
     if b < lo {
