@@ -212,7 +212,7 @@ closes-not s i h = rw (List·getD-eq-default s 0 h) refl
 
 -- a literal whose plain bytes from i on end at e
 module _ (s : List ℕ) (i e : ℕ) (ee : e ≡ past plain s i) (t : Bool) (te : t ≡ eqb (getD s e 0) 34) where
-  pub end-units : (r : ℕ) → r ≡ literalEnd s e → r ≡ literalEnd s i
+  end-units : (r : ℕ) → r ≡ literalEnd s e → r ≡ literalEnd s i
   end-units r re = re ∙ ap (literalEnd s) ee ∙ sym (end-plain s i)
 
   module _ (h : t ≡ true) where

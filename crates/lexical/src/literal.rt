@@ -50,7 +50,7 @@ fn is_plain(b: u8) -> bool
 }
 
 // The end of the bytes from `from` on that a literal holds as they stand.
-fn plain_end(s: &[u8], from: usize) -> usize
+pub fn plain_end(s: &[u8], from: usize) -> usize
     ensures { λ r. ⌜ r ≡ past plain (now (s .entry)) from ⌝ }
 {
     let mut i = from;
@@ -65,7 +65,7 @@ fn plain_end(s: &[u8], from: usize) -> usize
 }
 
 // Does a quote stand at i?
-fn closes_at(s: &[u8], i: usize) -> bool
+pub fn closes_at(s: &[u8], i: usize) -> bool
     ensures { λ r. ⌜ r ≡ eqb (getD (now (s .entry)) i 0) 34 ⌝ }
 {
     if s.len() <= i {
@@ -75,7 +75,7 @@ fn closes_at(s: &[u8], i: usize) -> bool
 }
 
 // The end of a literal from the unit at `from` on; 0 where it does not close or holds something illegal.
-fn units_end(s: &[u8], from: usize) -> usize
+pub fn units_end(s: &[u8], from: usize) -> usize
     ensures { λ r. ⌜ r ≡ literalEnd (now (s .entry)) from ⌝ }
 {
     let mut i = from;
@@ -90,17 +90,6 @@ fn units_end(s: &[u8], from: usize) -> usize
         i += u.width;
     }
     0
-}
-
-// The end of the literal whose opening quote stands before `from`; 0 where it does not close or holds something illegal.
-pub fn literal_end(s: &[u8], from: usize) -> usize
-    ensures { λ r. ⌜ r ≡ literalEnd (now (s .entry)) from ⌝ }
-{
-    let e = plain_end(s, from);
-    if closes_at(s, e) {
-        return e + 1;
-    }
-    units_end(s, e)
 }
 
 // How many bytes the units of the literal at `start` give.
