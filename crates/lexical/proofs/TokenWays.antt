@@ -11,11 +11,11 @@ use lib.Dec.{eqb, ltb}
 use lib.ListN.{length, getD}
 use borrow.Author.Tests.{lt-ltb, le-leb, lt-leb, eq-eqb, ne-eqb, ltb-true, ltb-false}
 use Rattle.text.specs.Choice.{split, clash}
-use Rattle.text.specs.Scan.{past, past-from, past-alike}
+use Rattle.text.specs.Scan.{past, past-more, past-from, past-alike}
 use Rattle.text.specs.Class.{isWord}
 use Rattle.lexical.specs.Kind
 use Rattle.lexical.specs.Class.{classOf, LETTER, DIGIT, QUOTE}
-use Rattle.lexical.specs.Run.{inRun, WORD, NUMERALS}
+use Rattle.lexical.specs.Run.{inRun, hasClass, WORD, NUMERALS}
 use Rattle.lexical.specs.Runs.{word-same}
 use Rattle.lexical.specs.Operator.{operatorKind}
 use Rattle.lexical.specs.Literal.{literalEnd}
@@ -80,9 +80,26 @@ module _ (s : List ℕ) (mode i b : ℕ) (be : b ≡ getD s (i + 0) 0) (t : Bool
   at-i : b ≡ getD s i 0
   at-i = first-byte s i b be
 
-  pub from-name : (e : ℕ) → t ≡ true → e ≡ past isWord s i → settled s (token Kind.NAME i e) ≡ tokenFrom s mode i
-  unfolding tokenFrom
-  from-name e h ee = settled-other s (token Kind.NAME i e) (λ z. let no : ⊥ = omega (arith, z) in no) ∙ simp (sym at-i, sym te, h, past-alike (inRun WORD) isWord word-same s i, sym ee)
+  module _ (h : t ≡ true) where
+    letter-here : eqb (classOf (getD s i 0)) LETTER ≡ true
+    letter-here = rw (sym at-i) (sym te ∙ h)
+
+    name-within : i < length s
+    unfolding classOf
+    name-within = byte-within s i (λ z. clash letter-here (rw z refl))
+
+    pub name-fits : length s < 2 ^ 64 → Fits w64 (i + 1)
+    name-fits n = let m : i + 1 ≤ length s = omega (arith, name-within) in record { fits = lt-of-le-of-lt m n }
+
+    first-word : inRun WORD (getD s i 0) ≡ true
+    unfolding inRun hasClass
+    first-word = simp letter-here
+
+    pub from-name : (e : ℕ) → e ≡ past isWord s (i + 1) → settled s (token Kind.NAME i e) ≡ tokenFrom s mode i
+    unfolding tokenFrom
+    from-name e ee =
+        let m : past isWord s i ≡ past isWord s (i + 1) = past-more isWord s i name-within (sym (word-same (getD s i 0)) ∙ first-word) in
+        settled-other s (token Kind.NAME i e) (λ z. let no : ⊥ = omega (arith, z) in no) ∙ simp (letter-here, past-alike (inRun WORD) isWord word-same s i, m, sym ee)
 
   module _ (tn : t ≡ false) (u : Bool) (ue : u ≡ eqb (classOf b) DIGIT) where
     pub from-number : (r : Token) → u ≡ true → r ≡ numberToken s i → settled s r ≡ tokenFrom s mode i

@@ -199,7 +199,7 @@ pub fn token_from(s: &[u8], mode: u8, i: usize) -> Token
 {
     let b = byte_at(s, i, 0);
     if begins_name(b) {
-        let e = text::word_end(s, i);
+        let e = text::word_end(s, i + 1);
         return Token {
             kind: kind::NAME,
             start: i,
