@@ -9,12 +9,12 @@ use mir.Syntax.{w64}
 use mir.Val.{Fits}
 use lib.Dec.{eqb, ltb}
 use lib.ListN.{length, getD}
-use borrow.Author.Tests.{lt-ltb, le-leb, lt-leb, eq-eqb, ne-eqb, ltb-true, ltb-false}
+use borrow.Author.Tests.{lt-ltb, le-leb, lt-leb, eq-eqb, ne-eqb, eqb-true, ltb-true, ltb-false}
 use Rattle.text.specs.Choice.{split, clash}
 use Rattle.text.specs.Scan.{past, past-more, past-from, past-alike}
 use Rattle.text.specs.Class.{isWord}
 use Rattle.lexical.specs.Kind
-use Rattle.lexical.specs.Class.{classOf, LETTER, DIGIT, QUOTE}
+use Rattle.lexical.specs.Class.{classOf, LETTER, DIGIT, QUOTE, NUL}
 use Rattle.lexical.specs.Run.{inRun, hasClass, WORD, NUMERALS}
 use Rattle.lexical.specs.Runs.{word-same}
 use Rattle.lexical.specs.Operator.{operatorKind}
@@ -76,32 +76,43 @@ module _ (s : List ℕ) (i b c : ℕ) (be : b ≡ getD s (i + 0) 0) (ce : c ≡ 
       = lone-kind (classOf (getD s i 0)) lone-here mode (getD s (i + 1) 0) (getD s (i + 2) 0) in
       simp (class-passed s i b c ce be, sym k, lone-width (classOf (getD s i 0)) lone-here)
 
+-- a byte of a class below NUL's stands within the text, and begins its run
+module _ (s : List ℕ) (i k : ℕ) (e : classOf (getD s i 0) ≡ k) (l : k < NUL) where
+  first-within : i < length s
+  unfolding classOf
+  first-within = byte-within s i (λ z. let q : NUL ≡ k = rw z at e in let no : ⊥ = omega (arith, l, q) in no)
+
+  first-fits : length s < 2 ^ 64 → Fits w64 (i + 1)
+  first-fits n = let m : i + 1 ≤ length s = omega (arith, first-within) in record { fits = lt-of-le-of-lt m n }
+
+  first-more : (w : ℕ) → inRun w (getD s i 0) ≡ true → past (inRun w) s i ≡ past (inRun w) s (i + 1)
+  first-more w h = past-more (inRun w) s i first-within h
+
 module _ (s : List ℕ) (mode i b : ℕ) (be : b ≡ getD s (i + 0) 0) (t : Bool) (te : t ≡ eqb (classOf b) LETTER) where
   at-i : b ≡ getD s i 0
   at-i = first-byte s i b be
 
   module _ (h : t ≡ true) where
-    letter-here : eqb (classOf (getD s i 0)) LETTER ≡ true
-    letter-here = rw (sym at-i) (sym te ∙ h)
-
-    name-within : i < length s
-    unfolding classOf
-    name-within = byte-within s i (λ z. clash letter-here (rw z refl))
+    letter-here : classOf (getD s i 0) ≡ LETTER
+    letter-here = rw (sym at-i) (eqb-true (classOf b) LETTER (sym te ∙ h))
 
     pub name-fits : length s < 2 ^ 64 → Fits w64 (i + 1)
-    name-fits n = let m : i + 1 ≤ length s = omega (arith, name-within) in record { fits = lt-of-le-of-lt m n }
+    name-fits n = first-fits s i LETTER letter-here (omega arith) n
 
-    first-word : inRun WORD (getD s i 0) ≡ true
+    name-more : past (inRun WORD) s i ≡ past (inRun WORD) s (i + 1)
     unfolding inRun hasClass
-    first-word = simp letter-here
+    name-more = first-more s i LETTER letter-here (omega arith) WORD (simp letter-here)
 
     pub from-name : (e : ℕ) → e ≡ past isWord s (i + 1) → settled s (token Kind.NAME i e) ≡ tokenFrom s mode i
     unfolding tokenFrom
     from-name e ee =
-        let m : past isWord s i ≡ past isWord s (i + 1) = past-more isWord s i name-within (sym (word-same (getD s i 0)) ∙ first-word) in
-        settled-other s (token Kind.NAME i e) (λ z. let no : ⊥ = omega (arith, z) in no) ∙ simp (letter-here, past-alike (inRun WORD) isWord word-same s i, m, sym ee)
+        settled-other s (token Kind.NAME i e) (λ z. let no : ⊥ = omega (arith, z) in no)
+        ∙ simp (letter-here, name-more, past-alike (inRun WORD) isWord word-same s (i + 1), sym ee)
 
   module _ (tn : t ≡ false) (u : Bool) (ue : u ≡ eqb (classOf b) DIGIT) where
+    pub digit-passed : u ≡ true → classOf (getD s i 0) ≡ DIGIT
+    digit-passed h = rw (sym at-i) (eqb-true (classOf b) DIGIT (sym ue ∙ h))
+
     pub from-number : (r : Token) → u ≡ true → r ≡ numberToken s i → settled s r ≡ tokenFrom s mode i
     unfolding tokenFrom
     from-number r h re = settled-other s r (rw re (number-other s i)) ∙ simp (sym at-i, sym te, tn, sym ue, h) re
@@ -147,14 +158,22 @@ module _ (s : List ℕ) (i : ℕ) where
     unfolding literalFrom
     units-closed h = simp (sym ne, ne-eqb _ _ h)
 
-  module _ (e : ℕ) (ee : e ≡ past (inRun NUMERALS) s i) (f : ℕ) (fe : f ≡ floatEnd s e) where
-    pub number-digits : f ≡ e → token Kind.DIGITS i e ≡ numberToken s i
-    unfolding numberToken
-    number-digits h = simp (sym ee, sym fe, eq-eqb _ _ h)
+  module _ (d : classOf (getD s i 0) ≡ DIGIT) where
+    pub number-fits : length s < 2 ^ 64 → Fits w64 (i + 1)
+    number-fits n = first-fits s i DIGIT d (omega arith) n
 
-    pub number-float : (f ≡ e → ⊥) → token Kind.FLOAT i f ≡ numberToken s i
-    unfolding numberToken
-    number-float h = simp (sym ee, sym fe, ne-eqb _ _ h)
+    number-more : past (inRun NUMERALS) s i ≡ past (inRun NUMERALS) s (i + 1)
+    unfolding inRun hasClass
+    number-more = first-more s i DIGIT d (omega arith) NUMERALS (simp d)
+
+    module _ (e : ℕ) (ee : e ≡ past (inRun NUMERALS) s (i + 1)) (f : ℕ) (fe : f ≡ floatEnd s e) where
+      pub number-digits : f ≡ e → token Kind.DIGITS i e ≡ numberToken s i
+      unfolding numberToken
+      number-digits h = simp (number-more, sym ee, sym fe, eq-eqb _ _ h)
+
+      pub number-float : (f ≡ e → ⊥) → token Kind.FLOAT i f ≡ numberToken s i
+      unfolding numberToken
+      number-float h = simp (number-more, sym ee, sym fe, ne-eqb _ _ h)
 
 module _ (s : List ℕ) (e : ℕ) where
   pub float-past : length s ≤ e → e ≡ floatEnd s e

@@ -13,7 +13,7 @@ use crate::scan::byte_at;
 use crate::scan::skip;
 ghost use mathlib.Core.Path.{_≡_};
 ghost use lib.ListN.{getD};
-ghost use Rattle.lexical.specs.Class.{classOf};
+ghost use Rattle.lexical.specs.Class.{classOf, DIGIT};
 ghost use Rattle.lexical.specs.Lone.{lone};
 ghost use Rattle.lexical.specs.Token.{widthOf, operatorAt, operatorToken, literalToken, floatEnd, numberToken, tokenFrom};
 ghost use Rattle.lexical.specs.Working.Open.{literalFrom, settled};
@@ -154,11 +154,12 @@ fn float_end(s: &[u8], e: usize) -> usize
     f
 }
 
-// Digits, or a float literal.
+// Digits, of which the first stands at i, or a float literal.
 fn number_token(s: &[u8], i: usize) -> Token
+    requires { ⌜ classOf (getD (now s) i 0) ≡ DIGIT ⌝ }
     ensures { λ r. ⌜ r ≡ numberToken (now (s .entry)) i ⌝ }
 {
-    let e = skip(s, i, NUMERALS);
+    let e = skip(s, i + 1, NUMERALS);
     let f = float_end(s, e);
     if f == e {
         return Token {

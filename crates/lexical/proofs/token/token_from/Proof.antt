@@ -1,4 +1,4 @@
-use Rattle.lexical.proofs.TokenWays.{class-passed, lone-fits, name-fits, from-name, from-number, from-literal, from-lone, from-operator}
+use Rattle.lexical.proofs.TokenWays.{class-passed, lone-fits, name-fits, from-name, digit-passed, from-number, from-literal, from-lone, from-operator}
 use borrow.Author.Needs.{needs}
 use Rattle.lexical.proofs.token.token_from.Statement.{statement}
 use Rattle.lexical.proofs.token.token_from.Tie as tie
@@ -41,7 +41,7 @@ begins-number-requires c κs = search needs
 
 -- src/token.rt:176:9
 number-token-requires : tie.Need-number-token-requires
-number-token-requires c κs = search needs
+number-token-requires c κs = search digit-passed
 
 -- src/token.rt:176:9
 returns-2 : tie.Need-returns-2
