@@ -347,11 +347,8 @@ pub fn begins_name(b: u8) -> bool
     if b < b'A' {
         return false;
     }
-    if b'z' < b {
-        return false;
-    }
     if b'a' <= b {
-        return true;
+        return b <= b'z';
     }
     if b <= b'Z' {
         return true;
