@@ -80,6 +80,9 @@ pub fn units_end(s: &[u8], from: usize) -> usize
 {
     let mut i = from;
     while i < s.len() {
+        if s[i] == b'"' {
+            return i + 1;
+        }
         let u = unit_at(s, i);
         if u.kind == CLOSES {
             return i + 1;
@@ -102,6 +105,9 @@ fn units_length(s: &[u8], start: usize) -> usize
     let mut i = start + 1;
     let mut n: usize = 0;
     while i < s.len() {
+        if s[i] == b'"' {
+            return n;
+        }
         let u = unit_at(s, i);
         if GIVES < u.kind {
             return n;
@@ -244,6 +250,9 @@ fn write(s: &[u8], from: usize, buf: &mut [u8], at: usize)
     let mut i = from;
     let mut top = at;
     while i < s.len() {
+        if s[i] == b'"' {
+            return;
+        }
         let u = unit_at(s, i);
         if GIVES < u.kind {
             return;
