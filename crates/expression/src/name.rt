@@ -2,6 +2,7 @@
 ghost use mathlib.Core.Path.{_≡_};
 ghost use mathlib.Core.List.{[], map};
 ghost use Prim.Native.Nat.{_+_, _-_};
+ghost use lib.Dec.{eqb};
 ghost use lib.ListN.{length, getD};
 ghost use Rattle.text.specs.Counted.{counted};
 ghost use Rattle.expression.specs.Conditions.{indexFrom};
@@ -73,8 +74,18 @@ fn last<'a>(query: &'a [u8], values: &[usize]) -> &'a [u8]
     string_at(query, values, values.len() - 1)
 }
 
+// Does it begin as the reserved names do?
+fn is_marked(name: &[u8]) -> bool
+    ensures { λ r. ⌜ r ≡ eqb (getD (now (name .entry)) 0 0) 95 ⌝ }
+{
+    if name.len() <= 0 {
+        return false;
+    }
+    name[0] == b'_'
+}
+
 // What the query gives a name: the four reserved ones, then its attributes.
-fn from_query<'a>(
+fn from_reserved<'a>(
     query: &'a [u8],
     consts: &'a [u8],
     values: &[usize],
@@ -95,6 +106,22 @@ fn from_query<'a>(
     if text::same_bytes(name, b"_ACTION_AUTHORIZERS") {
         let n = text::counted_at(consts, 2).len();
         return behind(consts, 2, n);
+    }
+    attribute(query, names, name)
+}
+
+// The same; a name that begins otherwise is none of the four.
+fn from_query<'a>(
+    query: &'a [u8],
+    consts: &'a [u8],
+    values: &[usize],
+    names: &[usize],
+    name: &[u8],
+) -> &'a [u8]
+    ensures { λ r. ⌜ now r ≡ queryIn (now (query .entry)) (now (consts .entry)) (now (values .entry)) (now (names .entry)) (now (name .entry)) ⌝ }
+{
+    if is_marked(name) {
+        return from_reserved(query, consts, values, names, name);
     }
     attribute(query, names, name)
 }

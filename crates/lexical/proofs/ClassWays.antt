@@ -3,8 +3,8 @@ use mathlib.Core.Path.{_≡_, refl, sym, ap, _∙_}
 use mathlib.Core.Bool.{Bool, true, false}
 use Prim.Native.Nat.{ℕ, _≤_, _<_}
 use native.Mathlib.Omega.{arith}
-use lib.Dec.{eqb}
-use borrow.Author.Tests.{le-leb, lt-leb, ne-eqb}
+use lib.Dec.{eqb, leb}
+use borrow.Author.Tests.{le-leb, lt-leb, leb-false, ne-eqb}
 use Rattle.lexical.specs.Class.{classOf, or, within, BLANK, NEWLINE, LETTER, DIGIT, QUOTE, HASH}
 use Rattle.lexical.specs.Runs.{blank, letter, numeral, blank-class, letter-class, numeral-class, newline-class, quote-class, hash-class}
 
@@ -82,12 +82,13 @@ module _ (b : ℕ) (h : b < 256) where
     high =
         simp (lt-leb b 122 l, lt-leb b 90 (omega (arith, l)), ne-eqb b 95 (λ z. let no : ⊥ = omega (arith, l, z) in no), le-leb 97 b (omega (arith, l)), le-leb 65 b (omega (arith, l)))
 
-    pub name-high : false ≡ eqb (classOf b) LETTER
-    name-high = has-letter b h false high
+  module _ (l : 97 ≤ b) where
+    small : (r : Bool) → leb b 122 ≡ r → r ≡ letter b
+    small true e = letter-small b true (simp (le-leb _ _ l, e)) refl
+    small false e = high (leb-false b 122 e)
 
-  module _ (l : 97 ≤ b) (u : b ≤ 122) where
-    pub name-small : true ≡ eqb (classOf b) LETTER
-    name-small = has-letter b h true (letter-small b true (simp (le-leb _ _ l, le-leb _ _ u)) refl)
+    pub name-small : leb b 122 ≡ eqb (classOf b) LETTER
+    name-small = has-letter b h (leb b 122) (small (leb b 122) refl)
 
   module _ (m : b < 97) where
     past-small : false ≡ within 97 122 b

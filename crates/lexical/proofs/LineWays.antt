@@ -9,8 +9,8 @@ use mir.Syntax.{w64}
 use mir.Val.{Fits}
 use lib.Dec.{eqb}
 use lib.ListN.{length, getD}
-use borrow.Author.Tests.{le-leb, lt-leb, eq-eqb, ne-eqb}
-use Rattle.text.specs.Choice.{clash}
+use borrow.Author.Tests.{le-leb, lt-leb, eq-eqb, ne-eqb, eqb-true, eqb-false}
+use Rattle.text.specs.Choice.{split, clash}
 use Rattle.text.specs.Loop.{loop-next, loop-done}
 use Rattle.text.specs.Scan.{past}
 use Rattle.lexical.specs.Kind
@@ -22,6 +22,7 @@ use Rattle.lexical.specs.KindLaws.{label-wide}
 use Rattle.lexical.specs.Line.{restOfLine, visible, inLine, blankTo, indented, lineAt, linesFrom, tokenAt}
 use Rattle.lexical.specs.LineLaws.{fine-next, line-fine}
 use Rattle.lexical.specs.declared.token.Token.{Token}
+use Rattle.lexical.specs.Working.Open.{literalFrom, settled, belowOf, settled-other, settled-line, settled-open, literal-other, rest-kept}
 use Rattle.lexical.proofs.TokenWays.{wide-fits}
 
 module _ (s : List ℕ) (i e : ℕ) (ee : e ≡ past (inRun FREE) s i) where
@@ -44,23 +45,26 @@ neither true u h = clash refl h
 neither false u h = (refl, h)
 
 module _ (s : List ℕ) (mode i : ℕ) where
-  pub visible-end : length s ≤ i → endOf s ≡ visible s mode i
-  unfolding visible
+  kept : (r : Token) (j : ℕ) → r ≡ restOfLine s j → settled s r ≡ r
+  kept r j e = rw e (rest-kept s j)
+
+  pub visible-end : length s ≤ i → settled s (endOf s) ≡ visible s mode i
+  unfolding visible settled
   visible-end h = simp (le-leb _ _ h)
 
   module _ (h : i < length s) where
-    pub visible-next : (t : Bool) → t ≡ eqb (classOf (getD s i 0)) NEWLINE → t ≡ true → nextLine (i + 1) ≡ visible s mode i
+    pub visible-next : (t : Bool) → t ≡ eqb (classOf (getD s i 0)) NEWLINE → t ≡ true → settled s (nextLine (i + 1)) ≡ visible s mode i
     unfolding visible
-    visible-next t te e = simp (lt-leb _ _ h, sym te, e)
+    visible-next t te e = settled-line s (nextLine (i + 1)) refl refl ∙ simp (lt-leb _ _ h, sym te, e)
 
     module _ (u : Bool) (ue : u ≡ or (eqb (classOf (getD s i 0)) NEWLINE) (eqb (classOf (getD s i 0)) HASH)) (r : Token) where
-      pub visible-hash : (t : Bool) → t ≡ eqb (classOf (getD s i 0)) NEWLINE → u ≡ true → t ≡ false → r ≡ restOfLine s i → r ≡ visible s mode i
+      pub visible-hash : (t : Bool) → t ≡ eqb (classOf (getD s i 0)) NEWLINE → u ≡ true → t ≡ false → r ≡ restOfLine s i → settled s r ≡ visible s mode i
       unfolding visible
       visible-hash t te e n re =
           let k : u ≡ eqb (classOf (getD s i 0)) HASH = rw (sym te, n) at ue in
-          simp (lt-leb _ _ h, sym te, n, sym k, e) re
+          kept r i re ∙ simp (lt-leb _ _ h, sym te, n, sym k, e) re
 
-      pub visible-token : u ≡ false → r ≡ tokenFrom s mode i → r ≡ visible s mode i
+      pub visible-token : u ≡ false → settled s r ≡ tokenFrom s mode i → settled s r ≡ visible s mode i
       unfolding visible
       visible-token e re =
           let k : (eqb (classOf (getD s i 0)) NEWLINE ≡ false) × (eqb (classOf (getD s i 0)) HASH ≡ false) = neither _ _ (sym ue ∙ e) in
@@ -69,11 +73,11 @@ module _ (s : List ℕ) (mode i : ℕ) where
           simp (lt-leb _ _ h, n, m) re
 
   module _ (r : Token) where
-    pub in-comment : mode ≡ Kind.IN-COMMENT → r ≡ restOfLine s i → r ≡ inLine s mode i
+    pub in-comment : mode ≡ Kind.IN-COMMENT → r ≡ restOfLine s i → settled s r ≡ inLine s mode i
     unfolding inLine
-    in-comment e re = simp (eq-eqb _ _ e) re
+    in-comment e re = kept r i re ∙ simp (eq-eqb _ _ e) re
 
-    pub in-field : (e : ℕ) → (mode ≡ Kind.IN-COMMENT → ⊥) → e ≡ past (inRun BLANKS) s i → r ≡ visible s mode e → r ≡ inLine s mode i
+    pub in-field : (e : ℕ) → (mode ≡ Kind.IN-COMMENT → ⊥) → e ≡ past (inRun BLANKS) s i → settled s r ≡ visible s mode e → settled s r ≡ inLine s mode i
     unfolding inLine
     in-field e n ee re = simp (ne-eqb _ _ n, sym ee) re
 
@@ -86,9 +90,9 @@ unfolding blankTo
 blank-line s e r h re = simp (lt-leb _ _ h) re
 
 module _ (s : List ℕ) (mode i e : ℕ) where
-  pub indented-field : (r : Token) → (mode ≡ Kind.BEFORE → ⊥) → r ≡ inLine s mode i → r ≡ indented s mode i e
+  pub indented-field : (r t : Token) → (mode ≡ Kind.BEFORE → ⊥) → settled s t ≡ inLine s mode i → r ≡ settled s t → r ≡ indented s mode i e
   unfolding indented
-  indented-field r n re = simp (ne-eqb _ _ n) re
+  indented-field r t n te re = simp (ne-eqb _ _ n) (re ∙ te)
 
   module _ (m : mode ≡ Kind.BEFORE) (b : ℕ) (t : Bool) (te : t ≡ eqb (classOf b) HASH) (be : b ≡ getD s (e + 0) 0) where
     here : t ≡ eqb (classOf (getD s e 0)) HASH
@@ -154,16 +158,37 @@ module _ (s : List ℕ) (mode i : ℕ) (r : Token) (inv : linesFrom s mode i ≡
       pub lines-less : length s - t .end < length s - i
       lines-less = omega (arith, h, next-line .0, next-line .1)
 
-module _ (s : List ℕ) (mode at : ℕ) (r : Token) where
-  pub token-first : at ≡ 0 → r ≡ linesFrom s mode 0 → r ≡ tokenAt s mode at
-  unfolding tokenAt
-  token-first z e = simp (eq-eqb _ _ z) e
+module _ (s : List ℕ) (mode start end : ℕ) (r : Token) where
+  pub below-open : (start ≡ end → ⊥) → r ≡ literalFrom s start end → r ≡ belowOf s mode start end
+  unfolding belowOf
+  below-open n e = simp (ne-eqb _ _ n) e
 
-  module _ (n : at ≡ 0 → ⊥) (t : Token) (te : t ≡ inLine s mode at) where
-    pub token-below : t .kind ≡ Kind.NEXT → r ≡ linesFrom s mode (t .end) → r ≡ tokenAt s mode at
-    unfolding tokenAt
-    token-below h e = simp (ne-eqb _ _ n, sym te, eq-eqb _ _ h) e
+  pub below-lines : start ≡ end → r ≡ linesFrom s mode end → r ≡ belowOf s mode start end
+  unfolding belowOf
+  below-lines q e = simp (eq-eqb _ _ q) e
 
-    pub token-here : (t .kind ≡ Kind.NEXT → ⊥) → t ≡ tokenAt s mode at
+module _ (s : List ℕ) (mode at : ℕ) where
+  pub token-first : (r : Token) → at ≡ 0 → r ≡ belowOf s mode 0 0 → r ≡ tokenAt s mode at
+  unfolding tokenAt belowOf
+  token-first r z e = simp (eq-eqb _ _ z) e
+
+  module _ (n : at ≡ 0 → ⊥) where
+    is-here : (r : Token) → r ≡ inLine s mode at → (r .kind ≡ Kind.NEXT → ⊥) → r ≡ tokenAt s mode at
     unfolding tokenAt
-    token-here h = simp (ne-eqb _ _ n, sym te, ne-eqb _ _ h)
+    is-here r e h = simp (ne-eqb _ _ n, sym e, ne-eqb _ _ h)
+
+    is-below : (r : Token) → r ≡ inLine s mode at → r .kind ≡ Kind.NEXT → linesFrom s mode (r .end) ≡ tokenAt s mode at
+    unfolding tokenAt
+    is-below r e h = simp (ne-eqb _ _ n, sym e, eq-eqb _ _ h)
+
+    module _ (t : Token) (te : settled s t ≡ inLine s mode at) where
+      pub token-below : (r : Token) → t .kind ≡ Kind.NEXT → r ≡ belowOf s mode (t .start) (t .end) → r ≡ tokenAt s mode at
+      unfolding belowOf
+      token-below r h e =
+          split (eqb (t .start) (t .end))
+          (λ q. (rw q at e) ∙ is-below t (sym (settled-line s t h (eqb-true _ _ q)) ∙ te) h)
+          (λ q. let z : r ≡ literalFrom s (t .start) (t .end) = rw q at e in
+          is-here r (z ∙ sym (settled-open s t h (eqb-false _ _ q)) ∙ te) (rw z (literal-other s (t .start) (t .end))))
+
+      pub token-here : (t .kind ≡ Kind.NEXT → ⊥) → t ≡ tokenAt s mode at
+      token-here h = is-here t (sym (settled-other s t h) ∙ te) h

@@ -25,7 +25,7 @@ use Rattle.text.specs.Copy.{Copied, copied, put, copyAt}
 use Rattle.lexical.specs.DecodeLaws.{decode-fits, decode-full}
 use Rattle.lexical.specs.Short.{near, near-short, sized}
 use Rattle.lexical.specs.Bare.{high, straight, inner, bare}
-use Rattle.lexical.specs.Plain.{plain, bareEnd, end-plain, quote-within, end-quote, given-plain}
+use Rattle.lexical.specs.Plain.{plain, bareEnd, end-plain, quote-within, quote-units, end-quote, given-plain}
 
 module _ (s : List ℕ) (i : ℕ) (u : Unit) (ue : u ≡ unitAt s i) where
   -- the units from here, by the unit at hand
@@ -62,6 +62,9 @@ module _ (s : List ℕ) (i : ℕ) (u : Unit) (ue : u ≡ unitAt s i) where
       unfolding literalEnd
       end-more h = rw (first-more h, ne-eqb _ _ n) at inv
 
+pub end-here : (s : List ℕ) (i r : ℕ) → literalEnd s i ≡ r → getD s i 0 ≡ 34 → i + 1 ≡ r
+end-here s i r inv q = sym (end-quote s i q) ∙ inv
+
 pub end-end : (s : List ℕ) (i r : ℕ) → literalEnd s i ≡ r → length s ≤ i → 0 ≡ r
 unfolding literalEnd
 end-end s i r inv h = rw (units-end s i h) at inv
@@ -86,6 +89,9 @@ module _ (s : List ℕ) (i : ℕ) (u : Unit) (ue : u ≡ unitAt s i) where
 given-end : (s : List ℕ) (i : ℕ) → length s ≤ i → given (unitsAt s i) ≡ []
 given-end s i h = rw (units-end s i h) refl
 
+given-quote : (s : List ℕ) (i : ℕ) → getD s i 0 ≡ 34 → given (unitsAt s i) ≡ []
+given-quote s i q = rw (quote-units s i q) refl
+
 module _ (s : List ℕ) (start : ℕ) where
   pub length-none : length s ≤ start → 0 ≡ length (decodedAt s start)
   unfolding decodedAt
@@ -98,6 +104,9 @@ module _ (s : List ℕ) (start : ℕ) where
 module _ (s : List ℕ) (i n r : ℕ) (inv : n + length (given (unitsAt s i)) ≡ r) where
   pub length-end : length s ≤ i → n ≡ r
   length-end h = omega (arith, inv, ap length (given-end s i h))
+
+  pub length-quote : getD s i 0 ≡ 34 → n ≡ r
+  length-quote q = omega (arith, inv, ap length (given-quote s i q))
 
   module _ (u : Unit) (ue : u ≡ unitAt s i) where
     pub length-last : GIVES < u .kind → n ≡ r
@@ -114,6 +123,9 @@ module _ (s : List ℕ) (i n r : ℕ) (inv : n + length (given (unitsAt s i)) �
 module _ (s : List ℕ) (i : ℕ) (m : List ℕ) (top : ℕ) (r : List ℕ) (inv : sets m top (given (unitsAt s i)) ≡ r) where
   pub write-end : length s ≤ i → m ≡ r
   write-end h = rw (given-end s i h) at inv
+
+  pub write-quote : getD s i 0 ≡ 34 → m ≡ r
+  write-quote q = rw (given-quote s i q) at inv
 
   module _ (u : Unit) (ue : u ≡ unitAt s i) where
     pub write-last : GIVES < u .kind → m ≡ r
@@ -204,12 +216,15 @@ module _ (b : ℕ) where
     pub plain-high : 34 < b → true ≡ plain b
     plain-high h = plain-middle (λ e. let no : ⊥ = omega (arith, h, e) in no) (omega (arith, h))
 
+  pub plain-above : 92 < b → true ≡ plain b
+  plain-above h = plain-high (λ e. let no : ⊥ = omega (arith, h, e) in no) (omega (arith, h))
+
 pub closes-not : (s : List ℕ) (i : ℕ) → length s ≤ i → false ≡ eqb (getD s i 0) 34
 closes-not s i h = rw (List·getD-eq-default s 0 h) refl
 
 -- a literal whose plain bytes from i on end at e
 module _ (s : List ℕ) (i e : ℕ) (ee : e ≡ past plain s i) (t : Bool) (te : t ≡ eqb (getD s e 0) 34) where
-  pub end-units : (r : ℕ) → r ≡ literalEnd s e → r ≡ literalEnd s i
+  end-units : (r : ℕ) → r ≡ literalEnd s e → r ≡ literalEnd s i
   end-units r re = re ∙ ap (literalEnd s) ee ∙ sym (end-plain s i)
 
   module _ (h : t ≡ true) where

@@ -9,22 +9,25 @@ use mir.Syntax.{w64}
 use mir.Val.{Fits}
 use lib.Dec.{eqb, ltb}
 use lib.ListN.{length, getD}
-use borrow.Author.Tests.{lt-ltb, le-leb, lt-leb, eq-eqb, ne-eqb, ltb-true, ltb-false}
+use borrow.Author.Tests.{lt-ltb, le-leb, lt-leb, eq-eqb, ne-eqb, eqb-true, ltb-true, ltb-false}
 use Rattle.text.specs.Choice.{split, clash}
-use Rattle.text.specs.Scan.{past, past-alike}
+use Rattle.text.specs.Scan.{past, past-more, past-from, past-alike}
 use Rattle.text.specs.Class.{isWord}
 use Rattle.lexical.specs.Kind
-use Rattle.lexical.specs.Class.{classOf, LETTER, DIGIT, QUOTE}
-use Rattle.lexical.specs.Run.{inRun, WORD, NUMERALS}
+use Rattle.lexical.specs.Class.{classOf, LETTER, DIGIT, QUOTE, NUL}
+use Rattle.lexical.specs.Run.{inRun, hasClass, WORD, NUMERALS}
 use Rattle.lexical.specs.Runs.{word-same}
 use Rattle.lexical.specs.Operator.{operatorKind}
 use Rattle.lexical.specs.Literal.{literalEnd}
 use Rattle.lexical.specs.declared.token.Token.{Token}
 use Rattle.lexical.specs.Token.{token, illegalAt, widthOf, operatorAt, operatorToken, literalToken, floatEnd, numberToken, tokenFrom}
+use Rattle.lexical.specs.Plain.{plain, end-plain}
+use Rattle.lexical.specs.TokenLaws.{operator-next}
+use Rattle.lexical.specs.Working.Open.{literalFrom, settled, settled-other, settled-line, settled-open, number-other}
 use Rattle.lexical.specs.Bounds.{byte-within}
 use Rattle.lexical.specs.Lone.{lone, lone-kind, lone-width}
 use Rattle.lexical.specs.KindLaws.{Wide, operator-wide}
-use Rattle.lexical.proofs.LiteralWays.{end-end}
+use Rattle.lexical.proofs.LiteralWays.{end-end, end-found}
 
 -- the end of a token whose kind settles its width is a place
 pub wide-fits : (s : List ℕ) (i k w : ℕ) → Wide s i k → w ≡ widthOf k → length s < 2 ^ 64 → Fits w64 i → Fits w64 (i + w)
@@ -73,54 +76,104 @@ module _ (s : List ℕ) (i b c : ℕ) (be : b ≡ getD s (i + 0) 0) (ce : c ≡ 
       = lone-kind (classOf (getD s i 0)) lone-here mode (getD s (i + 1) 0) (getD s (i + 2) 0) in
       simp (class-passed s i b c ce be, sym k, lone-width (classOf (getD s i 0)) lone-here)
 
+-- a byte of a class below NUL's stands within the text, and begins its run
+module _ (s : List ℕ) (i k : ℕ) (e : classOf (getD s i 0) ≡ k) (l : k < NUL) where
+  first-within : i < length s
+  unfolding classOf
+  first-within = byte-within s i (λ z. let q : NUL ≡ k = rw z at e in let no : ⊥ = omega (arith, l, q) in no)
+
+  first-fits : length s < 2 ^ 64 → Fits w64 (i + 1)
+  first-fits n = let m : i + 1 ≤ length s = omega (arith, first-within) in record { fits = lt-of-le-of-lt m n }
+
+  first-more : (w : ℕ) → inRun w (getD s i 0) ≡ true → past (inRun w) s i ≡ past (inRun w) s (i + 1)
+  first-more w h = past-more (inRun w) s i first-within h
+
 module _ (s : List ℕ) (mode i b : ℕ) (be : b ≡ getD s (i + 0) 0) (t : Bool) (te : t ≡ eqb (classOf b) LETTER) where
   at-i : b ≡ getD s i 0
   at-i = first-byte s i b be
 
-  pub from-name : (e : ℕ) → t ≡ true → e ≡ past isWord s i → token Kind.NAME i e ≡ tokenFrom s mode i
-  unfolding tokenFrom
-  from-name e h ee = simp (sym at-i, sym te, h, past-alike (inRun WORD) isWord word-same s i, sym ee)
+  module _ (h : t ≡ true) where
+    letter-here : classOf (getD s i 0) ≡ LETTER
+    letter-here = rw (sym at-i) (eqb-true (classOf b) LETTER (sym te ∙ h))
+
+    pub name-fits : length s < 2 ^ 64 → Fits w64 (i + 1)
+    name-fits n = first-fits s i LETTER letter-here (omega arith) n
+
+    name-more : past (inRun WORD) s i ≡ past (inRun WORD) s (i + 1)
+    unfolding inRun hasClass
+    name-more = first-more s i LETTER letter-here (omega arith) WORD (simp letter-here)
+
+    pub from-name : (e : ℕ) → e ≡ past isWord s (i + 1) → settled s (token Kind.NAME i e) ≡ tokenFrom s mode i
+    unfolding tokenFrom
+    from-name e ee =
+        settled-other s (token Kind.NAME i e) (λ z. let no : ⊥ = omega (arith, z) in no)
+        ∙ simp (letter-here, name-more, past-alike (inRun WORD) isWord word-same s (i + 1), sym ee)
 
   module _ (tn : t ≡ false) (u : Bool) (ue : u ≡ eqb (classOf b) DIGIT) where
-    pub from-number : (r : Token) → u ≡ true → r ≡ numberToken s i → r ≡ tokenFrom s mode i
+    pub digit-passed : u ≡ true → classOf (getD s i 0) ≡ DIGIT
+    digit-passed h = rw (sym at-i) (eqb-true (classOf b) DIGIT (sym ue ∙ h))
+
+    pub from-number : (r : Token) → u ≡ true → r ≡ numberToken s i → settled s r ≡ tokenFrom s mode i
     unfolding tokenFrom
-    from-number r h re = simp (sym at-i, sym te, tn, sym ue, h) re
+    from-number r h re = settled-other s r (rw re (number-other s i)) ∙ simp (sym at-i, sym te, tn, sym ue, h) re
 
     module _ (un : u ≡ false) (v : Bool) (ve : v ≡ eqb (classOf b) QUOTE) where
-      pub from-literal : (r : Token) → v ≡ true → r ≡ literalToken s i → r ≡ tokenFrom s mode i
+      pub from-literal : (r : Token) → v ≡ true → settled s r ≡ literalToken s i → settled s r ≡ tokenFrom s mode i
       unfolding tokenFrom
       from-literal r h re = simp (sym at-i, sym te, tn, sym ue, un, sym ve, h) re
 
       module _ (vn : v ≡ false) where
-        pub from-operator : (r : Token) → r ≡ operatorToken s mode i → token (r .kind) (r .start) (r .end) ≡ tokenFrom s mode i
-        unfolding tokenFrom
-        from-operator r re = simp (sym at-i, sym te, tn, sym ue, un, sym ve, vn) re
+        pub from-operator : (r : Token) → r ≡ operatorToken s mode i → settled s (token (r .kind) (r .start) (r .end)) ≡ tokenFrom s mode i
+        unfolding tokenFrom operatorToken
+        from-operator r re = settled-other s r (rw re (operator-next s mode i)) ∙ simp (sym at-i, sym te, tn, sym ue, un, sym ve, vn) re
 
-        pub from-lone : (c : ℕ) (l : Bool) → c ≡ classOf b → l ≡ lone c → l ≡ true → token c i (i + 1) ≡ tokenFrom s mode i
+        pub from-lone : (c : ℕ) (l : Bool) → c ≡ classOf b → l ≡ lone c → l ≡ true → settled s (token c i (i + 1)) ≡ tokenFrom s mode i
         from-lone c l ce le ly = from-operator (token c i (i + 1)) (lone-made s i b c be ce l le ly mode)
 
 module _ (s : List ℕ) (i : ℕ) where
-  pub literal-past : length s ≤ i → illegalAt i ≡ literalToken s i
-  unfolding literalToken
+  pub literal-past : length s ≤ i → settled s (illegalAt i) ≡ literalToken s i
+  unfolding literalToken settled
   literal-past h = let z : 0 ≡ literalEnd s (i + 1) = end-end s (i + 1) _ refl (omega (arith, h)) in simp (eq-eqb _ _ (sym z))
 
-  module _ (e : ℕ) (ee : e ≡ literalEnd s (i + 1)) where
-    pub literal-open : e ≡ 0 → illegalAt i ≡ literalToken s i
-    unfolding literalToken
-    literal-open h = simp (sym ee, eq-eqb _ _ h)
+  module _ (e : ℕ) (ee : e ≡ past plain s (i + 1)) where
+    pub literal-closed : (t : Bool) → t ≡ eqb (getD s e 0) 34 → t ≡ true → settled s (token Kind.LITERAL i (e + 1)) ≡ literalToken s i
+    unfolding literalToken settled
+    literal-closed t te h =
+        let z : e + 1 ≡ literalEnd s (i + 1) = end-found s (i + 1) e ee t te h in
+        simp (sym z, ne-eqb (e + 1) 0 (λ q. let no : ⊥ = omega (arith, q) in no))
 
-    pub literal-closed : (e ≡ 0 → ⊥) → token Kind.LITERAL i e ≡ literalToken s i
-    unfolding literalToken
-    literal-closed h = simp (sym ee, ne-eqb _ _ h)
+    pub literal-open : settled s (token Kind.NEXT i e) ≡ literalToken s i
+    unfolding literalToken literalFrom
+    literal-open =
+        let n : i ≡ e → ⊥ = λ q. let no : ⊥ = omega (arith, q, ee, past-from plain s (i + 1)) in no in
+        let z : literalEnd s e ≡ literalEnd s (i + 1) = ap (literalEnd s) ee ∙ sym (end-plain s (i + 1)) in
+        settled-open s (token Kind.NEXT i e) refl n ∙ simp (sym z)
 
-  module _ (e : ℕ) (ee : e ≡ past (inRun NUMERALS) s i) (f : ℕ) (fe : f ≡ floatEnd s e) where
-    pub number-digits : f ≡ e → token Kind.DIGITS i e ≡ numberToken s i
-    unfolding numberToken
-    number-digits h = simp (sym ee, sym fe, eq-eqb _ _ h)
+  module _ (e n : ℕ) (ne : n ≡ literalEnd s e) where
+    pub units-open : n ≡ 0 → illegalAt i ≡ literalFrom s i e
+    unfolding literalFrom
+    units-open h = simp (sym ne, eq-eqb _ _ h)
 
-    pub number-float : (f ≡ e → ⊥) → token Kind.FLOAT i f ≡ numberToken s i
-    unfolding numberToken
-    number-float h = simp (sym ee, sym fe, ne-eqb _ _ h)
+    pub units-closed : (n ≡ 0 → ⊥) → token Kind.LITERAL i n ≡ literalFrom s i e
+    unfolding literalFrom
+    units-closed h = simp (sym ne, ne-eqb _ _ h)
+
+  module _ (d : classOf (getD s i 0) ≡ DIGIT) where
+    pub number-fits : length s < 2 ^ 64 → Fits w64 (i + 1)
+    number-fits n = first-fits s i DIGIT d (omega arith) n
+
+    number-more : past (inRun NUMERALS) s i ≡ past (inRun NUMERALS) s (i + 1)
+    unfolding inRun hasClass
+    number-more = first-more s i DIGIT d (omega arith) NUMERALS (simp d)
+
+    module _ (e : ℕ) (ee : e ≡ past (inRun NUMERALS) s (i + 1)) (f : ℕ) (fe : f ≡ floatEnd s e) where
+      pub number-digits : f ≡ e → token Kind.DIGITS i e ≡ numberToken s i
+      unfolding numberToken
+      number-digits h = simp (number-more, sym ee, sym fe, eq-eqb _ _ h)
+
+      pub number-float : (f ≡ e → ⊥) → token Kind.FLOAT i f ≡ numberToken s i
+      unfolding numberToken
+      number-float h = simp (number-more, sym ee, sym fe, ne-eqb _ _ h)
 
 module _ (s : List ℕ) (e : ℕ) where
   pub float-past : length s ≤ e → e ≡ floatEnd s e
@@ -140,3 +193,15 @@ module _ (s : List ℕ) (e : ℕ) where
       pub float-full : e + 1 < f → f ≡ floatEnd s e
       unfolding floatEnd
       float-full h = simp (lt-leb _ _ in-s, eq-eqb _ _ p, sym fe, lt-leb _ _ h)
+
+-- the ways out of `settle`
+module _ (s : List ℕ) (t : Token) where
+  pub settle-other : (t .kind ≡ Kind.NEXT → ⊥) → t ≡ settled s t
+  settle-other n = sym (settled-other s t n)
+
+  module _ (k : t .kind ≡ Kind.NEXT) where
+    pub settle-line : t .start ≡ t .end → t ≡ settled s t
+    settle-line e = sym (settled-line s t k e)
+
+    pub settle-open : (t .start ≡ t .end → ⊥) → (r : Token) → r ≡ literalFrom s (t .start) (t .end) → r ≡ settled s t
+    settle-open n r re = re ∙ sym (settled-open s t k n)

@@ -1,14 +1,60 @@
 -- The ways out of the functions of `word`. Assumes nothing.
-use mathlib.Core.Path.{_≡_, sym}
+use mathlib.Core.Path.{_≡_, refl, sym, _∙_}
 use mathlib.Core.Bool.{Bool, true, false}
 use mathlib.Core.List.{List}
 use Prim.Native.Nat.{ℕ, _+_, _-_, _≤_, _<_}
+use native.Mathlib.Omega.{arith}
 use native.Mathlib.Numerals.{add-one}
 use native.Mathlib.Nat.{add-zero, add-suc}
+use lib.Dec.{eqb, leb}
 use lib.ListN.{length, getD, drop, drop-of-length-le}
 use lib.Seq.{drop-cons}
-use borrow.Author.Tests.{lt-ltb, le-ltb, eq-eqb, ne-eqb}
+use borrow.Author.Tests.{lt-ltb, le-ltb, le-leb, lt-leb, eq-eqb, ne-eqb, eqb-true, eqb-false, leb-true, leb-false}
+use Rattle.text.specs.Choice.{pick, split, clash}
+use Rattle.lexical.specs.Class.{within}
 use Rattle.lexical.specs.Word.{lower, stands, spells}
+
+within-true : (lo hi b : ℕ) → within lo hi b ≡ true → (lo ≤ b) × (b ≤ hi)
+within-true lo hi b h =
+    split (leb lo b) (λ l. let q : leb b hi ≡ true = rw l at h in (leb-true lo b l, leb-true b hi q)) (λ l. let q : false ≡ true = rw l at h in clash q refl)
+
+within-is : (lo hi b : ℕ) → lo ≤ b → b ≤ hi → within lo hi b ≡ true
+within-is lo hi b l h = rw (le-leb lo b l, le-leb b hi h) refl
+
+pub small-above : (c : ℕ) (t : Bool) → t ≡ within 97 122 c → t ≡ true → 32 ≤ c
+small-above c t e h = let w : (97 ≤ c) × (c ≤ 122) = within-true 97 122 c (sym e ∙ h) in omega (arith, w .0)
+
+-- the small one of b is another byte than c
+unlike : (b c : ℕ) → (b ≡ c → ⊥) → (within 65 90 b ≡ true → b + 32 ≡ c → ⊥) → eqb (lower b) c ≡ false
+unfolding lower
+unlike b c n m = split (within 65 90 b) (λ t. rw t (ne-eqb (b + 32) c (m t))) (λ t. rw t (ne-eqb b c n))
+
+-- the ways out of `is_lower`
+module _ (b c : ℕ) (t : Bool) where
+  module _ (e : b ≡ c) (te : t ≡ within 65 90 c) where
+    pub lower-capital : t ≡ true → false ≡ eqb (lower b) c
+    unfolding lower
+    lower-capital h = rw (e, sym te, h) (sym (ne-eqb (c + 32) c (λ z. omega (arith, z))))
+
+    pub lower-self : t ≡ false → true ≡ eqb (lower b) c
+    unfolding lower
+    lower-self h = rw (e, sym te, h) (sym (eq-eqb c c refl))
+
+  module _ (n : b ≡ c → ⊥) (te : t ≡ within 97 122 c) where
+    pub lower-other : t ≡ false → false ≡ eqb (lower b) c
+    lower-other h =
+        sym
+        (unlike b c n
+        (λ u z. let w : (65 ≤ b) × (b ≤ 90) = within-true 65 90 b u in clash (within-is 97 122 c (omega (arith, z, w .0)) (omega (arith, z, w .1))) (sym te ∙ h)))
+
+    pub lower-small : t ≡ true → eqb b (c - 32) ≡ eqb (lower b) c
+    unfolding lower
+    lower-small h =
+        let w : (97 ≤ c) × (c ≤ 122) = within-true 97 122 c (sym te ∙ h) in
+        split (eqb b (c - 32))
+        (λ q. let z : b ≡ c - 32 = eqb-true b (c - 32) q in
+        rw (q, within-is 65 90 b (omega (arith, z, w .0)) (omega (arith, z, w .1))) (sym (eq-eqb (b + 32) c (omega (arith, z, w .0)))))
+        (λ q. q ∙ sym (unlike b c n (λ u z. eqb-false b (c - 32) q (omega (arith, z)))))
 
 -- what is left of the word after k bytes
 unfoldable pub standsRest : List ℕ → ℕ → List ℕ → ℕ → Bool
@@ -24,14 +70,27 @@ module _ (s : List ℕ) (at : ℕ) (w : List ℕ) where
     unfolding standsRest stands
     stands-end h = rw (drop-of-length-le w h) at inv
 
-    module _ (h : k < length w) (b c : ℕ) (be : b ≡ getD s (at + k) 0) (ce : c ≡ lower b) where
-      pub stands-not : (c ≡ getD w k 0 → ⊥) → false ≡ r
+    module _ (h : k < length w) (b : ℕ) (be : b ≡ getD s (at + k) 0) (t : Bool) (te : t ≡ eqb (lower b) (getD w k 0)) where
+      pub stands-not : t ≡ false → false ≡ r
       unfolding standsRest stands
-      stands-not n = rw (drop-cons w k 0 h, sym be, sym ce, ne-eqb _ _ n) at inv
+      stands-not n = rw (drop-cons w k 0 h, sym be, sym te, n) at inv
 
-      pub stands-more : c ≡ getD w k 0 → standsRest s at w (k + 1) ≡ r
+      pub stands-more : t ≡ true → standsRest s at w (k + 1) ≡ r
       unfolding standsRest stands
-      stands-more e = rw (add-one k, add-suc at k) (rw (drop-cons w k 0 h, sym be, sym ce, eq-eqb _ _ e) at inv)
+      stands-more e = rw (add-one k, add-suc at k) (rw (drop-cons w k 0 h, sym be, sym te, e) at inv)
+
+-- the ways out of `has_room`
+pub room-none : (s : List ℕ) (at n : ℕ) → length s < at → false ≡ leb (at + n) (length s)
+room-none s at n h = sym (lt-leb (at + n) (length s) (omega (arith, h)))
+
+pub room-rest : (s : List ℕ) (at n : ℕ) → at ≤ length s → leb n (length s - at) ≡ leb (at + n) (length s)
+room-rest s at n h =
+    split (leb n (length s - at))
+    (λ e. e ∙ sym (le-leb (at + n) (length s) (omega (arith, h, leb-true n (length s - at) e))))
+    (λ e. e ∙ sym (lt-leb (at + n) (length s) (omega (arith, h, leb-false n (length s - at) e))))
+
+pub room-there : (s : List ℕ) (at n : ℕ) (t : Bool) → t ≡ leb (at + n) (length s) → t ≡ true → at + n ≤ length s
+room-there s at n t e f = leb-true _ _ (sym e ∙ f)
 
 module _ (s : List ℕ) (start end : ℕ) (w : List ℕ) where
   pub spells-none : end < start → false ≡ spells s start end w

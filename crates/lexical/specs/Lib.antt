@@ -30,3 +30,4 @@ pub mod TokensLaws
 pub mod Examples
 pub mod TokenExamples
 pub mod DecodeLaws
+pub mod Working

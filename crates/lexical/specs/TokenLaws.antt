@@ -74,6 +74,12 @@ operator-some s mode i =
     let p : Kind.OF < pairOf (classOf (getD s i 0)) (getD s (i + 1) 0) = pair-width (classOf (getD s i 0)) (getD s (i + 1) 0) (eqb-false _ _ f) .1 in
     some-high _ (omega (arith, p))))
 
+some-next : (k : ℕ) → Some k → k ≡ Kind.NEXT → ⊥
+some-next _ (some k a b c) = b
+
+pub operator-next : (s : List ℕ) (mode i : ℕ) → operatorAt s mode i ≡ Kind.NEXT → ⊥
+operator-next s mode i = some-next _ (operator-some s mode i)
+
 -- a number is above n
 data Above (n : ℕ) : ℕ → Type 0 where
   above : (k : ℕ) → n < k → Above n k

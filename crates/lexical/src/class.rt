@@ -286,7 +286,8 @@ const CLASS: [u8; 256] = [
     0,
 ];
 
-fn is_within(lo: u8, hi: u8, b: u8) -> bool
+// Is it one of the bytes from lo to hi?
+pub fn is_within(lo: u8, hi: u8, b: u8) -> bool
     ensures { λ r. ⌜ r ≡ within lo hi b ⌝ }
 {
     if b < lo {
@@ -346,11 +347,8 @@ pub fn begins_name(b: u8) -> bool
     if b < b'A' {
         return false;
     }
-    if b'z' < b {
-        return false;
-    }
     if b'a' <= b {
-        return true;
+        return b <= b'z';
     }
     if b <= b'Z' {
         return true;

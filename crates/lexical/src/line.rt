@@ -10,12 +10,15 @@ use crate::scan::FREE;
 use crate::scan::byte_at;
 use crate::scan::skip;
 use crate::token::Token;
+use crate::token::literal_from;
+use crate::token::settle;
 use crate::token::token_from;
 use crate::token::width;
 ghost use mathlib.Core.Path.{_≡_};
 ghost use Rattle.lexical.specs.Line.{restOfLine, visible, inLine, blankTo, indented, lineAt, linesFrom, tokenAt};
 ghost use Rattle.lexical.specs.Token.{fixed};
 ghost use Rattle.lexical.specs.Label.{labelKind};
+ghost use Rattle.lexical.specs.Working.Open.{settled, belowOf};
 
 // What comes behind the rest of a line that is hidden or free text.
 fn rest_of_line(s: &[u8], i: usize) -> Token
@@ -43,9 +46,9 @@ fn rest_of_line(s: &[u8], i: usize) -> Token
     }
 }
 
-// What stands at i, behind the blanks.
+// What stands at i, behind the blanks; a literal may be left open.
 fn visible_at(s: &[u8], mode: u8, i: usize) -> Token
-    ensures { λ r. ⌜ r ≡ visible (now (s .entry)) mode i ⌝ }
+    ensures { λ r. ⌜ settled (now (s .entry)) r ≡ visible (now (s .entry)) mode i ⌝ }
 {
     if s.len() <= i {
         return Token {
@@ -68,9 +71,9 @@ fn visible_at(s: &[u8], mode: u8, i: usize) -> Token
     token_from(s, mode, i)
 }
 
-// What comes next inside a line.
+// What comes next inside a line; a literal may be left open.
 fn in_line(s: &[u8], mode: u8, i: usize) -> Token
-    ensures { λ r. ⌜ r ≡ inLine (now (s .entry)) mode i ⌝ }
+    ensures { λ r. ⌜ settled (now (s .entry)) r ≡ inLine (now (s .entry)) mode i ⌝ }
 {
     if mode == kind::IN_COMMENT {
         return rest_of_line(s, i);
@@ -94,7 +97,8 @@ fn indented_line(s: &[u8], mode: u8, i: usize, e: usize) -> Token
     ensures { λ r. ⌜ r ≡ indented (now (s .entry)) mode i e ⌝ }
 {
     if mode != kind::BEFORE {
-        return in_line(s, mode, i);
+        let t = in_line(s, mode, i);
+        return settle(s, t);
     }
     let b = byte_at(s, e, 0);
     if is_hash(b) {
@@ -167,16 +171,26 @@ fn lines_from(s: &[u8], mode: u8, from: usize) -> Token
     }
 }
 
+// What comes behind an open literal's plain bytes, or in the lines from `end` on.
+fn below(s: &[u8], mode: u8, start: usize, end: usize) -> Token
+    ensures { λ r. ⌜ r ≡ belowOf (now (s .entry)) mode start end ⌝ }
+{
+    if start != end {
+        return literal_from(s, start, end);
+    }
+    lines_from(s, mode, end)
+}
+
 // The token that comes next where the one before ended at `at`, which is 0 at the text's start.
 pub fn token_at(s: &[u8], mode: u8, at: usize) -> Token
     ensures { λ r. ⌜ r ≡ tokenAt (now (s .entry)) mode at ⌝ }
 {
     if at == 0 {
-        return lines_from(s, mode, 0);
+        return below(s, mode, 0, 0);
     }
     let t = in_line(s, mode, at);
     if t.kind == kind::NEXT {
-        return lines_from(s, mode, t.end);
+        return below(s, mode, t.start, t.end);
     }
     t
 }

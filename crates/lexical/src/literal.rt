@@ -24,10 +24,13 @@ fn count(kind: u8) -> usize
     kind as usize
 }
 
-// Does a literal hold this byte as it stands?
+// Does a literal hold this byte as it stands? Small letters are the commonest.
 fn is_plain(b: u8) -> bool
     ensures { λ r. ⌜ r ≡ plain b ⌝ }
 {
+    if b'\\' < b {
+        return true;
+    }
     if b == b'\\' {
         return false;
     }
@@ -47,7 +50,7 @@ fn is_plain(b: u8) -> bool
 }
 
 // The end of the bytes from `from` on that a literal holds as they stand.
-fn plain_end(s: &[u8], from: usize) -> usize
+pub fn plain_end(s: &[u8], from: usize) -> usize
     ensures { λ r. ⌜ r ≡ past plain (now (s .entry)) from ⌝ }
 {
     let mut i = from;
@@ -62,7 +65,7 @@ fn plain_end(s: &[u8], from: usize) -> usize
 }
 
 // Does a quote stand at i?
-fn closes_at(s: &[u8], i: usize) -> bool
+pub fn closes_at(s: &[u8], i: usize) -> bool
     ensures { λ r. ⌜ r ≡ eqb (getD (now (s .entry)) i 0) 34 ⌝ }
 {
     if s.len() <= i {
@@ -72,11 +75,14 @@ fn closes_at(s: &[u8], i: usize) -> bool
 }
 
 // The end of a literal from the unit at `from` on; 0 where it does not close or holds something illegal.
-fn units_end(s: &[u8], from: usize) -> usize
+pub fn units_end(s: &[u8], from: usize) -> usize
     ensures { λ r. ⌜ r ≡ literalEnd (now (s .entry)) from ⌝ }
 {
     let mut i = from;
     while i < s.len() {
+        if s[i] == b'"' {
+            return i + 1;
+        }
         let u = unit_at(s, i);
         if u.kind == CLOSES {
             return i + 1;
@@ -89,17 +95,6 @@ fn units_end(s: &[u8], from: usize) -> usize
     0
 }
 
-// The end of the literal whose opening quote stands before `from`; 0 where it does not close or holds something illegal.
-pub fn literal_end(s: &[u8], from: usize) -> usize
-    ensures { λ r. ⌜ r ≡ literalEnd (now (s .entry)) from ⌝ }
-{
-    let e = plain_end(s, from);
-    if closes_at(s, e) {
-        return e + 1;
-    }
-    units_end(s, e)
-}
-
 // How many bytes the units of the literal at `start` give.
 fn units_length(s: &[u8], start: usize) -> usize
     ensures { λ r. ⌜ r ≡ length (decodedAt (now (s .entry)) start) ⌝ }
@@ -110,6 +105,9 @@ fn units_length(s: &[u8], start: usize) -> usize
     let mut i = start + 1;
     let mut n: usize = 0;
     while i < s.len() {
+        if s[i] == b'"' {
+            return n;
+        }
         let u = unit_at(s, i);
         if GIVES < u.kind {
             return n;
@@ -252,6 +250,9 @@ fn write(s: &[u8], from: usize, buf: &mut [u8], at: usize)
     let mut i = from;
     let mut top = at;
     while i < s.len() {
+        if s[i] == b'"' {
+            return;
+        }
         let u = unit_at(s, i);
         if GIVES < u.kind {
             return;

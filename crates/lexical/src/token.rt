@@ -4,16 +4,19 @@ use crate::class::begins_number;
 use crate::class::class_of;
 use crate::class::is_quote;
 use crate::kind;
-use crate::literal::literal_end;
+use crate::literal::closes_at;
+use crate::literal::plain_end;
+use crate::literal::units_end;
 use crate::operator::operator_kind;
 use crate::scan::NUMERALS;
 use crate::scan::byte_at;
 use crate::scan::skip;
 ghost use mathlib.Core.Path.{_≡_};
 ghost use lib.ListN.{getD};
-ghost use Rattle.lexical.specs.Class.{classOf};
+ghost use Rattle.lexical.specs.Class.{classOf, DIGIT};
 ghost use Rattle.lexical.specs.Lone.{lone};
 ghost use Rattle.lexical.specs.Token.{widthOf, operatorAt, operatorToken, literalToken, floatEnd, numberToken, tokenFrom};
+ghost use Rattle.lexical.specs.Working.Open.{literalFrom, settled};
 
 // A token of the text: its kind, its first byte, and the place behind its last byte. At the end and at a fault the two places are one.
 pub struct Token {
@@ -76,9 +79,9 @@ fn operator_token(s: &[u8], mode: u8, i: usize, c: usize) -> Token
     }
 }
 
-// From its opening quote to behind its closing quote.
+// From its opening quote to behind its closing quote; one with more than plain bytes is left open, as a next line that has bytes: those before the first other one.
 fn literal_token(s: &[u8], i: usize) -> Token
-    ensures { λ r. ⌜ r ≡ literalToken (now (s .entry)) i ⌝ }
+    ensures { λ r. ⌜ settled (now (s .entry)) r ≡ literalToken (now (s .entry)) i ⌝ }
 {
     if s.len() <= i {
         return Token {
@@ -87,8 +90,27 @@ fn literal_token(s: &[u8], i: usize) -> Token
             end: i,
         };
     }
-    let e = literal_end(s, i + 1);
-    if e == 0 {
+    let e = plain_end(s, i + 1);
+    if closes_at(s, e) {
+        return Token {
+            kind: kind::LITERAL,
+            start: i,
+            end: e + 1,
+        };
+    }
+    Token {
+        kind: kind::NEXT,
+        start: i,
+        end: e,
+    }
+}
+
+// The literal at i, from the unit at e on.
+pub fn literal_from(s: &[u8], i: usize, e: usize) -> Token
+    ensures { λ r. ⌜ r ≡ literalFrom (now (s .entry)) i e ⌝ }
+{
+    let n = units_end(s, e);
+    if n == 0 {
         return Token {
             kind: kind::ILLEGAL,
             start: i,
@@ -98,8 +120,21 @@ fn literal_token(s: &[u8], i: usize) -> Token
     Token {
         kind: kind::LITERAL,
         start: i,
-        end: e,
+        end: n,
     }
+}
+
+// A token as it is, but an open literal to its end.
+pub fn settle(s: &[u8], t: Token) -> Token
+    ensures { λ r. ⌜ r ≡ settled (now (s .entry)) t ⌝ }
+{
+    if t.kind != kind::NEXT {
+        return t;
+    }
+    if t.start == t.end {
+        return t;
+    }
+    literal_from(s, t.start, t.end)
 }
 
 // The end of "." and digits at e, or e where they do not stand.
@@ -119,11 +154,12 @@ fn float_end(s: &[u8], e: usize) -> usize
     f
 }
 
-// Digits, or a float literal.
+// Digits, of which the first stands at i, or a float literal.
 fn number_token(s: &[u8], i: usize) -> Token
+    requires { ⌜ classOf (getD (now s) i 0) ≡ DIGIT ⌝ }
     ensures { λ r. ⌜ r ≡ numberToken (now (s .entry)) i ⌝ }
 {
-    let e = skip(s, i, NUMERALS);
+    let e = skip(s, i + 1, NUMERALS);
     let f = float_end(s, e);
     if f == e {
         return Token {
@@ -158,13 +194,13 @@ fn is_lone(c: usize) -> bool
     c != kind::MINUS
 }
 
-// The token that starts at i, by the class of its first byte.
+// The token that starts at i, by the class of its first byte; a literal may be left open.
 pub fn token_from(s: &[u8], mode: u8, i: usize) -> Token
-    ensures { λ r. ⌜ r ≡ tokenFrom (now (s .entry)) mode i ⌝ }
+    ensures { λ r. ⌜ settled (now (s .entry)) r ≡ tokenFrom (now (s .entry)) mode i ⌝ }
 {
     let b = byte_at(s, i, 0);
     if begins_name(b) {
-        let e = text::word_end(s, i);
+        let e = text::word_end(s, i + 1);
         return Token {
             kind: kind::NAME,
             start: i,

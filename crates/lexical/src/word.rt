@@ -1,34 +1,77 @@
 // Words in any case of letters: held against a text at a place, and the keywords.
+use crate::class::is_within;
 use crate::scan::byte_at;
 ghost use mathlib.Core.Path.{_≡_};
+ghost use Prim.Native.Nat.{_+_, _≤_};
+ghost use lib.Dec.{eqb, leb};
+ghost use lib.ListN.{length};
 ghost use Rattle.lexical.specs.Word.{lower, stands, spells, word-true, word-false};
 
-// A capital letter's small one; any other byte as it is.
-fn small(b: u8) -> u8
-    ensures { λ r. ⌜ r ≡ lower b ⌝ }
+// Is c the small one of the byte b, or b itself where that is no capital letter?
+fn is_lower(b: u8, c: u8) -> bool
+    ensures { λ r. ⌜ r ≡ eqb (lower b) c ⌝ }
 {
-    if b < 65 {
-        return b;
+    if b == c {
+        if is_within(b'A', b'Z', c) {
+            return false;
+        }
+        return true;
     }
-    if 90 < b {
-        return b;
+    if is_within(b'a', b'z', c) {
+        return b == c - 32;
     }
-    b + 32
+    false
+}
+
+// Are there n bytes from `at` on?
+fn has_room(s: &[u8], at: usize, n: usize) -> bool
+    ensures { λ r. ⌜ r ≡ leb (at + n) (length (now (s .entry))) ⌝ }
+{
+    if s.len() < at {
+        return false;
+    }
+    n <= s.len() - at
+}
+
+// Does the word w, in small letters, stand in s at `at` in any case, where there is room for it?
+fn stands_in(s: &[u8], at: usize, w: &[u8]) -> bool
+    requires { ⌜ at + length (now w) ≤ length (now s) ⌝ }
+    ensures { λ r. ⌜ r ≡ stands (now (s .entry)) at (now (w .entry)) ⌝ }
+{
+    let mut i: usize = 0;
+    while i < w.len() {
+        if is_lower(s[at + i], w[i]) {
+            i += 1;
+        } else {
+            return false;
+        }
+    }
+    true
+}
+
+// The same with NUL behind the end.
+fn stands_past(s: &[u8], at: usize, w: &[u8]) -> bool
+    ensures { λ r. ⌜ r ≡ stands (now (s .entry)) at (now (w .entry)) ⌝ }
+{
+    let mut i: usize = 0;
+    while i < w.len() {
+        if is_lower(byte_at(s, at, i), w[i]) {
+            i += 1;
+        } else {
+            return false;
+        }
+    }
+    true
 }
 
 // Does the word w, in small letters, stand in s at `at` in any case?
 pub fn stands_at(s: &[u8], at: usize, w: &[u8]) -> bool
     ensures { λ r. ⌜ r ≡ stands (now (s .entry)) at (now (w .entry)) ⌝ }
 {
-    let mut i: usize = 0;
-    while i < w.len() {
-        let b = byte_at(s, at, i);
-        if small(b) != w[i] {
-            return false;
-        }
-        i += 1;
+    if has_room(s, at, w.len()) {
+        return stands_in(s, at, w);
     }
-    true
+    stands_past(s, at, w)
 }
 
 // Are the bytes from start to end the word w?

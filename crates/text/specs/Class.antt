@@ -8,10 +8,6 @@ use Rattle.text.specs.Choice.{pick}
 unfoldable pub isDigit : ℕ → Bool
 isDigit b = pick (leb 48 b) (leb b 57) false
 
--- the small letters
-unfoldable pub isSmall : ℕ → Bool
-isSmall b = pick (leb 97 b) (leb b 122) false
-
 -- "letters and digits of ASCII"
 unfoldable pub isLetter : ℕ → Bool
 isLetter b = pick (leb 97 b) (leb b 122) (pick (leb 65 b) (leb b 90) false)

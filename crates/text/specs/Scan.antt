@@ -3,14 +3,12 @@
 use mathlib.Core.Path.{_≡_, refl, ap, _∙_, sym}
 use mathlib.Core.Bool.{Bool, true, false}
 use mathlib.Core.List.{List, [], _∷_}
-use Prim.Native.Nat.{ℕ, zero, suc, _+_, _-_, _<_, _≤_}
+use Prim.Native.Nat.{ℕ, suc, _+_, _<_, _≤_}
 use native.Mathlib.Omega.{arith}
 use native.Mathlib.Numerals.{add-one}
 use native.Mathlib.Nat.{add-zero, zero-add, add-suc, suc-add}
-use lib.Dec.{ltb}
 use lib.ListN.{length, getD, drop, length-drop, drop-of-length-le}
 use lib.Seq.{drop-cons}
-use borrow.Author.Tests.{ltb-true, ltb-false}
 use Rattle.text.specs.Choice.{pick, split}
 
 -- how many elements at the front pass p
@@ -61,20 +59,6 @@ run-alike p q f (x ∷ xs) = rw (f x, run-alike p q f xs)
 pub past-alike : (p q : ℕ → Bool) → ((b : ℕ) → p b ≡ q b) → (s : List ℕ) (i : ℕ) → past p s i ≡ past q s i
 unfolding past
 past-alike p q f s i = ap (λ (k : ℕ). i + k) (run-alike p q f (drop i s))
-
--- a run goes on behind a run of fewer elements
-module _ (p q : ℕ → Bool) (f : (b : ℕ) → p b ≡ true → q b ≡ true) (s : List ℕ) where
-  behind : (n i : ℕ) → length s - i ≤ n → past q s (past p s i) ≡ past q s i
-  behind zero i h = rw (past-end p s i (omega (arith, h))) refl
-  behind (suc n) i h =
-      split (ltb i (length s))
-      (λ l. split (p (getD s i 0))
-      (λ t. rw (past-more p s i (ltb-true _ _ l) t, past-more q s i (ltb-true _ _ l) (f _ t)) (behind n (i + 1) (omega (arith, h, ltb-true i (length s) l))))
-      (λ t. rw (past-stop p s i (ltb-true _ _ l) t) refl))
-      (λ l. rw (past-end p s i (ltb-false _ _ l)) refl)
-
-  pub past-behind : (i : ℕ) → past q s (past p s i) ≡ past q s i
-  past-behind i = behind (length s - i) i (omega arith)
 
 -- the same as steps of a loop whose invariant is `past p s i ≡ r`: these `search` finds by itself
 module _ (p : ℕ → Bool) (s : List ℕ) (i r : ℕ) where

@@ -8,7 +8,7 @@ ghost use Rattle.text.specs.Scan.{run, past};
 ghost use Rattle.text.specs.Equal.{equal};
 ghost use Rattle.text.specs.Order.{order};
 ghost use Rattle.text.specs.Copy.{copied, put, copyAt};
-ghost use Rattle.text.specs.Class.{isDigit, isSmall, isLetter, isWord, inClass};
+ghost use Rattle.text.specs.Class.{isDigit, isLetter, isWord, inClass};
 ghost use Rattle.text.specs.Counted.{pairAt, counted};
 ghost use Rattle.text.specs.Join.{joined};
 ghost use Rattle.text.specs.Digits.{digitsAt, value, limit};
@@ -190,16 +190,20 @@ pub fn is_letter(b: u8) -> bool
     false
 }
 
+// A letter, a digit or the underscore; small letters are the commonest.
 pub fn is_word(b: u8) -> bool
     ensures { λ r. ⌜ r ≡ isWord b ⌝ }
 {
-    if is_letter(b) {
+    if 97 <= b {
+        return b <= 122;
+    }
+    if b < 58 {
+        return 48 <= b;
+    }
+    if b == 95 {
         return true;
     }
-    if is_digit(b) {
-        return true;
-    }
-    b == 95
+    is_letter(b)
 }
 
 pub fn in_class(k: u8, b: u8) -> bool
@@ -229,39 +233,14 @@ pub fn front(s: &[u8], k: u8) -> usize
     i
 }
 
-// Is it a small letter?
-fn is_small(b: u8) -> bool
-    ensures { λ r. ⌜ r ≡ isSmall b ⌝ }
-{
-    if b < 97 {
-        return false;
-    }
-    b <= 122
-}
-
-// The end of the run of small letters that starts at a place.
-fn small_end(s: &[u8], at: usize) -> usize
-    ensures { λ r. ⌜ r ≡ past isSmall (now (s .entry)) at ⌝ }
-{
-    let mut i = at;
-    while i < s.len() {
-        if is_small(s[i]) {
-            i += 1;
-        } else {
-            return i;
-        }
-    }
-    i
-}
-
-// The end of the word that starts at a place: letters, digits and underscores. Small letters are the commonest, so runs of them are passed at once.
+// The end of the word that starts at a place: letters, digits and underscores.
 pub fn word_end(s: &[u8], at: usize) -> usize
     ensures { λ r. ⌜ r ≡ past isWord (now (s .entry)) at ⌝ }
 {
-    let mut i = small_end(s, at);
+    let mut i = at;
     while i < s.len() {
         if is_word(s[i]) {
-            i = small_end(s, i + 1);
+            i += 1;
         } else {
             return i;
         }

@@ -6,7 +6,7 @@ use Prim.Native.Nat.{ℕ, zero, suc, _+_, _-_, _<_, _≤_}
 use native.Mathlib.Omega.{arith}
 use native.Mathlib.Numerals.{add-one}
 use native.Mathlib.Nat.{not-suc-le-zero, le-of-suc-le-suc}
-use lib.Dec.{ltb}
+use lib.Dec.{eqb, ltb}
 use lib.ListN.{length, getD, drop, drop-of-length-le}
 use lib.Seq.{drop-cons}
 use borrow.Author.Tests.{lt-ltb, le-leb, lt-leb}
@@ -93,7 +93,24 @@ module _ (s ps name : List ℕ) (i : ℕ) (ie : i ≡ firstFrom s name 0 ps) whe
   unfolding settingIn
   setting-some x other h p pe e = rw pe at e ∙ simp (sym ie, lt-leb _ _ h)
 
--- the ways out of `from_query`
+-- the ways out of `is_marked`
+pub marked-none : (name : List ℕ) → length name ≤ 0 → false ≡ eqb (getD name 0 0) 95
+marked-none [] h = refl
+marked-none (b ∷ bs) h = absurd (not-suc-le-zero h)
+
+-- a name that begins otherwise is none of the reserved ones
+unmarked : (name w : List ℕ) → eqb (getD name 0 0) 95 ≡ false → equal name (95 ∷ w) ≡ false
+unfolding equal
+unmarked [] w h = refl
+unmarked (b ∷ bs) w h = rw h
+
+pub query-unmarked : (rec consts values names name x : List ℕ) (t : Bool) → t ≡ eqb (getD name 0 0) 95 → t ≡ false → x ≡ settingIn rec names name [] → x ≡ queryIn rec consts values names name
+unfolding queryIn
+query-unmarked rec consts values names name x t te f e =
+    let n : (w : List ℕ) → equal name (95 ∷ w) ≡ false = λ w. unmarked name w (sym te ∙ f) in
+    e ∙ simp n
+
+-- the ways out of `from_reserved`
 module _ (rec consts values names name x : List ℕ) (a : Bool) (ae : a ≡ equal name minTrust) where
   pub query-least : a ≡ true → x ≡ getD (map (counted rec) values) 0 [] → x ≡ queryIn rec consts values names name
   unfolding queryIn

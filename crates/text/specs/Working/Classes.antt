@@ -1,25 +1,35 @@
 -- Working laws: the ways out of `is_word` and `in_class`. Assumes nothing.
-use mathlib.Core.Path.{_≡_, sym, _∙_}
+use mathlib.Core.Path.{_≡_, refl, sym, ap, _∙_}
 use mathlib.Core.Bool.{Bool, true, false, not}
-use Prim.Native.Nat.{ℕ}
-use lib.Dec.{eqb}
-use borrow.Author.Tests.{eq-eqb, ne-eqb}
+use Prim.Native.Nat.{ℕ, _<_, _≤_}
+use native.Mathlib.Omega.{arith}
+use lib.Dec.{eqb, leb}
+use borrow.Author.Tests.{eq-eqb, ne-eqb, le-leb, lt-leb}
 use Rattle.text.specs.Choice.{pick}
 use Rattle.text.specs.Class.{isDigit, isLetter, isWord, isPlain, inClass}
 
-module _ (b : ℕ) (l : Bool) (le : l ≡ isLetter b) where
-  pub word-letter : l ≡ true → true ≡ isWord b
-  unfolding isWord
-  word-letter t = simp (sym le, t)
+pick-same : (t : Bool) → t ≡ pick t true false
+pick-same true = refl
+pick-same false = refl
 
-  module _ (f : l ≡ false) (d : Bool) (de : d ≡ isDigit b) where
-    pub word-digit : d ≡ true → true ≡ isWord b
-    unfolding isWord
-    word-digit t = simp (sym le, f, sym de, t)
+module _ (b : ℕ) where
+  pub word-small : 97 ≤ b → leb b 122 ≡ isWord b
+  unfolding isWord isLetter isDigit
+  word-small h = rw (le-leb 97 b h, le-leb 48 b (omega (arith, h)), lt-leb b 57 (omega (arith, h)), ne-eqb b 95 (λ e. omega (arith, h, e))) (pick-same (leb b 122))
 
-    pub word-other : d ≡ false → eqb b 95 ≡ isWord b
-    unfolding isWord
-    word-other t = simp (sym le, f, sym de, t)
+  module _ (l : b < 97) where
+    pub word-digit : b < 58 → leb 48 b ≡ isWord b
+    unfolding isWord isLetter isDigit
+    word-digit h = rw (lt-leb 97 b l, lt-leb 65 b (omega (arith, h)), le-leb b 57 (omega (arith, h)), ne-eqb b 95 (λ e. omega (arith, h, e))) (pick-same (leb 48 b) ∙ ap (λ (t : Bool). pick t true false) (pick-same (leb 48 b)))
+
+    module _ (h : 58 ≤ b) where
+      pub word-mark : b ≡ 95 → true ≡ isWord b
+      unfolding isWord isLetter isDigit
+      word-mark e = rw e refl
+
+      pub word-letter : (b ≡ 95 → ⊥) → (r : Bool) → r ≡ isLetter b → r ≡ isWord b
+      unfolding isWord isDigit
+      word-letter n r e = rw (sym e, lt-leb b 57 (omega (arith, h)), le-leb 48 b (omega (arith, h)), ne-eqb b 95 n) (pick-same r)
 
 module _ (k b : ℕ) where
   pub class-plain : k ≡ 0 → not (eqb b 0) ≡ inClass k b

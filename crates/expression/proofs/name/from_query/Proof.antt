@@ -1,112 +1,34 @@
-use Rattle.expression.specs.Working.Searching.{query-least, query-most, query-values, query-authorizers, query-attribute}
+use Rattle.expression.specs.Working.Searching.{query-unmarked}
 use borrow.Author.Needs.{needs}
 use Rattle.expression.proofs.name.from_query.Statement.{statement}
 use Rattle.expression.proofs.name.from_query.Tie as tie
 use Rattle.expression.proofs.name.from_query.Reads as reads
 use Rattle.expression.proofs.name.from_query.Lts as lts
 use Rattle.expression.proofs.name.attribute.Reads as attribute-reads
-use Rattle.expression.proofs.name.behind.Reads as behind-reads
-use Rattle.expression.proofs.name.last.Reads as last-reads
-use Rattle.expression.proofs.name.string_at.Reads as string-at-reads
-use Rattle.text.proofs.counted_at.Reads as counted-at-reads
-use Rattle.text.proofs.same_bytes.Reads as same-bytes-reads
+use Rattle.expression.proofs.name.from_reserved.Reads as from-reserved-reads
+use Rattle.expression.proofs.name.is_marked.Reads as is-marked-reads
 
--- src/name.rt:80:31
-slice-aggregate-same-bytes : tie.Need-slice-aggregate-same-bytes
-slice-aggregate-same-bytes c = search needs
+-- src/name.rt:123:8
+is-marked-requires : tie.Need-is-marked-requires
+is-marked-requires c κs = search needs
 
--- src/name.rt:80:8
-same-bytes-requires : tie.Need-same-bytes-requires
-same-bytes-requires c κs = search needs
+-- src/name.rt:124:9
+from-reserved-requires : tie.Need-from-reserved-requires
+from-reserved-requires c κs = search needs
 
--- src/name.rt:81:9
-string-at-requires : tie.Need-string-at-requires
-string-at-requires c κs = search needs
-
--- src/name.rt:81:9
+-- src/name.rt:124:9
 returns : tie.Need-returns
-returns c = search query-least
+returns c = search needs
 
--- src/name.rt:83:31
-slice-aggregate-same-bytes-2 : tie.Need-slice-aggregate-same-bytes-2
-slice-aggregate-same-bytes-2 c = search needs
-
--- src/name.rt:83:8
-same-bytes-requires-2 : tie.Need-same-bytes-requires-2
-same-bytes-requires-2 c κs = search needs
-
--- src/name.rt:84:9
-last-requires : tie.Need-last-requires
-last-requires c κs = search needs
-
--- src/name.rt:84:9
-returns-2 : tie.Need-returns-2
-returns-2 c = search query-most
-
--- src/name.rt:86:31
-slice-aggregate-same-bytes-3 : tie.Need-slice-aggregate-same-bytes-3
-slice-aggregate-same-bytes-3 c = search needs
-
--- src/name.rt:86:8
-same-bytes-requires-3 : tie.Need-same-bytes-requires-3
-same-bytes-requires-3 c κs = search needs
-
--- src/name.rt:87:9
-counted-at-requires : tie.Need-counted-at-requires
-counted-at-requires c κs = search needs
-
--- src/name.rt:87:9
-returns-3 : tie.Need-returns-3
-returns-3 c = search query-values
-
--- src/name.rt:89:31
-slice-aggregate-same-bytes-4 : tie.Need-slice-aggregate-same-bytes-4
-slice-aggregate-same-bytes-4 c = search needs
-
--- src/name.rt:89:8
-same-bytes-requires-4 : tie.Need-same-bytes-requires-4
-same-bytes-requires-4 c κs = search needs
-
--- src/name.rt:90:17
-counted-at-requires-2 : tie.Need-counted-at-requires-2
-counted-at-requires-2 c κs = search needs
-
--- src/name.rt:91:9
-behind-requires : tie.Need-behind-requires
-behind-requires c κs = search needs
-
--- src/name.rt:91:9
-returns-4 : tie.Need-returns-4
-returns-4 c = search query-authorizers
-
--- src/name.rt:93:5
+-- src/name.rt:126:5
 attribute-requires : tie.Need-attribute-requires
 attribute-requires c κs = search needs
 
--- src/name.rt:77:1
-returns-5 : tie.Need-returns-5
-returns-5 c = search query-attribute
+-- src/name.rt:114:1
+returns-2 : tie.Need-returns-2
+returns-2 c = search query-unmarked
 
 pub from-query-spec : {M : Type 1} → statement M
 from-query-spec =
     tie.close
-    (tie.spec
-    slice-aggregate-same-bytes
-    same-bytes-requires
-    string-at-requires
-    returns
-    slice-aggregate-same-bytes-2
-    same-bytes-requires-2
-    last-requires
-    returns-2
-    slice-aggregate-same-bytes-3
-    same-bytes-requires-3
-    counted-at-requires
-    returns-3
-    slice-aggregate-same-bytes-4
-    same-bytes-requires-4
-    counted-at-requires-2
-    behind-requires
-    returns-4
-    attribute-requires
-    returns-5)
+    (tie.spec is-marked-requires from-reserved-requires returns attribute-requires returns-2)

@@ -1,4 +1,4 @@
-use Rattle.lexical.proofs.ClassWays.{name-low, name-high, name-small, name-capital, name-bar}
+use Rattle.lexical.proofs.ClassWays.{name-low, name-small, name-capital, name-bar}
 use borrow.Author.Needs.{needs}
 use Rattle.lexical.proofs.class.begins_name.Statement.{statement}
 use Rattle.lexical.proofs.class.begins_name.Tie as tie
@@ -11,19 +11,15 @@ returns c = search name-low
 
 -- src/class.rt:347:9
 returns-2 : tie.Need-returns-2
-returns-2 c = search name-high
+returns-2 c = search name-small
 
 -- src/class.rt:350:9
 returns-3 : tie.Need-returns-3
-returns-3 c = search name-small
-
--- src/class.rt:353:9
-returns-4 : tie.Need-returns-4
-returns-4 c = search name-capital
+returns-3 c = search name-capital
 
 -- src/class.rt:340:1
-returns-5 : tie.Need-returns-5
-returns-5 c = search name-bar
+returns-4 : tie.Need-returns-4
+returns-4 c = search name-bar
 
 pub begins-name-spec : {M : Type 1} → statement M
-begins-name-spec = tie.close (tie.spec returns returns-2 returns-3 returns-4 returns-5)
+begins-name-spec = tie.close (tie.spec returns returns-2 returns-3 returns-4)

@@ -1,31 +1,49 @@
-use Rattle.lexical.proofs.TokenWays.{literal-past, literal-open, literal-closed}
+use Rattle.lexical.proofs.TokenWays.{literal-past, literal-closed, literal-open}
+use Rattle.lexical.proofs.LiteralWays.{quote-fits}
 use borrow.Author.Needs.{needs}
 use Rattle.lexical.proofs.token.literal_token.Statement.{statement}
 use Rattle.lexical.proofs.token.literal_token.Tie as tie
 use Rattle.lexical.proofs.token.literal_token.Reads as reads
 use Rattle.lexical.proofs.token.literal_token.Lts as lts
-use Rattle.lexical.proofs.literal.literal_end.Reads as literal-end-reads
+use Rattle.lexical.proofs.literal.closes_at.Reads as closes-at-reads
+use Rattle.lexical.proofs.literal.plain_end.Reads as plain-end-reads
 
--- src/token.rt:69:9
+-- src/token.rt:87:9
 returns : tie.Need-returns
 returns c = search literal-past
 
--- src/token.rt:75:28
-add-literal-end : tie.Need-add-literal-end
-add-literal-end c = search needs
+-- src/token.rt:93:26
+add-plain-end : tie.Need-add-plain-end
+add-plain-end c = search needs
 
--- src/token.rt:75:9
-literal-end-requires : tie.Need-literal-end-requires
-literal-end-requires c κs = search needs
+-- src/token.rt:93:9
+plain-end-requires : tie.Need-plain-end-requires
+plain-end-requires c κs = search needs
 
--- src/token.rt:77:9
+-- src/token.rt:94:8
+closes-at-requires : tie.Need-closes-at-requires
+closes-at-requires c κs = search needs
+
+-- src/token.rt:98:18
+add-t7 : tie.Need-add-t7
+add-t7 c = search quote-fits
+
+-- src/token.rt:95:9
 returns-2 : tie.Need-returns-2
-returns-2 c = search literal-open
+returns-2 c = search literal-closed
 
--- src/token.rt:65:1
+-- src/token.rt:83:1
 returns-3 : tie.Need-returns-3
-returns-3 c = search literal-closed
+returns-3 c = search literal-open
 
 pub literal-token-spec : {M : Type 1} → statement M
 literal-token-spec =
-    tie.close (tie.spec returns add-literal-end literal-end-requires returns-2 returns-3)
+    tie.close
+    (tie.spec
+    returns
+    add-plain-end
+    plain-end-requires
+    closes-at-requires
+    add-t7
+    returns-2
+    returns-3)

@@ -1,4 +1,4 @@
-use Rattle.lexical.proofs.TokenWays.{class-passed, lone-fits, from-name, from-number, from-literal, from-lone, from-operator}
+use Rattle.lexical.proofs.TokenWays.{class-passed, lone-fits, name-fits, from-name, digit-passed, from-number, from-literal, from-lone, from-operator}
 use borrow.Author.Needs.{needs}
 use Rattle.lexical.proofs.token.token_from.Statement.{statement}
 use Rattle.lexical.proofs.token.token_from.Tie as tie
@@ -23,6 +23,10 @@ byte-at-requires c κs = search needs
 begins-name-requires : tie.Need-begins-name-requires
 begins-name-requires c κs = search needs
 
+-- src/token.rt:168:30
+add-word-end : tie.Need-add-word-end
+add-word-end c = search name-fits
+
 -- src/token.rt:168:13
 word-end-requires : tie.Need-word-end-requires
 word-end-requires c κs = search needs
@@ -37,7 +41,7 @@ begins-number-requires c κs = search needs
 
 -- src/token.rt:176:9
 number-token-requires : tie.Need-number-token-requires
-number-token-requires c κs = search needs
+number-token-requires c κs = search digit-passed
 
 -- src/token.rt:176:9
 returns-2 : tie.Need-returns-2
@@ -64,8 +68,8 @@ is-lone-requires : tie.Need-is-lone-requires
 is-lone-requires c κs = search needs
 
 -- src/token.rt:186:18
-add-t12 : tie.Need-add-t12
-add-t12 c = search lone-fits
+add-t13 : tie.Need-add-t13
+add-t13 c = search lone-fits
 
 -- src/token.rt:183:9
 returns-4 : tie.Need-returns-4
@@ -85,6 +89,7 @@ token-from-spec =
     (tie.spec
     byte-at-requires
     begins-name-requires
+    add-word-end
     word-end-requires
     returns
     begins-number-requires
@@ -95,7 +100,7 @@ token-from-spec =
     returns-3
     class-of-requires
     is-lone-requires
-    add-t12
+    add-t13
     returns-4
     operator-token-requires
     returns-5)
