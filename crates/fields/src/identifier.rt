@@ -67,9 +67,12 @@ fn is_clear(s: &[u8], i: usize, n: usize) -> bool
     requires { ⌜ i + n ≤ length (now s) ⌝ }
     ensures { λ r. ⌜ r ≡ all clear (take n (drop i (now (s .entry)))) ⌝ }
 {
-    if is_without(s, i, n, b'\\') {
-        if is_without(s, i, n, b'"') {
-            return is_printed(s, i, n);
+    let straight = is_without(s, i, n, b'\\');
+    let unquoted = is_without(s, i, n, b'"');
+    let held = is_printed(s, i, n);
+    if straight {
+        if unquoted {
+            return held;
         }
         return false;
     }
