@@ -84,7 +84,7 @@ fn small(k: u64) -> u8
     k as u8
 }
 
-// Writes the licensee t, entered as e.
+// Writes the licensee t, entered as e. The token behind it is built anew: a copy of the whole would wait for the stores of its parts.
 fn placed(s: &[u8], code: &mut [u16], st: State, t: Token, e: Entry) -> Licensed
     requires { ⌜ st .listed < 16 ⌝ }
     ensures { λ r. ⌜ wrote r (now (code .exit)) ≡ placedIn (now (s .entry)) (now (code .entry)) st t e ⌝ }
@@ -110,7 +110,11 @@ fn placed(s: &[u8], code: &mut [u16], st: State, t: Token, e: Entry) -> Licensed
                     size,
                     listed: st.listed + 1,
                 },
-                next: n,
+                next: Token {
+                    kind: n.kind,
+                    start: n.start,
+                    end: n.end,
+                },
             }
         }
     }
