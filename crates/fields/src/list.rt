@@ -120,7 +120,7 @@ fn placed(s: &[u8], code: &mut [u16], st: State, t: Token, e: Entry) -> Licensed
     }
 }
 
-// The licensee t.
+// The licensee t, which is handed on built anew.
 pub fn licensee(
     s: &[u8],
     consts: &[u8],
@@ -133,7 +133,12 @@ pub fn licensee(
 ) -> Licensed
     ensures { λ r. ⌜ ran r (now (pool .exit)) (now (places .exit)) (now (code .exit)) ≡ licenseeIn (now (s .entry)) (now (consts .entry)) (now (constants .entry)) (now (pool .entry)) (now (places .entry)) (now (code .entry)) st t ⌝ }
 {
-    if is_whole(s, t) {
+    let u = Token {
+        kind: t.kind,
+        start: t.start,
+        end: t.end,
+    };
+    if is_whole(s, u) {
         if MOST_LICENSEES <= st.listed {
             return Licensed::Aside {
                 reason: 7,
@@ -143,7 +148,7 @@ pub fn licensee(
         let e = entered(pool, places, st.count, st.end, &s[t.start + 1..t.end - 1]);
         return placed(s, code, st, t, e);
     }
-    let f = identifier_fault(s, consts, constants, t);
+    let f = identifier_fault(s, consts, constants, u);
     if f != 0 {
         return Licensed::Aside {
             reason: f,
@@ -156,7 +161,7 @@ pub fn licensee(
             place: t.start,
         };
     }
-    let e = enter_token(s, consts, constants, pool, places, st.count, st.end, t);
+    let e = enter_token(s, consts, constants, pool, places, st.count, st.end, u);
     placed(s, code, st, t, e)
 }
 

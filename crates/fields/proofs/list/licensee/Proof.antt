@@ -25,15 +25,15 @@ add-entered c = search whole-fits
 
 -- src/list.rt:139:73
 sub-entered : tie.Need-sub-entered
-sub-entered c = search whole-some
+sub-entered c = let w = c .before .before .before .before .before .before .before .is-whole in let f = whole-some _ _ (w .result) (w .ensures) (c .before .before .before .before .before .before .if1 .taken) in search f
 
 -- src/list.rt:139:57
 sub-entered-2 : tie.Need-sub-entered-2
-sub-entered-2 c = search whole-from
+sub-entered-2 c = let w = c .before .before .before .before .before .before .before .is-whole in let f = whole-from _ _ (w .result) (w .ensures) (c .before .before .before .before .before .before .if1 .taken) in search f
 
 -- src/list.rt:139:57
 part-entered-start : tie.Need-part-entered-start
-part-entered-start c = search whole-from
+part-entered-start c = let w = c .before .before .before .before .before .before .before .is-whole in let f = whole-from _ _ (w .result) (w .ensures) (c .before .before .before .before .before .before .if1 .taken) in search f
 
 -- src/list.rt:139:57
 part-entered-end : tie.Need-part-entered-end
