@@ -1,4 +1,5 @@
 pub mod Outs
+pub mod Whole
 pub mod Identifying
 pub mod Authorizing
 pub mod Setting

@@ -1,7 +1,9 @@
 // Authorizer.
 use crate::identifier::Entry;
 use crate::identifier::enter_token;
+use crate::identifier::entered;
 use crate::identifier::identifier_fault;
+use crate::identifier::is_whole;
 use crate::out::NO_ROOM;
 use crate::out::is_ending;
 use crate::out::refusal_of;
@@ -9,7 +11,7 @@ use lexical::kind;
 use lexical::line::token_at;
 use lexical::token::Token;
 ghost use mathlib.Core.Path.{_≡_};
-ghost use Rattle.fields.specs.Working.Authorizing.{policyAt, barredAt, authorizerEnd, made, authorizerIn};
+ghost use Rattle.fields.specs.Working.Authorizing.{policyAt, barredAt, authorizerEnd, made, authoredIn, authorizerIn};
 
 // The standing of a verified credential.
 pub const VERIFIED: u8 = 2;
@@ -67,6 +69,28 @@ fn finished(number: usize, count: usize, end: usize, t: Token) -> Author
     }
 }
 
+// The field of t, whose principal is entered as e.
+fn authored(s: &[u8], standing: u8, pool: &[u8], places: &[usize], t: Token, e: Entry) -> Author
+    ensures { λ r. ⌜ r ≡ authoredIn (now (s .entry)) standing (now (pool .entry)) (now (places .entry)) t e ⌝ }
+{
+    match e {
+        Entry::Full => Author::Aside {
+            reason: NO_ROOM,
+            place: 0,
+        },
+        Entry::At { number, count, end } => {
+            if is_barred(standing, pool, places, number) {
+                return Author::Aside {
+                    reason: 9,
+                    place: t.start,
+                };
+            }
+            let n = token_at(s, kind::IN_FIELD, t.end);
+            finished(number, count, end, n)
+        }
+    }
+}
+
 // The field whose first token is t, of an assertion of that standing.
 pub fn authorizer(
     s: &[u8],
@@ -81,6 +105,10 @@ pub fn authorizer(
 ) -> Author
     ensures { λ r. ⌜ made r (now (pool .exit)) (now (places .exit)) ≡ authorizerIn (now (s .entry)) standing (now (consts .entry)) (now (constants .entry)) (now (pool .entry)) (now (places .entry)) count end t ⌝ }
 {
+    if is_whole(s, t) {
+        let e = entered(pool, places, count, end, &s[t.start + 1..t.end - 1]);
+        return authored(s, standing, pool, places, t, e);
+    }
     let f = identifier_fault(s, consts, constants, t);
     if f != 0 {
         return Author::Aside {
@@ -88,24 +116,6 @@ pub fn authorizer(
             place: t.start,
         };
     }
-    match enter_token(s, consts, constants, pool, places, count, end, t) {
-        Entry::Full => Author::Aside {
-            reason: NO_ROOM,
-            place: 0,
-        },
-        Entry::At {
-            number,
-            count: c,
-            end: e,
-        } => {
-            if is_barred(standing, pool, places, number) {
-                return Author::Aside {
-                    reason: 9,
-                    place: t.start,
-                };
-            }
-            let n = token_at(s, kind::IN_FIELD, t.end);
-            finished(number, c, e, n)
-        }
-    }
+    let e = enter_token(s, consts, constants, pool, places, count, end, t);
+    authored(s, standing, pool, places, t, e)
 }

@@ -6,15 +6,16 @@ use expression::name::find;
 use lexical::kind;
 use lexical::literal::bare_end;
 use lexical::literal::decode_into;
-use lexical::literal::is_bare;
 use lexical::literal::is_sized;
 use lexical::literal::literal_length;
 use lexical::token::Token;
 ghost use mathlib.Core.Path.{_≡_};
-ghost use lib.ListN.{length};
+ghost use Prim.Native.Nat.{_+_, _-_, _≤_};
+ghost use lib.ListN.{length, take, drop};
+ghost use Rattle.text.specs.All.{all};
 ghost use Rattle.lexical.specs.Literal.{decodedAt};
-ghost use Rattle.lexical.specs.Plain.{bareEnd};
 ghost use Rattle.fields.specs.Identifier.{sizeFault};
+ghost use Rattle.fields.specs.Working.Whole.{other, printed, clear, whole};
 ghost use Rattle.fields.specs.Working.Identifying.{entry, nameFaultIn, faultIn, enterIn, literalIn, tokenIn};
 
 pub const MOST_IDENTIFIER: usize = 256;
@@ -27,6 +28,143 @@ pub enum Entry {
         end: usize,
     },
     Full,
+}
+
+// Is none of the n bytes from i on this one? The loop has no early end, so that many bytes are compared at once.
+fn is_without(s: &[u8], i: usize, n: usize, b: u8) -> bool
+    requires { ⌜ i + n ≤ length (now s) ⌝ }
+    ensures { λ r. ⌜ r ≡ all (other b) (take n (drop i (now (s .entry)))) ⌝ }
+{
+    let mut none = true;
+    let mut j: usize = 0;
+    while j < n {
+        if s[i + j] == b {
+            none = false;
+        }
+        j += 1;
+    }
+    none
+}
+
+// Is none of them a control byte? As `is_without`.
+fn is_printed(s: &[u8], i: usize, n: usize) -> bool
+    requires { ⌜ i + n ≤ length (now s) ⌝ }
+    ensures { λ r. ⌜ r ≡ all printed (take n (drop i (now (s .entry)))) ⌝ }
+{
+    let mut held = true;
+    let mut j: usize = 0;
+    while j < n {
+        if s[i + j] < 32 {
+            held = false;
+        }
+        j += 1;
+    }
+    held
+}
+
+// Are the n bytes from i on clear: no control byte, quote or backslash?
+fn is_clear(s: &[u8], i: usize, n: usize) -> bool
+    requires { ⌜ i + n ≤ length (now s) ⌝ }
+    ensures { λ r. ⌜ r ≡ all clear (take n (drop i (now (s .entry)))) ⌝ }
+{
+    let straight = is_without(s, i, n, b'\\');
+    let unquoted = is_without(s, i, n, b'"');
+    let held = is_printed(s, i, n);
+    if straight {
+        if unquoted {
+            return held;
+        }
+        return false;
+    }
+    false
+}
+
+// The same of the bytes from i to e, 16 or more, in blocks; the last block ends where they end.
+fn is_clear_long(s: &[u8], i: usize, e: usize) -> bool
+    requires { ⌜ (i + 16 ≤ e) × (e ≤ length (now s)) ⌝ }
+    ensures { λ r. ⌜ r ≡ all clear (take (e - i) (drop i (now (s .entry)))) ⌝ }
+{
+    let mut a = i;
+    while 16 < e - a {
+        if is_clear(s, a, 16) {
+            a += 16;
+        } else {
+            return false;
+        }
+    }
+    is_clear(s, e - 16, 16)
+}
+
+fn is_clear_byte(b: u8) -> bool
+    ensures { λ r. ⌜ r ≡ clear b ⌝ }
+{
+    if b == b'\\' {
+        return false;
+    }
+    if b == b'"' {
+        return false;
+    }
+    32 <= b
+}
+
+// The same of a few bytes.
+fn is_clear_short(s: &[u8], i: usize, e: usize) -> bool
+    requires { ⌜ (i ≤ e) × (e ≤ length (now s)) ⌝ }
+    ensures { λ r. ⌜ r ≡ all clear (take (e - i) (drop i (now (s .entry)))) ⌝ }
+{
+    let mut a = i;
+    while a < e {
+        if is_clear_byte(s[a]) {
+            a += 1;
+        } else {
+            return false;
+        }
+    }
+    true
+}
+
+// The same of any number of them; two blocks of 8 may share some.
+fn is_clear_to(s: &[u8], i: usize, e: usize) -> bool
+    requires { ⌜ (i ≤ e) × (e ≤ length (now s)) ⌝ }
+    ensures { λ r. ⌜ r ≡ all clear (take (e - i) (drop i (now (s .entry)))) ⌝ }
+{
+    if 16 <= e - i {
+        return is_clear_long(s, i, e);
+    }
+    if e - i < 8 {
+        return is_clear_short(s, i, e);
+    }
+    if is_clear(s, i, 8) {
+        return is_clear(s, e - 8, 8);
+    }
+    false
+}
+
+// Is t a literal of 1 to 256 clear bytes? Then it gives them as they stand.
+pub fn is_whole(s: &[u8], t: Token) -> bool
+    ensures { λ r. ⌜ r ≡ whole (now (s .entry)) t ⌝ }
+{
+    if t.kind != kind::LITERAL {
+        return false;
+    }
+    let start = t.start;
+    let end = t.end;
+    if s.len() < end {
+        return false;
+    }
+    if end <= start {
+        return false;
+    }
+    if end - start < 3 {
+        return false;
+    }
+    if MOST_IDENTIFIER + 2 < end - start {
+        return false;
+    }
+    if s[end - 1] != b'"' {
+        return false;
+    }
+    is_clear_to(s, start + 1, end - 1)
 }
 
 // The reason against an identifier of n bytes, or 0.
@@ -102,7 +240,7 @@ pub fn enter(pool: &mut [u8], places: &mut [usize], count: usize, end: usize, id
 }
 
 // As `enter`, with the answer built anew: a copy of the whole would wait for the stores of its parts.
-fn entered(pool: &mut [u8], places: &mut [usize], count: usize, end: usize, id: &[u8]) -> Entry
+pub fn entered(pool: &mut [u8], places: &mut [usize], count: usize, end: usize, id: &[u8]) -> Entry
     ensures { λ r. ⌜ entry r (now (pool .exit)) (now (places .exit)) ≡ enterIn (now (pool .entry)) (now (places .entry)) count end (now (id .entry)) ⌝ }
 {
     match enter(pool, places, count, end, id) {
@@ -141,17 +279,7 @@ fn enter_decoded(
     Entry::Full
 }
 
-// Where the literal at `start` closes, if it holds plain bytes only; else 0. It is read at once where it is bare up to `stop`.
-fn plain_end(s: &[u8], start: usize, stop: usize) -> usize
-    ensures { λ r. ⌜ r ≡ bareEnd (now (s .entry)) start ⌝ }
-{
-    if is_bare(s, start, stop) {
-        return stop - 1;
-    }
-    bare_end(s, start)
-}
-
-// Enters what the literal from `start` to `stop` gives; one of plain bytes as it stands.
+// Enters what the literal at `start` gives; one of plain bytes as it stands.
 fn enter_literal(
     s: &[u8],
     pool: &mut [u8],
@@ -159,11 +287,10 @@ fn enter_literal(
     count: usize,
     end: usize,
     start: usize,
-    stop: usize,
 ) -> Entry
     ensures { λ r. ⌜ entry r (now (pool .exit)) (now (places .exit)) ≡ literalIn (now (pool .entry)) (now (places .entry)) count end (decodedAt (now (s .entry)) start) ⌝ }
 {
-    let e = plain_end(s, start, stop);
+    let e = bare_end(s, start);
     if e == 0 {
         return enter_decoded(s, pool, places, count, end, start);
     }
@@ -187,7 +314,7 @@ pub fn enter_token(
     ensures { λ r. ⌜ entry r (now (pool .exit)) (now (places .exit)) ≡ tokenIn (now (s .entry)) (now (consts .entry)) (now (constants .entry)) (now (pool .entry)) (now (places .entry)) count end t ⌝ }
 {
     if t.kind == kind::LITERAL {
-        return enter_literal(s, pool, places, count, end, t.start, t.end);
+        return enter_literal(s, pool, places, count, end, t.start);
     }
     let name = word(s, t);
     entered(pool, places, count, end, attribute(consts, constants, name))

@@ -1,7 +1,9 @@
 // Licensees one by one and in lists, written as instructions.
 use crate::identifier::Entry;
 use crate::identifier::enter_token;
+use crate::identifier::entered;
 use crate::identifier::identifier_fault;
+use crate::identifier::is_whole;
 use crate::out::NO_ROOM;
 use crate::out::refusal_of;
 use compliance::machine;
@@ -12,7 +14,7 @@ use lexical::token::Token;
 use limits::MOST_LICENSEES;
 ghost use mathlib.Core.Path.{_≡_};
 ghost use Prim.Native.Nat.{_-_, _<_};
-ghost use Rattle.fields.specs.Working.List.{ran, above, pushed, refusedLicensed, itemsOf, listedIn, licenseeIn, listIn, openedIn, thresholdIn, wrote};
+ghost use Rattle.fields.specs.Working.List.{ran, above, pushed, refusedLicensed, itemsOf, listedIn, placedIn, licenseeIn, listIn, openedIn, thresholdIn, wrote};
 
 pub const MOST_BRACKETS: usize = 16;
 
@@ -82,33 +84,12 @@ fn small(k: u64) -> u8
     k as u8
 }
 
-// The licensee t.
-pub fn licensee(
-    s: &[u8],
-    consts: &[u8],
-    constants: &[usize],
-    pool: &mut [u8],
-    places: &mut [usize],
-    code: &mut [u16],
-    st: State,
-    t: Token,
-) -> Licensed
-    ensures { λ r. ⌜ ran r (now (pool .exit)) (now (places .exit)) (now (code .exit)) ≡ licenseeIn (now (s .entry)) (now (consts .entry)) (now (constants .entry)) (now (pool .entry)) (now (places .entry)) (now (code .entry)) st t ⌝ }
+// Writes the licensee t, entered as e. The token behind it is built anew: a copy of the whole would wait for the stores of its parts.
+fn placed(s: &[u8], code: &mut [u16], st: State, t: Token, e: Entry) -> Licensed
+    requires { ⌜ st .listed < 16 ⌝ }
+    ensures { λ r. ⌜ wrote r (now (code .exit)) ≡ placedIn (now (s .entry)) (now (code .entry)) st t e ⌝ }
 {
-    let f = identifier_fault(s, consts, constants, t);
-    if f != 0 {
-        return Licensed::Aside {
-            reason: f,
-            place: t.start,
-        };
-    }
-    if MOST_LICENSEES <= st.listed {
-        return Licensed::Aside {
-            reason: 7,
-            place: t.start,
-        };
-    }
-    match enter_token(s, consts, constants, pool, places, st.count, st.end, t) {
+    match e {
         Entry::Full => Licensed::Aside {
             reason: NO_ROOM,
             place: 0,
@@ -129,10 +110,59 @@ pub fn licensee(
                     size,
                     listed: st.listed + 1,
                 },
-                next: n,
+                next: Token {
+                    kind: n.kind,
+                    start: n.start,
+                    end: n.end,
+                },
             }
         }
     }
+}
+
+// The licensee t, which is handed on built anew.
+pub fn licensee(
+    s: &[u8],
+    consts: &[u8],
+    constants: &[usize],
+    pool: &mut [u8],
+    places: &mut [usize],
+    code: &mut [u16],
+    st: State,
+    t: Token,
+) -> Licensed
+    ensures { λ r. ⌜ ran r (now (pool .exit)) (now (places .exit)) (now (code .exit)) ≡ licenseeIn (now (s .entry)) (now (consts .entry)) (now (constants .entry)) (now (pool .entry)) (now (places .entry)) (now (code .entry)) st t ⌝ }
+{
+    let u = Token {
+        kind: t.kind,
+        start: t.start,
+        end: t.end,
+    };
+    if is_whole(s, u) {
+        if MOST_LICENSEES <= st.listed {
+            return Licensed::Aside {
+                reason: 7,
+                place: t.start,
+            };
+        }
+        let e = entered(pool, places, st.count, st.end, &s[t.start + 1..t.end - 1]);
+        return placed(s, code, st, t, e);
+    }
+    let f = identifier_fault(s, consts, constants, u);
+    if f != 0 {
+        return Licensed::Aside {
+            reason: f,
+            place: t.start,
+        };
+    }
+    if MOST_LICENSEES <= st.listed {
+        return Licensed::Aside {
+            reason: 7,
+            place: t.start,
+        };
+    }
+    let e = enter_token(s, consts, constants, pool, places, st.count, st.end, u);
+    placed(s, code, st, t, e)
 }
 
 // How many licensees were read since there were `before`; 0 where that is no list's length.

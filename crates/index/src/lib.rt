@@ -1,44 +1,66 @@
 // The index of principals: each distinct identifier gets a number when it is first read. Identifiers lie in a lent pool, each behind its
 // two-byte length; a lent table holds an entry for each.
 ghost use mathlib.Core.Path.{_≡_};
-ghost use Prim.Native.Nat.{_+_, _≤_};
+ghost use Prim.Native.Nat.{_+_, _%_, _<_, _≤_};
 ghost use lib.ListN.{length, take, set};
 ghost use Rattle.text.specs.Copy.{copied};
 ghost use Rattle.principal.specs.Tag.{tag};
 ghost use Rattle.index.specs.Entry.{nameAt, isAt};
 ghost use Rattle.index.specs.Working.Finding.{found, findRest};
-ghost use Rattle.index.specs.Working.Blocks.{othersAt};
+ghost use Rattle.index.specs.Working.Blocks.{hitsAt};
 ghost use Rattle.index.specs.Working.Adding.{countedInto, entered, addInto, principalInto};
 
-// Is it the entry of the identifier, whose tag is t? It has its own tag in its low half.
-fn is_entry(pool: &[u8], e: usize, id: &[u8], t: usize) -> bool
+// The tag of an entry: its low half.
+fn low(e: usize) -> u32
+    ensures { λ r. ⌜ r ≡ e % 4294967296 ⌝ }
+{
+    (e % 4294967296) as u32
+}
+
+// Is it the entry of the identifier, whose tag is t?
+fn is_entry(pool: &[u8], e: usize, id: &[u8], t: u32) -> bool
     requires { ⌜ t ≡ tag (now id) ⌝ }
     ensures { λ r. ⌜ r ≡ isAt (now (pool .entry)) (now (id .entry)) e ⌝ }
 {
-    if e % 4294967296 == t {
+    if low(e) == t {
         return principal::same_principal(id, text::counted_at(pool, e / 4294967296));
     }
     false
 }
 
-// Have the 16 entries from i on other tags than t? The loop has no early end and asks for no length.
-fn is_other_block(places: &[usize], i: usize, t: usize) -> bool
-    requires { ⌜ i + 16 ≤ length (now places) ⌝ }
-    ensures { λ r. ⌜ r ≡ othersAt (now (places .entry)) i 16 t ⌝ }
+fn narrow(j: usize) -> u32
+    requires { ⌜ j < 16 ⌝ }
+    ensures { λ r. ⌜ r ≡ j ⌝ }
 {
-    let mut none = true;
+    j as u32
+}
+
+fn wide(h: u32) -> usize
+    ensures { λ r. ⌜ r ≡ h ⌝ }
+{
+    h as usize
+}
+
+// The entries with the tag t among the 16 from i on, each counted as 256 and its distance from i: less than 512 tells where the only one stands.
+// The loop has no early end and asks for no length.
+fn hits(places: &[usize], i: usize, t: u32) -> u32
+    requires { ⌜ i + 16 ≤ length (now places) ⌝ }
+    ensures { λ r. ⌜ r ≡ hitsAt (now (places .entry)) i t 16 ⌝ }
+{
+    let mut sum: u32 = 0;
     let mut j: usize = 0;
     while j < 16 {
-        if places[i + j] % 4294967296 == t {
-            none = false;
+        let w = 256 + narrow(j);
+        if low(places[i + j]) == t {
+            sum += w;
         }
         j += 1;
     }
-    none
+    sum
 }
 
 // The index of an identifier, whose tag is t, among the entries from `from` to n, or where they end.
-fn find_from(pool: &[u8], places: &[usize], from: usize, n: usize, id: &[u8], t: usize) -> usize
+fn find_from(pool: &[u8], places: &[usize], from: usize, n: usize, id: &[u8], t: u32) -> usize
     requires { ⌜ t ≡ tag (now id) ⌝ }
     ensures { λ r. ⌜ r ≡ findRest (now (pool .entry)) (now (places .entry)) n (now (id .entry)) from ⌝ }
 {
@@ -57,33 +79,45 @@ fn find_from(pool: &[u8], places: &[usize], from: usize, n: usize, id: &[u8], t:
 }
 
 // The same among the 16 entries from i on.
-fn find_in_block(pool: &[u8], places: &[usize], i: usize, id: &[u8], t: usize) -> usize
+fn find_in_block(pool: &[u8], places: &[usize], i: usize, id: &[u8], t: u32) -> usize
     requires { ⌜ (i + 16 ≤ length (now places)) × (t ≡ tag (now id)) ⌝ }
     ensures { λ r. ⌜ r ≡ findRest (now (pool .entry)) (now (places .entry)) (i + 16) (now (id .entry)) i ⌝ }
 {
-    if is_other_block(places, i, t) {
+    let h = hits(places, i, t);
+    if h == 0 {
         return i + 16;
     }
-    find_from(pool, places, i, i + 16, id, t)
+    if 512 <= h {
+        return find_from(pool, places, i, i + 16, id, t);
+    }
+    let k = i + (wide(h) - 256);
+    let e = places[k];
+    if is_entry(pool, e, id, t) {
+        return k;
+    }
+    i + 16
 }
 
-// The index of an identifier among the first n, or n where it is none of them.
+// The index of an identifier among the first n, or n where it is none of them. A block may reach behind them.
 pub fn find(pool: &[u8], places: &[usize], n: usize, id: &[u8]) -> usize
     ensures { λ r. ⌜ r ≡ found (now (pool .entry)) (now (id .entry)) (take n (now (places .entry))) ⌝ }
 {
-    let t = principal::tag_of(id);
+    let t = low(principal::tag_of(id));
     let mut i: usize = 0;
-    while 16 <= n - i {
+    while i < n {
         if places.len() - i < 16 {
             return find_from(pool, places, i, n, id, t);
         }
         let r = find_in_block(pool, places, i, id, t);
+        if n <= r {
+            return n;
+        }
         if r < i + 16 {
             return r;
         }
         i += 16;
     }
-    find_from(pool, places, i, n, id, t)
+    i
 }
 
 // The identifier of an entry.

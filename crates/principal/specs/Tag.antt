@@ -40,6 +40,6 @@ unfolding back
 back-some p k b h e = rw (lt-leb _ _ h, e)
 
 -- `tag_of`
-pub tag-is : (p : Principal) (a b c : ℕ) → a ≡ back p 0 → b ≡ back p 1 → c ≡ back p 2 → length p % 256 + 256 * a + 65536 * b + 16777216 * c ≡ tag p
+pub tag-is : (p : Principal) (a b c r : ℕ) → a ≡ back p 0 → b ≡ back p 1 → c ≡ back p 2 → r ≡ length p % 256 + 256 * a + 65536 * b + 16777216 * c → r ≡ tag p
 unfolding tag
-tag-is p a b c ae be ce = rw (ae, be, ce)
+tag-is p a b c r ae be ce re = rw (re, ae, be, ce)

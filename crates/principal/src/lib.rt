@@ -1,6 +1,7 @@
 // Principals: the one function that compares two identifiers, and a number that tells most of them apart.
 ghost use mathlib.Core.Path.{_≡_};
-ghost use Prim.Native.Nat.{_<_};
+ghost use Prim.Native.Nat.{_+_, _*_, _%_, _<_};
+ghost use lib.ListN.{length};
 ghost use Rattle.principal.specs.Principal.{same};
 ghost use Rattle.principal.specs.Tag.{back, tag};
 
@@ -17,7 +18,17 @@ fn wide(b: u8) -> usize
     b as usize
 }
 
-// The byte k before the last one, or 0.
+// The byte k before the last one.
+fn back_at(id: &[u8], k: usize) -> usize
+    requires { ⌜ k < length (now id) ⌝ }
+    ensures { λ r. ⌜ r ≡ back (now (id .entry)) k ⌝ }
+    ensures { λ r. ⌜ r < 256 ⌝ }
+{
+    let b = wide(id[id.len() - 1 - k]);
+    b % 256
+}
+
+// The same, or 0.
 fn back_of(id: &[u8], k: usize) -> usize
     ensures { λ r. ⌜ r ≡ back (now (id .entry)) k ⌝ }
     ensures { λ r. ⌜ r < 256 ⌝ }
@@ -25,8 +36,15 @@ fn back_of(id: &[u8], k: usize) -> usize
     if id.len() <= k {
         return 0;
     }
-    let b = wide(id[id.len() - 1 - k]);
-    b % 256
+    back_at(id, k)
+}
+
+// The tag of n bytes that end with c, b and a.
+fn tag_with(n: usize, a: usize, b: usize, c: usize) -> usize
+    requires { ⌜ (a < 256) × (b < 256) × (c < 256) ⌝ }
+    ensures { λ r. ⌜ r ≡ n % 256 + 256 * a + 65536 * b + 16777216 * c ⌝ }
+{
+    n % 256 + 256 * a + 65536 * b + 16777216 * c
 }
 
 // A number that the same principal always has.
@@ -34,8 +52,9 @@ pub fn tag_of(id: &[u8]) -> usize
     ensures { λ r. ⌜ r ≡ tag (now (id .entry)) ⌝ }
     ensures { λ r. ⌜ r < 4294967296 ⌝ }
 {
-    let a = back_of(id, 0);
-    let b = back_of(id, 1);
-    let c = back_of(id, 2);
-    id.len() % 256 + 256 * a + 65536 * b + 16777216 * c
+    let n = id.len();
+    if n < 3 {
+        return tag_with(n, back_of(id, 0), back_of(id, 1), back_of(id, 2));
+    }
+    tag_with(n, back_at(id, 0), back_at(id, 1), back_at(id, 2))
 }

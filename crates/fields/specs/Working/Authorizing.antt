@@ -6,7 +6,7 @@ use Prim.Native.Nat.{ℕ, _<_, _≤_}
 use lib.Dec.{eqb, leb}
 use lib.ListN.{length, getD}
 use borrow.Author.Tests.{le-leb, lt-leb, eq-eqb, ne-eqb}
-use Rattle.text.specs.Choice.{pick}
+use Rattle.text.specs.Choice.{pick, split}
 use Rattle.index.specs.Entry.{nameAt}
 use Rattle.lexical.specs.Kind
 use Rattle.lexical.specs.Line.{tokenAt}
@@ -15,7 +15,8 @@ use Rattle.principal.specs.Principal.{same, policy}
 use Rattle.syntax.specs.Parsed.{refusal}
 use Rattle.fields.specs.Parsed.{behind, ending}
 use Rattle.fields.specs.Authorizer.{verified}
-use Rattle.fields.specs.Working.Identifying.{Kept, entry, faultIn, tokenIn}
+use Rattle.fields.specs.Working.Whole.{whole, inner}
+use Rattle.fields.specs.Working.Identifying.{Kept, entry, faultIn, enterIn, tokenIn, whole-fault, whole-token}
 use Rattle.fields.specs.declared.identifier.Entry.{Entry}
 use Rattle.fields.specs.declared.identifier.Entry.the-variants.{At, Full}
 use Rattle.fields.specs.declared.authorizer.Author.{Author}
@@ -38,6 +39,11 @@ abbrev pub onEntry : List ℕ → ℕ → Token → Kept → Made
 onEntry s standing t (entry Full pool places) = made (Aside 0 0) pool places
 onEntry s standing t (entry (At i c e) pool places) =
     pick (barredAt standing pool places i) (made (Aside 9 (t .start)) pool places) (made (authorizerEnd i c e (behind s Kind.IN-FIELD t)) pool places)
+
+-- the same of an answer alone
+unfoldable pub authoredIn : List ℕ → ℕ → List ℕ → List ℕ → Token → Entry → Author
+authoredIn s standing pool places t Full = Aside 0 0
+authoredIn s standing pool places t (At i c e) = pick (barredAt standing pool places i) (Aside 9 (t .start)) (authorizerEnd i c e (behind s Kind.IN-FIELD t))
 
 unfoldable pub authorizerIn : List ℕ → ℕ → List ℕ → List ℕ → List ℕ → List ℕ → ℕ → ℕ → Token → Made
 authorizerIn s standing consts constants pool places count end t =
@@ -75,23 +81,40 @@ module _ (i c e : ℕ) (t : Token) (b : Bool) (be : b ≡ ending (t .kind)) wher
   unfolding authorizerEnd
   finished-not r n re = rw re (simp (sym be, n))
 
+-- `authored`
+module _ (s : List ℕ) (standing : ℕ) (pool places : List ℕ) (t : Token) where
+  module _ (r : Entry) where
+    pub authored-full : r ≡ Full → Aside 0 0 ≡ authoredIn s standing pool places t r
+    unfolding authoredIn
+    authored-full k = rw k
+
+    module _ (i c e : ℕ) (k : r ≡ At i c e) (b : Bool) (be : b ≡ barredAt standing pool places i) where
+      pub authored-barred : b ≡ true → Aside 9 (t .start) ≡ authoredIn s standing pool places t r
+      unfolding authoredIn
+      authored-barred y = simp (k, sym be, y)
+
+      pub authored-on : (n : Token) (a : Author) → b ≡ false → n ≡ tokenAt s Kind.IN-FIELD (t .end) → a ≡ authorizerEnd i c e n → a ≡ authoredIn s standing pool places t r
+      unfolding authoredIn
+      authored-on n a y ne ae = rw (ae, ne) (simp (k, sym be, y))
+
+  authored-is : (r : Entry) → made (authoredIn s standing pool places t r) pool places ≡ onEntry s standing t (entry r pool places)
+  unfolding authoredIn
+  authored-is Full = refl
+  authored-is (At i c e) = split (barredAt standing pool places i) (λ h. rw h) (λ h. rw h)
+
 -- `authorizer`
-module _ (s : List ℕ) (standing : ℕ) (consts constants pool places : List ℕ) (count end : ℕ) (t : Token) (f : ℕ) (fe : f ≡ faultIn s consts constants t) where
-  pub author-fault : (f ≡ 0 → ⊥) → made (Aside f (t .start)) pool places ≡ authorizerIn s standing consts constants pool places count end t
-  unfolding authorizerIn
-  author-fault h = simp (sym fe, ne-eqb _ _ h)
-
-  module _ (z : f ≡ 0) (r : Entry) (p q : List ℕ) (re : entry r p q ≡ tokenIn s consts constants pool places count end t) where
-    pub author-full : r ≡ Full → made (Aside 0 0) p q ≡ authorizerIn s standing consts constants pool places count end t
+module _ (s : List ℕ) (standing : ℕ) (consts constants pool places : List ℕ) (count end : ℕ) (t : Token) where
+  module _ (f : ℕ) (fe : f ≡ faultIn s consts constants t) where
+    pub author-fault : (f ≡ 0 → ⊥) → made (Aside f (t .start)) pool places ≡ authorizerIn s standing consts constants pool places count end t
     unfolding authorizerIn
-    author-full k = simp (sym fe, eq-eqb _ _ z, sym re, k)
+    author-fault h = simp (sym fe, ne-eqb _ _ h)
 
-    module _ (i c e : ℕ) (k : r ≡ At i c e) (b : Bool) (be : b ≡ barredAt standing p q i) where
-      pub author-barred : b ≡ true → made (Aside 9 (t .start)) p q ≡ authorizerIn s standing consts constants pool places count end t
-      unfolding authorizerIn
-      author-barred y = simp (sym fe, eq-eqb _ _ z, sym re, k, sym be, y)
+    pub author-on : f ≡ 0 → (r : Entry) (p q : List ℕ) → entry r p q ≡ tokenIn s consts constants pool places count end t → (a : Author) → a ≡ authoredIn s standing p q t r
+        → made a p q ≡ authorizerIn s standing consts constants pool places count end t
+    unfolding authorizerIn
+    author-on z r p q re a ae = ap (λ (x : Author). made x p q) ae ∙ authored-is s standing p q t r ∙ simp (sym fe, eq-eqb _ _ z, sym re)
 
-      pub author-on : (n : Token) (a : Author) → b ≡ false → n ≡ tokenAt s Kind.IN-FIELD (t .end) → a ≡ authorizerEnd i c e n
-          → made a p q ≡ authorizerIn s standing consts constants pool places count end t
-      unfolding authorizerIn
-      author-on n a y ne ae = rw (ae, ne) (simp (sym fe, eq-eqb _ _ z, sym re, k, sym be, y))
+  pub author-whole : (w : Bool) → w ≡ whole s t → w ≡ true → (r : Entry) (p q : List ℕ) → entry r p q ≡ enterIn pool places count end (inner s (t .start) (t .end))
+      → (a : Author) → a ≡ authoredIn s standing p q t r → made a p q ≡ authorizerIn s standing consts constants pool places count end t
+  author-whole w we y r p q re a ae =
+      author-on 0 (whole-fault s t w we y consts constants) refl r p q (re ∙ whole-token s t w we y consts constants pool places count end) a ae

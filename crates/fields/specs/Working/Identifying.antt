@@ -3,8 +3,11 @@
 use mathlib.Core.Path.{_≡_, refl, sym, ap, _∙_}
 use mathlib.Core.Bool.{Bool, true, false}
 use mathlib.Core.List.{List, [], _∷_, _++_}
-use Prim.Native.Nat.{ℕ, zero, suc, _+_, _-_, _<_, _≤_}
+use Prim.Native.Nat.{ℕ, zero, suc, _+_, _-_, _<_, _≤_, _^_}
 use native.Mathlib.Omega.{arith}
+use native.Mathlib.Nat.{lt-of-le-of-lt}
+use mir.Syntax.{w64}
+use mir.Val.{Fits}
 use lib.Dec.{eqb, leb, ltb}
 use lib.ListN.{length, getD, take, drop, length-drop}
 use lib.Seq.{take-append-seam, length-take-le}
@@ -15,7 +18,6 @@ use Rattle.lexical.specs.Literal.{decodedAt}
 use Rattle.lexical.specs.Decode.{Ran, ran, decodeInto}
 use Rattle.lexical.specs.DecodeLaws.{decode-fits}
 use Rattle.lexical.specs.Plain.{bareEnd, bare-within, bare-given}
-use Rattle.lexical.specs.Bare.{bare as bareTo, bare-some, bare-end}
 use Rattle.lexical.specs.Short.{sized, sized-length}
 use Rattle.lexical.specs.declared.token.Token.{Token}
 use Rattle.principal.specs.Principal.{Principal}
@@ -28,6 +30,7 @@ use Rattle.fields.specs.Limits.{mostIdentifier}
 use Rattle.syntax.specs.Parsed.{refusal}
 use Rattle.fields.specs.Parsed.{wordOf}
 use Rattle.fields.specs.Identifier.{sizeFault}
+use Rattle.fields.specs.Working.Whole.{whole, inner, Whole, whole-is}
 use Rattle.fields.specs.declared.identifier.Entry.{Entry}
 use Rattle.fields.specs.declared.identifier.Entry.the-variants.{At, Full}
 
@@ -152,14 +155,6 @@ module _ (s pool places : List ℕ) (count end start n : ℕ) (ne : n ≡ length
     pub literal-never : t ≡ false → entry Full pool places ≡ literalIn pool places count end (decodedAt s start)
     literal-never f = clash (front .0) f
 
--- `plain_end`
-module _ (s : List ℕ) (start stop : ℕ) (t : Bool) (te : t ≡ bareTo s start stop) (h : t ≡ true) where
-  pub plain-some : 1 ≤ stop
-  plain-some = omega (arith, bare-some s start stop (sym te ∙ h))
-
-  pub plain-bare : stop - 1 ≡ bareEnd s start
-  plain-bare = sym (bare-end s start stop (sym te ∙ h))
-
 -- `enter_literal`
 module _ (s : List ℕ) (start e : ℕ) (ee : e ≡ bareEnd s start) (n : e ≡ 0 → ⊥) (pool places : List ℕ) (count end : ℕ) where
   counted : e - (start + 1) ≡ length (decodedAt s start)
@@ -185,3 +180,41 @@ module _ (s consts constants pool places : List ℕ) (count end : ℕ) (t : Toke
       → r ≡ tokenIn s consts constants pool places count end t
   unfolding tokenIn
   token-name w v h we ve e = e ∙ simp (ne-eqb _ _ h, ve, we)
+
+-- a literal that gives its bytes as they stand has no fault, and is entered so
+module _ (s : List ℕ) (t : Token) (w : Bool) (we : w ≡ whole s t) (y : w ≡ true) where
+  is : Whole s t
+  is = whole-is s t (sym we ∙ y)
+
+  pub whole-some : 1 ≤ t .end
+  whole-some = omega (arith, is .some)
+
+  pub whole-fits : length s < 2 ^ 64 → Fits w64 (t .start + 1)
+  whole-fits l = let k : t .start + 1 ≤ length s = omega (arith, is .some, is .inText) in record { fits = lt-of-le-of-lt k l }
+
+  pub whole-from : t .start + 1 ≤ t .end - 1
+  whole-from = omega (arith, is .some)
+
+  pub whole-within : t .end - 1 ≤ length s
+  whole-within = omega (arith, is .inText)
+
+  gives : decodedAt s (t .start) ≡ inner s (t .start) (t .end)
+  gives = bare-given s (t .start) (t .end - 1) (sym (is .closed)) (λ z. let no : ⊥ = omega (arith, z, is .some) in no)
+
+  long : length (decodedAt s (t .start)) ≡ t .end - 1 - (t .start + 1)
+  long = ap length gives ∙ length-take-le (t .end - 1 - (t .start + 1)) (drop (t .start + 1) s) (rw (length-drop (t .start + 1) s) (omega (arith, is .inText)))
+
+  pub whole-fault : (consts constants : List ℕ) → 0 ≡ faultIn s consts constants t
+  unfolding faultIn sizeFault
+  whole-fault consts constants =
+      simp (
+        eq-eqb (t .kind) Kind.LITERAL (is .literal),
+        ne-eqb (length (decodedAt s (t .start))) 0 (λ z. let no : ⊥ = omega (arith, z, long, is .some) in no),
+        le-ltb mostIdentifier (length (decodedAt s (t .start))) (omega (arith, long, is .few)),
+      )
+
+  pub whole-token : (consts constants pool places : List ℕ) (count end : ℕ)
+      → enterIn pool places count end (inner s (t .start) (t .end)) ≡ tokenIn s consts constants pool places count end t
+  unfolding tokenIn literalIn
+  whole-token consts constants pool places count end =
+      rw (sym gives) (simp (eq-eqb (t .kind) Kind.LITERAL (is .literal), le-ltb mostIdentifier (length (decodedAt s (t .start))) (omega (arith, long, is .few))))

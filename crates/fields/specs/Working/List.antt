@@ -14,6 +14,7 @@ use Rattle.compliance.specs.Codes.{kOfCode}
 use Rattle.syntax.specs.Parsed.{refusal}
 use Rattle.fields.specs.Licensees.{after}
 use Rattle.fields.specs.Working.Identifying.{Kept, entry, faultIn, tokenIn}
+use Rattle.fields.specs.declared.identifier.Entry.{Entry}
 use Rattle.fields.specs.declared.identifier.Entry.the-variants.{At, Full}
 use Rattle.fields.specs.declared.list.State.{State}
 use Rattle.fields.specs.declared.list.Licensed.{Licensed}
@@ -50,6 +51,12 @@ onEntered s code st t (entry Full pool places) = ran (Aside 0 0) pool places cod
 onEntered s code st t (entry (At i c e) pool places) =
     pick (leb 32768 i) (ran (Aside 0 0) pool places code)
     (ran (On (stateOf c e (above code (st .size)) (st .listed + 1)) (after s t)) pool places (pushed code (st .size) i))
+
+-- the same of an answer alone
+unfoldable pub placedIn : List ℕ → List ℕ → State → Token → Entry → Wrote
+placedIn s code st t Full = wrote (Aside 0 0) code
+placedIn s code st t (At i c e) =
+    pick (leb 32768 i) (wrote (Aside 0 0) code) (wrote (On (stateOf c e (above code (st .size)) (st .listed + 1)) (after s t)) (pushed code (st .size) i))
 
 unfoldable pub licenseeIn : List ℕ → List ℕ → List ℕ → List ℕ → List ℕ → List ℕ → State → Token → Ran
 licenseeIn s consts constants pool places code st t =

@@ -7,6 +7,7 @@ use native.Mathlib.Omega.{arith}
 use lib.Dec.{eqb, leb, ltb}
 use lib.ListN.{length, set}
 use borrow.Author.Tests.{lt-ltb, le-ltb, le-leb, lt-leb, eq-eqb, ne-eqb}
+use Rattle.text.specs.Choice.{split}
 use Rattle.text.specs.Loop.{loop-next, loop-done}
 use Rattle.limits.specs.Limits.{mostLicensees}
 use Rattle.lexical.specs.Kind
@@ -15,8 +16,9 @@ use Rattle.lexical.specs.Number.{numberAt}
 use Rattle.lexical.specs.declared.token.Token.{Token}
 use Rattle.compliance.specs.Codes.{kOfCode}
 use Rattle.syntax.specs.Parsed.{refusal}
-use Rattle.fields.specs.Working.Identifying.{Kept, entry, faultIn, tokenIn}
-use Rattle.fields.specs.Working.List.{Ran, ran, Wrote, wrote, refusedLicensed, above, pushed, sized, stateOf, licenseeIn, itemsOf, listedIn, onWrote, listIn, openedIn, thresholdIn}
+use Rattle.fields.specs.Working.Whole.{whole, inner}
+use Rattle.fields.specs.Working.Identifying.{Kept, entry, faultIn, enterIn, tokenIn, whole-fault, whole-token}
+use Rattle.fields.specs.Working.List.{Ran, ran, Wrote, wrote, refusedLicensed, above, pushed, sized, stateOf, onEntered, placedIn, licenseeIn, itemsOf, listedIn, onWrote, listIn, openedIn, thresholdIn}
 use Rattle.fields.specs.declared.identifier.Entry.{Entry}
 use Rattle.fields.specs.declared.identifier.Entry.the-variants.{At, Full}
 use Rattle.fields.specs.declared.list.State.{State}
@@ -45,6 +47,28 @@ module _ (code : List ℕ) (size : ℕ) where
   unfolding pushed
   pushed-room x h = simp (lt-leb _ _ h)
 
+-- `placed`
+module _ (s code : List ℕ) (st : State) (t : Token) where
+  module _ (e : Entry) where
+    pub placed-full : e ≡ Full → wrote (Aside 0 0) code ≡ placedIn s code st t e
+    unfolding placedIn
+    placed-full k = rw k
+
+    module _ (i c m : ℕ) (k : e ≡ At i c m) where
+      pub placed-high : 32768 ≤ i → wrote (Aside 0 0) code ≡ placedIn s code st t e
+      unfolding placedIn
+      placed-high g = simp (k, le-leb _ _ g)
+
+      pub placed-on : (x y : ℕ) (b : List ℕ) (n : Token) → i < 32768 → x ≡ i → y ≡ above code (st .size) → b ≡ pushed code (st .size) x → n ≡ tokenAt s Kind.IN-LICENSEES (t .end)
+          → wrote (On (stateOf c m y (st .listed + 1)) n) b ≡ placedIn s code st t e
+      unfolding placedIn
+      placed-on x y b n g xe ye be ne = rw (ye, be, xe, ne) (simp (k, lt-leb _ _ g))
+
+  placed-is : (e : Entry) (p q : List ℕ) → onWrote p q (placedIn s code st t e) ≡ onEntered s code st t (entry e p q)
+  unfolding placedIn
+  placed-is Full p q = refl
+  placed-is (At i c m) p q = split (leb 32768 i) (λ h. rw h) (λ h. rw h)
+
 -- `licensee`
 module _ (s consts constants pool places code : List ℕ) (st : State) (t : Token) (f : ℕ) (fe : f ≡ faultIn s consts constants t) where
   pub licensee-fault : (f ≡ 0 → ⊥) → ran (Aside f (t .start)) pool places code ≡ licenseeIn s consts constants pool places code st t
@@ -57,19 +81,19 @@ module _ (s consts constants pool places code : List ℕ) (st : State) (t : Toke
     licensee-most h = simp (sym fe, eq-eqb _ _ z, le-leb _ _ h)
 
     module _ (h : st .listed < mostLicensees) (r : Entry) (p q : List ℕ) (re : entry r p q ≡ tokenIn s consts constants pool places (st .count) (st .end) t) where
-      pub licensee-full : r ≡ Full → ran (Aside 0 0) p q code ≡ licenseeIn s consts constants pool places code st t
+      pub licensee-placed : (a : Licensed) (b : List ℕ) → wrote a b ≡ placedIn s code st t r → ran a p q b ≡ licenseeIn s consts constants pool places code st t
       unfolding licenseeIn
-      licensee-full k = simp (sym fe, eq-eqb _ _ z, lt-leb _ _ h, sym re, k)
+      licensee-placed a b e = ap (onWrote p q) e ∙ placed-is s code st t r p q ∙ simp (sym fe, eq-eqb _ _ z, lt-leb _ _ h, sym re)
 
-      module _ (i c e : ℕ) (k : r ≡ At i c e) where
-        pub licensee-high : 32768 ≤ i → ran (Aside 0 0) p q code ≡ licenseeIn s consts constants pool places code st t
-        unfolding licenseeIn
-        licensee-high g = simp (sym fe, eq-eqb _ _ z, lt-leb _ _ h, sym re, k, le-leb _ _ g)
+module _ (s consts constants pool places code : List ℕ) (st : State) (t : Token) (w : Bool) (we : w ≡ whole s t) (y : w ≡ true) where
+  pub whole-most : mostLicensees ≤ st .listed → ran (Aside 7 (t .start)) pool places code ≡ licenseeIn s consts constants pool places code st t
+  whole-most h = licensee-most s consts constants pool places code st t 0 (whole-fault s t w we y consts constants) refl h
 
-        pub licensee-on : (x y : ℕ) (b : List ℕ) (n : Token) → i < 32768 → x ≡ i → y ≡ above code (st .size) → b ≡ pushed code (st .size) x → n ≡ tokenAt s Kind.IN-LICENSEES (t .end)
-            → ran (On (stateOf c e y (st .listed + 1)) n) p q b ≡ licenseeIn s consts constants pool places code st t
-        unfolding licenseeIn
-        licensee-on x y b n g xe ye be ne = rw (ye, be, xe, ne) (simp (sym fe, eq-eqb _ _ z, lt-leb _ _ h, sym re, k, lt-leb _ _ g))
+  pub whole-placed : st .listed < mostLicensees → (r : Entry) (p q : List ℕ) → entry r p q ≡ enterIn pool places (st .count) (st .end) (inner s (t .start) (t .end))
+      → (a : Licensed) (b : List ℕ) → wrote a b ≡ placedIn s code st t r → ran a p q b ≡ licenseeIn s consts constants pool places code st t
+  whole-placed h r p q re a b e =
+      licensee-placed s consts constants pool places code st t 0 (whole-fault s t w we y consts constants) refl h r p q
+      (re ∙ whole-token s t w we y consts constants pool places (st .count) (st .end)) a b e
 
 -- `items`
 module _ (before listed : ℕ) where

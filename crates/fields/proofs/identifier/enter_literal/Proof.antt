@@ -5,71 +5,71 @@ use Rattle.fields.proofs.identifier.enter_literal.Statement.{statement}
 use Rattle.fields.proofs.identifier.enter_literal.Tie as tie
 use Rattle.fields.proofs.identifier.enter_literal.Reads as reads
 use Rattle.fields.proofs.identifier.enter_literal.Lts as lts
-use Rattle.fields.proofs.identifier.entered.Reads as entered-reads
 use Rattle.fields.proofs.identifier.enter_decoded.Reads as enter-decoded-reads
-use Rattle.fields.proofs.identifier.plain_end.Reads as plain-end-reads
+use Rattle.fields.proofs.identifier.entered.Reads as entered-reads
+use Rattle.lexical.proofs.literal.bare_end.Reads as bare-end-reads
 
--- src/identifier.rt:135:9
-plain-end-requires : tie.Need-plain-end-requires
-plain-end-requires c κs = search needs
+-- src/identifier.rt:290:9
+bare-end-requires : tie.Need-bare-end-requires
+bare-end-requires c κs = search needs
 
--- src/identifier.rt:137:9
+-- src/identifier.rt:292:9
 enter-decoded-requires : tie.Need-enter-decoded-requires
 enter-decoded-requires c κs = search needs
 
--- src/identifier.rt:137:9
+-- src/identifier.rt:292:9
 same-length : tie.Need-same-length
 same-length c = search needs
 
--- src/identifier.rt:137:9
+-- src/identifier.rt:292:9
 same-length-2 : tie.Need-same-length-2
 same-length-2 c = search needs
 
--- src/identifier.rt:137:9
+-- src/identifier.rt:292:9
 returns : tie.Need-returns
 returns c = search needs
 
--- src/identifier.rt:139:31
+-- src/identifier.rt:294:31
 add-if2 : tie.Need-add-if2
 add-if2 c = search bare-fits
 
--- src/identifier.rt:139:26
+-- src/identifier.rt:294:26
 sub-if2 : tie.Need-sub-if2
 sub-if2 c = search bare-from
 
--- src/identifier.rt:140:9
+-- src/identifier.rt:295:9
 returns-2 : tie.Need-returns-2
 returns-2 c = search bare-long
 
--- src/identifier.rt:142:40
+-- src/identifier.rt:297:42
 add-entered : tie.Need-add-entered
 add-entered c = search bare-fits
 
--- src/identifier.rt:142:37
+-- src/identifier.rt:297:39
 sub-entered : tie.Need-sub-entered
 sub-entered c = search bare-from
 
--- src/identifier.rt:142:37
+-- src/identifier.rt:297:39
 part-entered-start : tie.Need-part-entered-start
 part-entered-start c = search bare-from
 
--- src/identifier.rt:142:37
+-- src/identifier.rt:297:39
 part-entered-end : tie.Need-part-entered-end
 part-entered-end c = search bare-within
 
--- src/identifier.rt:142:5
+-- src/identifier.rt:297:5
 entered-requires : tie.Need-entered-requires
 entered-requires c κs = search needs
 
--- src/identifier.rt:125:1
+-- src/identifier.rt:280:1
 same-length-3 : tie.Need-same-length-3
 same-length-3 c = search needs
 
--- src/identifier.rt:125:1
+-- src/identifier.rt:280:1
 same-length-4 : tie.Need-same-length-4
 same-length-4 c = search needs
 
--- src/identifier.rt:125:1
+-- src/identifier.rt:280:1
 returns-3 : tie.Need-returns-3
 returns-3 c = search bare-entered
 
@@ -77,7 +77,7 @@ pub enter-literal-spec : {M : Type 1} → statement M
 enter-literal-spec =
     tie.close
     (tie.spec
-    plain-end-requires
+    bare-end-requires
     enter-decoded-requires
     same-length
     same-length-2

@@ -1,116 +1,127 @@
-use Rattle.fields.proofs.list.licensee.Statement.{statement}
-use Rattle.fields.specs.Working.ListWays.{licensee-fault, licensee-full, licensee-high, licensee-most, licensee-on}
+use Rattle.fields.specs.Working.Identifying.{whole-some, whole-fits, whole-from, whole-within}
+use Rattle.fields.specs.Working.ListWays.{licensee-fault, licensee-most, licensee-placed, whole-most, whole-placed}
 use borrow.Author.Needs.{needs}
+use Rattle.fields.proofs.list.licensee.Statement.{statement}
 use Rattle.fields.proofs.list.licensee.Tie as tie
 use Rattle.fields.proofs.list.licensee.Reads as reads
 use Rattle.fields.proofs.list.licensee.Lts as lts
 use Rattle.fields.proofs.identifier.enter_token.Reads as enter-token-reads
+use Rattle.fields.proofs.identifier.entered.Reads as entered-reads
 use Rattle.fields.proofs.identifier.identifier_fault.Reads as identifier-fault-reads
-use Rattle.fields.proofs.list.narrow.Reads as narrow-reads
-use Rattle.fields.proofs.list.push.Reads as push-reads
-use Rattle.lexical.proofs.token_at.Reads as token-at-reads
+use Rattle.fields.proofs.identifier.is_whole.Reads as is-whole-reads
+use Rattle.fields.proofs.list.placed.Reads as placed-reads
 
--- src/list.rt:98:9
-identifier-fault-requires : tie.Need-identifier-fault-requires
-identifier-fault-requires c κs = search needs
+-- src/list.rt:132:8
+is-whole-requires : tie.Need-is-whole-requires
+is-whole-requires c κs = search needs
 
--- src/list.rt:100:9
+-- src/list.rt:134:13
 returns : tie.Need-returns
-returns c = search licensee-fault
+returns c = search whole-most
 
--- src/list.rt:106:9
-returns-2 : tie.Need-returns-2
-returns-2 c = search licensee-most
+-- src/list.rt:139:60
+add-entered : tie.Need-add-entered
+add-entered c = search whole-fits
 
--- src/list.rt:111:11
-enter-token-requires : tie.Need-enter-token-requires
-enter-token-requires c κs = search needs
+-- src/list.rt:139:73
+sub-entered : tie.Need-sub-entered
+sub-entered c = let w = c .before .before .before .before .before .before .before .is-whole in let f = whole-some _ _ (w .result) (w .ensures) (c .before .before .before .before .before .before .if1 .taken) in search f
 
--- src/list.rt:112:24
-enum-told : tie.Need-enum-told
-enum-told c = search needs
+-- src/list.rt:139:57
+sub-entered-2 : tie.Need-sub-entered-2
+sub-entered-2 c = let w = c .before .before .before .before .before .before .before .is-whole in let f = whole-from _ _ (w .result) (w .ensures) (c .before .before .before .before .before .before .if1 .taken) in search f
 
--- src/list.rt:116:21
-enum-known-number : tie.Need-enum-known-number
-enum-known-number c = search needs
+-- src/list.rt:139:57
+part-entered-start : tie.Need-part-entered-start
+part-entered-start c = let w = c .before .before .before .before .before .before .before .is-whole in let f = whole-from _ _ (w .result) (w .ensures) (c .before .before .before .before .before .before .if1 .taken) in search f
 
--- src/list.rt:118:17
+-- src/list.rt:139:57
+part-entered-end : tie.Need-part-entered-end
+part-entered-end c = search whole-within
+
+-- src/list.rt:139:13
+entered-requires : tie.Need-entered-requires
+entered-requires c κs = search needs
+
+-- src/list.rt:140:9
+placed-requires : tie.Need-placed-requires
+placed-requires c κs = search needs
+
+-- src/list.rt:140:9
 same-length : tie.Need-same-length
 same-length c = search needs
 
--- src/list.rt:118:17
+-- src/list.rt:140:9
 same-length-2 : tie.Need-same-length-2
 same-length-2 c = search needs
 
--- src/list.rt:118:17
-returns-3 : tie.Need-returns-3
-returns-3 c = search licensee-high
-
--- src/list.rt:123:44
-narrow-requires : tie.Need-narrow-requires
-narrow-requires c κs = search needs
-
--- src/list.rt:123:17
-push-requires : tie.Need-push-requires
-push-requires c κs = search needs
-
--- src/list.rt:124:17
-token-at-requires : tie.Need-token-at-requires
-token-at-requires c κs = search needs
-
--- src/list.rt:130:29
-add-t26 : tie.Need-add-t26
-add-t26 c = search needs
-
--- src/list.rt:86:1
+-- src/list.rt:140:9
 same-length-3 : tie.Need-same-length-3
 same-length-3 c = search needs
 
--- src/list.rt:86:1
+-- src/list.rt:140:9
+returns-2 : tie.Need-returns-2
+returns-2 c = search whole-placed
+
+-- src/list.rt:142:9
+identifier-fault-requires : tie.Need-identifier-fault-requires
+identifier-fault-requires c κs = search needs
+
+-- src/list.rt:144:9
+returns-3 : tie.Need-returns-3
+returns-3 c = search licensee-fault
+
+-- src/list.rt:150:9
+returns-4 : tie.Need-returns-4
+returns-4 c = search licensee-most
+
+-- src/list.rt:155:9
+enter-token-requires : tie.Need-enter-token-requires
+enter-token-requires c κs = search needs
+
+-- src/list.rt:156:5
+placed-requires-2 : tie.Need-placed-requires-2
+placed-requires-2 c κs = search needs
+
+-- src/list.rt:120:1
 same-length-4 : tie.Need-same-length-4
 same-length-4 c = search needs
 
--- src/list.rt:86:1
-returns-4 : tie.Need-returns-4
-returns-4 c = search licensee-full
-
--- src/list.rt:86:1
+-- src/list.rt:120:1
 same-length-5 : tie.Need-same-length-5
 same-length-5 c = search needs
 
--- src/list.rt:86:1
+-- src/list.rt:120:1
 same-length-6 : tie.Need-same-length-6
 same-length-6 c = search needs
 
--- src/list.rt:86:1
-same-length-7 : tie.Need-same-length-7
-same-length-7 c = search needs
-
--- src/list.rt:86:1
+-- src/list.rt:120:1
 returns-5 : tie.Need-returns-5
-returns-5 c = search licensee-on
+returns-5 c = search licensee-placed
 
 pub licensee-spec : {M : Type 1} → statement M
 licensee-spec =
     tie.close
     (tie.spec
-    identifier-fault-requires
+    is-whole-requires
     returns
-    returns-2
-    enter-token-requires
-    enum-told
-    enum-known-number
+    add-entered
+    sub-entered
+    sub-entered-2
+    part-entered-start
+    part-entered-end
+    entered-requires
+    placed-requires
     same-length
     same-length-2
-    returns-3
-    narrow-requires
-    push-requires
-    token-at-requires
-    add-t26
     same-length-3
-    same-length-4
+    returns-2
+    identifier-fault-requires
+    returns-3
     returns-4
+    enter-token-requires
+    placed-requires-2
+    same-length-4
     same-length-5
     same-length-6
-    same-length-7
     returns-5)

@@ -1,0 +1,21 @@
+use Rattle.fields.specs.Working.Whole.{byte-slash, byte-quote, byte-rest}
+use borrow.Author.Needs.{needs}
+use Rattle.fields.proofs.identifier.is_clear_byte.Statement.{statement}
+use Rattle.fields.proofs.identifier.is_clear_byte.Tie as tie
+use Rattle.fields.proofs.identifier.is_clear_byte.Reads as reads
+use Rattle.fields.proofs.identifier.is_clear_byte.Lts as lts
+
+-- src/identifier.rt:99:9
+returns : tie.Need-returns
+returns c = search byte-slash
+
+-- src/identifier.rt:102:9
+returns-2 : tie.Need-returns-2
+returns-2 c = search byte-quote
+
+-- src/identifier.rt:95:1
+returns-3 : tie.Need-returns-3
+returns-3 c = search byte-rest
+
+pub is-clear-byte-spec : {M : Type 1} → statement M
+is-clear-byte-spec = tie.close (tie.spec returns returns-2 returns-3)

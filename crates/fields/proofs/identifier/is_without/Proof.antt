@@ -1,0 +1,59 @@
+use mathlib.Core.Logic.{⊎-elim}
+use mathlib.Core.Path.{_≡_}
+use Prim.Native.Nat.{_-_, _≤_}
+use lib.ListN.{take, drop}
+use Rattle.text.specs.All.{all}
+use Rattle.fields.specs.Working.Whole.{other, bytes-none, bytes-done, without-held, without-more}
+use borrow.Author.Needs.{needs}
+use Rattle.fields.proofs.identifier.is_without.Statement.{statement}
+use Rattle.fields.proofs.identifier.is_without.Tie as tie
+use Rattle.fields.proofs.identifier.is_without.Reads as reads
+use Rattle.fields.proofs.identifier.is_without.Lts as lts
+
+abbrev Inv-loop : tie.InvT-loop
+Inv-loop s i n b none₀ j₀ none j = (j ≤ n) × (none ≡ all (other b) (take j (drop i s)))
+
+abbrev μ-loop : tie.MeasureT-loop
+μ-loop s i n b none₀ j₀ none j = n - j
+
+-- src/identifier.rt:40:5
+loop-holds : tie.Need-loop-holds Inv-loop μ-loop
+loop-holds c = (search needs, search bytes-none)
+
+-- src/identifier.rt:41:14
+add-if1 : tie.Need-add-if1 Inv-loop μ-loop
+add-if1 c = search needs
+
+-- src/identifier.rt:41:12
+shared-slice-read-if1 : tie.Need-shared-slice-read-if1 Inv-loop μ-loop
+shared-slice-read-if1 c = search needs
+
+-- src/identifier.rt:44:9
+add-j : tie.Need-add-j Inv-loop μ-loop
+add-j c = search needs
+
+-- src/identifier.rt:40:5
+loop-less : tie.Need-loop-less Inv-loop μ-loop
+loop-less c = search needs
+
+-- src/identifier.rt:40:5
+loop-again : tie.Need-loop-again Inv-loop μ-loop
+loop-again c = (search needs, ⊎-elim (λ w. search without-held) (λ w. search without-more) (c .if1 .came))
+
+-- src/identifier.rt:34:1
+returns : tie.Need-returns Inv-loop μ-loop
+returns c = search bytes-done
+
+pub is-without-spec : {M : Type 1} → statement M
+is-without-spec =
+    tie.close
+    (tie.spec
+    Inv-loop
+    μ-loop
+    loop-holds
+    add-if1
+    shared-slice-read-if1
+    add-j
+    loop-less
+    loop-again
+    returns)
