@@ -739,7 +739,7 @@ pub fn run<'a>(
     top(stack, n)
 }
 
-// The machine on stacks of its own, with little room for strings.
+// The machine on stacks of its own, with little room.
 fn run_narrow<'a>(
     code: &[u32],
     s: &[u8],
@@ -749,10 +749,37 @@ fn run_narrow<'a>(
     names: &[usize],
     constants: &[usize],
 ) -> Operand
-    ensures { λ r. ⌜ r ≡ leftIn 208 512 (now (code .entry)) (now (s .entry)) (now (query .entry)) (now (consts .entry)) (now (values .entry)) (now (names .entry)) (now (constants .entry)) ⌝ }
+    ensures { λ r. ⌜ r ≡ leftIn 32 256 (now (code .entry)) (now (s .entry)) (now (query .entry)) (now (consts .entry)) (now (values .entry)) (now (names .entry)) (now (constants .entry)) ⌝ }
+{
+    let mut stack = [0u64; 32];
+    let mut bytes = [0u8; 256];
+    run(
+        code,
+        s,
+        query,
+        consts,
+        values,
+        names,
+        constants,
+        &mut stack,
+        &mut bytes,
+    )
+}
+
+// The same with room for some strings.
+fn run_middle<'a>(
+    code: &[u32],
+    s: &[u8],
+    query: &'a [u8],
+    consts: &'a [u8],
+    values: &[usize],
+    names: &[usize],
+    constants: &[usize],
+) -> Operand
+    ensures { λ r. ⌜ r ≡ leftIn 208 8192 (now (code .entry)) (now (s .entry)) (now (query .entry)) (now (consts .entry)) (now (values .entry)) (now (names .entry)) (now (constants .entry)) ⌝ }
 {
     let mut stack = [0u64; 208];
-    let mut bytes = [0u8; 512];
+    let mut bytes = [0u8; 8192];
     run(
         code,
         s,
@@ -793,6 +820,36 @@ fn run_wide<'a>(
     )
 }
 
+// Runs compiled Conditions on stacks of its own, with more and more room. It calls itself so that the compiler keeps the large tables apart.
+fn run_on<'a>(
+    tier: usize,
+    code: &[u32],
+    s: &[u8],
+    query: &'a [u8],
+    consts: &'a [u8],
+    values: &[usize],
+    names: &[usize],
+    constants: &[usize],
+) -> Operand
+    ensures { λ r. ⌜ r ≡ leftIn 208 77824 (now (code .entry)) (now (s .entry)) (now (query .entry)) (now (consts .entry)) (now (values .entry)) (now (names .entry)) (now (constants .entry)) ⌝ }
+{
+    if tier == 0 {
+        let v = run_narrow(code, s, query, consts, values, names, constants);
+        if is_fault(v) {
+            return run_on(1, code, s, query, consts, values, names, constants);
+        }
+        return v;
+    }
+    if tier == 1 {
+        let v = run_middle(code, s, query, consts, values, names, constants);
+        if is_fault(v) {
+            return run_on(2, code, s, query, consts, values, names, constants);
+        }
+        return v;
+    }
+    run_wide(code, s, query, consts, values, names, constants)
+}
+
 // Runs compiled Conditions on stacks of its own: with little room first, which most need no more than.
 pub fn run_here<'a>(
     code: &[u32],
@@ -805,9 +862,5 @@ pub fn run_here<'a>(
 ) -> Operand
     ensures { λ r. ⌜ r ≡ leftIn 208 77824 (now (code .entry)) (now (s .entry)) (now (query .entry)) (now (consts .entry)) (now (values .entry)) (now (names .entry)) (now (constants .entry)) ⌝ }
 {
-    let v = run_narrow(code, s, query, consts, values, names, constants);
-    if is_fault(v) {
-        return run_wide(code, s, query, consts, values, names, constants);
-    }
-    v
+    run_on(0, code, s, query, consts, values, names, constants)
 }
