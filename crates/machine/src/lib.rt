@@ -1,6 +1,7 @@
 // The machine that runs compiled Conditions: a stack of operands, two numbers each, and the bytes of their strings one after the other.
 use expression::integer::in_range;
 use expression::name::lookup;
+use expression::name::rank_of;
 use expression::operator::LONGEST;
 use expression::operator::RAISE;
 use expression::operator::apply;
@@ -28,12 +29,14 @@ ghost use Rattle.text.specs.Choice.{pick};
 ghost use Rattle.text.specs.Class.{word};
 ghost use Rattle.text.specs.Counted.{counted};
 ghost use Rattle.lexical.specs.Literal.{decodedAt};
+ghost use Rattle.expression.specs.Conditions.{indexFrom};
 ghost use Rattle.expression.specs.Tables.{lookupIn};
 ghost use Rattle.machine.specs.Machine.{runAt, textStep, topOf, unaryStep, lookupStep, binaryOn, binaryStep, raised, clauseStep, pushStep, stepOf, outer, above, behindOf, goOn, needless, exec, resultOf, on};
 ghost use Rattle.machine.specs.Left.{leftIn};
 ghost use Rattle.machine.specs.Live.{Live, landed, putAt, settled};
 ghost use Rattle.machine.specs.Working.Quick.{putTwo, isNatural, isTold, isLogical, decides};
 ghost use Rattle.machine.specs.Working.Alike.{isAlike, agrees, alikeOn};
+ghost use Rattle.machine.specs.Working.Rating.{isRating, valuedOn};
 
 // How many numbers and bytes the stacks hold; or that the machine can't go on, the code being none or a buffer too small.
 pub enum Tops {
@@ -228,27 +231,6 @@ fn binary_on(
     settle(stack, n, t, base, v)
 }
 
-// The two topmost operands give way to what an operation makes of them.
-fn binary_step(
-    op: u32,
-    query: &[u8],
-    values: &[usize],
-    stack: &mut [u64],
-    n: usize,
-    bytes: &[u8],
-    t: usize,
-) -> Tops
-    requires { ⌜ (n ≤ length (now stack)) × (t ≤ length (now bytes)) ⌝ }
-    ensures { λ r. ⌜ Live r (now (stack .exit)) (now (bytes .entry)) (binaryStep (length (now (stack .entry))) (map (counted (now (query .entry))) (now (values .entry))) op (take n (now (stack .entry))) (take t (now (bytes .entry)))) ⌝ }
-{
-    if n < 4 {
-        return Tops::Stuck;
-    }
-    let y = top(stack, n);
-    let x = top(stack, n - 2);
-    binary_on(op, x, y, query, values, stack, n - 4, bytes, t)
-}
-
 // Puts a packed operand on a stack of n numbers that has room for it.
 fn land(stack: &mut [u64], n: usize, t: usize, q: Packed) -> Tops
     requires { ⌜ n + 2 ≤ length (now stack) ⌝ }
@@ -391,6 +373,90 @@ fn texts_step(
     let same = text::same_bytes(&bytes[base..mid], &bytes[mid..t]);
     let q = told(agreed(op, same));
     land(stack, n, base, q)
+}
+
+// Is it the operation k of clauses, and are the kinds those of a test and of what k takes besides?
+fn is_rating(op: u32, k: u32, x: u64, y: u64, z: u64) -> bool
+    ensures { λ r. ⌜ r ≡ isRating op k x y z ⌝ }
+{
+    if op != k {
+        return false;
+    }
+    if is_told(x) {
+        return y == z;
+    }
+    false
+}
+
+// The rank where the test, of that kind, holds, else 0.
+fn gated(kind: u64, rank: u64) -> u64
+    ensures { λ r. ⌜ r ≡ pick (eqb kind 4) rank 0 ⌝ }
+{
+    if kind == 4 {
+        return rank;
+    }
+    0
+}
+
+// The rank of a clause's string where its test, of that kind, holds, else 0.
+fn rank_valued(kind: u64, query: &[u8], values: &[usize], b: &[u8]) -> u64
+    ensures { λ r. ⌜ r ≡ pick (eqb kind 4) (indexFrom 0 (map (counted (now (query .entry))) (now (values .entry))) (now (b .entry))) 0 ⌝ }
+{
+    if kind == 4 {
+        return rank_of(query, values, b) as u64;
+    }
+    0
+}
+
+// A test of that kind and a string of w bytes, which ends the bytes, give way to a rank.
+fn valued_on(
+    kind: u64,
+    w: usize,
+    query: &[u8],
+    values: &[usize],
+    stack: &mut [u64],
+    n: usize,
+    bytes: &[u8],
+    t: usize,
+) -> Tops
+    requires { ⌜ (n + 2 ≤ length (now stack)) × (t ≤ length (now bytes)) ⌝ }
+    ensures { λ r. ⌜ Live r (now (stack .exit)) (now (bytes .entry)) (valuedOn (length (now (stack .entry))) (map (counted (now (query .entry))) (now (values .entry))) kind w (take n (now (stack .entry))) (take t (now (bytes .entry)))) ⌝ }
+{
+    if t < w {
+        return Tops::Stuck;
+    }
+    let base = t - w;
+    let m = rank_valued(kind, query, values, &bytes[base..t]);
+    land(stack, n, base, Packed { kind: 5, size: m })
+}
+
+// The two topmost operands give way to what an operation makes of them; a clause's test and string or rank need no more than their numbers.
+fn binary_step(
+    op: u32,
+    query: &[u8],
+    values: &[usize],
+    stack: &mut [u64],
+    n: usize,
+    bytes: &[u8],
+    t: usize,
+) -> Tops
+    requires { ⌜ (n ≤ length (now stack)) × (t ≤ length (now bytes)) ⌝ }
+    ensures { λ r. ⌜ Live r (now (stack .exit)) (now (bytes .entry)) (binaryStep (length (now (stack .entry))) (map (counted (now (query .entry))) (now (values .entry))) op (take n (now (stack .entry))) (take t (now (bytes .entry)))) ⌝ }
+{
+    if n < 4 {
+        return Tops::Stuck;
+    }
+    if is_rating(op, syntax::VALUED, stack[n - 4], stack[n - 2], 0) {
+        let w = count_of(stack[n - 1]);
+        return valued_on(stack[n - 4], w, query, values, stack, n - 4, bytes, t);
+    }
+    if is_rating(op, syntax::NESTED, stack[n - 4], stack[n - 2], 5) {
+        let m = gated(stack[n - 4], stack[n - 1]);
+        return land(stack, n - 4, t, Packed { kind: 5, size: m });
+    }
+    let y = top(stack, n);
+    let x = top(stack, n - 2);
+    binary_on(op, x, y, query, values, stack, n - 4, bytes, t)
 }
 
 // An operator of expressions on the two topmost operands; integers without a sign and tests need no more than their numbers.
