@@ -23,7 +23,7 @@ use lexical::literal::literal_length;
 ghost use mathlib.Core.Path.{_≡_};
 ghost use mathlib.Core.List.{[], map};
 ghost use Prim.Native.Nat.{_+_, _-_, _≤_, _<_, max};
-ghost use lib.Dec.{eqb};
+ghost use lib.Dec.{eqb, leb};
 ghost use lib.ListN.{length, take, drop};
 ghost use Rattle.text.specs.Choice.{pick};
 ghost use Rattle.text.specs.Class.{word};
@@ -31,7 +31,7 @@ ghost use Rattle.text.specs.Counted.{counted};
 ghost use Rattle.lexical.specs.Literal.{decodedAt};
 ghost use Rattle.expression.specs.Conditions.{indexFrom};
 ghost use Rattle.expression.specs.Tables.{lookupIn};
-ghost use Rattle.machine.specs.Machine.{runAt, textStep, topOf, unaryStep, lookupStep, binaryOn, binaryStep, raised, clauseStep, pushStep, stepOf, outer, above, behindOf, goOn, needless, exec, resultOf, on};
+ghost use Rattle.machine.specs.Machine.{runAt, textStep, topOf, unaryStep, lookupStep, binaryOn, binaryStep, raised, clauseStep, pushStep, actOf, outer, above, behindOf, goOn, closing, begun, ended, needless, exec, resultOf, on};
 ghost use Rattle.machine.specs.Left.{leftIn};
 ghost use Rattle.machine.specs.Live.{Live, landed, putAt, settled};
 ghost use Rattle.machine.specs.Working.Quick.{putTwo, isNatural, isTold, isLogical, decides};
@@ -627,11 +627,9 @@ fn clause_step(
     }
 }
 
-// One entry: an operation and a place of the text.
-fn step<'a>(
+// An operation on what lies on the stacks.
+fn act<'a>(
     op: u32,
-    at: usize,
-    s: &[u8],
     query: &'a [u8],
     consts: &'a [u8],
     values: &[usize],
@@ -643,24 +641,8 @@ fn step<'a>(
     t: usize,
 ) -> Tops
     requires { ⌜ (n ≤ length (now stack)) × (t ≤ length (now bytes)) ⌝ }
-    ensures { λ r. ⌜ Live r (now (stack .exit)) (now (bytes .exit)) (stepOf (length (now (stack .entry))) (length (now (bytes .entry))) (now (s .entry)) (lookupIn (now (query .entry)) (now (consts .entry)) (now (values .entry)) (now (names .entry)) (now (constants .entry))) (map (counted (now (query .entry))) (now (values .entry))) op at (take n (now (stack .entry))) (take t (now (bytes .entry)))) ⌝ }
+    ensures { λ r. ⌜ Live r (now (stack .exit)) (now (bytes .exit)) (actOf (length (now (stack .entry))) (length (now (bytes .entry))) (lookupIn (now (query .entry)) (now (consts .entry)) (now (values .entry)) (now (names .entry)) (now (constants .entry))) (map (counted (now (query .entry))) (now (values .entry))) op (take n (now (stack .entry))) (take t (now (bytes .entry)))) ⌝ }
 {
-    if op <= syntax::FALSE {
-        return push_step(
-            op,
-            at,
-            s,
-            query,
-            consts,
-            values,
-            names,
-            constants,
-            stack,
-            n,
-            bytes,
-            t,
-        );
-    }
     if op == syntax::LOOKUP {
         return lookup_step(query, consts, values, names, constants, stack, n, bytes, t);
     }
@@ -744,16 +726,74 @@ fn passed(code: &[u32], from: usize) -> usize
     known
 }
 
+// Of k programs that have begun above another: does an operation end that one?
+fn is_closing(op: u32, k: usize) -> bool
+    ensures { λ r. ⌜ r ≡ closing op k ⌝ }
+{
+    if op != syntax::NESTED {
+        return false;
+    }
+    k == 0
+}
+
+// How many have begun then.
+fn begun_then(op: u32, k: usize) -> usize
+    requires { ⌜ k < 18446744073709551615 ⌝ }
+    ensures { λ r. ⌜ r ≡ begun op k ⌝ }
+{
+    if op == syntax::BEGIN {
+        return k + 1;
+    }
+    if op != syntax::NESTED {
+        return k;
+    }
+    if k == 0 {
+        return 0;
+    }
+    k - 1
+}
+
+// With the highest rank on top, the entry to be run next: the end of its program.
+fn finished(code: &[u32], from: usize) -> usize
+    ensures { λ r. ⌜ r ≡ ended 0 from (drop from (now (code .entry))) ⌝ }
+{
+    let mut j = from;
+    let mut k: usize = 0;
+    while j < code.len() {
+        let op = code[j] / 65536;
+        if is_closing(op, k) {
+            return j;
+        }
+        j += 1;
+        k = begun_then(op, k);
+    }
+    j
+}
+
+// With a rank on top, the entry to be run next, from entry i on.
+fn concluded(code: &[u32], i: usize, rank: u64, values: &[usize]) -> usize
+    ensures { λ r. ⌜ r ≡ pick (leb (length (now (values .entry)) - 1) rank) (ended 0 i (drop i (now (code .entry)))) i ⌝ }
+{
+    let highest = top_rank(values) as u64;
+    if rank < highest {
+        return i;
+    }
+    finished(code, i)
+}
+
 // The entry to be run next, from entry i on.
-fn onward(code: &[u32], i: usize, stack: &[u64], n: usize) -> usize
+fn onward(code: &[u32], i: usize, stack: &[u64], n: usize, values: &[usize]) -> usize
     requires { ⌜ n ≤ length (now stack) ⌝ }
-    ensures { λ r. ⌜ r ≡ i + needless (take n (now (stack .entry))) (drop i (now (code .entry))) ⌝ }
+    ensures { λ r. ⌜ r ≡ i + needless (length (now (values .entry)) - 1) (take n (now (stack .entry))) (drop i (now (code .entry))) ⌝ }
 {
     if n < 2 {
         return i;
     }
     if stack[n - 2] == 3 {
         return passed(code, i);
+    }
+    if stack[n - 2] == 5 {
+        return concluded(code, i, stack[n - 1], values);
     }
     i
 }
@@ -778,27 +818,53 @@ pub fn run<'a>(
     let mut i: usize = 0;
     while i < code.len() {
         let e = code[i];
-        match step(
-            e / 65536,
-            wide(e % 65536),
-            s,
-            query,
-            consts,
-            values,
-            names,
-            constants,
-            stack,
-            n,
-            bytes,
-            t,
-        ) {
-            Tops::Stuck => {
-                return Operand::Fault;
+        let op = e / 65536;
+        let at = wide(e % 65536);
+        if op <= syntax::FALSE {
+            match push_step(
+                op,
+                at,
+                s,
+                query,
+                consts,
+                values,
+                names,
+                constants,
+                stack,
+                n,
+                bytes,
+                t,
+            ) {
+                Tops::Stuck => {
+                    return Operand::Fault;
+                }
+                Tops::At { numbers, bytes: b } => {
+                    n = numbers;
+                    t = b;
+                    i += 1;
+                }
             }
-            Tops::At { numbers, bytes: b } => {
-                n = numbers;
-                t = b;
-                i = onward(code, i + 1, stack, n);
+        } else {
+            match act(
+                op,
+                query,
+                consts,
+                values,
+                names,
+                constants,
+                stack,
+                n,
+                bytes,
+                t,
+            ) {
+                Tops::Stuck => {
+                    return Operand::Fault;
+                }
+                Tops::At { numbers, bytes: b } => {
+                    n = numbers;
+                    t = b;
+                    i = onward(code, i + 1, stack, n, values);
+                }
             }
         }
     }

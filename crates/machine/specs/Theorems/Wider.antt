@@ -10,10 +10,11 @@ use borrow.Author.Tests.{le-leb, leb-true, le-ltb, ltb-false}
 use Rattle.text.specs.Choice.{pick, split, clash}
 use Rattle.text.specs.Counted.{counted}
 use Rattle.expression.specs.Operands.{width, isText, isFault}
+use Rattle.expression.specs.Conditions.{top}
 use Rattle.expression.specs.Tables.{lookupIn}
 use Rattle.expression.specs.declared.value.Operand.{Operand}
 use Rattle.expression.specs.declared.value.Operand.the-variants.{Fault}
-use Rattle.machine.specs.Machine.{State, on, stuck, placed, textStep, topOf, below, unaryOn, unaryStep, lookupOn, lookupStep, settledOn, binaryOn, binaryStep, raised, pushStep, clauseStep, stepOf, stepped, ahead, execBehind, exec, resultOf}
+use Rattle.machine.specs.Machine.{State, on, stuck, placed, textStep, topOf, below, unaryOn, unaryStep, lookupOn, lookupStep, settledOn, binaryOn, binaryStep, raised, pushStep, clauseStep, actOf, stepOf, stepped, ahead, execBehind, exec, resultOf}
 use Rattle.machine.specs.Working.Passing.{exec-stuck}
 use Rattle.machine.specs.Left.{leftIn}
 
@@ -88,7 +89,7 @@ module _ (depth depth′ : ℕ) (d : depth ≤ depth′) (room room′ : ℕ) (h
         (kept-pick (eqb op 1) (text-kept _ vs bs) (kept-pick (eqb op 2) (placed-kept depth depth′ d vs bs _) (placed-kept depth depth′ d vs bs _)))
 
     step-kept : (e : ℕ) (vs bs : List ℕ) → Kept (stepped depth room s look vals e vs bs) (stepped depth′ room′ s look vals e vs bs)
-    unfolding stepped stepOf
+    unfolding stepped stepOf actOf
     step-kept e vs bs =
         kept-pick (leb (e / 65536) 4) (push-kept (e / 65536) (e % 65536) vs bs)
         (kept-pick (eqb (e / 65536) 5) (lookup-kept vs bs)
@@ -96,10 +97,11 @@ module _ (depth depth′ : ℕ) (d : depth ≤ depth′) (room room′ : ℕ) (h
         (kept-pick (leb (e / 65536) 29) (binary-kept depth depth′ d vals (e / 65536) vs bs) (clause-kept depth depth′ d vals (e / 65536) vs bs))))
 
     -- over code of which it holds behind any number of entries
-    after-kept : (c : List ℕ) → ((m : ℕ) (a b : State) → Kept a b → Kept (execBehind depth room s look vals m c a) (execBehind depth′ room′ s look vals m c b))
-        → (a b : State) → Kept a b → Kept (execBehind depth room s look vals (ahead a c) c a) (execBehind depth′ room′ s look vals (ahead b c) c b)
-    after-kept c behind _ b lost = rw (exec-stuck depth room s look vals c) lost
-    after-kept c behind a _ same = behind (ahead a c) a a same
+    after-kept : (op : ℕ) (c : List ℕ)
+        → ((m : ℕ) (a b : State) → Kept a b → Kept (execBehind depth room s look vals m c a) (execBehind depth′ room′ s look vals m c b)) → (a b : State) → Kept a b
+        → Kept (execBehind depth room s look vals (ahead (top vals) op a c) c a) (execBehind depth′ room′ s look vals (ahead (top vals) op b c) c b)
+    after-kept op c behind _ b lost = rw (exec-stuck depth room s look vals op c) lost
+    after-kept op c behind a _ same = behind (ahead (top vals) op a c) a a same
 
     exec-kept : (m : ℕ) (c : List ℕ) (a b : State) → Kept a b → Kept (execBehind depth room s look vals m c a) (execBehind depth′ room′ s look vals m c b)
     unfolding execBehind
@@ -107,7 +109,7 @@ module _ (depth depth′ : ℕ) (d : depth ≤ depth′) (room room′ : ℕ) (h
     exec-kept (suc m) (e ∷ c) a b k = exec-kept m c a b k
     exec-kept zero (e ∷ c) _ _ lost = lost
     exec-kept zero (e ∷ c) (on vs bs) _ same =
-        after-kept c (λ m a b k. exec-kept m c a b k) (stepped depth room s look vals e vs bs) (stepped depth′ room′ s look vals e vs bs) (step-kept e vs bs)
+        after-kept (e / 65536) c (λ m a b k. exec-kept m c a b k) (stepped depth room s look vals e vs bs) (stepped depth′ room′ s look vals e vs bs) (step-kept e vs bs)
     exec-kept zero (e ∷ c) stuck _ same = same
 
 kept-result : (a b : State) → Kept a b → isFault (resultOf a) ≡ false → resultOf a ≡ resultOf b

@@ -12,7 +12,8 @@ use borrow.Author.Tests.{le-leb, lt-leb, lt-ltb, le-ltb, eq-eqb, ne-eqb}
 use Rattle.text.specs.Choice.{pick, split}
 use Rattle.syntax.specs.Expr.{Expr, Program}
 use Rattle.syntax.specs.Code.{entry, Codes, code-literal, code-name, code-number, code-true, code-false, code-unary, code-binary, ProgramCodes, code-none, code-also}
-use Rattle.machine.specs.Machine.{State, on, stuck, isFalse, outer, above, behindOf, goOn, needless, ahead, stepped, execBehind}
+use Rattle.expression.specs.Conditions.{top}
+use Rattle.machine.specs.Machine.{State, on, stuck, isFalse, outer, above, behindOf, goOn, ahead, stepped, execBehind}
 
 -- entries passed by are left out
 module _ (depth room : ℕ) (s : List ℕ) (look : List ℕ → List ℕ) (vals : List (List ℕ)) where
@@ -29,10 +30,10 @@ module _ (depth room : ℕ) (s : List ℕ) (look : List ℕ → List ℕ) (vals 
       let z : length (e ∷ c) + m ≡ suc (length c + m) = omega arith in
       ap (λ (k : ℕ). execBehind depth room s look vals k (e ∷ (c ++ rest)) st) z ∙ exec-pass c rest m st
 
-  pub exec-stuck : (c : List ℕ) → execBehind depth room s look vals (ahead stuck c) c stuck ≡ stuck
+  pub exec-stuck : (op : ℕ) (c : List ℕ) → execBehind depth room s look vals (ahead (top vals) op stuck c) c stuck ≡ stuck
   unfolding execBehind
-  exec-stuck [] = refl
-  exec-stuck (e ∷ c) = refl
+  exec-stuck op [] = refl
+  exec-stuck op (e ∷ c) = refl
 
 -- one entry of `goOn`, by its operation
 module _ (k known j e : ℕ) (es : List ℕ) (op : ℕ) (oe : e / 65536 ≡ op) where
@@ -147,27 +148,6 @@ module _ (code : List ℕ) (k known j r : ℕ) (inv : goOn k known j (drop j cod
     pass-more f n x y ne xe ye =
         let z : goOn (above op k) (behindOf op k known (j + 1)) (j + 1) (drop (suc j) code) ≡ r = rw f at step in
         rw (ye, xe, ne, add-one j) (rw (add-one j) at z)
-
--- the ways out of `onward`
-module _ (st : List ℕ) (n : ℕ) (hn : n ≤ length st) (c : List ℕ) (i : ℕ) where
-  pub onward-few : n < 2 → i ≡ i + needless (take n st) c
-  unfolding needless isFalse
-  onward-few h = rw (length-take-le n st hn, lt-ltb n 2 h) (omega arith)
-
-  module _ (h : 2 ≤ n) where
-    kind-is : isFalse (take n st) ≡ eqb (getD st (n - 2) 0) 3
-    unfolding isFalse
-    kind-is = rw (length-take-le n st hn, le-ltb n 2 h, getD-take n st (n - 2) 0 (omega (arith, h)))
-
-    pub onward-other : (getD st (n - 2) 0 ≡ 3 → ⊥) → i ≡ i + needless (take n st) c
-    unfolding needless
-    onward-other b = rw (kind-is, ne-eqb (getD st (n - 2) 0) 3 b) (omega arith)
-
-    pub onward-passed : getD st (n - 2) 0 ≡ 3 → (r : ℕ) → r ≡ goOn 0 i i c → r ≡ i + needless (take n st) c
-    unfolding needless
-    onward-passed b r re =
-        let z : i + 0 ≡ i = omega arith in
-        rw (kind-is, eq-eqb (getD st (n - 2) 0) 3 b) (re ∙ ap (λ (x : ℕ). goOn 0 x x c) (sym z) ∙ on-shift i 0 0 0 c)
 
 -- the ways out of `is_outer`, `above` and `behind`
 module _ (op k : ℕ) where

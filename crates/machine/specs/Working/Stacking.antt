@@ -4,7 +4,7 @@ use mathlib.Core.Bool.{true, false}
 use mathlib.Core.List.{List, [], _∷_, _++_, append-assoc, append-nil}
 use Prim.Native.Nat.{ℕ, _+_, _-_, _≤_}
 use native.Mathlib.Omega.{arith}
-use lib.Dec.{eqb, ltb}
+use lib.Dec.{eqb, leb, ltb}
 use lib.ListN.{length, take, drop, length-append}
 use lib.Seq.{take-at, drop-at, getD-append-add, take-append-add}
 use borrow.Author.Tests.{le-ltb, le-leb, eq-eqb, ltb-false}
@@ -15,7 +15,7 @@ use Rattle.expression.specs.Operations.{held, unaryOf}
 use Rattle.expression.specs.Clauses.{applied, combined}
 use Rattle.expression.specs.declared.value.Operand.{Operand}
 use Rattle.expression.specs.declared.value.Operand.the-variants.{Text, Number, Test, Rank, Fault}
-use Rattle.machine.specs.Machine.{State, on, placed, textStep, topOf, below, isFalse, unaryOn, unaryStep, lookupOn, lookupStep, settledOn, binaryOn, binaryStep}
+use Rattle.machine.specs.Machine.{State, on, placed, textStep, topOf, below, isFalse, isHighest, unaryOn, unaryStep, lookupOn, lookupStep, settledOn, binaryOn, binaryStep}
 use Rattle.machine.specs.Working.Widths.{plain-applied, Front, front-combined}
 
 -- the numbers of a value's operand, and the stacks with a value on top
@@ -81,6 +81,20 @@ module _ (vs : List ℕ) (v : Value) where
         le-ltb (length vs + 2) 2 (omega arith),
         a,
         getD-append-add vs (kindOf (operand v) ∷ sizeOf (operand v) ∷ []) 0 0,
+      )
+
+  pub high-top : (high : ℕ) → isHighest high (vs ++ pair v) ≡ pick (eqb (kindOf (operand v)) 5) (leb high (sizeOf (operand v))) false
+  unfolding isHighest pair
+  high-top high =
+      let a : length vs + 2 - 2 ≡ length vs + 0 = omega arith in
+      let b : length vs + 2 - 1 ≡ length vs + 1 = omega arith in
+      rw (
+        length-append vs (kindOf (operand v) ∷ sizeOf (operand v) ∷ []),
+        le-ltb (length vs + 2) 2 (omega arith),
+        a,
+        b,
+        getD-append-add vs (kindOf (operand v) ∷ sizeOf (operand v) ∷ []) 0 0,
+        getD-append-add vs (kindOf (operand v) ∷ sizeOf (operand v) ∷ []) 1 0,
       )
 
   below-is : below (vs ++ pair v) ≡ vs
