@@ -9,7 +9,7 @@ use Rattle.text.specs.Scan.{run}
 use Rattle.text.specs.Class.{inClass, digit, word}
 use Rattle.text.specs.Digits.{value, limit}
 use Rattle.lexical.specs.Literal.{decodedAt}
-use Rattle.syntax.specs.Op.{LITERAL, NAME, NUMBER, TRUE, FALSE, LOOKUP, OPPOSITE, BOTH, EITHER, BEGIN, PLAIN, NESTED}
+use Rattle.syntax.specs.Op.{LITERAL, NAME, NUMBER, TRUE, FALSE, LOOKUP, OPPOSITE, BOTH, EITHER, BEGIN, PLAIN, VALUED, NESTED}
 use Rattle.expression.specs.Value.{operand}
 use Rattle.expression.specs.Operands.{kindOf, sizeOf, unpacked, width, valueOf, isText}
 use Rattle.expression.specs.Integers.{ranged}
@@ -89,11 +89,16 @@ pushStep depth room s look op at vs bs =
     (pick (eqb op NUMBER) (placed depth vs bs (operand (ranged false (min (value (runAt digit s at)) limit))))
     (placed depth vs bs (Test (eqb op TRUE)))))
 
+-- does a test that doesn't hold lie on its program's rank, its clause's string passed by?
+unfoldable pub isIdle : List ℕ → Bool
+isIdle vs = pick (ltb (length vs) 4) false (pick (eqb (getD vs (length vs - 2) 0) 3) (eqb (getD vs (length vs - 4) 0) 5) false)
+
 -- a clause is brought to a rank, and that to its program's
 unfoldable pub clauseStep : ℕ → List (List ℕ) → ℕ → List ℕ → List ℕ → State
 clauseStep depth vals op vs bs =
     pick (eqb op BEGIN) (placed depth vs bs (Rank 0))
-    (pick (eqb op PLAIN) (raised depth vals (unaryStep depth vals op vs bs)) (raised depth vals (binaryStep depth vals op vs bs)))
+    (pick (eqb op PLAIN) (raised depth vals (unaryStep depth vals op vs bs))
+    (pick (isIdle vs) (on (below vs) bs) (raised depth vals (binaryStep depth vals op vs bs))))
 
 -- an operation on what lies on the stacks
 unfoldable pub actOf : ℕ → ℕ → (List ℕ → List ℕ) → List (List ℕ) → ℕ → List ℕ → List ℕ → State
@@ -127,10 +132,14 @@ above op k = pick (leb op FALSE) (k + 1) (pick (leb op OPPOSITE) k (k - 1))
 unfoldable pub behindOf : ℕ → ℕ → ℕ → ℕ → ℕ
 behindOf op k known next = pick (leb op OPPOSITE) known (pick (eqb k 1) next known)
 
+-- or, where no more is known, the end of the clause whose string lies above it
+unfoldable pub stopAt : ℕ → ℕ → ℕ → ℕ → ℕ
+stopAt op k known here = pick (eqb op VALUED) (pick (eqb k 1) here known) known
+
 -- "stop once decided": which entry is run next, from the code at j on
 unfoldable pub goOn : ℕ → ℕ → ℕ → List ℕ → ℕ
 goOn k known j [] = known
-goOn k known j (e ∷ es) = pick (outer (e / 65536) k) known (goOn (above (e / 65536) k) (behindOf (e / 65536) k known (j + 1)) (j + 1) es)
+goOn k known j (e ∷ es) = pick (outer (e / 65536) k) (stopAt (e / 65536) k known j) (goOn (above (e / 65536) k) (behindOf (e / 65536) k known (j + 1)) (j + 1) es)
 
 -- is a rank on top that is the highest? 5 is its kind
 unfoldable pub isHighest : ℕ → List ℕ → Bool

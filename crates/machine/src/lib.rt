@@ -31,7 +31,7 @@ ghost use Rattle.text.specs.Counted.{counted};
 ghost use Rattle.lexical.specs.Literal.{decodedAt};
 ghost use Rattle.expression.specs.Conditions.{indexFrom};
 ghost use Rattle.expression.specs.Tables.{lookupIn};
-ghost use Rattle.machine.specs.Machine.{runAt, textStep, topOf, unaryStep, lookupStep, binaryOn, binaryStep, raised, clauseStep, pushStep, actOf, outer, above, behindOf, goOn, closing, begun, ended, needless, exec, resultOf, on};
+ghost use Rattle.machine.specs.Machine.{runAt, textStep, topOf, unaryStep, lookupStep, binaryOn, binaryStep, raised, isIdle, clauseStep, pushStep, actOf, outer, above, behindOf, stopAt, goOn, closing, begun, ended, needless, exec, resultOf, on};
 ghost use Rattle.machine.specs.Left.{leftIn};
 ghost use Rattle.machine.specs.Live.{Live, landed, putAt, settled};
 ghost use Rattle.machine.specs.Working.Quick.{putTwo, isNatural, isTold, isLogical, decides};
@@ -602,6 +602,20 @@ fn push_step<'a>(
     put(stack, n, t, Operand::Test { holds: h })
 }
 
+// Does a test that doesn't hold lie on its program's rank, its clause's string passed by?
+fn is_idle(stack: &[u64], n: usize) -> bool
+    requires { ⌜ n ≤ length (now stack) ⌝ }
+    ensures { λ r. ⌜ r ≡ isIdle (take n (now (stack .entry))) ⌝ }
+{
+    if n < 4 {
+        return false;
+    }
+    if stack[n - 2] == 3 {
+        return stack[n - 4] == 5;
+    }
+    false
+}
+
 // Brings the clause on top to a rank, and that to its program's; or a program begins.
 fn clause_step(
     op: u32,
@@ -620,6 +634,12 @@ fn clause_step(
     }
     if op == syntax::PLAIN {
         return plain_step(query, values, stack, n, bytes, t);
+    }
+    if is_idle(stack, n) {
+        return Tops::At {
+            numbers: n - 2,
+            bytes: t,
+        };
     }
     match binary_step(op, query, values, stack, n, bytes, t) {
         Tops::Stuck => Tops::Stuck,
@@ -707,7 +727,20 @@ fn behind_it(op: u32, k: usize, known: usize, next: usize) -> usize
     known
 }
 
-// With a test on top that doesn't hold, the entry to be run next: behind each "&&" whose left side it is.
+// The entry to be run next where no more is known: the end of the clause whose string lies above it.
+fn stop_at(op: u32, k: usize, known: usize, here: usize) -> usize
+    ensures { λ r. ⌜ r ≡ stopAt op k known here ⌝ }
+{
+    if op != syntax::VALUED {
+        return known;
+    }
+    if k != 1 {
+        return known;
+    }
+    here
+}
+
+// With a test on top that doesn't hold, the entry to be run next: behind each "&&" whose left side it is, and behind its clause's string.
 fn passed(code: &[u32], from: usize) -> usize
     ensures { λ r. ⌜ r ≡ goOn 0 from from (drop from (now (code .entry))) ⌝ }
 {
@@ -717,7 +750,7 @@ fn passed(code: &[u32], from: usize) -> usize
     while j < code.len() {
         let op = code[j] / 65536;
         if is_outer(op, k) {
-            return known;
+            return stop_at(op, k, known, j);
         }
         j += 1;
         known = behind_it(op, k, known, j);

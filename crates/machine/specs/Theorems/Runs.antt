@@ -23,14 +23,14 @@ use Rattle.expression.specs.Tables.{lookupIn, Shows}
 use Rattle.expression.specs.Theorems.Topmost.{conditions-most}
 use Rattle.expression.specs.Theorems.Shown.{values-are, lookup-is as shown-is}
 use Rattle.expression.specs.declared.value.Operand.the-variants.{Rank}
-use Rattle.machine.specs.Machine.{State, on, raised, runAt, pushStep, clauseStep, actOf, stepOf, stepped, isFalse, goOn, isHighest, ended, needless, ahead, execBehind, exec, resultOf}
+use Rattle.machine.specs.Machine.{State, on, raised, runAt, pushStep, isIdle, clauseStep, actOf, stepOf, stepped, isFalse, stopAt, goOn, isHighest, ended, needless, ahead, execBehind, exec, resultOf}
 use Rattle.machine.specs.Need.{need, programNeed, clauseNeed, room, programRoom, clauseRoom}
 use Rattle.machine.specs.Theorems.Bounds.{need-some}
 use Rattle.machine.specs.Working.Kinds.{unranked}
 use Rattle.machine.specs.Working.Widths.{plain-rank, plain-ranged, within-span}
-use Rattle.machine.specs.Working.Passing.{exec-pass, on-clause, on-none, on-both, on-other, entry-op, on-code, on-program, on-shift}
+use Rattle.machine.specs.Working.Passing.{exec-pass, on-clause, on-none, on-both, on-other, entry-op, on-code, on-program, stop-same, on-shift}
 use Rattle.machine.specs.Working.Ending.{end-here, across-clause, end-shift}
-use Rattle.machine.specs.Working.Stacking.{pair, topped, count-is, top-is, false-top, high-top, place-is, text-is, unary-is, lookup-is, binary-is}
+use Rattle.machine.specs.Working.Stacking.{pair, topped, count-is, top-is, false-top, high-top, below-is, idle-top, idle-not, place-is, text-is, unary-is, lookup-is, binary-is}
 
 -- an operator on one operand is the machine's operation, but for "$"
 applied-is : (vals : List (List ℕ)) (look : List ℕ → List ℕ) (op : ℕ) (v : Value) → 5 ≤ op → op ≤ 8 → eqb op 5 ≡ false → applied vals op v ≡ unaryOf look op v
@@ -129,7 +129,7 @@ module _ (depth space : ℕ) (s : List ℕ) (look : List ℕ → List ℕ) (env 
     stays : (op : ℕ) → 4 < op → (rest : List ℕ) → after x (entry op 0 ∷ rest) (topped vs bs v) ≡ run (entry op 0 ∷ rest) (topped vs bs v)
     stays op h rest =
         unmoved (entry op 0 ∷ rest)
-        (λ y. split (ltb 29 op) (λ f. on-clause 0 0 0 (entry op 0) rest op (entry-op op 0 (omega arith)) h (ltb-true 29 op f))
+        (λ y. split (ltb 29 op) (λ f. on-clause 0 0 0 (entry op 0) rest op (entry-op op 0 (omega arith)) h (ltb-true 29 op f) ∙ stop-same op 0 0)
         (λ f. on-none 0 0 0 (entry op 0) rest op (entry-op op 0 (omega arith)) h (ltb-false 29 op f) refl))
 
     -- a right side that no test decides
@@ -139,11 +139,6 @@ module _ (depth space : ℕ) (s : List ℕ) (look : List ℕ → List ℕ) (env 
         unmoved (d ++ (entry op 0 ∷ rest))
         (λ y. on-code k 0 0 0 (entry op 0 ∷ rest)
         ∙ on-other 1 0 (0 + length d) (entry op 0) rest op (entry-op op 0 (omega arith)) (omega arith) high (λ z. omega arith) (omega arith) refl (bar y))
-
-    to-value : {f : Expr} {d : List ℕ} → Codes s f d → (rest : List ℕ) → after x (d ++ (entry 32 0 ∷ rest)) (topped vs bs v) ≡ run (d ++ (entry 32 0 ∷ rest)) (topped vs bs v)
-    to-value {d = d} k rest =
-        unmoved (d ++ (entry 32 0 ∷ rest))
-        (λ y. on-code k 0 0 0 (entry 32 0 ∷ rest) ∙ on-clause 1 0 (0 + length d) (entry 32 0) rest 32 (entry-op 32 0 (omega arith)) (omega arith) (omega arith))
 
     to-program : (rest : List ℕ) (p : Program) {d : List ℕ} → ProgramCodes s p d → after x (d ++ rest) (topped vs bs v) ≡ run (d ++ rest) (topped vs bs v)
     to-program rest p {d = d} k = unmoved (d ++ rest) (λ y. on-program k rest)
@@ -164,6 +159,17 @@ module _ (depth space : ℕ) (s : List ℕ) (look : List ℕ → List ℕ) (env 
       ∙ on-shift (length (d ++ x)) 0 0 0 rest in
       rw (a4, t, z) (ap (λ (l : List ℕ). execBehind depth space s look (env .values) (length (d ++ x) + goOn 0 0 0 rest) l (on (vs ++ pair (test false)) (bs ++ bytesOf (test false)))) y
       ∙ exec-pass depth space s look (env .values) (d ++ x) rest (goOn 0 0 0 rest) (on (vs ++ pair (test false)) (bs ++ bytesOf (test false))))
+
+  -- and it passes its clause's string by
+  spared : (x : ℕ) → leb x 4 ≡ false → {f : Expr} {d : List ℕ} → Codes s f d → (rest vs bs : List ℕ)
+      → after x (d ++ (entry 32 0 ∷ rest)) (topped vs bs (test false)) ≡ run (entry 32 0 ∷ rest) (topped vs bs (test false))
+  unfolding needless topped operand kindOf stopAt
+  spared x a4 {d = d} k rest vs bs =
+      let t : isFalse (vs ++ pair (test false)) ≡ true = false-top vs (test false) in
+      let a : 0 + length d ≡ length d + 0 = omega arith in
+      let z : goOn 0 0 0 (d ++ (entry 32 0 ∷ rest)) ≡ length d + 0 =
+      on-code k 0 0 0 (entry 32 0 ∷ rest) ∙ on-clause 1 0 (0 + length d) (entry 32 0) rest 32 (entry-op 32 0 (omega arith)) (omega arith) (omega arith) ∙ a in
+      rw (a4, t, z) (exec-pass depth space s look (env .values) d (entry 32 0 ∷ rest) 0 (on (vs ++ pair (test false)) (bs ++ bytesOf (test false))))
 
   -- a program that has the highest rank keeps it: its other clauses are passed by
   module _ (rest vs bs : List ℕ) (r : ℕ) where
@@ -301,19 +307,40 @@ module _ (depth space : ℕ) (s : List ℕ) (look : List ℕ → List ℕ) (env 
         ap (raised depth (env .values)) (unary-is depth vs′ high (env .values) 31 bs′ v ∙ ap (topped vs′ bs′) (plain-is (env .values) v))
         ∙ raise-step vs bs (omega arith) r (gate v (top (env .values)))
 
-    valued-step : (v w : Value)
+    valued-step : (v w : Value) → eqb (kindOf (operand v)) 5 ≡ false
         → stepOf depth space s look (env .values) 32 0 ((vs′ ++ pair v) ++ pair w) ((bs′ ++ bytesOf v) ++ bytesOf w) ≡ topped vs bs (rank (max r (gate v (rankOf (env .values) w))))
     unfolding stepOf actOf clauseStep
-    valued-step v w =
-        ap (raised depth (env .values)) (binary-is depth vs′ high (env .values) 32 bs′ v w ∙ ap (topped vs′ bs′) (valued-is (env .values) v w))
-        ∙ raise-step vs bs (omega arith) r (gate v (rankOf (env .values) w))
+    valued-step v w other =
+        rw (idle-not vs′ v w other) (ap (raised depth (env .values)) (binary-is depth vs′ high (env .values) 32 bs′ v w ∙ ap (topped vs′ bs′) (valued-is (env .values) v w))
+        ∙ raise-step vs bs (omega arith) r (gate v (rankOf (env .values) w)))
 
-    nested-step : (v : Value) (n : ℕ)
+    nested-step : (v : Value) (n : ℕ) → eqb (kindOf (operand v)) 5 ≡ false
         → stepOf depth space s look (env .values) 33 0 ((vs′ ++ pair v) ++ pair (rank n)) ((bs′ ++ bytesOf v) ++ bytesOf (rank n)) ≡ topped vs bs (rank (max r (gate v n)))
     unfolding stepOf actOf clauseStep
-    nested-step v n =
-        ap (raised depth (env .values)) (binary-is depth vs′ high (env .values) 33 bs′ v (rank n) ∙ ap (topped vs′ bs′) (nested-is (env .values) v n))
-        ∙ raise-step vs bs (omega arith) r (gate v n)
+    nested-step v n other =
+        rw (idle-not vs′ v (rank n) other) (ap (raised depth (env .values)) (binary-is depth vs′ high (env .values) 33 bs′ v (rank n) ∙ ap (topped vs′ bs′) (nested-is (env .values) v n))
+        ∙ raise-step vs bs (omega arith) r (gate v n))
+
+    -- the rank stays where the test fails and its string was passed by
+    idle-step : stepOf depth space s look (env .values) 32 0 (vs′ ++ pair (test false)) (bs′ ++ bytesOf (test false)) ≡ topped vs bs (rank r)
+    unfolding stepOf actOf clauseStep topped bytesOf operand kindOf
+    idle-step =
+        let i : isIdle (vs′ ++ pair (test false)) ≡ true = idle-top vs (rank r) (test false) in
+        rw (i, below-is vs′ (test false), append-nil bs′)
+
+    -- a string that is passed by, or one that is run
+    valuing : (x : ℕ) (v w : Value) → eqb (kindOf (operand v)) 5 ≡ false → {f : Expr} {d : List ℕ} → Codes s f d → (rest : List ℕ)
+        → (after x (d ++ (entry 32 0 ∷ rest)) (topped vs′ bs′ v) ≡ run (d ++ (entry 32 0 ∷ rest)) (topped vs′ bs′ v)
+        → after x (d ++ (entry 32 0 ∷ rest)) (topped vs′ bs′ v) ≡ after 32 rest (topped vs bs (rank (max r (gate v (rankOf (env .values) w))))))
+        → after x (d ++ (entry 32 0 ∷ rest)) (topped vs′ bs′ v) ≡ after 32 rest (topped vs bs (rank (max r (gate v (rankOf (env .values) w)))))
+    unfolding topped
+    valuing x v w other {d = d} k rest go =
+        split (leb x 4) (λ a. go (pushed x a (d ++ (entry 32 0 ∷ rest)) vs′ bs′ v))
+        (λ a. split (isFalse (vs′ ++ pair v))
+        (λ t. let e : v ≡ test false = failing v (sym (false-top vs′ v) ∙ t) in
+        let z : max r 0 ≡ r = omega arith in
+        rw (e, z) (spared x a k rest vs′ bs′ ∙ enter 32 0 (omega arith) rest (vs′ ++ pair (test false)) (bs′ ++ bytesOf (test false)) _ idle-step))
+        (λ t. go (unmoved x vs′ bs′ v other (d ++ (entry 32 0 ∷ rest)) (λ y. clash y t))))
 
   flat : (bs : List ℕ) (r : ℕ) → length (bs ++ bytesOf (rank r)) ≡ length bs
   flat bs r = rw (plain-rank r .none, append-nil bs)
@@ -348,11 +375,12 @@ module _ (depth space : ℕ) (s : List ℕ) (look : List ℕ → List ℕ) (env 
         let bs1 : List ℕ = bs ++ bytesOf (rank r) in
         ap (λ (x : List ℕ). run x (topped vs bs (rank r))) (append-assoc (c ++ d) (entry 32 0 ∷ []) rest ∙ append-assoc c d (entry 32 0 ∷ rest))
         ∙ run-expression k (d ++ (entry 32 0 ∷ rest)) vs1 bs1 (rw (count-is vs (rank r)) (omega arith)) (rw (flat bs r) (omega arith))
-        ∙ to-value (lastOf e) vs1 bs1 v (unranked env e) l rest
+        ∙ valuing vs bs (omega (arith, need-some e)) r (lastOf e) v w (unranked env e) l rest
+        (λ still. still
         ∙ run-expression l (entry 32 0 ∷ rest) (vs1 ++ pair v) (bs1 ++ bytesOf v) (rw (count-is vs1 v, count-is vs (rank r)) (omega arith))
         (rw (length-append bs1 (bytesOf v), flat bs r) (omega (arith, within-span env e)))
         ∙ stays (lastOf f) (vs1 ++ pair v) (bs1 ++ bytesOf v) w (unranked env f) 32 (omega arith) rest
-        ∙ enter 32 0 (omega arith) rest ((vs1 ++ pair v) ++ pair w) ((bs1 ++ bytesOf v) ++ bytesOf w) _ (valued-step vs bs (omega (arith, need-some e)) r v w)
+        ∙ enter 32 0 (omega arith) rest ((vs1 ++ pair v) ++ pair w) ((bs1 ++ bytesOf v) ++ bytesOf w) _ (valued-step vs bs (omega (arith, need-some e)) r v w (unranked env e)))
     run-clause (nested e p) (code-nested {c = c} {d = d} k l) rest vs bs r h m =
         let v : Value = evaluate env e in
         let n : ℕ = conditions env p in
@@ -364,7 +392,7 @@ module _ (depth space : ℕ) (s : List ℕ) (look : List ℕ → List ℕ) (env 
         ∙ run-program p l (entry 33 0 ∷ rest) (vs1 ++ pair v) (bs1 ++ bytesOf v) (rw (count-is vs1 v, count-is vs (rank r)) (omega arith))
         (rw (length-append bs1 (bytesOf v), flat bs r) (omega (arith, within-span env e)))
         ∙ closes rest (vs1 ++ pair v) (bs1 ++ bytesOf v) n
-        ∙ enter 33 0 (omega arith) rest ((vs1 ++ pair v) ++ pair (rank n)) ((bs1 ++ bytesOf v) ++ bytesOf (rank n)) _ (nested-step vs bs (omega (arith, need-some e)) r v n)
+        ∙ enter 33 0 (omega arith) rest ((vs1 ++ pair v) ++ pair (rank n)) ((bs1 ++ bytesOf v) ++ bytesOf (rank n)) _ (nested-step vs bs (omega (arith, need-some e)) r v n (unranked env e))
 
 -- "Conditions": in buffers large enough the machine's result is the program's rank
 module _ {rec consts values names constants : List ℕ} {env : Environment} (shows : Shows rec consts values names constants env) (depth space : ℕ) where

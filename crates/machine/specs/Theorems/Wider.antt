@@ -14,7 +14,7 @@ use Rattle.expression.specs.Conditions.{top}
 use Rattle.expression.specs.Tables.{lookupIn}
 use Rattle.expression.specs.declared.value.Operand.{Operand}
 use Rattle.expression.specs.declared.value.Operand.the-variants.{Fault}
-use Rattle.machine.specs.Machine.{State, on, stuck, placed, textStep, topOf, below, unaryOn, unaryStep, lookupOn, lookupStep, settledOn, binaryOn, binaryStep, raised, pushStep, clauseStep, actOf, stepOf, stepped, ahead, execBehind, exec, resultOf}
+use Rattle.machine.specs.Machine.{State, on, stuck, placed, textStep, topOf, below, unaryOn, unaryStep, lookupOn, lookupStep, settledOn, binaryOn, binaryStep, raised, pushStep, isIdle, clauseStep, actOf, stepOf, stepped, ahead, execBehind, exec, resultOf}
 use Rattle.machine.specs.Working.Passing.{exec-stuck}
 use Rattle.machine.specs.Left.{leftIn}
 
@@ -62,7 +62,8 @@ module _ (depth depth′ : ℕ) (d : depth ≤ depth′) where
   unfolding clauseStep
   clause-kept vals op vs bs =
       kept-pick (eqb op 30) (placed-kept vs bs _)
-      (kept-pick (eqb op 31) (raised-kept vals _ _ (unary-kept vals op vs bs)) (raised-kept vals _ _ (binary-kept vals op vs bs)))
+      (kept-pick (eqb op 31) (raised-kept vals _ _ (unary-kept vals op vs bs))
+      (kept-pick (isIdle vs) (same {a = on (below vs) bs}) (raised-kept vals _ _ (binary-kept vals op vs bs))))
 
 module _ (depth depth′ : ℕ) (d : depth ≤ depth′) (room room′ : ℕ) (h : room ≤ room′) (look : List ℕ → List ℕ) where
   text-kept : (b vs bs : List ℕ) → Kept (textStep depth room b vs bs) (textStep depth′ room′ b vs bs)

@@ -1,15 +1,15 @@
 -- Working laws: the ways out of the functions that choose a step, and of the loop over the code. Assumes nothing.
 use mathlib.Core.Path.{_≡_, refl, sym, ap, _∙_}
-use mathlib.Core.Bool.{Bool, false}
+use mathlib.Core.Bool.{Bool, true, false}
 use mathlib.Core.List.{List, [], _∷_, map}
 use Prim.Native.Nat.{ℕ, suc, _+_, _-_, _/_, _%_, _<_, _≤_, min}
 use native.Mathlib.Omega.{arith}
 use native.Mathlib.Numerals.{add-one}
-use lib.Dec.{eqb, leb}
+use lib.Dec.{eqb, leb, ltb}
 use lib.ListN.{length, getD, take, drop, drop-of-length-le, length-map}
-use lib.Seq.{drop-cons, drop-drop}
-use borrow.Author.Tests.{le-leb, lt-leb, eq-eqb, ne-eqb}
-use Rattle.text.specs.Choice.{pick}
+use lib.Seq.{drop-cons, drop-drop, getD-take, length-take-le}
+use borrow.Author.Tests.{le-leb, lt-leb, lt-ltb, le-ltb, ltb-false, eq-eqb, ne-eqb}
+use Rattle.text.specs.Choice.{pick, split, clash}
 use Rattle.text.specs.Counted.{counted}
 use Rattle.text.specs.Digits.{digitsAt, value, limit}
 use Rattle.lexical.specs.Literal.{decodedAt}
@@ -18,10 +18,10 @@ use Rattle.expression.specs.Integers.{ranged}
 use Rattle.expression.specs.Conditions.{top}
 use Rattle.expression.specs.declared.value.Operand.{Operand}
 use Rattle.expression.specs.declared.value.Operand.the-variants.{Test, Rank, Fault}
-use Rattle.machine.specs.Machine.{State, on, stuck, textStep, topOf, unaryStep, lookupStep, binaryStep, raised, runAt, pushStep, clauseStep, actOf, stepOf, stepped, needless, ahead, execBehind, exec, resultOf}
+use Rattle.machine.specs.Machine.{State, on, stuck, textStep, topOf, unaryStep, lookupStep, binaryStep, raised, runAt, pushStep, isIdle, clauseStep, actOf, stepOf, stepped, needless, ahead, execBehind, exec, resultOf}
 use Rattle.machine.specs.Live.{Live, landed, putAt}
 use Rattle.machine.specs.Working.Passing.{exec-stuck, exec-drop}
-use Rattle.machine.specs.Working.Stepping.{put-live}
+use Rattle.machine.specs.Working.Stepping.{put-live, below-is}
 use Rattle.machine.specs.declared.Tops.{Tops}
 use Rattle.machine.specs.declared.Tops.the-variants.{At, Stuck}
 
@@ -68,6 +68,33 @@ module _ (vals : List (List ℕ)) (depth : ℕ) (vs bs m : List ℕ) (r : Tops) 
   unfolding raised
   plain-raised n t re de r′ st″ l′ = rw (live-in r st′ m _ n t re l .1 .1, ← de) l′
 
+-- the ways out of `is_idle`
+module _ (st : List ℕ) (n : ℕ) (hn : n ≤ length st) where
+  pub idle-few : n < 4 → false ≡ isIdle (take n st)
+  unfolding isIdle
+  idle-few h = rw (length-take-le n st hn, lt-ltb n 4 h)
+
+  module _ (h : 4 ≤ n) where
+    pub idle-false : getD st (n - 2) 0 ≡ 3 → (b : Bool) → b ≡ eqb (getD st (n - 4) 0) 5 → b ≡ isIdle (take n st)
+    unfolding isIdle
+    idle-false k b be =
+        rw (length-take-le n st hn, le-ltb n 4 h, getD-take n st (n - 2) 0 (omega (arith, h)), getD-take n st (n - 4) 0 (omega (arith, h)), eq-eqb (getD st (n - 2) 0) 3 k) be
+
+    pub idle-other : (getD st (n - 2) 0 ≡ 3 → ⊥) → false ≡ isIdle (take n st)
+    unfolding isIdle
+    idle-other k = rw (length-take-le n st hn, le-ltb n 4 h, getD-take n st (n - 2) 0 (omega (arith, h)), ne-eqb (getD st (n - 2) 0) 3 k)
+
+  module _ (b : Bool) (be : b ≡ isIdle (take n st)) (bt : b ≡ true) where
+    idle-four : 4 ≤ n
+    unfolding isIdle
+    idle-four =
+        let q : isIdle (take n st) ≡ true = sym be ∙ bt in
+        let q′ : pick (ltb n 4) false (pick (eqb (getD (take n st) (n - 2) 0) 3) (eqb (getD (take n st) (n - 4) 0) 5) false) ≡ true = rw (length-take-le n st hn) at q in
+        split (ltb n 4) (λ f. clash (rw f at q′) refl) (λ f. ltb-false n 4 f)
+
+    pub idle-two : 2 ≤ n
+    idle-two = omega (arith, idle-four)
+
 -- the ways out of `clause_step`
 module _ (vals : List (List ℕ)) (op : ℕ) where
   pub clause-begin : op ≡ 30 → (st m : List ℕ) (n t : ℕ) → n ≤ length st → t ≤ length m → (r : Tops) (st′ : List ℕ) → landed r st′ ≡ putAt st n t (Rank 0)
@@ -80,15 +107,23 @@ module _ (vals : List (List ℕ)) (op : ℕ) where
     unfolding clauseStep
     clause-plain h l = rw (h) l
 
-    module _ (n31 : op ≡ 31 → ⊥) (l : Live r st′ m (binaryStep depth vals op vs bs)) where
+    module _ (n31 : op ≡ 31 → ⊥) (b : Bool) (be : b ≡ isIdle vs) (bf : b ≡ false) (l : Live r st′ m (binaryStep depth vals op vs bs)) where
       pub clause-stuck : r ≡ Stuck → Live Stuck st′ m (clauseStep depth vals op vs bs)
       unfolding clauseStep raised
-      clause-stuck re = rw (ne-eqb op 30 n30, ne-eqb op 31 n31, live-out r st′ m _ re l) (record { within = tt; holds = refl })
+      clause-stuck re = rw (ne-eqb op 30 n30, ne-eqb op 31 n31, ← be, bf, live-out r st′ m _ re l) (record { within = tt; holds = refl })
 
       pub clause-raised : (n t : ℕ) → r ≡ At n t → length st′ ≡ depth → (r′ : Tops) (st″ : List ℕ) → Live r′ st″ m (binaryStep (length st′) vals 34 (take n st′) (take t m))
           → Live r′ st″ m (clauseStep depth vals op vs bs)
       unfolding clauseStep raised
-      clause-raised n t re de r′ st″ l′ = rw (ne-eqb op 30 n30, ne-eqb op 31 n31, live-in r st′ m _ n t re l .1 .1, ← de) l′
+      clause-raised n t re de r′ st″ l′ = rw (ne-eqb op 30 n30, ne-eqb op 31 n31, ← be, bf, live-in r st′ m _ n t re l .1 .1, ← de) l′
+
+  -- a test that is idle
+  module _ (st m : List ℕ) (n t : ℕ) (hn : n ≤ length st) (b : Bool) (be : b ≡ isIdle (take n st)) (bt : b ≡ true) where
+    pub clause-idle : t ≤ length m → (op ≡ 30 → ⊥) → (op ≡ 31 → ⊥) → Live (At (n - 2) t) st m (clauseStep (length st) vals op (take n st) (take t m))
+    unfolding clauseStep
+    clause-idle ht n30 n31 =
+        rw (ne-eqb op 30 n30, ne-eqb op 31 n31, ← be, bt, below-is st n hn (idle-two st n hn b be bt))
+        (record { within = (omega (arith, hn), ht); holds = refl })
 
 -- the ways out of `act`
 module _ (depth room : ℕ) (look : List ℕ → List ℕ) (vals : List (List ℕ)) (op : ℕ) (vs bs : List ℕ) (r : Tops) (st m : List ℕ) where
