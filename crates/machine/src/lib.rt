@@ -63,12 +63,10 @@ fn word_at(s: &[u8], at: usize) -> &[u8]
 
 // Puts an operand on a stack of n numbers; t is where its string ends.
 fn put(stack: &mut [u64], n: usize, t: usize, v: Operand) -> Tops
+    requires { ⌜ n ≤ length (now stack) ⌝ }
     ensures { λ r. ⌜ landed r (now (stack .exit)) ≡ putAt (now (stack .entry)) n t v ⌝ }
 {
-    if stack.len() < n {
-        return Tops::Stuck;
-    }
-    if stack.len() - n < 2 {
+    if stack.len() < n + 2 {
         return Tops::Stuck;
     }
     let k = kind_of(v);
@@ -190,6 +188,7 @@ fn lookup_step<'a>(
 
 // Puts an operand whose string starts at `base`, below the top t.
 fn settle(stack: &mut [u64], n: usize, t: usize, base: usize, v: Operand) -> Tops
+    requires { ⌜ n ≤ length (now stack) ⌝ }
     ensures { λ r. ⌜ landed r (now (stack .exit)) ≡ settled (now (stack .entry)) n t base v ⌝ }
 {
     let w = width_of(v);

@@ -6,7 +6,7 @@ use Prim.Native.Nat.{ℕ, suc, _+_, _-_, _<_, _≤_, max}
 use native.Mathlib.Omega.{arith}
 use native.Mathlib.Nat.{add-zero}
 use lib.Dec.{eqb, leb, ltb}
-use lib.ListN.{length, getD, take, drop, set, length-set, length-map}
+use lib.ListN.{length, getD, take, drop, set, length-map}
 use lib.Seq.{length-take-le, take-length, take-suc}
 use borrow.Author.Tests.{lt-ltb, le-ltb, le-leb, lt-leb, eq-eqb, ne-eqb, eqb-true, eqb-false, ltb-false, leb-true, leb-false}
 use Rattle.text.specs.Choice.{pick, split, clash}
@@ -86,9 +86,6 @@ pub rank-unheld : (k n : ℕ) → (k ≡ 4 → ⊥) → 0 ≡ pick (eqb k 4) n 0
 rank-unheld k n h = rw (ne-eqb k 4 h)
 
 -- the way out of `land`
-pub land-second : (st : List ℕ) (n k : ℕ) → n + 2 ≤ length st → n + 1 < length (set st n k)
-land-second st n k h = rw length-set (omega (arith, h))
-
 pub land-in : (st : List ℕ) (n t k m : ℕ) → landed (At (n + 2) t) (set (set st n k) (n + 1) m) ≡ putTwo st n t k m
 unfolding putTwo
 land-in st n t k m = refl
