@@ -9,10 +9,11 @@ use Rattle.text.specs.Scan.{run}
 use Rattle.text.specs.Class.{inClass, digit, word}
 use Rattle.text.specs.Digits.{value, limit}
 use Rattle.lexical.specs.Literal.{decodedAt}
-use Rattle.syntax.specs.Op.{LITERAL, NAME, NUMBER, TRUE, FALSE, LOOKUP, OPPOSITE, BOTH, EITHER, BEGIN, PLAIN}
+use Rattle.syntax.specs.Op.{LITERAL, NAME, NUMBER, TRUE, FALSE, LOOKUP, OPPOSITE, BOTH, EITHER, BEGIN, PLAIN, VALUED, NESTED}
 use Rattle.expression.specs.Value.{operand}
 use Rattle.expression.specs.Operands.{kindOf, sizeOf, unpacked, width, valueOf, isText}
 use Rattle.expression.specs.Integers.{ranged}
+use Rattle.expression.specs.Conditions.{top}
 use Rattle.expression.specs.Clauses.{RAISE, applied, combined}
 use Rattle.expression.specs.declared.value.Operand.{Operand}
 use Rattle.expression.specs.declared.value.Operand.the-variants.{Text, Test, Rank, Fault}
@@ -88,19 +89,27 @@ pushStep depth room s look op at vs bs =
     (pick (eqb op NUMBER) (placed depth vs bs (operand (ranged false (min (value (runAt digit s at)) limit))))
     (placed depth vs bs (Test (eqb op TRUE)))))
 
+-- does a test that doesn't hold lie on its program's rank, its clause's string passed by?
+unfoldable pub isIdle : List ℕ → Bool
+isIdle vs = pick (ltb (length vs) 4) false (pick (eqb (getD vs (length vs - 2) 0) 3) (eqb (getD vs (length vs - 4) 0) 5) false)
+
 -- a clause is brought to a rank, and that to its program's
 unfoldable pub clauseStep : ℕ → List (List ℕ) → ℕ → List ℕ → List ℕ → State
 clauseStep depth vals op vs bs =
     pick (eqb op BEGIN) (placed depth vs bs (Rank 0))
-    (pick (eqb op PLAIN) (raised depth vals (unaryStep depth vals op vs bs)) (raised depth vals (binaryStep depth vals op vs bs)))
+    (pick (eqb op PLAIN) (raised depth vals (unaryStep depth vals op vs bs))
+    (pick (isIdle vs) (on (below vs) bs) (raised depth vals (binaryStep depth vals op vs bs))))
+
+-- an operation on what lies on the stacks
+unfoldable pub actOf : ℕ → ℕ → (List ℕ → List ℕ) → List (List ℕ) → ℕ → List ℕ → List ℕ → State
+actOf depth room look vals op vs bs =
+    pick (eqb op LOOKUP) (lookupStep depth room look vs bs)
+    (pick (leb op OPPOSITE) (unaryStep depth vals op vs bs)
+    (pick (leb op EITHER) (binaryStep depth vals op vs bs) (clauseStep depth vals op vs bs)))
 
 -- one entry: an operation and a place
 unfoldable pub stepOf : ℕ → ℕ → List ℕ → (List ℕ → List ℕ) → List (List ℕ) → ℕ → ℕ → List ℕ → List ℕ → State
-stepOf depth room s look vals op at vs bs =
-    pick (leb op FALSE) (pushStep depth room s look op at vs bs)
-    (pick (eqb op LOOKUP) (lookupStep depth room look vs bs)
-    (pick (leb op OPPOSITE) (unaryStep depth vals op vs bs)
-    (pick (leb op EITHER) (binaryStep depth vals op vs bs) (clauseStep depth vals op vs bs))))
+stepOf depth room s look vals op at vs bs = pick (leb op FALSE) (pushStep depth room s look op at vs bs) (actOf depth room look vals op vs bs)
 
 unfoldable pub stepped : ℕ → ℕ → List ℕ → (List ℕ → List ℕ) → List (List ℕ) → ℕ → List ℕ → List ℕ → State
 stepped depth room s look vals e vs bs = stepOf depth room s look vals (e / 65536) (e % 65536) vs bs
@@ -123,25 +132,47 @@ above op k = pick (leb op FALSE) (k + 1) (pick (leb op OPPOSITE) k (k - 1))
 unfoldable pub behindOf : ℕ → ℕ → ℕ → ℕ → ℕ
 behindOf op k known next = pick (leb op OPPOSITE) known (pick (eqb k 1) next known)
 
+-- or, where no more is known, the end of the clause whose string lies above it
+unfoldable pub stopAt : ℕ → ℕ → ℕ → ℕ → ℕ
+stopAt op k known here = pick (eqb op VALUED) (pick (eqb k 1) here known) known
+
 -- "stop once decided": which entry is run next, from the code at j on
 unfoldable pub goOn : ℕ → ℕ → ℕ → List ℕ → ℕ
 goOn k known j [] = known
-goOn k known j (e ∷ es) = pick (outer (e / 65536) k) known (goOn (above (e / 65536) k) (behindOf (e / 65536) k known (j + 1)) (j + 1) es)
+goOn k known j (e ∷ es) = pick (outer (e / 65536) k) (stopAt (e / 65536) k known j) (goOn (above (e / 65536) k) (behindOf (e / 65536) k known (j + 1)) (j + 1) es)
+
+-- is a rank on top that is the highest? 5 is its kind
+unfoldable pub isHighest : ℕ → List ℕ → Bool
+isHighest high vs = pick (ltb (length vs) 2) false (pick (eqb (getD vs (length vs - 2) 0) 5) (leb high (getD vs (length vs - 1) 0)) false)
+
+-- Of k programs that have begun above that rank's: does an operation end its own?
+unfoldable pub closing : ℕ → ℕ → Bool
+closing op k = pick (eqb op NESTED) (eqb k 0) false
+
+-- how many have begun then
+unfoldable pub begun : ℕ → ℕ → ℕ
+begun op k = pick (eqb op BEGIN) (k + 1) (pick (eqb op NESTED) (k - 1) k)
+
+-- "the maximum over clauses": nothing is higher, so the entry to be run next is the one that ends the program
+unfoldable pub ended : ℕ → ℕ → List ℕ → ℕ
+ended k j [] = j
+ended k j (e ∷ es) = pick (closing (e / 65536) k) j (ended (begun (e / 65536) k) (j + 1) es)
 
 -- how many entries the operand on top makes needless
-unfoldable pub needless : List ℕ → List ℕ → ℕ
-needless vs es = pick (isFalse vs) (goOn 0 0 0 es) 0
+unfoldable pub needless : ℕ → List ℕ → List ℕ → ℕ
+needless high vs es = pick (isFalse vs) (goOn 0 0 0 es) (pick (isHighest high vs) (ended 0 0 es) 0)
 
-abbrev pub ahead : State → List ℕ → ℕ
-ahead (on vs bs) es = needless vs es
-ahead stuck es = 0
+-- behind an operation; what is merely put on the stacks is not looked at
+abbrev pub ahead : ℕ → ℕ → State → List ℕ → ℕ
+ahead high op (on vs bs) es = pick (leb op FALSE) 0 (needless high vs es)
+ahead high op stuck es = 0
 
 -- the entries behind the first m
 unfoldable pub execBehind : ℕ → ℕ → List ℕ → (List ℕ → List ℕ) → List (List ℕ) → ℕ → List ℕ → State → State
 execBehind depth room s look vals m [] st = st
 execBehind depth room s look vals (suc m) (e ∷ es) st = execBehind depth room s look vals m es st
 execBehind depth room s look vals zero (e ∷ es) (on vs bs) =
-    execBehind depth room s look vals (ahead (stepped depth room s look vals e vs bs) es) es (stepped depth room s look vals e vs bs)
+    execBehind depth room s look vals (ahead (top vals) (e / 65536) (stepped depth room s look vals e vs bs) es) es (stepped depth room s look vals e vs bs)
 execBehind depth room s look vals zero (e ∷ es) stuck = stuck
 
 -- all entries

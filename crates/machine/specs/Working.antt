@@ -1,7 +1,10 @@
 pub mod Stepping
 pub mod Quick
 pub mod Alike
+pub mod Rating
 pub mod Passing
+pub mod Ending
 pub mod Running
+pub mod Kinds
 pub mod Widths
 pub mod Stacking

@@ -1,6 +1,7 @@
 // The machine that runs compiled Conditions: a stack of operands, two numbers each, and the bytes of their strings one after the other.
 use expression::integer::in_range;
 use expression::name::lookup;
+use expression::name::rank_of;
 use expression::operator::LONGEST;
 use expression::operator::RAISE;
 use expression::operator::apply;
@@ -22,18 +23,20 @@ use lexical::literal::literal_length;
 ghost use mathlib.Core.Path.{_≡_};
 ghost use mathlib.Core.List.{[], map};
 ghost use Prim.Native.Nat.{_+_, _-_, _≤_, _<_, max};
-ghost use lib.Dec.{eqb};
+ghost use lib.Dec.{eqb, leb};
 ghost use lib.ListN.{length, take, drop};
 ghost use Rattle.text.specs.Choice.{pick};
 ghost use Rattle.text.specs.Class.{word};
 ghost use Rattle.text.specs.Counted.{counted};
 ghost use Rattle.lexical.specs.Literal.{decodedAt};
+ghost use Rattle.expression.specs.Conditions.{indexFrom};
 ghost use Rattle.expression.specs.Tables.{lookupIn};
-ghost use Rattle.machine.specs.Machine.{runAt, textStep, topOf, unaryStep, lookupStep, binaryOn, binaryStep, raised, clauseStep, pushStep, stepOf, outer, above, behindOf, goOn, needless, exec, resultOf, on};
+ghost use Rattle.machine.specs.Machine.{runAt, textStep, topOf, unaryStep, lookupStep, binaryOn, binaryStep, raised, isIdle, clauseStep, pushStep, actOf, outer, above, behindOf, stopAt, goOn, closing, begun, ended, needless, exec, resultOf, on};
 ghost use Rattle.machine.specs.Left.{leftIn};
 ghost use Rattle.machine.specs.Live.{Live, landed, putAt, settled};
 ghost use Rattle.machine.specs.Working.Quick.{putTwo, isNatural, isTold, isLogical, decides};
 ghost use Rattle.machine.specs.Working.Alike.{isAlike, agrees, alikeOn};
+ghost use Rattle.machine.specs.Working.Rating.{isRating, valuedOn};
 
 // How many numbers and bytes the stacks hold; or that the machine can't go on, the code being none or a buffer too small.
 pub enum Tops {
@@ -60,12 +63,10 @@ fn word_at(s: &[u8], at: usize) -> &[u8]
 
 // Puts an operand on a stack of n numbers; t is where its string ends.
 fn put(stack: &mut [u64], n: usize, t: usize, v: Operand) -> Tops
+    requires { ⌜ n ≤ length (now stack) ⌝ }
     ensures { λ r. ⌜ landed r (now (stack .exit)) ≡ putAt (now (stack .entry)) n t v ⌝ }
 {
-    if stack.len() < n {
-        return Tops::Stuck;
-    }
-    if stack.len() - n < 2 {
+    if stack.len() < n + 2 {
         return Tops::Stuck;
     }
     let k = kind_of(v);
@@ -187,6 +188,7 @@ fn lookup_step<'a>(
 
 // Puts an operand whose string starts at `base`, below the top t.
 fn settle(stack: &mut [u64], n: usize, t: usize, base: usize, v: Operand) -> Tops
+    requires { ⌜ n ≤ length (now stack) ⌝ }
     ensures { λ r. ⌜ landed r (now (stack .exit)) ≡ settled (now (stack .entry)) n t base v ⌝ }
 {
     let w = width_of(v);
@@ -226,27 +228,6 @@ fn binary_on(
     let base = mid - wx;
     let v = combine(op, x, y, &bytes[base..mid], &bytes[mid..t], query, values);
     settle(stack, n, t, base, v)
-}
-
-// The two topmost operands give way to what an operation makes of them.
-fn binary_step(
-    op: u32,
-    query: &[u8],
-    values: &[usize],
-    stack: &mut [u64],
-    n: usize,
-    bytes: &[u8],
-    t: usize,
-) -> Tops
-    requires { ⌜ (n ≤ length (now stack)) × (t ≤ length (now bytes)) ⌝ }
-    ensures { λ r. ⌜ Live r (now (stack .exit)) (now (bytes .entry)) (binaryStep (length (now (stack .entry))) (map (counted (now (query .entry))) (now (values .entry))) op (take n (now (stack .entry))) (take t (now (bytes .entry)))) ⌝ }
-{
-    if n < 4 {
-        return Tops::Stuck;
-    }
-    let y = top(stack, n);
-    let x = top(stack, n - 2);
-    binary_on(op, x, y, query, values, stack, n - 4, bytes, t)
 }
 
 // Puts a packed operand on a stack of n numbers that has room for it.
@@ -393,6 +374,90 @@ fn texts_step(
     land(stack, n, base, q)
 }
 
+// Is it the operation k of clauses, and are the kinds those of a test and of what k takes besides?
+fn is_rating(op: u32, k: u32, x: u64, y: u64, z: u64) -> bool
+    ensures { λ r. ⌜ r ≡ isRating op k x y z ⌝ }
+{
+    if op != k {
+        return false;
+    }
+    if is_told(x) {
+        return y == z;
+    }
+    false
+}
+
+// The rank where the test, of that kind, holds, else 0.
+fn gated(kind: u64, rank: u64) -> u64
+    ensures { λ r. ⌜ r ≡ pick (eqb kind 4) rank 0 ⌝ }
+{
+    if kind == 4 {
+        return rank;
+    }
+    0
+}
+
+// The rank of a clause's string where its test, of that kind, holds, else 0.
+fn rank_valued(kind: u64, query: &[u8], values: &[usize], b: &[u8]) -> u64
+    ensures { λ r. ⌜ r ≡ pick (eqb kind 4) (indexFrom 0 (map (counted (now (query .entry))) (now (values .entry))) (now (b .entry))) 0 ⌝ }
+{
+    if kind == 4 {
+        return rank_of(query, values, b) as u64;
+    }
+    0
+}
+
+// A test of that kind and a string of w bytes, which ends the bytes, give way to a rank.
+fn valued_on(
+    kind: u64,
+    w: usize,
+    query: &[u8],
+    values: &[usize],
+    stack: &mut [u64],
+    n: usize,
+    bytes: &[u8],
+    t: usize,
+) -> Tops
+    requires { ⌜ (n + 2 ≤ length (now stack)) × (t ≤ length (now bytes)) ⌝ }
+    ensures { λ r. ⌜ Live r (now (stack .exit)) (now (bytes .entry)) (valuedOn (length (now (stack .entry))) (map (counted (now (query .entry))) (now (values .entry))) kind w (take n (now (stack .entry))) (take t (now (bytes .entry)))) ⌝ }
+{
+    if t < w {
+        return Tops::Stuck;
+    }
+    let base = t - w;
+    let m = rank_valued(kind, query, values, &bytes[base..t]);
+    land(stack, n, base, Packed { kind: 5, size: m })
+}
+
+// The two topmost operands give way to what an operation makes of them; a clause's test and string or rank need no more than their numbers.
+fn binary_step(
+    op: u32,
+    query: &[u8],
+    values: &[usize],
+    stack: &mut [u64],
+    n: usize,
+    bytes: &[u8],
+    t: usize,
+) -> Tops
+    requires { ⌜ (n ≤ length (now stack)) × (t ≤ length (now bytes)) ⌝ }
+    ensures { λ r. ⌜ Live r (now (stack .exit)) (now (bytes .entry)) (binaryStep (length (now (stack .entry))) (map (counted (now (query .entry))) (now (values .entry))) op (take n (now (stack .entry))) (take t (now (bytes .entry)))) ⌝ }
+{
+    if n < 4 {
+        return Tops::Stuck;
+    }
+    if is_rating(op, syntax::VALUED, stack[n - 4], stack[n - 2], 0) {
+        let w = count_of(stack[n - 1]);
+        return valued_on(stack[n - 4], w, query, values, stack, n - 4, bytes, t);
+    }
+    if is_rating(op, syntax::NESTED, stack[n - 4], stack[n - 2], 5) {
+        let m = gated(stack[n - 4], stack[n - 1]);
+        return land(stack, n - 4, t, Packed { kind: 5, size: m });
+    }
+    let y = top(stack, n);
+    let x = top(stack, n - 2);
+    binary_on(op, x, y, query, values, stack, n - 4, bytes, t)
+}
+
 // An operator of expressions on the two topmost operands; integers without a sign and tests need no more than their numbers.
 fn operator_step(
     op: u32,
@@ -536,6 +601,20 @@ fn push_step<'a>(
     put(stack, n, t, Operand::Test { holds: h })
 }
 
+// Does a test that doesn't hold lie on its program's rank, its clause's string passed by?
+fn is_idle(stack: &[u64], n: usize) -> bool
+    requires { ⌜ n ≤ length (now stack) ⌝ }
+    ensures { λ r. ⌜ r ≡ isIdle (take n (now (stack .entry))) ⌝ }
+{
+    if n < 4 {
+        return false;
+    }
+    if stack[n - 2] == 3 {
+        return stack[n - 4] == 5;
+    }
+    false
+}
+
 // Brings the clause on top to a rank, and that to its program's; or a program begins.
 fn clause_step(
     op: u32,
@@ -555,17 +634,21 @@ fn clause_step(
     if op == syntax::PLAIN {
         return plain_step(query, values, stack, n, bytes, t);
     }
+    if is_idle(stack, n) {
+        return Tops::At {
+            numbers: n - 2,
+            bytes: t,
+        };
+    }
     match binary_step(op, query, values, stack, n, bytes, t) {
         Tops::Stuck => Tops::Stuck,
         Tops::At { numbers, bytes: b } => raise_step(query, values, stack, numbers, bytes, b),
     }
 }
 
-// One entry: an operation and a place of the text.
-fn step<'a>(
+// An operation on what lies on the stacks.
+fn act<'a>(
     op: u32,
-    at: usize,
-    s: &[u8],
     query: &'a [u8],
     consts: &'a [u8],
     values: &[usize],
@@ -577,24 +660,8 @@ fn step<'a>(
     t: usize,
 ) -> Tops
     requires { ⌜ (n ≤ length (now stack)) × (t ≤ length (now bytes)) ⌝ }
-    ensures { λ r. ⌜ Live r (now (stack .exit)) (now (bytes .exit)) (stepOf (length (now (stack .entry))) (length (now (bytes .entry))) (now (s .entry)) (lookupIn (now (query .entry)) (now (consts .entry)) (now (values .entry)) (now (names .entry)) (now (constants .entry))) (map (counted (now (query .entry))) (now (values .entry))) op at (take n (now (stack .entry))) (take t (now (bytes .entry)))) ⌝ }
+    ensures { λ r. ⌜ Live r (now (stack .exit)) (now (bytes .exit)) (actOf (length (now (stack .entry))) (length (now (bytes .entry))) (lookupIn (now (query .entry)) (now (consts .entry)) (now (values .entry)) (now (names .entry)) (now (constants .entry))) (map (counted (now (query .entry))) (now (values .entry))) op (take n (now (stack .entry))) (take t (now (bytes .entry)))) ⌝ }
 {
-    if op <= syntax::FALSE {
-        return push_step(
-            op,
-            at,
-            s,
-            query,
-            consts,
-            values,
-            names,
-            constants,
-            stack,
-            n,
-            bytes,
-            t,
-        );
-    }
     if op == syntax::LOOKUP {
         return lookup_step(query, consts, values, names, constants, stack, n, bytes, t);
     }
@@ -659,7 +726,20 @@ fn behind_it(op: u32, k: usize, known: usize, next: usize) -> usize
     known
 }
 
-// With a test on top that doesn't hold, the entry to be run next: behind each "&&" whose left side it is.
+// The entry to be run next where no more is known: the end of the clause whose string lies above it.
+fn stop_at(op: u32, k: usize, known: usize, here: usize) -> usize
+    ensures { λ r. ⌜ r ≡ stopAt op k known here ⌝ }
+{
+    if op != syntax::VALUED {
+        return known;
+    }
+    if k != 1 {
+        return known;
+    }
+    here
+}
+
+// With a test on top that doesn't hold, the entry to be run next: behind each "&&" whose left side it is, and behind its clause's string.
 fn passed(code: &[u32], from: usize) -> usize
     ensures { λ r. ⌜ r ≡ goOn 0 from from (drop from (now (code .entry))) ⌝ }
 {
@@ -669,7 +749,7 @@ fn passed(code: &[u32], from: usize) -> usize
     while j < code.len() {
         let op = code[j] / 65536;
         if is_outer(op, k) {
-            return known;
+            return stop_at(op, k, known, j);
         }
         j += 1;
         known = behind_it(op, k, known, j);
@@ -678,16 +758,74 @@ fn passed(code: &[u32], from: usize) -> usize
     known
 }
 
+// Of k programs that have begun above another: does an operation end that one?
+fn is_closing(op: u32, k: usize) -> bool
+    ensures { λ r. ⌜ r ≡ closing op k ⌝ }
+{
+    if op != syntax::NESTED {
+        return false;
+    }
+    k == 0
+}
+
+// How many have begun then.
+fn begun_then(op: u32, k: usize) -> usize
+    requires { ⌜ k < 18446744073709551615 ⌝ }
+    ensures { λ r. ⌜ r ≡ begun op k ⌝ }
+{
+    if op == syntax::BEGIN {
+        return k + 1;
+    }
+    if op != syntax::NESTED {
+        return k;
+    }
+    if k == 0 {
+        return 0;
+    }
+    k - 1
+}
+
+// With the highest rank on top, the entry to be run next: the end of its program.
+fn finished(code: &[u32], from: usize) -> usize
+    ensures { λ r. ⌜ r ≡ ended 0 from (drop from (now (code .entry))) ⌝ }
+{
+    let mut j = from;
+    let mut k: usize = 0;
+    while j < code.len() {
+        let op = code[j] / 65536;
+        if is_closing(op, k) {
+            return j;
+        }
+        j += 1;
+        k = begun_then(op, k);
+    }
+    j
+}
+
+// With a rank on top, the entry to be run next, from entry i on.
+fn concluded(code: &[u32], i: usize, rank: u64, values: &[usize]) -> usize
+    ensures { λ r. ⌜ r ≡ pick (leb (length (now (values .entry)) - 1) rank) (ended 0 i (drop i (now (code .entry)))) i ⌝ }
+{
+    let highest = top_rank(values) as u64;
+    if rank < highest {
+        return i;
+    }
+    finished(code, i)
+}
+
 // The entry to be run next, from entry i on.
-fn onward(code: &[u32], i: usize, stack: &[u64], n: usize) -> usize
+fn onward(code: &[u32], i: usize, stack: &[u64], n: usize, values: &[usize]) -> usize
     requires { ⌜ n ≤ length (now stack) ⌝ }
-    ensures { λ r. ⌜ r ≡ i + needless (take n (now (stack .entry))) (drop i (now (code .entry))) ⌝ }
+    ensures { λ r. ⌜ r ≡ i + needless (length (now (values .entry)) - 1) (take n (now (stack .entry))) (drop i (now (code .entry))) ⌝ }
 {
     if n < 2 {
         return i;
     }
     if stack[n - 2] == 3 {
         return passed(code, i);
+    }
+    if stack[n - 2] == 5 {
+        return concluded(code, i, stack[n - 1], values);
     }
     i
 }
@@ -712,34 +850,60 @@ pub fn run<'a>(
     let mut i: usize = 0;
     while i < code.len() {
         let e = code[i];
-        match step(
-            e / 65536,
-            wide(e % 65536),
-            s,
-            query,
-            consts,
-            values,
-            names,
-            constants,
-            stack,
-            n,
-            bytes,
-            t,
-        ) {
-            Tops::Stuck => {
-                return Operand::Fault;
+        let op = e / 65536;
+        let at = wide(e % 65536);
+        if op <= syntax::FALSE {
+            match push_step(
+                op,
+                at,
+                s,
+                query,
+                consts,
+                values,
+                names,
+                constants,
+                stack,
+                n,
+                bytes,
+                t,
+            ) {
+                Tops::Stuck => {
+                    return Operand::Fault;
+                }
+                Tops::At { numbers, bytes: b } => {
+                    n = numbers;
+                    t = b;
+                    i += 1;
+                }
             }
-            Tops::At { numbers, bytes: b } => {
-                n = numbers;
-                t = b;
-                i = onward(code, i + 1, stack, n);
+        } else {
+            match act(
+                op,
+                query,
+                consts,
+                values,
+                names,
+                constants,
+                stack,
+                n,
+                bytes,
+                t,
+            ) {
+                Tops::Stuck => {
+                    return Operand::Fault;
+                }
+                Tops::At { numbers, bytes: b } => {
+                    n = numbers;
+                    t = b;
+                    i = onward(code, i + 1, stack, n, values);
+                }
             }
         }
     }
     top(stack, n)
 }
 
-// The machine on stacks of its own, with little room for strings.
+// The machine on stacks of its own, with little room.
 fn run_narrow<'a>(
     code: &[u32],
     s: &[u8],
@@ -749,10 +913,37 @@ fn run_narrow<'a>(
     names: &[usize],
     constants: &[usize],
 ) -> Operand
-    ensures { λ r. ⌜ r ≡ leftIn 208 512 (now (code .entry)) (now (s .entry)) (now (query .entry)) (now (consts .entry)) (now (values .entry)) (now (names .entry)) (now (constants .entry)) ⌝ }
+    ensures { λ r. ⌜ r ≡ leftIn 32 256 (now (code .entry)) (now (s .entry)) (now (query .entry)) (now (consts .entry)) (now (values .entry)) (now (names .entry)) (now (constants .entry)) ⌝ }
+{
+    let mut stack = [0u64; 32];
+    let mut bytes = [0u8; 256];
+    run(
+        code,
+        s,
+        query,
+        consts,
+        values,
+        names,
+        constants,
+        &mut stack,
+        &mut bytes,
+    )
+}
+
+// The same with room for some strings.
+fn run_middle<'a>(
+    code: &[u32],
+    s: &[u8],
+    query: &'a [u8],
+    consts: &'a [u8],
+    values: &[usize],
+    names: &[usize],
+    constants: &[usize],
+) -> Operand
+    ensures { λ r. ⌜ r ≡ leftIn 208 8192 (now (code .entry)) (now (s .entry)) (now (query .entry)) (now (consts .entry)) (now (values .entry)) (now (names .entry)) (now (constants .entry)) ⌝ }
 {
     let mut stack = [0u64; 208];
-    let mut bytes = [0u8; 512];
+    let mut bytes = [0u8; 8192];
     run(
         code,
         s,
@@ -793,6 +984,36 @@ fn run_wide<'a>(
     )
 }
 
+// Runs compiled Conditions on stacks of its own, with more and more room. It calls itself so that the compiler keeps the large tables apart.
+fn run_on<'a>(
+    tier: usize,
+    code: &[u32],
+    s: &[u8],
+    query: &'a [u8],
+    consts: &'a [u8],
+    values: &[usize],
+    names: &[usize],
+    constants: &[usize],
+) -> Operand
+    ensures { λ r. ⌜ r ≡ leftIn 208 77824 (now (code .entry)) (now (s .entry)) (now (query .entry)) (now (consts .entry)) (now (values .entry)) (now (names .entry)) (now (constants .entry)) ⌝ }
+{
+    if tier == 0 {
+        let v = run_narrow(code, s, query, consts, values, names, constants);
+        if is_fault(v) {
+            return run_on(1, code, s, query, consts, values, names, constants);
+        }
+        return v;
+    }
+    if tier == 1 {
+        let v = run_middle(code, s, query, consts, values, names, constants);
+        if is_fault(v) {
+            return run_on(2, code, s, query, consts, values, names, constants);
+        }
+        return v;
+    }
+    run_wide(code, s, query, consts, values, names, constants)
+}
+
 // Runs compiled Conditions on stacks of its own: with little room first, which most need no more than.
 pub fn run_here<'a>(
     code: &[u32],
@@ -805,9 +1026,5 @@ pub fn run_here<'a>(
 ) -> Operand
     ensures { λ r. ⌜ r ≡ leftIn 208 77824 (now (code .entry)) (now (s .entry)) (now (query .entry)) (now (consts .entry)) (now (values .entry)) (now (names .entry)) (now (constants .entry)) ⌝ }
 {
-    let v = run_narrow(code, s, query, consts, values, names, constants);
-    if is_fault(v) {
-        return run_wide(code, s, query, consts, values, names, constants);
-    }
-    v
+    run_on(0, code, s, query, consts, values, names, constants)
 }

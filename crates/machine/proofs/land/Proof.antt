@@ -1,4 +1,5 @@
-use Rattle.machine.specs.Working.Quick.{land-second, land-in}
+use Rattle.machine.specs.Working.Stepping.{put-second}
+use Rattle.machine.specs.Working.Quick.{land-in}
 use borrow.Author.Needs.{needs}
 use Rattle.machine.proofs.land.Statement.{statement}
 use Rattle.machine.proofs.land.Tie as tie
@@ -23,7 +24,7 @@ mul-stack-2 c = search needs
 
 -- src/lib.rt:254:5
 slice-write-stack-2 : tie.Need-slice-write-stack-2
-slice-write-stack-2 c = search land-second
+slice-write-stack-2 c = search put-second
 
 -- src/lib.rt:256:18
 add-t5 : tie.Need-add-t5

@@ -4,30 +4,33 @@ use mathlib.Core.Bool.{true, false}
 use mathlib.Core.List.{List, [], _∷_, _++_, map, append-assoc, append-nil}
 use Prim.Native.Nat.{ℕ, _+_, _-_, _*_, _/_, _%_, _<_, _≤_, max}
 use native.Mathlib.Omega.{arith}
-use lib.Dec.{eqb, ltb}
+use lib.Dec.{eqb, leb, ltb}
 use lib.ListN.{length, length-append}
-use borrow.Author.Tests.{le-leb, lt-leb, eq-eqb, ne-eqb, eqb-true, eqb-false, ltb-true, ltb-false}
+use borrow.Author.Tests.{le-leb, lt-leb, eq-eqb, ne-eqb, eqb-true, eqb-false, ltb-true, ltb-false, leb-true}
 use Rattle.text.specs.Choice.{split, clash}
 use Rattle.text.specs.Counted.{counted}
 use Rattle.lexical.specs.Literal.{decodedAt}
-use Rattle.syntax.specs.Expr.{Expr, Program, none, also, Clause, plain, valued, nested}
+use Rattle.syntax.specs.Expr.{Expr, literal, name, number, truth, unary, binary, Program, none, also, Clause, plain, valued, nested}
 use Rattle.syntax.specs.Code.{entry, nameAt, numberAt, Codes, code-literal, code-name, code-number, code-true, code-false, code-unary, code-binary, ProgramCodes, code-none, code-also, ClauseCodes, code-plain, code-valued, code-nested}
 use Rattle.expression.specs.Value.{Value, text, integer, rank, test, fault, operand, bytesOf}
-use Rattle.expression.specs.Operands.{rankIn, kindOf}
+use Rattle.expression.specs.Operands.{rankIn, kindOf, sizeOf}
 use Rattle.expression.specs.Integers.{ranged}
 use Rattle.expression.specs.Names.{Environment, lookup}
 use Rattle.expression.specs.Operations.{held, unaryOf, isTextual, ofTests, logical, binaryOf}
 use Rattle.expression.specs.Conditions.{evaluate, conditions, clause, gate, top, rankOf}
 use Rattle.expression.specs.Clauses.{applied, combined}
 use Rattle.expression.specs.Tables.{lookupIn, Shows}
+use Rattle.expression.specs.Theorems.Topmost.{conditions-most}
 use Rattle.expression.specs.Theorems.Shown.{values-are, lookup-is as shown-is}
 use Rattle.expression.specs.declared.value.Operand.the-variants.{Rank}
-use Rattle.machine.specs.Machine.{State, on, raised, runAt, pushStep, clauseStep, stepOf, stepped, isFalse, goOn, needless, ahead, execBehind, exec, resultOf}
+use Rattle.machine.specs.Machine.{State, on, raised, runAt, pushStep, isIdle, clauseStep, actOf, stepOf, stepped, isFalse, stopAt, goOn, isHighest, ended, needless, ahead, execBehind, exec, resultOf}
 use Rattle.machine.specs.Need.{need, programNeed, clauseNeed, room, programRoom, clauseRoom}
 use Rattle.machine.specs.Theorems.Bounds.{need-some}
+use Rattle.machine.specs.Working.Kinds.{unranked}
 use Rattle.machine.specs.Working.Widths.{plain-rank, plain-ranged, within-span}
-use Rattle.machine.specs.Working.Passing.{exec-pass, on-clause, on-none, on-both, on-other, entry-op, on-code, on-program, on-shift}
-use Rattle.machine.specs.Working.Stacking.{pair, topped, count-is, top-is, false-top, place-is, text-is, unary-is, lookup-is, binary-is}
+use Rattle.machine.specs.Working.Passing.{exec-pass, on-clause, on-none, on-both, on-other, entry-op, on-code, on-program, stop-same, on-shift}
+use Rattle.machine.specs.Working.Ending.{end-here, across-clause, end-shift}
+use Rattle.machine.specs.Working.Stacking.{pair, topped, count-is, top-is, false-top, high-top, below-is, idle-top, idle-not, place-is, text-is, unary-is, lookup-is, binary-is}
 
 -- an operator on one operand is the machine's operation, but for "$"
 applied-is : (vals : List (List ℕ)) (look : List ℕ → List ℕ) (op : ℕ) (v : Value) → 5 ≤ op → op ≤ 8 → eqb op 5 ≡ false → applied vals op v ≡ unaryOf look op v
@@ -77,15 +80,27 @@ module _ (vals : List (List ℕ)) where
   unfolding combined rankIn operand
   nested-is v n = refl
 
+-- the last operation of an expression's code; 3 for both truths, which are merely put on the stacks
+abbrev lastOf : Expr → ℕ
+lastOf (literal b) = 0
+lastOf (name n) = 1
+lastOf (number n) = 2
+lastOf (truth t) = 3
+lastOf (unary op e) = op
+lastOf (binary op e f) = op
+
 module _ (depth space : ℕ) (s : List ℕ) (look : List ℕ → List ℕ) (env : Environment) (same : (n : List ℕ) → look n ≡ lookup env n) where
   abbrev run : List ℕ → State → State
   run c st = exec depth space s look (env .values) c st
 
-  -- the same behind what a decided test makes needless
-  abbrev after : List ℕ → State → State
-  after c st = execBehind depth space s look (env .values) (ahead st c) c st
+  abbrev highest : ℕ
+  highest = top (env .values)
 
-  step-entry : (op at : ℕ) → at < 65536 → (rest vs bs : List ℕ) → run (entry op at ∷ rest) (on vs bs) ≡ after rest (stepOf depth space s look (env .values) op at vs bs)
+  -- the same behind what the operand that an operation left makes needless
+  abbrev after : ℕ → List ℕ → State → State
+  after x c st = execBehind depth space s look (env .values) (ahead highest x st c) c st
+
+  step-entry : (op at : ℕ) → at < 65536 → (rest vs bs : List ℕ) → run (entry op at ∷ rest) (on vs bs) ≡ after op rest (stepOf depth space s look (env .values) op at vs bs)
   unfolding execBehind stepped entry
   step-entry op at h rest vs bs =
       let a : (op * 65536 + at) / 65536 ≡ op = omega arith in
@@ -93,29 +108,46 @@ module _ (depth space : ℕ) (s : List ℕ) (look : List ℕ → List ℕ) (env 
       rw (a, b)
 
   -- an entry whose step is known
-  enter : (op at : ℕ) → at < 65536 → (rest vs bs : List ℕ) (st : State) → stepOf depth space s look (env .values) op at vs bs ≡ st → run (entry op at ∷ rest) (on vs bs) ≡ after rest st
-  enter op at h rest vs bs st e = step-entry op at h rest vs bs ∙ ap (after rest) e
+  enter : (op at : ℕ) → at < 65536 → (rest vs bs : List ℕ) (st : State) → stepOf depth space s look (env .values) op at vs bs ≡ st → run (entry op at ∷ rest) (on vs bs) ≡ after op rest st
+  enter op at h rest vs bs st e = step-entry op at h rest vs bs ∙ ap (after op rest) e
 
-  -- nothing is passed by where the machine goes on at once, nor where the top is no test that fails
-  unmoved : (c vs bs : List ℕ) → goOn 0 0 0 c ≡ 0 → after c (on vs bs) ≡ run c (on vs bs)
-  unfolding needless
-  unmoved c vs bs z = split (isFalse vs) (λ f. rw (f, z)) (λ f. rw f)
+  -- behind what is put on the stacks, and below a value that is no rank, nothing is passed by where the machine goes on at once
+  pushed : (x : ℕ) → leb x 4 ≡ true → (c vs bs : List ℕ) (v : Value) → after x c (topped vs bs v) ≡ run c (topped vs bs v)
+  unfolding topped
+  pushed x a c vs bs v = rw a
 
-  ranked : (rest vs bs : List ℕ) (n : ℕ) → after rest (topped vs bs (rank n)) ≡ run rest (topped vs bs (rank n))
-  unfolding needless topped operand kindOf
-  ranked rest vs bs n = let f : isFalse (vs ++ pair (rank n)) ≡ false = false-top vs (rank n) in rw f
+  module _ (x : ℕ) (vs bs : List ℕ) (v : Value) (other : eqb (kindOf (operand v)) 5 ≡ false) where
+    lower : isHighest highest (vs ++ pair v) ≡ false
+    lower = rw (high-top vs v highest, other)
 
-  stays : (op : ℕ) → 4 < op → (rest vs bs : List ℕ) → after (entry op 0 ∷ rest) (on vs bs) ≡ run (entry op 0 ∷ rest) (on vs bs)
-  stays op h rest vs bs =
-      unmoved (entry op 0 ∷ rest) vs bs
-      (split (ltb 29 op) (λ f. on-clause 0 0 0 (entry op 0) rest op (entry-op op 0 (omega arith)) h (ltb-true 29 op f))
-      (λ f. on-none 0 0 0 (entry op 0) rest op (entry-op op 0 (omega arith)) h (ltb-false 29 op f) refl))
+    unmoved : (c : List ℕ) → (isFalse (vs ++ pair v) ≡ true → goOn 0 0 0 c ≡ 0) → after x c (topped vs bs v) ≡ run c (topped vs bs v)
+    unfolding needless topped
+    unmoved c z =
+        split (leb x 4) (λ a. rw a)
+        (λ a. split (isFalse (vs ++ pair v)) (λ f. rw (a, f, z f)) (λ f. rw (a, f, lower)))
+
+    stays : (op : ℕ) → 4 < op → (rest : List ℕ) → after x (entry op 0 ∷ rest) (topped vs bs v) ≡ run (entry op 0 ∷ rest) (topped vs bs v)
+    stays op h rest =
+        unmoved (entry op 0 ∷ rest)
+        (λ y. split (ltb 29 op) (λ f. on-clause 0 0 0 (entry op 0) rest op (entry-op op 0 (omega arith)) h (ltb-true 29 op f) ∙ stop-same op 0 0)
+        (λ f. on-none 0 0 0 (entry op 0) rest op (entry-op op 0 (omega arith)) h (ltb-false 29 op f) refl))
+
+    -- a right side that no test decides
+    undecided : (op : ℕ) → 9 ≤ op → op ≤ 29 → {f : Expr} {d : List ℕ} → Codes s f d → (rest : List ℕ) → (isFalse (vs ++ pair v) ≡ true → op ≡ 28 → ⊥)
+        → after x (d ++ (entry op 0 ∷ rest)) (topped vs bs v) ≡ run (d ++ (entry op 0 ∷ rest)) (topped vs bs v)
+    undecided op low high {d = d} k rest bar =
+        unmoved (d ++ (entry op 0 ∷ rest))
+        (λ y. on-code k 0 0 0 (entry op 0 ∷ rest)
+        ∙ on-other 1 0 (0 + length d) (entry op 0) rest op (entry-op op 0 (omega arith)) (omega arith) high (λ z. omega arith) (omega arith) refl (bar y))
+
+    to-program : (rest : List ℕ) (p : Program) {d : List ℕ} → ProgramCodes s p d → after x (d ++ rest) (topped vs bs v) ≡ run (d ++ rest) (topped vs bs v)
+    to-program rest p {d = d} k = unmoved (d ++ rest) (λ y. on-program k rest)
 
   -- a test that fails decides "&&": its right side is passed by
-  decided : {f : Expr} {d : List ℕ} → Codes s f d → (rest vs bs : List ℕ)
-      → after (d ++ (entry 28 0 ∷ rest)) (topped vs bs (test false)) ≡ after rest (topped vs bs (test false))
+  decided : (x : ℕ) → leb x 4 ≡ false → {f : Expr} {d : List ℕ} → Codes s f d → (rest vs bs : List ℕ)
+      → after x (d ++ (entry 28 0 ∷ rest)) (topped vs bs (test false)) ≡ after 28 rest (topped vs bs (test false))
   unfolding needless topped operand kindOf
-  decided {d = d} k rest vs bs =
+  decided x a4 {d = d} k rest vs bs =
       let t : isFalse (vs ++ pair (test false)) ≡ true = false-top vs (test false) in
       let x : List ℕ = entry 28 0 ∷ [] in
       let y : d ++ (entry 28 0 ∷ rest) ≡ (d ++ x) ++ rest = sym (append-assoc d x rest) in
@@ -125,28 +157,50 @@ module _ (depth space : ℕ) (s : List ℕ) (look : List ℕ → List ℕ) (env 
       ∙ on-both 1 0 (0 + length d) (entry 28 0) rest 28 (entry-op 28 0 (omega arith)) (omega arith) (omega arith) (λ z. omega arith) (omega arith) refl refl
       ∙ (let b : 0 + length d + 1 ≡ length (d ++ x) + 0 = omega (arith, a) in ap (λ (n : ℕ). goOn 0 n n rest) b)
       ∙ on-shift (length (d ++ x)) 0 0 0 rest in
-      rw (t, z) (ap (λ (l : List ℕ). execBehind depth space s look (env .values) (length (d ++ x) + goOn 0 0 0 rest) l (on (vs ++ pair (test false)) (bs ++ bytesOf (test false)))) y
+      rw (a4, t, z) (ap (λ (l : List ℕ). execBehind depth space s look (env .values) (length (d ++ x) + goOn 0 0 0 rest) l (on (vs ++ pair (test false)) (bs ++ bytesOf (test false)))) y
       ∙ exec-pass depth space s look (env .values) (d ++ x) rest (goOn 0 0 0 rest) (on (vs ++ pair (test false)) (bs ++ bytesOf (test false))))
 
-  -- nothing else is passed by
-  undecided : (op : ℕ) → 9 ≤ op → op ≤ 29 → {f : Expr} {d : List ℕ} → Codes s f d → (rest vs bs : List ℕ) → (isFalse vs ≡ true → op ≡ 28 → ⊥)
-      → after (d ++ (entry op 0 ∷ rest)) (on vs bs) ≡ run (d ++ (entry op 0 ∷ rest)) (on vs bs)
-  unfolding needless
-  undecided op low high {d = d} k rest vs bs bar =
-      split (isFalse vs)
-      (λ t. let z : goOn 0 0 0 (d ++ (entry op 0 ∷ rest)) ≡ 0 =
-      on-code k 0 0 0 (entry op 0 ∷ rest)
-      ∙ on-other 1 0 (0 + length d) (entry op 0) rest op (entry-op op 0 (omega arith)) (omega arith) high (λ z. omega arith) (omega arith) refl (bar t) in
-      rw (t, z))
-      (λ t. rw t)
+  -- and it passes its clause's string by
+  spared : (x : ℕ) → leb x 4 ≡ false → {f : Expr} {d : List ℕ} → Codes s f d → (rest vs bs : List ℕ)
+      → after x (d ++ (entry 32 0 ∷ rest)) (topped vs bs (test false)) ≡ run (entry 32 0 ∷ rest) (topped vs bs (test false))
+  unfolding needless topped operand kindOf stopAt
+  spared x a4 {d = d} k rest vs bs =
+      let t : isFalse (vs ++ pair (test false)) ≡ true = false-top vs (test false) in
+      let a : 0 + length d ≡ length d + 0 = omega arith in
+      let z : goOn 0 0 0 (d ++ (entry 32 0 ∷ rest)) ≡ length d + 0 =
+      on-code k 0 0 0 (entry 32 0 ∷ rest) ∙ on-clause 1 0 (0 + length d) (entry 32 0) rest 32 (entry-op 32 0 (omega arith)) (omega arith) (omega arith) ∙ a in
+      rw (a4, t, z) (exec-pass depth space s look (env .values) d (entry 32 0 ∷ rest) 0 (on (vs ++ pair (test false)) (bs ++ bytesOf (test false))))
 
-  to-value : {f : Expr} {d : List ℕ} → Codes s f d → (rest vs bs : List ℕ) → after (d ++ (entry 32 0 ∷ rest)) (on vs bs) ≡ run (d ++ (entry 32 0 ∷ rest)) (on vs bs)
-  to-value {d = d} k rest vs bs =
-      unmoved (d ++ (entry 32 0 ∷ rest)) vs bs
-      (on-code k 0 0 0 (entry 32 0 ∷ rest) ∙ on-clause 1 0 (0 + length d) (entry 32 0) rest 32 (entry-op 32 0 (omega arith)) (omega arith) (omega arith))
+  -- a program that has the highest rank keeps it: its other clauses are passed by
+  module _ (rest vs bs : List ℕ) (r : ℕ) where
+    rank-top : isFalse (vs ++ pair (rank r)) ≡ false
+    unfolding operand kindOf
+    rank-top = false-top vs (rank r)
 
-  to-program : (rest vs bs : List ℕ) (p : Program) {d : List ℕ} → ProgramCodes s p d → after (d ++ rest) (on vs bs) ≡ run (d ++ rest) (on vs bs)
-  to-program rest vs bs p {d = d} k = unmoved (d ++ rest) vs bs (on-program k rest)
+    rank-high : isHighest highest (vs ++ pair (rank r)) ≡ leb highest r
+    unfolding operand kindOf sizeOf
+    rank-high = high-top vs (rank r) highest
+
+    closes : after 31 (entry 33 0 ∷ rest) (topped vs bs (rank r)) ≡ run (entry 33 0 ∷ rest) (topped vs bs (rank r))
+    unfolding needless topped
+    closes = split (leb highest r) (λ f. rw (rank-top, rank-high, f, end-here rest)) (λ f. rw (rank-top, rank-high, f))
+
+    kept : (q : Clause) → leb highest r ≡ true → max r (clause env q) ≡ r
+    unfolding conditions
+    kept q f =
+        let a : max 0 (clause env q) ≤ highest = conditions-most env (also none q) in
+        let b : highest ≤ r = leb-true _ _ f in
+        omega (arith, a, b)
+
+    settle : (q : Clause) {c : List ℕ} → ClauseCodes s q c → run (c ++ rest) (topped vs bs (rank r)) ≡ after 31 rest (topped vs bs (rank (max r (clause env q))))
+        → after 31 (c ++ rest) (topped vs bs (rank r)) ≡ after 31 rest (topped vs bs (rank (max r (clause env q))))
+    unfolding needless topped
+    settle q {c = c} k go =
+        split (leb highest r)
+        (λ f. let a : 0 + length c ≡ length c + 0 = omega arith in
+        let z : ended 0 0 (c ++ rest) ≡ length c + ended 0 0 rest = across-clause q k 0 0 rest ∙ ap (λ (n : ℕ). ended 0 n rest) a ∙ end-shift (length c) 0 0 rest in
+        rw (kept q f, rank-top, rank-high, f, z) (exec-pass depth space s look (env .values) c rest (ended 0 0 rest) (on (vs ++ pair (rank r)) (bs ++ bytesOf (rank r)))))
+        (λ f. (rw (rank-top, rank-high, f) refl) ∙ go)
 
   module _ (vs bs : List ℕ) (h : length vs + 2 ≤ depth) where
     literal-step : (at : ℕ) → length bs + 4096 ≤ space → stepOf depth space s look (env .values) 0 at vs bs ≡ topped vs bs (held (decodedAt s at))
@@ -170,12 +224,12 @@ module _ (depth space : ℕ) (s : List ℕ) (look : List ℕ → List ℕ) (env 
     false-step = place-is depth vs h bs (test false) refl
 
     begin-step : stepOf depth space s look (env .values) 30 0 vs bs ≡ topped vs bs (rank 0)
-    unfolding stepOf clauseStep operand bytesOf
+    unfolding stepOf actOf clauseStep operand bytesOf
     begin-step = place-is depth vs h bs (rank 0) refl
 
     unary-step : (op : ℕ) (v : Value) → 5 ≤ op → op ≤ 8 → (op ≡ 5 → length bs + 4096 ≤ space)
         → stepOf depth space s look (env .values) op 0 (vs ++ pair v) (bs ++ bytesOf v) ≡ topped vs bs (unaryOf (lookup env) op v)
-    unfolding stepOf
+    unfolding stepOf actOf
     unary-step op v l u k =
         split (eqb op 5)
         (λ f. let o : op ≡ 5 = eqb-true op 5 f in rw (lt-leb op 4 (omega arith), f) (lookup-is depth vs h space look (lookup env) same op bs v o (k o)))
@@ -184,7 +238,7 @@ module _ (depth space : ℕ) (s : List ℕ) (look : List ℕ → List ℕ) (env 
 
     binary-step : (op : ℕ) (v w : Value) → 9 ≤ op → op ≤ 29
         → stepOf depth space s look (env .values) op 0 ((vs ++ pair v) ++ pair w) ((bs ++ bytesOf v) ++ bytesOf w) ≡ topped vs bs (binaryOf op v w)
-    unfolding stepOf
+    unfolding stepOf actOf
     binary-step op v w l u =
         rw (lt-leb op 4 (omega arith), ne-eqb op 5 (λ z. omega arith), lt-leb op 8 (omega arith), le-leb op 29 u)
         (binary-is depth vs h (env .values) op bs v w ∙ ap (topped vs bs) (combined-is (env .values) op v w u))
@@ -195,20 +249,22 @@ module _ (depth space : ℕ) (s : List ℕ) (look : List ℕ → List ℕ) (env 
     raise-step r m = binary-is depth vs h (env .values) 34 bs (rank r) (rank m) ∙ ap (topped vs bs) (raise-is (env .values) r m)
 
   -- a right side that a test decides, or one that is run
-  decide : (op : ℕ) (v w : Value) {f : Expr} {d : List ℕ} → Codes s f d → (rest vs bs : List ℕ)
-      → ((isFalse (vs ++ pair v) ≡ true → op ≡ 28 → ⊥) → after (d ++ (entry op 0 ∷ rest)) (topped vs bs v) ≡ after rest (topped vs bs (binaryOf op v w)))
-      → after (d ++ (entry op 0 ∷ rest)) (topped vs bs v) ≡ after rest (topped vs bs (binaryOf op v w))
-  decide op v w {d = d} k rest vs bs go =
-      split (isFalse (vs ++ pair v))
+  decide : (x op : ℕ) → 9 ≤ op → op ≤ 29 → (v w : Value) → eqb (kindOf (operand v)) 5 ≡ false → {f : Expr} {d : List ℕ} → Codes s f d → (rest vs bs : List ℕ)
+      → (after x (d ++ (entry op 0 ∷ rest)) (topped vs bs v) ≡ run (d ++ (entry op 0 ∷ rest)) (topped vs bs v)
+      → after x (d ++ (entry op 0 ∷ rest)) (topped vs bs v) ≡ after op rest (topped vs bs (binaryOf op v w)))
+      → after x (d ++ (entry op 0 ∷ rest)) (topped vs bs v) ≡ after op rest (topped vs bs (binaryOf op v w))
+  decide x op low high v w other {d = d} k rest vs bs go =
+      split (leb x 4) (λ a. go (pushed x a (d ++ (entry op 0 ∷ rest)) vs bs v))
+      (λ a. split (isFalse (vs ++ pair v))
       (λ t. split (eqb op 28)
       (λ b. let o : op ≡ 28 = eqb-true op 28 b in let e : v ≡ test false = failing v (sym (false-top vs v) ∙ t) in
-      rw (o, e, both-false w) (decided k rest vs bs))
-      (λ b. go (λ y o. eqb-false op 28 b o)))
-      (λ t. go (λ y o. clash y t))
+      rw (o, e, both-false w) (decided x a k rest vs bs))
+      (λ b. go (undecided x vs bs v other op low high k rest (λ y o. eqb-false op 28 b o))))
+      (λ t. go (undecided x vs bs v other op low high k rest (λ y o. clash y t))))
 
   -- an expression's code leaves its value on top
   pub run-expression : {e : Expr} {c : List ℕ} → Codes s e c → (rest vs bs : List ℕ) → length vs + 2 * need e ≤ depth → length bs + room e ≤ space
-      → run (c ++ rest) (on vs bs) ≡ after rest (topped vs bs (evaluate env e))
+      → run (c ++ rest) (on vs bs) ≡ after (lastOf e) rest (topped vs bs (evaluate env e))
   unfolding evaluate need room topped
   run-expression (code-literal at p) rest vs bs h k = enter 0 at p rest vs bs _ (literal-step vs bs (omega arith) at k)
   run-expression (code-name at p) rest vs bs h k = enter 1 at p rest vs bs _ (name-step vs bs (omega arith) at k)
@@ -220,18 +276,18 @@ module _ (depth space : ℕ) (s : List ℕ) (look : List ℕ → List ℕ) (env 
       let q : op ≡ 5 → length bs + 4096 ≤ space = λ o. (let m′ : length bs + max (room e) 4096 ≤ space = rw (eq-eqb op 5 o) at m in omega arith) in
       ap (λ (l : List ℕ). run l (on vs bs)) (append-assoc c (entry op 0 ∷ []) rest)
       ∙ run-expression k (entry op 0 ∷ rest) vs bs h (omega arith)
-      ∙ stays op (omega arith) rest (vs ++ pair v) (bs ++ bytesOf v)
+      ∙ stays (lastOf e) vs bs v (unranked env e) op (omega arith) rest
       ∙ enter op 0 (omega arith) rest (vs ++ pair v) (bs ++ bytesOf v) _ (unary-step vs bs (omega (arith, need-some e)) op v low high q)
   run-expression (code-binary {op = op} {e = e} {f = f} {c = c} {d = d} low high k l) rest vs bs h m =
       let v : Value = evaluate env e in
       let w : Value = evaluate env f in
       ap (λ (l : List ℕ). run l (on vs bs)) (append-assoc (c ++ d) (entry op 0 ∷ []) rest ∙ append-assoc c d (entry op 0 ∷ rest))
       ∙ run-expression k (d ++ (entry op 0 ∷ rest)) vs bs (omega arith) (omega arith)
-      ∙ decide op v w l rest vs bs
-      (λ bar. undecided op low high l rest (vs ++ pair v) (bs ++ bytesOf v) bar
+      ∙ decide (lastOf e) op low high v w (unranked env e) l rest vs bs
+      (λ still. still
       ∙ run-expression l (entry op 0 ∷ rest) (vs ++ pair v) (bs ++ bytesOf v) (rw (count-is vs v) (omega arith))
       (rw (length-append bs (bytesOf v)) (omega (arith, within-span env e)))
-      ∙ stays op (omega arith) rest ((vs ++ pair v) ++ pair w) ((bs ++ bytesOf v) ++ bytesOf w)
+      ∙ stays (lastOf f) (vs ++ pair v) (bs ++ bytesOf v) w (unranked env f) op (omega arith) rest
       ∙ enter op 0 (omega arith) rest ((vs ++ pair v) ++ pair w) ((bs ++ bytesOf v) ++ bytesOf w) _ (binary-step vs bs (omega (arith, need-some e)) op v w low high))
 
   -- the entries that end a clause, above the rank r of the program so far
@@ -246,24 +302,45 @@ module _ (depth space : ℕ) (s : List ℕ) (look : List ℕ → List ℕ) (env 
     high = rw (count-is vs (rank r)) (omega arith)
 
     plain-step : (v : Value) → stepOf depth space s look (env .values) 31 0 (vs′ ++ pair v) (bs′ ++ bytesOf v) ≡ topped vs bs (rank (max r (gate v (top (env .values)))))
-    unfolding stepOf clauseStep
+    unfolding stepOf actOf clauseStep
     plain-step v =
         ap (raised depth (env .values)) (unary-is depth vs′ high (env .values) 31 bs′ v ∙ ap (topped vs′ bs′) (plain-is (env .values) v))
         ∙ raise-step vs bs (omega arith) r (gate v (top (env .values)))
 
-    valued-step : (v w : Value)
+    valued-step : (v w : Value) → eqb (kindOf (operand v)) 5 ≡ false
         → stepOf depth space s look (env .values) 32 0 ((vs′ ++ pair v) ++ pair w) ((bs′ ++ bytesOf v) ++ bytesOf w) ≡ topped vs bs (rank (max r (gate v (rankOf (env .values) w))))
-    unfolding stepOf clauseStep
-    valued-step v w =
-        ap (raised depth (env .values)) (binary-is depth vs′ high (env .values) 32 bs′ v w ∙ ap (topped vs′ bs′) (valued-is (env .values) v w))
-        ∙ raise-step vs bs (omega arith) r (gate v (rankOf (env .values) w))
+    unfolding stepOf actOf clauseStep
+    valued-step v w other =
+        rw (idle-not vs′ v w other) (ap (raised depth (env .values)) (binary-is depth vs′ high (env .values) 32 bs′ v w ∙ ap (topped vs′ bs′) (valued-is (env .values) v w))
+        ∙ raise-step vs bs (omega arith) r (gate v (rankOf (env .values) w)))
 
-    nested-step : (v : Value) (n : ℕ)
+    nested-step : (v : Value) (n : ℕ) → eqb (kindOf (operand v)) 5 ≡ false
         → stepOf depth space s look (env .values) 33 0 ((vs′ ++ pair v) ++ pair (rank n)) ((bs′ ++ bytesOf v) ++ bytesOf (rank n)) ≡ topped vs bs (rank (max r (gate v n)))
-    unfolding stepOf clauseStep
-    nested-step v n =
-        ap (raised depth (env .values)) (binary-is depth vs′ high (env .values) 33 bs′ v (rank n) ∙ ap (topped vs′ bs′) (nested-is (env .values) v n))
-        ∙ raise-step vs bs (omega arith) r (gate v n)
+    unfolding stepOf actOf clauseStep
+    nested-step v n other =
+        rw (idle-not vs′ v (rank n) other) (ap (raised depth (env .values)) (binary-is depth vs′ high (env .values) 33 bs′ v (rank n) ∙ ap (topped vs′ bs′) (nested-is (env .values) v n))
+        ∙ raise-step vs bs (omega arith) r (gate v n))
+
+    -- the rank stays where the test fails and its string was passed by
+    idle-step : stepOf depth space s look (env .values) 32 0 (vs′ ++ pair (test false)) (bs′ ++ bytesOf (test false)) ≡ topped vs bs (rank r)
+    unfolding stepOf actOf clauseStep topped bytesOf operand kindOf
+    idle-step =
+        let i : isIdle (vs′ ++ pair (test false)) ≡ true = idle-top vs (rank r) (test false) in
+        rw (i, below-is vs′ (test false), append-nil bs′)
+
+    -- a string that is passed by, or one that is run
+    valuing : (x : ℕ) (v w : Value) → eqb (kindOf (operand v)) 5 ≡ false → {f : Expr} {d : List ℕ} → Codes s f d → (rest : List ℕ)
+        → (after x (d ++ (entry 32 0 ∷ rest)) (topped vs′ bs′ v) ≡ run (d ++ (entry 32 0 ∷ rest)) (topped vs′ bs′ v)
+        → after x (d ++ (entry 32 0 ∷ rest)) (topped vs′ bs′ v) ≡ after 32 rest (topped vs bs (rank (max r (gate v (rankOf (env .values) w))))))
+        → after x (d ++ (entry 32 0 ∷ rest)) (topped vs′ bs′ v) ≡ after 32 rest (topped vs bs (rank (max r (gate v (rankOf (env .values) w)))))
+    unfolding topped
+    valuing x v w other {d = d} k rest go =
+        split (leb x 4) (λ a. go (pushed x a (d ++ (entry 32 0 ∷ rest)) vs′ bs′ v))
+        (λ a. split (isFalse (vs′ ++ pair v))
+        (λ t. let e : v ≡ test false = failing v (sym (false-top vs′ v) ∙ t) in
+        let z : max r 0 ≡ r = omega arith in
+        rw (e, z) (spared x a k rest vs′ bs′ ∙ enter 32 0 (omega arith) rest (vs′ ++ pair (test false)) (bs′ ++ bytesOf (test false)) _ idle-step))
+        (λ t. go (unmoved x vs′ bs′ v other (d ++ (entry 32 0 ∷ rest)) (λ y. clash y t))))
 
   flat : (bs : List ℕ) (r : ℕ) → length (bs ++ bytesOf (rank r)) ≡ length bs
   flat bs r = rw (plain-rank r .none, append-nil bs)
@@ -273,23 +350,24 @@ module _ (depth space : ℕ) (s : List ℕ) (look : List ℕ → List ℕ) (env 
 
     -- a program's code leaves its rank on top
     pub run-program : (p : Program) {c : List ℕ} → ProgramCodes s p c → (rest vs bs : List ℕ)
-        → length vs + 2 * programNeed p ≤ depth → length bs + programRoom p ≤ space → run (c ++ rest) (on vs bs) ≡ run rest (topped vs bs (rank (conditions env p)))
-    run-program none code-none rest vs bs h m = enter 30 0 (omega arith) rest vs bs _ (begin-step vs bs (omega arith)) ∙ ranked rest vs bs 0
+        → length vs + 2 * programNeed p ≤ depth → length bs + programRoom p ≤ space → run (c ++ rest) (on vs bs) ≡ after 31 rest (topped vs bs (rank (conditions env p)))
+    run-program none code-none rest vs bs h m = enter 30 0 (omega arith) rest vs bs _ (begin-step vs bs (omega arith))
     run-program (also p q) (code-also {c = c} {d = d} k l) rest vs bs h m =
         ap (λ (x : List ℕ). run x (on vs bs)) (append-assoc c d rest)
         ∙ run-program p k (d ++ rest) vs bs (omega arith) (omega arith)
-        ∙ run-clause q l rest vs bs (conditions env p) (omega arith) (omega arith)
+        ∙ settle rest vs bs (conditions env p) q l (run-clause q l rest vs bs (conditions env p) (omega arith) (omega arith))
 
     run-clause : (q : Clause) {c : List ℕ} → ClauseCodes s q c → (rest vs bs : List ℕ) (r : ℕ)
         → length vs + 2 * (1 + clauseNeed q) ≤ depth → length bs + clauseRoom q ≤ space
-        → run (c ++ rest) (topped vs bs (rank r)) ≡ run rest (topped vs bs (rank (max r (clause env q))))
+        → run (c ++ rest) (topped vs bs (rank r)) ≡ after 31 rest (topped vs bs (rank (max r (clause env q))))
     run-clause (plain e) (code-plain {c = c} k) rest vs bs r h m =
         let v : Value = evaluate env e in
+        let vs1 : List ℕ = vs ++ pair (rank r) in
+        let bs1 : List ℕ = bs ++ bytesOf (rank r) in
         ap (λ (x : List ℕ). run x (topped vs bs (rank r))) (append-assoc c (entry 31 0 ∷ []) rest)
-        ∙ run-expression k (entry 31 0 ∷ rest) (vs ++ pair (rank r)) (bs ++ bytesOf (rank r)) (rw (count-is vs (rank r)) (omega arith)) (rw (flat bs r) m)
-        ∙ stays 31 (omega arith) rest ((vs ++ pair (rank r)) ++ pair v) ((bs ++ bytesOf (rank r)) ++ bytesOf v)
-        ∙ enter 31 0 (omega arith) rest ((vs ++ pair (rank r)) ++ pair v) ((bs ++ bytesOf (rank r)) ++ bytesOf v) _ (plain-step vs bs (omega (arith, need-some e)) r v)
-        ∙ ranked rest vs bs _
+        ∙ run-expression k (entry 31 0 ∷ rest) vs1 bs1 (rw (count-is vs (rank r)) (omega arith)) (rw (flat bs r) m)
+        ∙ stays (lastOf e) vs1 bs1 v (unranked env e) 31 (omega arith) rest
+        ∙ enter 31 0 (omega arith) rest (vs1 ++ pair v) (bs1 ++ bytesOf v) _ (plain-step vs bs (omega (arith, need-some e)) r v)
     run-clause (valued e f) (code-valued {c = c} {d = d} k l) rest vs bs r h m =
         let v : Value = evaluate env e in
         let w : Value = evaluate env f in
@@ -297,12 +375,12 @@ module _ (depth space : ℕ) (s : List ℕ) (look : List ℕ → List ℕ) (env 
         let bs1 : List ℕ = bs ++ bytesOf (rank r) in
         ap (λ (x : List ℕ). run x (topped vs bs (rank r))) (append-assoc (c ++ d) (entry 32 0 ∷ []) rest ∙ append-assoc c d (entry 32 0 ∷ rest))
         ∙ run-expression k (d ++ (entry 32 0 ∷ rest)) vs1 bs1 (rw (count-is vs (rank r)) (omega arith)) (rw (flat bs r) (omega arith))
-        ∙ to-value l rest (vs1 ++ pair v) (bs1 ++ bytesOf v)
+        ∙ valuing vs bs (omega (arith, need-some e)) r (lastOf e) v w (unranked env e) l rest
+        (λ still. still
         ∙ run-expression l (entry 32 0 ∷ rest) (vs1 ++ pair v) (bs1 ++ bytesOf v) (rw (count-is vs1 v, count-is vs (rank r)) (omega arith))
         (rw (length-append bs1 (bytesOf v), flat bs r) (omega (arith, within-span env e)))
-        ∙ stays 32 (omega arith) rest ((vs1 ++ pair v) ++ pair w) ((bs1 ++ bytesOf v) ++ bytesOf w)
-        ∙ enter 32 0 (omega arith) rest ((vs1 ++ pair v) ++ pair w) ((bs1 ++ bytesOf v) ++ bytesOf w) _ (valued-step vs bs (omega (arith, need-some e)) r v w)
-        ∙ ranked rest vs bs _
+        ∙ stays (lastOf f) (vs1 ++ pair v) (bs1 ++ bytesOf v) w (unranked env f) 32 (omega arith) rest
+        ∙ enter 32 0 (omega arith) rest ((vs1 ++ pair v) ++ pair w) ((bs1 ++ bytesOf v) ++ bytesOf w) _ (valued-step vs bs (omega (arith, need-some e)) r v w (unranked env e)))
     run-clause (nested e p) (code-nested {c = c} {d = d} k l) rest vs bs r h m =
         let v : Value = evaluate env e in
         let n : ℕ = conditions env p in
@@ -310,11 +388,11 @@ module _ (depth space : ℕ) (s : List ℕ) (look : List ℕ → List ℕ) (env 
         let bs1 : List ℕ = bs ++ bytesOf (rank r) in
         ap (λ (x : List ℕ). run x (topped vs bs (rank r))) (append-assoc (c ++ d) (entry 33 0 ∷ []) rest ∙ append-assoc c d (entry 33 0 ∷ rest))
         ∙ run-expression k (d ++ (entry 33 0 ∷ rest)) vs1 bs1 (rw (count-is vs (rank r)) (omega arith)) (rw (flat bs r) (omega arith))
-        ∙ to-program (entry 33 0 ∷ rest) (vs1 ++ pair v) (bs1 ++ bytesOf v) p l
+        ∙ to-program (lastOf e) vs1 bs1 v (unranked env e) (entry 33 0 ∷ rest) p l
         ∙ run-program p l (entry 33 0 ∷ rest) (vs1 ++ pair v) (bs1 ++ bytesOf v) (rw (count-is vs1 v, count-is vs (rank r)) (omega arith))
         (rw (length-append bs1 (bytesOf v), flat bs r) (omega (arith, within-span env e)))
-        ∙ enter 33 0 (omega arith) rest ((vs1 ++ pair v) ++ pair (rank n)) ((bs1 ++ bytesOf v) ++ bytesOf (rank n)) _ (nested-step vs bs (omega (arith, need-some e)) r v n)
-        ∙ ranked rest vs bs _
+        ∙ closes rest (vs1 ++ pair v) (bs1 ++ bytesOf v) n
+        ∙ enter 33 0 (omega arith) rest ((vs1 ++ pair v) ++ pair (rank n)) ((bs1 ++ bytesOf v) ++ bytesOf (rank n)) _ (nested-step vs bs (omega (arith, need-some e)) r v n (unranked env e))
 
 -- "Conditions": in buffers large enough the machine's result is the program's rank
 module _ {rec consts values names constants : List ℕ} {env : Environment} (shows : Shows rec consts values names constants env) (depth space : ℕ) where

@@ -6,14 +6,15 @@ use Prim.Native.Nat.{ℕ, zero, suc, _+_, _-_, _/_, _%_, _≤_}
 use native.Mathlib.Omega.{arith}
 use lib.Dec.{eqb, leb, ltb}
 use lib.ListN.{length, take, drop}
-use borrow.Author.Tests.{le-leb, leb-true}
+use borrow.Author.Tests.{le-leb, leb-true, le-ltb, ltb-false}
 use Rattle.text.specs.Choice.{pick, split, clash}
 use Rattle.text.specs.Counted.{counted}
 use Rattle.expression.specs.Operands.{width, isText, isFault}
+use Rattle.expression.specs.Conditions.{top}
 use Rattle.expression.specs.Tables.{lookupIn}
 use Rattle.expression.specs.declared.value.Operand.{Operand}
 use Rattle.expression.specs.declared.value.Operand.the-variants.{Fault}
-use Rattle.machine.specs.Machine.{State, on, stuck, placed, textStep, topOf, below, lookupOn, lookupStep, pushStep, stepOf, stepped, ahead, execBehind, exec, resultOf}
+use Rattle.machine.specs.Machine.{State, on, stuck, placed, textStep, topOf, below, unaryOn, unaryStep, lookupOn, lookupStep, settledOn, binaryOn, binaryStep, raised, pushStep, isIdle, clauseStep, actOf, stepOf, stepped, ahead, execBehind, exec, resultOf}
 use Rattle.machine.specs.Working.Passing.{exec-stuck}
 use Rattle.machine.specs.Left.{leftIn}
 
@@ -26,46 +27,90 @@ kept-pick : (t : Bool) {a b c d : State} → Kept a c → Kept b d → Kept (pic
 kept-pick true k l = k
 kept-pick false k l = l
 
-module _ (depth room room′ : ℕ) (h : room ≤ room′) (look : List ℕ → List ℕ) where
-  text-kept : (b vs bs : List ℕ) → Kept (textStep depth room b vs bs) (textStep depth room′ b vs bs)
+module _ (depth depth′ : ℕ) (d : depth ≤ depth′) where
+  placed-kept : (vs bs : List ℕ) (v : Operand) → Kept (placed depth vs bs v) (placed depth′ vs bs v)
+  unfolding placed
+  placed-kept vs bs v =
+      split (ltb (depth - length vs) 2)
+      (λ f. rw f lost)
+      (λ f. let l : 2 ≤ depth - length vs = ltb-false _ _ f in rw (f, le-ltb (depth′ - length vs) 2 (omega (arith, l, d))) same)
+
+  settled-kept : (vs bs : List ℕ) (base : ℕ) (v : Operand) → Kept (settledOn depth vs bs base v) (settledOn depth′ vs bs base v)
+  unfolding settledOn
+  settled-kept vs bs base v = kept-pick (ltb (length bs - base) (width v)) (same {a = stuck}) (placed-kept vs (take (base + width v) bs) v)
+
+  module _ (vals : List (List ℕ)) (op : ℕ) where
+    unary-kept : (vs bs : List ℕ) → Kept (unaryStep depth vals op vs bs) (unaryStep depth′ vals op vs bs)
+    unfolding unaryStep unaryOn
+    unary-kept vs bs =
+        kept-pick (ltb (length vs) 2) (same {a = stuck}) (kept-pick (ltb (length bs) (width (topOf vs))) (same {a = stuck}) (placed-kept _ _ _))
+
+    binary-kept : (vs bs : List ℕ) → Kept (binaryStep depth vals op vs bs) (binaryStep depth′ vals op vs bs)
+    unfolding binaryStep binaryOn
+    binary-kept vs bs =
+        kept-pick (ltb (length vs) 4) (same {a = stuck})
+        (kept-pick (ltb (length bs) (width (topOf vs))) (same {a = stuck})
+        (kept-pick (ltb (length bs - width (topOf vs)) (width (topOf (below vs)))) (same {a = stuck}) (settled-kept _ _ _ _)))
+
+  raised-kept : (vals : List (List ℕ)) (a b : State) → Kept a b → Kept (raised depth vals a) (raised depth′ vals b)
+  unfolding raised
+  raised-kept vals _ b lost = lost
+  raised-kept vals (on vs bs) _ same = binary-kept vals 34 vs bs
+  raised-kept vals stuck _ same = same
+
+  clause-kept : (vals : List (List ℕ)) (op : ℕ) (vs bs : List ℕ) → Kept (clauseStep depth vals op vs bs) (clauseStep depth′ vals op vs bs)
+  unfolding clauseStep
+  clause-kept vals op vs bs =
+      kept-pick (eqb op 30) (placed-kept vs bs _)
+      (kept-pick (eqb op 31) (raised-kept vals _ _ (unary-kept vals op vs bs))
+      (kept-pick (isIdle vs) (same {a = on (below vs) bs}) (raised-kept vals _ _ (binary-kept vals op vs bs))))
+
+module _ (depth depth′ : ℕ) (d : depth ≤ depth′) (room room′ : ℕ) (h : room ≤ room′) (look : List ℕ → List ℕ) where
+  text-kept : (b vs bs : List ℕ) → Kept (textStep depth room b vs bs) (textStep depth′ room′ b vs bs)
   unfolding textStep
   text-kept b vs bs =
-      kept-pick (ltb 4096 (length b)) same
+      kept-pick (ltb 4096 (length b)) (placed-kept depth depth′ d vs bs Fault)
       (split (leb (length bs + length b) room)
-      (λ f. let l : length bs + length b ≤ room = leb-true _ _ f in rw (f, le-leb (length bs + length b) room′ (omega (arith, l, h))) same)
+      (λ f. let l : length bs + length b ≤ room = leb-true _ _ f in rw (f, le-leb (length bs + length b) room′ (omega (arith, l, h))) (placed-kept depth depth′ d _ _ _))
       (λ f. rw f lost))
 
-  lookup-kept : (vs bs : List ℕ) → Kept (lookupStep depth room look vs bs) (lookupStep depth room′ look vs bs)
+  lookup-kept : (vs bs : List ℕ) → Kept (lookupStep depth room look vs bs) (lookupStep depth′ room′ look vs bs)
   unfolding lookupStep lookupOn
   lookup-kept vs bs =
       kept-pick (ltb (length vs) 2) (same {a = stuck})
       (kept-pick (ltb (length bs) (width (topOf vs))) (same {a = stuck})
       (kept-pick (isText (topOf vs)) (text-kept (look (drop (length bs - width (topOf vs)) bs)) (below vs) (take (length bs - width (topOf vs)) bs))
-      (same {a = placed depth (below vs) (take (length bs - width (topOf vs)) bs) Fault})))
+      (placed-kept depth depth′ d (below vs) (take (length bs - width (topOf vs)) bs) Fault)))
 
   module _ (s : List ℕ) (vals : List (List ℕ)) where
-    push-kept : (op at : ℕ) (vs bs : List ℕ) → Kept (pushStep depth room s look op at vs bs) (pushStep depth room′ s look op at vs bs)
+    push-kept : (op at : ℕ) (vs bs : List ℕ) → Kept (pushStep depth room s look op at vs bs) (pushStep depth′ room′ s look op at vs bs)
     unfolding pushStep
-    push-kept op at vs bs = kept-pick (eqb op 0) (text-kept _ vs bs) (kept-pick (eqb op 1) (text-kept _ vs bs) same)
+    push-kept op at vs bs =
+        kept-pick (eqb op 0) (text-kept _ vs bs)
+        (kept-pick (eqb op 1) (text-kept _ vs bs) (kept-pick (eqb op 2) (placed-kept depth depth′ d vs bs _) (placed-kept depth depth′ d vs bs _)))
 
-    step-kept : (e : ℕ) (vs bs : List ℕ) → Kept (stepped depth room s look vals e vs bs) (stepped depth room′ s look vals e vs bs)
-    unfolding stepped stepOf
+    step-kept : (e : ℕ) (vs bs : List ℕ) → Kept (stepped depth room s look vals e vs bs) (stepped depth′ room′ s look vals e vs bs)
+    unfolding stepped stepOf actOf
     step-kept e vs bs =
-        kept-pick (leb (e / 65536) 4) (push-kept (e / 65536) (e % 65536) vs bs) (kept-pick (eqb (e / 65536) 5) (lookup-kept vs bs) same)
+        kept-pick (leb (e / 65536) 4) (push-kept (e / 65536) (e % 65536) vs bs)
+        (kept-pick (eqb (e / 65536) 5) (lookup-kept vs bs)
+        (kept-pick (leb (e / 65536) 8) (unary-kept depth depth′ d vals (e / 65536) vs bs)
+        (kept-pick (leb (e / 65536) 29) (binary-kept depth depth′ d vals (e / 65536) vs bs) (clause-kept depth depth′ d vals (e / 65536) vs bs))))
 
     -- over code of which it holds behind any number of entries
-    after-kept : (c : List ℕ) → ((m : ℕ) (a b : State) → Kept a b → Kept (execBehind depth room s look vals m c a) (execBehind depth room′ s look vals m c b))
-        → (a b : State) → Kept a b → Kept (execBehind depth room s look vals (ahead a c) c a) (execBehind depth room′ s look vals (ahead b c) c b)
-    after-kept c behind _ b lost = rw (exec-stuck depth room s look vals c) lost
-    after-kept c behind a _ same = behind (ahead a c) a a same
+    after-kept : (op : ℕ) (c : List ℕ)
+        → ((m : ℕ) (a b : State) → Kept a b → Kept (execBehind depth room s look vals m c a) (execBehind depth′ room′ s look vals m c b)) → (a b : State) → Kept a b
+        → Kept (execBehind depth room s look vals (ahead (top vals) op a c) c a) (execBehind depth′ room′ s look vals (ahead (top vals) op b c) c b)
+    after-kept op c behind _ b lost = rw (exec-stuck depth room s look vals op c) lost
+    after-kept op c behind a _ same = behind (ahead (top vals) op a c) a a same
 
-    exec-kept : (m : ℕ) (c : List ℕ) (a b : State) → Kept a b → Kept (execBehind depth room s look vals m c a) (execBehind depth room′ s look vals m c b)
+    exec-kept : (m : ℕ) (c : List ℕ) (a b : State) → Kept a b → Kept (execBehind depth room s look vals m c a) (execBehind depth′ room′ s look vals m c b)
     unfolding execBehind
     exec-kept m [] a b k = k
     exec-kept (suc m) (e ∷ c) a b k = exec-kept m c a b k
     exec-kept zero (e ∷ c) _ _ lost = lost
     exec-kept zero (e ∷ c) (on vs bs) _ same =
-        after-kept c (λ m a b k. exec-kept m c a b k) (stepped depth room s look vals e vs bs) (stepped depth room′ s look vals e vs bs) (step-kept e vs bs)
+        after-kept (e / 65536) c (λ m a b k. exec-kept m c a b k) (stepped depth room s look vals e vs bs) (stepped depth′ room′ s look vals e vs bs) (step-kept e vs bs)
     exec-kept zero (e ∷ c) stuck _ same = same
 
 kept-result : (a b : State) → Kept a b → isFault (resultOf a) ≡ false → resultOf a ≡ resultOf b
@@ -74,14 +119,15 @@ kept-result _ _ lost f = clash refl f
 kept-result _ _ same f = refl
 
 -- an operand that is no fault is left with more room too
-pub left-wider : (depth room room′ : ℕ) (code s rec consts values names constants : List ℕ) → room ≤ room′
+pub left-wider : (depth depth′ room room′ : ℕ) (code s rec consts values names constants : List ℕ) → depth ≤ depth′ → room ≤ room′
     → isFault (leftIn depth room code s rec consts values names constants) ≡ false
-    → leftIn depth room code s rec consts values names constants ≡ leftIn depth room′ code s rec consts values names constants
+    → leftIn depth room code s rec consts values names constants ≡ leftIn depth′ room′ code s rec consts values names constants
 unfolding leftIn
-left-wider depth room room′ code s rec consts values names constants h f =
-    kept-result _ _ (exec-kept depth room room′ h (lookupIn rec consts values names constants) s (map (counted rec) values) 0 code (on [] []) (on [] []) same) f
+left-wider depth depth′ room room′ code s rec consts values names constants d h f =
+    kept-result _ _
+    (exec-kept depth depth′ d room room′ h (lookupIn rec consts values names constants) s (map (counted rec) values) 0 code (on [] []) (on [] []) same) f
 
--- the ways out of `run_narrow`, `run_wide` and `run_here`
+-- the ways out of `run_narrow`, `run_middle`, `run_wide` and `run_on`
 module _ (code s rec consts values names constants : List ℕ) where
   pub run-left : (depth room : ℕ) (v : Operand)
       → v ≡ resultOf (exec depth room s (lookupIn rec consts values names constants) (map (counted rec) values) code (on [] []))
@@ -89,6 +135,13 @@ module _ (code s rec consts values names constants : List ℕ) where
   unfolding leftIn
   run-left depth room v e = e
 
-  module _ (v : Operand) (ve : v ≡ leftIn 208 512 code s rec consts values names constants) (f : Bool) (fe : f ≡ isFault v) where
-    pub run-enough : f ≡ false → v ≡ leftIn 208 77824 code s rec consts values names constants
-    run-enough ff = ve ∙ left-wider 208 512 77824 code s rec consts values names constants (omega arith) (ap isFault (sym ve) ∙ sym fe ∙ ff)
+  run-enough : (depth room : ℕ) → depth ≤ 208 → room ≤ 77824 → (v : Operand) → v ≡ leftIn depth room code s rec consts values names constants → (f : Bool) → f ≡ isFault v → f ≡ false
+      → v ≡ leftIn 208 77824 code s rec consts values names constants
+  run-enough depth room d h v ve f fe ff = ve ∙ left-wider depth 208 room 77824 code s rec consts values names constants d h (ap isFault (sym ve) ∙ sym fe ∙ ff)
+
+  module _ (v : Operand) (f : Bool) (fe : f ≡ isFault v) (ff : f ≡ false) where
+    pub run-narrow : v ≡ leftIn 32 256 code s rec consts values names constants → v ≡ leftIn 208 77824 code s rec consts values names constants
+    run-narrow ve = run-enough 32 256 (omega arith) (omega arith) v ve f fe ff
+
+    pub run-middle : v ≡ leftIn 208 8192 code s rec consts values names constants → v ≡ leftIn 208 77824 code s rec consts values names constants
+    run-middle ve = run-enough 208 8192 (omega arith) (omega arith) v ve f fe ff

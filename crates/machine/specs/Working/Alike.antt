@@ -121,7 +121,7 @@ alike-on vals op h depth wx wy vs bs =
     let base : ℕ = length bs - wy - wx in
     rw (told-texts vals op (drop base (take (length bs - wy) bs)) (drop (length bs - wy) bs) h, le-ltb (length bs - base) 0 (omega arith), add-zero base)
 
-text-kind : (k m : ℕ) → k ≡ 0 → Text m ≡ unpacked k m
+pub text-kind : (k m : ℕ) → k ≡ 0 → Text m ≡ unpacked k m
 unfolding unpacked
 text-kind k m e = rw e
 

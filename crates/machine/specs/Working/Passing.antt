@@ -12,7 +12,8 @@ use borrow.Author.Tests.{le-leb, lt-leb, lt-ltb, le-ltb, eq-eqb, ne-eqb}
 use Rattle.text.specs.Choice.{pick, split}
 use Rattle.syntax.specs.Expr.{Expr, Program}
 use Rattle.syntax.specs.Code.{entry, Codes, code-literal, code-name, code-number, code-true, code-false, code-unary, code-binary, ProgramCodes, code-none, code-also}
-use Rattle.machine.specs.Machine.{State, on, stuck, isFalse, outer, above, behindOf, goOn, needless, ahead, stepped, execBehind}
+use Rattle.expression.specs.Conditions.{top}
+use Rattle.machine.specs.Machine.{State, on, stuck, isFalse, outer, above, behindOf, stopAt, goOn, ahead, stepped, execBehind}
 
 -- entries passed by are left out
 module _ (depth room : ℕ) (s : List ℕ) (look : List ℕ → List ℕ) (vals : List (List ℕ)) where
@@ -29,10 +30,10 @@ module _ (depth room : ℕ) (s : List ℕ) (look : List ℕ → List ℕ) (vals 
       let z : length (e ∷ c) + m ≡ suc (length c + m) = omega arith in
       ap (λ (k : ℕ). execBehind depth room s look vals k (e ∷ (c ++ rest)) st) z ∙ exec-pass c rest m st
 
-  pub exec-stuck : (c : List ℕ) → execBehind depth room s look vals (ahead stuck c) c stuck ≡ stuck
+  pub exec-stuck : (op : ℕ) (c : List ℕ) → execBehind depth room s look vals (ahead (top vals) op stuck c) c stuck ≡ stuck
   unfolding execBehind
-  exec-stuck [] = refl
-  exec-stuck (e ∷ c) = refl
+  exec-stuck op [] = refl
+  exec-stuck op (e ∷ c) = refl
 
 -- one entry of `goOn`, by its operation
 module _ (k known j e : ℕ) (es : List ℕ) (op : ℕ) (oe : e / 65536 ≡ op) where
@@ -41,14 +42,14 @@ module _ (k known j e : ℕ) (es : List ℕ) (op : ℕ) (oe : e / 65536 ≡ op) 
   on-push h = rw (oe, le-leb op 4 h, le-leb op 8 (omega (arith, h)))
 
   module _ (n4 : 4 < op) where
-    pub on-clause : 29 < op → goOn k known j (e ∷ es) ≡ known
+    pub on-clause : 29 < op → goOn k known j (e ∷ es) ≡ stopAt op k known j
     unfolding goOn outer
     on-clause h = rw (oe, lt-leb op 4 n4, lt-ltb 29 op h)
 
     module _ (n29 : op ≤ 29) where
       pub on-none : k ≡ 0 → goOn k known j (e ∷ es) ≡ known
-      unfolding goOn outer
-      on-none h = rw (oe, lt-leb op 4 n4, le-ltb 29 op n29, eq-eqb k 0 h)
+      unfolding goOn outer stopAt
+      on-none h = rw (oe, lt-leb op 4 n4, le-ltb 29 op n29, eq-eqb k 0 h, ne-eqb op 32 (λ z. omega (arith, z, n29)))
 
       module _ (n0 : k ≡ 0 → ⊥) where
         pub on-unary : op ≤ 8 → goOn k known j (e ∷ es) ≡ goOn k known (j + 1) es
@@ -65,8 +66,8 @@ module _ (k known j e : ℕ) (es : List ℕ) (op : ℕ) (oe : e / 65536 ≡ op) 
           on-both h b = rw (oe, lt-leb op 4 n4, le-ltb 29 op n29, ne-eqb k 0 n0, lt-leb op 8 n8, eq-eqb k 1 h, eq-eqb op 28 b, h)
 
           pub on-other : k ≡ 1 → (op ≡ 28 → ⊥) → goOn k known j (e ∷ es) ≡ known
-          unfolding goOn outer
-          on-other h b = rw (oe, lt-leb op 4 n4, le-ltb 29 op n29, ne-eqb k 0 n0, lt-leb op 8 n8, eq-eqb k 1 h, ne-eqb op 28 b)
+          unfolding goOn outer stopAt
+          on-other h b = rw (oe, lt-leb op 4 n4, le-ltb 29 op n29, ne-eqb k 0 n0, lt-leb op 8 n8, eq-eqb k 1 h, ne-eqb op 28 b, ne-eqb op 32 (λ z. omega (arith, z, n29)))
 
 pub entry-op : (op at : ℕ) → at < 65536 → entry op at / 65536 ≡ op
 unfolding entry
@@ -96,6 +97,7 @@ on-code (code-binary {op = op} {c = c} {d = d} low high l m) k known j rest =
 
 -- a program begins with an entry before which nothing is passed by
 pub on-program : {s : List ℕ} {p : Program} {c : List ℕ} → ProgramCodes s p c → (rest : List ℕ) → goOn 0 0 0 (c ++ rest) ≡ 0
+unfolding stopAt
 on-program code-none rest = on-clause 0 0 0 (entry 30 0) rest 30 (entry-op 30 0 (omega arith)) (omega arith) (omega arith)
 on-program (code-also {c = c} {d = d} k l) rest = ap (goOn 0 0 0) (append-assoc c d rest) ∙ on-program k (d ++ rest)
 
@@ -104,30 +106,21 @@ behind-shift : (n op k known next : ℕ) → behindOf op k (n + known) (n + next
 unfolding behindOf
 behind-shift n op k known next = split (leb op 8) (λ a. rw a) (λ a. split (eqb k 1) (λ b. rw (a, b)) (λ b. rw (a, b)))
 
+pub stop-same : (op k n : ℕ) → stopAt op k n n ≡ n
+unfolding stopAt
+stop-same op k n = split (eqb op 32) (λ a. split (eqb k 1) (λ b. rw (a, b)) (λ b. rw (a, b))) (λ a. rw a)
+
+stop-shift : (n op k known here : ℕ) → stopAt op k (n + known) (n + here) ≡ n + stopAt op k known here
+unfolding stopAt
+stop-shift n op k known here = split (eqb op 32) (λ a. split (eqb k 1) (λ b. rw (a, b)) (λ b. rw (a, b))) (λ a. rw a)
+
 pub on-shift : (n k known j : ℕ) (es : List ℕ) → goOn k (n + known) (n + j) es ≡ n + goOn k known j es
 unfolding goOn
 on-shift n k known j [] = refl
 on-shift n k known j (e ∷ es) =
     let q : n + j + 1 ≡ n + (j + 1) = omega arith in
-    split (outer (e / 65536) k) (λ a. rw a)
+    split (outer (e / 65536) k) (λ a. rw (a, stop-shift n (e / 65536) k known j))
     (λ a. rw (a, q, behind-shift n (e / 65536) k known (j + 1)) (on-shift n (above (e / 65536) k) (behindOf (e / 65536) k known (j + 1)) (j + 1) es))
-
--- what is known stays behind
-behind-from : (op k known next : ℕ) → known ≤ next → (known ≤ behindOf op k known next) × (behindOf op k known next ≤ next)
-unfolding behindOf
-behind-from op k known next h =
-    split (leb op 8) (λ a. rw a (omega arith, h)) (λ a. split (eqb k 1) (λ b. rw (a, b) (h, omega arith)) (λ b. rw (a, b) (omega arith, h)))
-
-pub on-from : (k known j : ℕ) (es : List ℕ) → known ≤ j → known ≤ goOn k known j es
-unfolding goOn
-on-from k known j [] h = omega arith
-on-from k known j (e ∷ es) h =
-    split (outer (e / 65536) k) (λ a. rw a (omega arith))
-    (λ a.
-    let f : (known ≤ behindOf (e / 65536) k known (j + 1)) × (behindOf (e / 65536) k known (j + 1) ≤ j + 1) = behind-from (e / 65536) k known (j + 1) (omega (arith, h)) in
-    let z : behindOf (e / 65536) k known (j + 1) ≤ goOn (above (e / 65536) k) (behindOf (e / 65536) k known (j + 1)) (j + 1) es =
-    on-from (above (e / 65536) k) (behindOf (e / 65536) k known (j + 1)) (j + 1) es (f .1) in
-    rw a (omega (arith, f .0, z)))
 
 -- the ways out of `passed`
 module _ (code : List ℕ) (k known j r : ℕ) (inv : goOn k known j (drop j code) ≡ r) where
@@ -136,40 +129,19 @@ module _ (code : List ℕ) (k known j r : ℕ) (inv : goOn k known j (drop j cod
   pass-end h = rw (drop-of-length-le code h) at inv
 
   module _ (h : j < length code) (op : ℕ) (oe : op ≡ getD code j 0 / 65536) (o : Bool) (oo : o ≡ outer op k) where
-    step : pick o known (goOn (above op k) (behindOf op k known (j + 1)) (j + 1) (drop (suc j) code)) ≡ r
+    step : pick o (stopAt op k known j) (goOn (above op k) (behindOf op k known (j + 1)) (j + 1) (drop (suc j) code)) ≡ r
     unfolding goOn
     step = rw (oo, oe) (rw (drop-cons code j 0 h) at inv)
 
-    pub pass-outer : o ≡ true → known ≡ r
-    pass-outer y = rw y at step
+    pub pass-outer : o ≡ true → (x : ℕ) → x ≡ stopAt op k known j → x ≡ r
+    pass-outer y x xe = xe ∙ (rw y at step)
 
     pub pass-more : o ≡ false → (n x y : ℕ) → n ≡ j + 1 → x ≡ behindOf op k known n → y ≡ above op k → goOn y x n (drop n code) ≡ r
     pass-more f n x y ne xe ye =
         let z : goOn (above op k) (behindOf op k known (j + 1)) (j + 1) (drop (suc j) code) ≡ r = rw f at step in
         rw (ye, xe, ne, add-one j) (rw (add-one j) at z)
 
--- the ways out of `onward`
-module _ (st : List ℕ) (n : ℕ) (hn : n ≤ length st) (c : List ℕ) (i : ℕ) where
-  pub onward-few : n < 2 → i ≡ i + needless (take n st) c
-  unfolding needless isFalse
-  onward-few h = rw (length-take-le n st hn, lt-ltb n 2 h) (omega arith)
-
-  module _ (h : 2 ≤ n) where
-    kind-is : isFalse (take n st) ≡ eqb (getD st (n - 2) 0) 3
-    unfolding isFalse
-    kind-is = rw (length-take-le n st hn, le-ltb n 2 h, getD-take n st (n - 2) 0 (omega (arith, h)))
-
-    pub onward-other : (getD st (n - 2) 0 ≡ 3 → ⊥) → i ≡ i + needless (take n st) c
-    unfolding needless
-    onward-other b = rw (kind-is, ne-eqb (getD st (n - 2) 0) 3 b) (omega arith)
-
-    pub onward-passed : getD st (n - 2) 0 ≡ 3 → (r : ℕ) → r ≡ goOn 0 i i c → r ≡ i + needless (take n st) c
-    unfolding needless
-    onward-passed b r re =
-        let z : i + 0 ≡ i = omega arith in
-        rw (kind-is, eq-eqb (getD st (n - 2) 0) 3 b) (re ∙ ap (λ (x : ℕ). goOn 0 x x c) (sym z) ∙ on-shift i 0 0 0 c)
-
--- the ways out of `is_outer`, `above` and `behind`
+-- the ways out of `is_outer`, `above_it`, `behind_it` and `stop_at`
 module _ (op k : ℕ) where
   pub outer-push : op ≤ 4 → false ≡ outer op k
   unfolding outer
@@ -235,3 +207,16 @@ module _ (op k : ℕ) where
       pub behind-known : (k ≡ 1 → ⊥) → known ≡ behindOf op k known next
       unfolding behindOf
       behind-known h = rw (lt-leb op 8 n8, ne-eqb k 1 h)
+
+    pub stop-other : (op ≡ 32 → ⊥) → known ≡ stopAt op k known next
+    unfolding stopAt
+    stop-other h = rw (ne-eqb op 32 h)
+
+    module _ (h : op ≡ 32) where
+      pub stop-known : (k ≡ 1 → ⊥) → known ≡ stopAt op k known next
+      unfolding stopAt
+      stop-known b = rw (eq-eqb op 32 h, ne-eqb k 1 b)
+
+      pub stop-here : k ≡ 1 → next ≡ stopAt op k known next
+      unfolding stopAt
+      stop-here b = rw (eq-eqb op 32 h, eq-eqb k 1 b)

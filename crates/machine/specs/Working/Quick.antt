@@ -6,7 +6,7 @@ use Prim.Native.Nat.{ℕ, suc, _+_, _-_, _<_, _≤_, max}
 use native.Mathlib.Omega.{arith}
 use native.Mathlib.Nat.{add-zero}
 use lib.Dec.{eqb, leb, ltb}
-use lib.ListN.{length, getD, take, drop, set, length-set, length-map}
+use lib.ListN.{length, getD, take, drop, set, length-map}
 use lib.Seq.{length-take-le, take-length, take-suc}
 use borrow.Author.Tests.{lt-ltb, le-ltb, le-leb, lt-leb, eq-eqb, ne-eqb, eqb-true, eqb-false, ltb-false, leb-true, leb-false}
 use Rattle.text.specs.Choice.{pick, split, clash}
@@ -86,9 +86,6 @@ pub rank-unheld : (k n : ℕ) → (k ≡ 4 → ⊥) → 0 ≡ pick (eqb k 4) n 0
 rank-unheld k n h = rw (ne-eqb k 4 h)
 
 -- the way out of `land`
-pub land-second : (st : List ℕ) (n k : ℕ) → n + 2 ≤ length st → n + 1 < length (set st n k)
-land-second st n k h = rw length-set (omega (arith, h))
-
 pub land-in : (st : List ℕ) (n t k m : ℕ) → landed (At (n + 2) t) (set (set st n k) (n + 1) m) ≡ putTwo st n t k m
 unfolding putTwo
 land-in st n t k m = refl
@@ -98,7 +95,7 @@ unfolding putTwo putAt
 two-put st n t v h = rw (le-ltb (length st) n (omega (arith, h)), le-ltb (length st - n) 2 (omega (arith, h)))
 
 -- an operand without bytes
-data Still : Operand → Type 0 where
+pub data Still : Operand → Type 0 where
   still-number : (b : Bool) (m : ℕ) → Still (Number b m)
   still-test : (t : Bool) → Still (Test t)
   still-rank : (m : ℕ) → Still (Rank m)
@@ -151,7 +148,7 @@ module _ (vals : List (List ℕ)) (op : ℕ) (x y : Operand) (sx : Still x) (sy 
 
   module _ (st m : List ℕ) (n t : ℕ) (hn : n ≤ length st) (ht : t ≤ length m) (four : 4 ≤ n) (xe : x ≡ topOf (take (n - 2) st)) (ye : y ≡ topOf (take n st))
       (v : Operand) (ve : v ≡ made) (r : Tops) (st′ : List ℕ) (is : landed r st′ ≡ putTwo st (n - 4) t (kindOf v) (sizeOf v)) where
-    still-live : Live r st′ m (binaryStep (length st) vals op (take n st) (take t m))
+    pub still-live : Live r st′ m (binaryStep (length st) vals op (take n st) (take t m))
     still-live =
         binary-two (length st) vals op st m n t hn st′ four y ye x xe r
         (rw (on-still (length st) (take (n - 4) st) (take t m), ← ve) (put-live st m (n - 4) t v (omega (arith, hn)) ht r st′ (is ∙ two-put st (n - 4) t v (omega (arith, four, hn)))))
@@ -161,11 +158,11 @@ natural-kind : (k m : ℕ) → k ≡ 1 → Number false m ≡ unpacked k m
 unfolding unpacked
 natural-kind k m e = rw e
 
-rank-kind : (k m : ℕ) → k ≡ 5 → Rank m ≡ unpacked k m
+pub rank-kind : (k m : ℕ) → k ≡ 5 → Rank m ≡ unpacked k m
 unfolding unpacked
 rank-kind k m e = rw e
 
-told-kind : (k m : ℕ) → isTold k ≡ true → Test (eqb k 4) ≡ unpacked k m
+pub told-kind : (k m : ℕ) → isTold k ≡ true → Test (eqb k 4) ≡ unpacked k m
 unfolding unpacked isTold
 told-kind k m h =
     split (eqb k 3)

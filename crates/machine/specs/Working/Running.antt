@@ -1,24 +1,27 @@
 -- Working laws: the ways out of the functions that choose a step, and of the loop over the code. Assumes nothing.
 use mathlib.Core.Path.{_≡_, refl, sym, ap, _∙_}
-use mathlib.Core.Bool.{Bool, false}
-use mathlib.Core.List.{List, [], _∷_}
+use mathlib.Core.Bool.{Bool, true, false}
+use mathlib.Core.List.{List, [], _∷_, map}
 use Prim.Native.Nat.{ℕ, suc, _+_, _-_, _/_, _%_, _<_, _≤_, min}
 use native.Mathlib.Omega.{arith}
 use native.Mathlib.Numerals.{add-one}
-use lib.Dec.{eqb}
-use lib.ListN.{length, getD, take, drop, drop-of-length-le}
-use lib.Seq.{drop-cons, drop-drop}
-use borrow.Author.Tests.{le-leb, lt-leb, eq-eqb, ne-eqb}
+use lib.Dec.{eqb, leb, ltb}
+use lib.ListN.{length, getD, take, drop, drop-of-length-le, length-map}
+use lib.Seq.{drop-cons, drop-drop, getD-take, length-take-le}
+use borrow.Author.Tests.{le-leb, lt-leb, lt-ltb, le-ltb, ltb-false, eq-eqb, ne-eqb}
+use Rattle.text.specs.Choice.{pick, split, clash}
+use Rattle.text.specs.Counted.{counted}
 use Rattle.text.specs.Digits.{digitsAt, value, limit}
 use Rattle.lexical.specs.Literal.{decodedAt}
 use Rattle.expression.specs.Value.{operand}
 use Rattle.expression.specs.Integers.{ranged}
+use Rattle.expression.specs.Conditions.{top}
 use Rattle.expression.specs.declared.value.Operand.{Operand}
 use Rattle.expression.specs.declared.value.Operand.the-variants.{Test, Rank, Fault}
-use Rattle.machine.specs.Machine.{State, on, stuck, textStep, topOf, unaryStep, lookupStep, binaryStep, raised, runAt, pushStep, clauseStep, stepOf, stepped, needless, ahead, execBehind, exec, resultOf}
+use Rattle.machine.specs.Machine.{State, on, stuck, textStep, topOf, unaryStep, lookupStep, binaryStep, raised, runAt, pushStep, isIdle, clauseStep, actOf, stepOf, stepped, needless, ahead, execBehind, exec, resultOf}
 use Rattle.machine.specs.Live.{Live, landed, putAt}
 use Rattle.machine.specs.Working.Passing.{exec-stuck, exec-drop}
-use Rattle.machine.specs.Working.Stepping.{put-live}
+use Rattle.machine.specs.Working.Stepping.{put-live, below-is}
 use Rattle.machine.specs.declared.Tops.{Tops}
 use Rattle.machine.specs.declared.Tops.the-variants.{At, Stuck}
 
@@ -65,6 +68,33 @@ module _ (vals : List (List ℕ)) (depth : ℕ) (vs bs m : List ℕ) (r : Tops) 
   unfolding raised
   plain-raised n t re de r′ st″ l′ = rw (live-in r st′ m _ n t re l .1 .1, ← de) l′
 
+-- the ways out of `is_idle`
+module _ (st : List ℕ) (n : ℕ) (hn : n ≤ length st) where
+  pub idle-few : n < 4 → false ≡ isIdle (take n st)
+  unfolding isIdle
+  idle-few h = rw (length-take-le n st hn, lt-ltb n 4 h)
+
+  module _ (h : 4 ≤ n) where
+    pub idle-false : getD st (n - 2) 0 ≡ 3 → (b : Bool) → b ≡ eqb (getD st (n - 4) 0) 5 → b ≡ isIdle (take n st)
+    unfolding isIdle
+    idle-false k b be =
+        rw (length-take-le n st hn, le-ltb n 4 h, getD-take n st (n - 2) 0 (omega (arith, h)), getD-take n st (n - 4) 0 (omega (arith, h)), eq-eqb (getD st (n - 2) 0) 3 k) be
+
+    pub idle-other : (getD st (n - 2) 0 ≡ 3 → ⊥) → false ≡ isIdle (take n st)
+    unfolding isIdle
+    idle-other k = rw (length-take-le n st hn, le-ltb n 4 h, getD-take n st (n - 2) 0 (omega (arith, h)), ne-eqb (getD st (n - 2) 0) 3 k)
+
+  module _ (b : Bool) (be : b ≡ isIdle (take n st)) (bt : b ≡ true) where
+    idle-four : 4 ≤ n
+    unfolding isIdle
+    idle-four =
+        let q : isIdle (take n st) ≡ true = sym be ∙ bt in
+        let q′ : pick (ltb n 4) false (pick (eqb (getD (take n st) (n - 2) 0) 3) (eqb (getD (take n st) (n - 4) 0) 5) false) ≡ true = rw (length-take-le n st hn) at q in
+        split (ltb n 4) (λ f. clash (rw f at q′) refl) (λ f. ltb-false n 4 f)
+
+    pub idle-two : 2 ≤ n
+    idle-two = omega (arith, idle-four)
+
 -- the ways out of `clause_step`
 module _ (vals : List (List ℕ)) (op : ℕ) where
   pub clause-begin : op ≡ 30 → (st m : List ℕ) (n t : ℕ) → n ≤ length st → t ≤ length m → (r : Tops) (st′ : List ℕ) → landed r st′ ≡ putAt st n t (Rank 0)
@@ -77,40 +107,43 @@ module _ (vals : List (List ℕ)) (op : ℕ) where
     unfolding clauseStep
     clause-plain h l = rw (h) l
 
-    module _ (n31 : op ≡ 31 → ⊥) (l : Live r st′ m (binaryStep depth vals op vs bs)) where
+    module _ (n31 : op ≡ 31 → ⊥) (b : Bool) (be : b ≡ isIdle vs) (bf : b ≡ false) (l : Live r st′ m (binaryStep depth vals op vs bs)) where
       pub clause-stuck : r ≡ Stuck → Live Stuck st′ m (clauseStep depth vals op vs bs)
       unfolding clauseStep raised
-      clause-stuck re = rw (ne-eqb op 30 n30, ne-eqb op 31 n31, live-out r st′ m _ re l) (record { within = tt; holds = refl })
+      clause-stuck re = rw (ne-eqb op 30 n30, ne-eqb op 31 n31, ← be, bf, live-out r st′ m _ re l) (record { within = tt; holds = refl })
 
       pub clause-raised : (n t : ℕ) → r ≡ At n t → length st′ ≡ depth → (r′ : Tops) (st″ : List ℕ) → Live r′ st″ m (binaryStep (length st′) vals 34 (take n st′) (take t m))
           → Live r′ st″ m (clauseStep depth vals op vs bs)
       unfolding clauseStep raised
-      clause-raised n t re de r′ st″ l′ = rw (ne-eqb op 30 n30, ne-eqb op 31 n31, live-in r st′ m _ n t re l .1 .1, ← de) l′
+      clause-raised n t re de r′ st″ l′ = rw (ne-eqb op 30 n30, ne-eqb op 31 n31, ← be, bf, live-in r st′ m _ n t re l .1 .1, ← de) l′
 
--- the ways out of `step`
-module _ (depth room : ℕ) (s : List ℕ) (look : List ℕ → List ℕ) (vals : List (List ℕ)) (op at : ℕ) (vs bs : List ℕ) (r : Tops) (st m : List ℕ) where
-  pub step-push : op ≤ 4 → Live r st m (pushStep depth room s look op at vs bs) → Live r st m (stepOf depth room s look vals op at vs bs)
-  unfolding stepOf
-  step-push h l = rw (le-leb op 4 h) l
+  -- a test that is idle
+  module _ (st m : List ℕ) (n t : ℕ) (hn : n ≤ length st) (b : Bool) (be : b ≡ isIdle (take n st)) (bt : b ≡ true) where
+    pub clause-idle : t ≤ length m → (op ≡ 30 → ⊥) → (op ≡ 31 → ⊥) → Live (At (n - 2) t) st m (clauseStep (length st) vals op (take n st) (take t m))
+    unfolding clauseStep
+    clause-idle ht n30 n31 =
+        rw (ne-eqb op 30 n30, ne-eqb op 31 n31, ← be, bt, below-is st n hn (idle-two st n hn b be bt))
+        (record { within = (omega (arith, hn), ht); holds = refl })
 
-  module _ (n4 : 4 < op) where
-    pub step-lookup : op ≡ 5 → Live r st m (lookupStep depth room look vs bs) → Live r st m (stepOf depth room s look vals op at vs bs)
-    unfolding stepOf
-    step-lookup h l = rw (lt-leb op 4 n4, eq-eqb op 5 h) l
+-- the ways out of `act`
+module _ (depth room : ℕ) (look : List ℕ → List ℕ) (vals : List (List ℕ)) (op : ℕ) (vs bs : List ℕ) (r : Tops) (st m : List ℕ) where
+  pub act-lookup : op ≡ 5 → Live r st m (lookupStep depth room look vs bs) → Live r st m (actOf depth room look vals op vs bs)
+  unfolding actOf
+  act-lookup h l = rw (eq-eqb op 5 h) l
 
-    module _ (n5 : op ≡ 5 → ⊥) where
-      pub step-unary : op ≤ 8 → Live r st m (unaryStep depth vals op vs bs) → Live r st m (stepOf depth room s look vals op at vs bs)
-      unfolding stepOf
-      step-unary h l = rw (lt-leb op 4 n4, ne-eqb op 5 n5, le-leb op 8 h) l
+  module _ (n5 : op ≡ 5 → ⊥) where
+    pub act-unary : op ≤ 8 → Live r st m (unaryStep depth vals op vs bs) → Live r st m (actOf depth room look vals op vs bs)
+    unfolding actOf
+    act-unary h l = rw (ne-eqb op 5 n5, le-leb op 8 h) l
 
-      module _ (n8 : 8 < op) where
-        pub step-binary : op ≤ 29 → Live r st m (binaryStep depth vals op vs bs) → Live r st m (stepOf depth room s look vals op at vs bs)
-        unfolding stepOf
-        step-binary h l = rw (lt-leb op 4 n4, ne-eqb op 5 n5, lt-leb op 8 n8, le-leb op 29 h) l
+    module _ (n8 : 8 < op) where
+      pub act-binary : op ≤ 29 → Live r st m (binaryStep depth vals op vs bs) → Live r st m (actOf depth room look vals op vs bs)
+      unfolding actOf
+      act-binary h l = rw (ne-eqb op 5 n5, lt-leb op 8 n8, le-leb op 29 h) l
 
-        pub step-clause : 29 < op → Live r st m (clauseStep depth vals op vs bs) → Live r st m (stepOf depth room s look vals op at vs bs)
-        unfolding stepOf
-        step-clause h l = rw (lt-leb op 4 n4, ne-eqb op 5 n5, lt-leb op 8 n8, lt-leb op 29 h) l
+      pub act-clause : 29 < op → Live r st m (clauseStep depth vals op vs bs) → Live r st m (actOf depth room look vals op vs bs)
+      unfolding actOf
+      act-clause h l = rw (ne-eqb op 5 n5, lt-leb op 8 n8, lt-leb op 29 h) l
 
 -- what is left of the code from i on
 unfoldable pub execFrom : ℕ → ℕ → List ℕ → (List ℕ → List ℕ) → List (List ℕ) → List ℕ → ℕ → List ℕ → List ℕ → State
@@ -127,31 +160,71 @@ module _ (depth room : ℕ) (s : List ℕ) (look : List ℕ → List ℕ) (vals 
   unfolding execFrom execBehind resultOf
   exec-end h v ve = let q : on (take n st) (take t m) ≡ a = rw (drop-of-length-le code h) at inv in ve ∙ ap resultOf q
 
-  module _ (h : i < length code) (e : ℕ) (ee : e ≡ getD code i 0) (p : ℕ) (pe : p ≡ e % 65536) (de : length st ≡ depth) (me : length m ≡ room)
-      (r : Tops) (st′ m′ : List ℕ) (l : Live r st′ m′ (stepOf (length st) (length m) s look vals (e / 65536) p (take n st) (take t m))) where
+  module _ (h : i < length code) (e : ℕ) (ee : e ≡ getD code i 0) (op : ℕ) (oe : op ≡ e / 65536) (p : ℕ) (pe : p ≡ e % 65536) (de : length st ≡ depth) (me : length m ≡ room)
+      (r : Tops) (st′ m′ : List ℕ) where
     abbrev made : State
-    made = stepOf (length st) (length m) s look vals (e / 65536) p (take n st) (take t m)
+    made = stepOf (length st) (length m) s look vals op p (take n st) (take t m)
 
-    step-is : execBehind depth room s look vals (ahead made (drop (suc i) code)) (drop (suc i) code) made ≡ a
+    step-is : execBehind depth room s look vals (ahead (top vals) op made (drop (suc i) code)) (drop (suc i) code) made ≡ a
     unfolding execFrom execBehind stepped
-    step-is = rw (de, me, pe, ee) (rw (drop-cons code i 0 h) at inv)
+    step-is = rw (de, me, pe, oe, ee) (rw (drop-cons code i 0 h) at inv)
 
-    pub exec-fault : r ≡ Stuck → Fault ≡ resultOf a
+    fault-is : Live r st′ m′ made → r ≡ Stuck → Fault ≡ resultOf a
     unfolding resultOf
-    exec-fault re =
+    fault-is l re =
         let q : made ≡ stuck = live-out r st′ m′ _ re l in
-        let z : stuck ≡ a = sym (exec-stuck depth room s look vals (drop (suc i) code)) ∙ (rw q at step-is) in
+        let z : stuck ≡ a = sym (exec-stuck depth room s look vals op (drop (suc i) code)) ∙ (rw q at step-is) in
         ap resultOf z
 
-    pub exec-more : (n′ t′ : ℕ) → r ≡ At n′ t′ → (j : ℕ) → j ≡ i + 1 + needless (take n′ st′) (drop (i + 1) code)
-        → execFrom depth room s look vals code j (take n′ st′) (take t′ m′) ≡ a
+    more-is : Live r st′ m′ made → (n′ t′ : ℕ) → r ≡ At n′ t′ → (x : ℕ) → x ≡ pick (leb op 4) 0 (needless (top vals) (take n′ st′) (drop (suc i) code))
+        → execFrom depth room s look vals code (suc i + x) (take n′ st′) (take t′ m′) ≡ a
     unfolding execFrom
-    exec-more n′ t′ re j je =
+    more-is l n′ t′ re x xe =
         let c : List ℕ = drop (suc i) code in
-        let x : State = on (take n′ st′) (take t′ m′) in
-        let q : execBehind depth room s look vals (ahead x c) c x ≡ a = rw (live-in r st′ m′ _ n′ t′ re l .1 .1) at step-is in
-        let je′ : j ≡ suc i + needless (take n′ st′) c = rw (add-one i) at je in
-        rw (je′, ← drop-drop (ahead x c) (suc i) code) (sym (exec-drop depth room s look vals (ahead x c) c x) ∙ q)
+        let y : State = on (take n′ st′) (take t′ m′) in
+        let q : execBehind depth room s look vals (ahead (top vals) op y c) c y ≡ a = rw (live-in r st′ m′ _ n′ t′ re l .1 .1) at step-is in
+        rw (xe, ← drop-drop (ahead (top vals) op y c) (suc i) code) (sym (exec-drop depth room s look vals (ahead (top vals) op y c) c y) ∙ q)
+
+    -- what is put on the stacks
+    module _ (h4 : op ≤ 4) (l : Live r st′ m′ (pushStep (length st) (length m) s look op p (take n st) (take t m))) where
+      pushed : Live r st′ m′ made
+      unfolding stepOf
+      pushed = rw (le-leb op 4 h4) l
+
+      pub push-fault : r ≡ Stuck → Fault ≡ resultOf a
+      push-fault = fault-is pushed
+
+      pub push-more : (n′ t′ : ℕ) → r ≡ At n′ t′ → execFrom depth room s look vals code (i + 1) (take n′ st′) (take t′ m′) ≡ a
+      push-more n′ t′ re =
+          let z : suc i + 0 ≡ i + 1 = omega arith in
+          rw (sym z) (more-is pushed n′ t′ re 0 (rw (le-leb op 4 h4)))
+
+    -- an operation on what lies there
+    module _ (h4 : 4 < op) (l : Live r st′ m′ (actOf (length st) (length m) look vals op (take n st) (take t m))) where
+      acted : Live r st′ m′ made
+      unfolding stepOf
+      acted = rw (lt-leb op 4 h4) l
+
+      pub act-fault : r ≡ Stuck → Fault ≡ resultOf a
+      act-fault = fault-is acted
+
+      act-on : (n′ t′ : ℕ) → r ≡ At n′ t′ → (j : ℕ) → j ≡ i + 1 + needless (top vals) (take n′ st′) (drop (i + 1) code)
+          → execFrom depth room s look vals code j (take n′ st′) (take t′ m′) ≡ a
+      act-on n′ t′ re j je =
+          let je′ : j ≡ suc i + needless (top vals) (take n′ st′) (drop (suc i) code) = rw (add-one i) at je in
+          rw je′ (more-is acted n′ t′ re _ (rw (lt-leb op 4 h4)))
+
+-- the highest rank is that of the values shown
+pub act-more : (rec values : List ℕ) (depth room : ℕ) (s : List ℕ) (look : List ℕ → List ℕ) (code : List ℕ) (i : ℕ) (st m : List ℕ) (n t : ℕ) (a : State)
+    → execFrom depth room s look (map (counted rec) values) code i (take n st) (take t m) ≡ a
+    → i < length code → (e : ℕ) → e ≡ getD code i 0 → (op : ℕ) → op ≡ e / 65536 → (p : ℕ) → p ≡ e % 65536 → length st ≡ depth → length m ≡ room
+    → (r : Tops) (st′ m′ : List ℕ) → 4 < op → Live r st′ m′ (actOf (length st) (length m) look (map (counted rec) values) op (take n st) (take t m))
+    → (n′ t′ : ℕ) → r ≡ At n′ t′ → (j : ℕ) → j ≡ i + 1 + needless (length values - 1) (take n′ st′) (drop (i + 1) code)
+    → execFrom depth room s look (map (counted rec) values) code j (take n′ st′) (take t′ m′) ≡ a
+unfolding top
+act-more rec values depth room s look code i st m n t a inv h e ee op oe p pe de me r st′ m′ h4 l n′ t′ re j je =
+    act-on depth room s look (map (counted rec) values) code i st m n t a inv h e ee op oe p pe de me r st′ m′ h4 l n′ t′ re j
+    (je ∙ ap (λ (x : ℕ). i + 1 + needless (x - 1) (take n′ st′) (drop (i + 1) code)) (sym (length-map values (counted rec))))
 
 -- the loop comes nearer to the code's end
 pub exec-less : (l i j x : ℕ) → i < l → j ≡ i + 1 + x → l - j < l - i

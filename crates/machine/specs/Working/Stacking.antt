@@ -1,10 +1,10 @@
 -- Working laws: what each step makes of values on top of the stacks. Assumes nothing.
-use mathlib.Core.Path.{_≡_, refl}
+use mathlib.Core.Path.{_≡_, refl, _∙_}
 use mathlib.Core.Bool.{true, false}
 use mathlib.Core.List.{List, [], _∷_, _++_, append-assoc, append-nil}
 use Prim.Native.Nat.{ℕ, _+_, _-_, _≤_}
 use native.Mathlib.Omega.{arith}
-use lib.Dec.{eqb, ltb}
+use lib.Dec.{eqb, leb, ltb}
 use lib.ListN.{length, take, drop, length-append}
 use lib.Seq.{take-at, drop-at, getD-append-add, take-append-add}
 use borrow.Author.Tests.{le-ltb, le-leb, eq-eqb, ltb-false}
@@ -15,7 +15,7 @@ use Rattle.expression.specs.Operations.{held, unaryOf}
 use Rattle.expression.specs.Clauses.{applied, combined}
 use Rattle.expression.specs.declared.value.Operand.{Operand}
 use Rattle.expression.specs.declared.value.Operand.the-variants.{Text, Number, Test, Rank, Fault}
-use Rattle.machine.specs.Machine.{State, on, placed, textStep, topOf, below, isFalse, unaryOn, unaryStep, lookupOn, lookupStep, settledOn, binaryOn, binaryStep}
+use Rattle.machine.specs.Machine.{State, on, placed, textStep, topOf, below, isFalse, isHighest, isIdle, unaryOn, unaryStep, lookupOn, lookupStep, settledOn, binaryOn, binaryStep}
 use Rattle.machine.specs.Working.Widths.{plain-applied, Front, front-combined}
 
 -- the numbers of a value's operand, and the stacks with a value on top
@@ -83,9 +83,36 @@ module _ (vs : List ℕ) (v : Value) where
         getD-append-add vs (kindOf (operand v) ∷ sizeOf (operand v) ∷ []) 0 0,
       )
 
-  below-is : below (vs ++ pair v) ≡ vs
+  pub high-top : (high : ℕ) → isHighest high (vs ++ pair v) ≡ pick (eqb (kindOf (operand v)) 5) (leb high (sizeOf (operand v))) false
+  unfolding isHighest pair
+  high-top high =
+      let a : length vs + 2 - 2 ≡ length vs + 0 = omega arith in
+      let b : length vs + 2 - 1 ≡ length vs + 1 = omega arith in
+      rw (
+        length-append vs (kindOf (operand v) ∷ sizeOf (operand v) ∷ []),
+        le-ltb (length vs + 2) 2 (omega arith),
+        a,
+        b,
+        getD-append-add vs (kindOf (operand v) ∷ sizeOf (operand v) ∷ []) 0 0,
+        getD-append-add vs (kindOf (operand v) ∷ sizeOf (operand v) ∷ []) 1 0,
+      )
+
+  pub below-is : below (vs ++ pair v) ≡ vs
   unfolding below
   below-is = let e : length (vs ++ pair v) - 2 ≡ length vs = rw count-is (omega arith) in rw e (take-at vs (pair v) (length vs) refl)
+
+-- a test below a value that is no rank is not idle
+pub idle-top : (vs : List ℕ) (v w : Value) → isIdle ((vs ++ pair v) ++ pair w) ≡ pick (eqb (kindOf (operand w)) 3) (eqb (kindOf (operand v)) 5) false
+unfolding isIdle pair
+idle-top vs v w =
+    let p : List ℕ = kindOf (operand v) ∷ sizeOf (operand v) ∷ [] in
+    let q : List ℕ = kindOf (operand w) ∷ sizeOf (operand w) ∷ [] in
+    let a : length vs + 4 - 2 ≡ length vs + 2 = omega arith in
+    let b : length vs + 4 - 4 ≡ length vs + 0 = omega arith in
+    rw (append-assoc vs p q, length-append vs (p ++ q), le-ltb (length vs + 4) 4 (omega arith), a, b, getD-append-add vs (p ++ q) 2 0, getD-append-add vs (p ++ q) 0 0)
+
+pub idle-not : (vs : List ℕ) (v w : Value) → eqb (kindOf (operand v)) 5 ≡ false → isIdle ((vs ++ pair v) ++ pair w) ≡ false
+idle-not vs v w h = idle-top vs v w ∙ split (eqb (kindOf (operand w)) 3) (λ f. rw (f, h)) (λ f. rw f)
 
 -- strings at the end of the bytes
 module _ (bs b : List ℕ) where

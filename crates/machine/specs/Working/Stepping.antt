@@ -36,21 +36,16 @@ drop-take (suc b) (suc n) (x ∷ l) = let e : suc n - suc b ≡ n - b = omega ar
 
 -- the ways out of `put`
 module _ (st : List ℕ) (n t : ℕ) (v : Operand) where
-  pub put-past : length st < n → landed Stuck st ≡ putAt st n t v
+  pub put-full : n ≤ length st → length st < n + 2 → landed Stuck st ≡ putAt st n t v
   unfolding putAt
-  put-past h = simp (lt-ltb _ _ h)
+  put-full l h = rw (le-ltb (length st) n l, lt-ltb (length st - n) 2 (omega (arith, h)))
 
-  module _ (in-st : n ≤ length st) where
-    pub put-full : length st - n < 2 → landed Stuck st ≡ putAt st n t v
-    unfolding putAt
-    put-full h = simp (le-ltb _ _ in-st, lt-ltb _ _ h)
+  pub put-in : n + 2 ≤ length st → (k m : ℕ) → k ≡ kindOf v → m ≡ sizeOf v → landed (At (n + 2) t) (set (set st n k) (n + 1) m) ≡ putAt st n t v
+  unfolding putAt
+  put-in h k m ke me = rw (ke, me, le-ltb (length st) n (omega (arith, h)), le-ltb (length st - n) 2 (omega (arith, h)))
 
-    pub put-in : 2 ≤ length st - n → (k m : ℕ) → k ≡ kindOf v → m ≡ sizeOf v → landed (At (n + 2) t) (set (set st n k) (n + 1) m) ≡ putAt st n t v
-    unfolding putAt
-    put-in h k m ke me = rw (ke, me) (simp (le-ltb _ _ in-st, le-ltb _ _ h))
-
-pub put-second : (st : List ℕ) (n k : ℕ) → n ≤ length st → 2 ≤ length st - n → n + 1 < length (set st n k)
-put-second st n k h l = rw length-set (omega arith)
+pub put-second : (st : List ℕ) (n k : ℕ) → n + 2 ≤ length st → n + 1 < length (set st n k)
+put-second st n k h = rw length-set (omega (arith, h))
 
 -- what is put lies on top of what was there
 two-on : (st : List ℕ) (n k m : ℕ) → n + 2 ≤ length st → take (n + 2) (set (set st n k) (n + 1) m) ≡ take n st ++ (k ∷ m ∷ [])

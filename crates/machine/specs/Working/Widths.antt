@@ -13,20 +13,17 @@ use Rattle.text.specs.Decimal.{integer as signed, decimal}
 use Rattle.text.specs.declared.Integer.{Integer}
 use Rattle.syntax.specs.Expr.{Expr, literal, name, number, truth, unary, binary}
 use Rattle.expression.specs.Value.{Value, text, integer, test, rank, fault, bytesOf, onText, onInteger, onTest}
-use Rattle.expression.specs.Integers.{ranged, apart, plus, minus, times, over, remainder, power, negated}
+use Rattle.expression.specs.Integers.{ranged}
 use Rattle.expression.specs.Names.{Environment, lookup}
 use Rattle.expression.specs.Operations.{held, arithmetic, textual, logical, ofTexts, ofIntegers, ofTests, isTextual, binaryOf, converted, negative, opposite, unaryOf}
 use Rattle.expression.specs.Conditions.{evaluate}
 use Rattle.expression.specs.Clauses.{applied, combined}
 use Rattle.machine.specs.Need.{span}
+use Rattle.machine.specs.Working.Kinds.{of-pick, of-text, of-ranged, of-integers, of-tests, of-converted, of-negative, of-opposite}
 
 -- a value without bytes
 pub record Plain (v : Value) : Type 0 where
   pub none : bytesOf v ≡ []
-
-plain-pick : (t : Bool) {a b : Value} → Plain a → Plain b → Plain (pick t a b)
-plain-pick true p q = p
-plain-pick false p q = q
 
 plain-integer : (i : Integer) → Plain (integer i)
 unfolding bytesOf
@@ -44,68 +41,29 @@ plain-fault : Plain fault
 unfolding bytesOf
 plain-fault = record { none = refl }
 
-pub plain-ranged : (n : Bool) (m : ℕ) → Plain (ranged n m)
-unfolding ranged
-plain-ranged n m = plain-pick (eqb m 0) (plain-integer (signed false 0)) (plain-pick (ltb (pick n 2147483648 2147483647) m) plain-fault (plain-integer (signed n m)))
-
-plain-apart : (n : Bool) (x y : ℕ) → Plain (apart n x y)
-unfolding apart
-plain-apart n x y = plain-pick (leb y x) (plain-ranged _ _) (plain-ranged _ _)
-
-plain-plus : (a b : Integer) → Plain (plus a b)
-unfolding plus
-plain-plus a b = plain-pick (a .negative) (plain-pick (b .negative) (plain-ranged _ _) (plain-apart _ _ _)) (plain-pick (b .negative) (plain-apart _ _ _) (plain-ranged _ _))
-
-plain-arithmetic : (op : ℕ) (a b : Integer) → Plain (arithmetic op a b)
-unfolding arithmetic power times over remainder minus
-plain-arithmetic op a b =
-    plain-pick (eqb op 10) (plain-pick (eqb (b .size) 0) (plain-integer (signed false 1)) (plain-pick (b .negative) plain-fault (plain-ranged _ _)))
-    (plain-pick (eqb op 11) (plain-ranged _ _)
-    (plain-pick (eqb op 12) (plain-pick (eqb (b .size) 0) plain-fault (plain-ranged _ _))
-    (plain-pick (eqb op 13) (plain-pick (eqb (b .size) 0) plain-fault (plain-ranged _ _))
-    (plain-pick (eqb op 14) (plain-plus a b) (plain-pick (eqb op 15) (plain-plus a _) (plain-test _))))))
+plain-pick : (t : Bool) {a b : Value} → Plain a → Plain b → Plain (pick t a b)
+plain-pick t p q = of-pick Plain t p q
 
 plain-on-text : (f : List ℕ → Value) (v : Value) → ((b : List ℕ) → Plain (f b)) → Plain (onText f v)
-plain-on-text f (text b) h = h b
-plain-on-text f (integer i) h = plain-fault
-plain-on-text f (test t) h = plain-fault
-plain-on-text f (rank n) h = plain-fault
-plain-on-text f fault h = plain-fault
+plain-on-text = of-text Plain plain-fault
 
-plain-on-integer : (f : Integer → Value) (v : Value) → ((i : Integer) → Plain (f i)) → Plain (onInteger f v)
-plain-on-integer f (text b) h = plain-fault
-plain-on-integer f (integer i) h = h i
-plain-on-integer f (test t) h = plain-fault
-plain-on-integer f (rank n) h = plain-fault
-plain-on-integer f fault h = plain-fault
-
-plain-on-test : (f : Bool → Value) (v : Value) → ((t : Bool) → Plain (f t)) → Plain (onTest f v)
-plain-on-test f (text b) h = plain-fault
-plain-on-test f (integer i) h = plain-fault
-plain-on-test f (test t) h = h t
-plain-on-test f (rank n) h = plain-fault
-plain-on-test f fault h = plain-fault
+pub plain-ranged : (n : Bool) (m : ℕ) → Plain (ranged n m)
+plain-ranged = of-ranged Plain plain-fault plain-integer plain-test
 
 plain-integers : (op : ℕ) (v w : Value) → Plain (ofIntegers op v w)
-unfolding ofIntegers
-plain-integers op v w = plain-on-integer (λ a. onInteger (λ b. arithmetic op a b) w) v (λ a. plain-on-integer (λ b. arithmetic op a b) w (λ b. plain-arithmetic op a b))
+plain-integers = of-integers Plain plain-fault plain-integer plain-test
 
 plain-tests : (op : ℕ) (v w : Value) → Plain (ofTests op v w)
-unfolding ofTests logical
-plain-tests op v w =
-    plain-on-test (λ t. logical op t w) v (λ t. plain-pick (eqb op 28) (plain-pick t (plain-on-test test w plain-test) (plain-test false)) (plain-pick t (plain-test true) (plain-on-test test w plain-test)))
+plain-tests = of-tests Plain plain-fault plain-integer plain-test
 
 plain-converted : (v : Value) → Plain (converted v)
-unfolding converted
-plain-converted v = plain-on-text (λ a. integer (decimal a)) v (λ b. plain-integer (decimal b))
+plain-converted = of-converted Plain plain-fault plain-integer plain-test
 
 plain-negative : (v : Value) → Plain (negative v)
-unfolding negative negated
-plain-negative v = plain-on-integer negated v (λ i. plain-ranged _ _)
+plain-negative = of-negative Plain plain-fault plain-integer plain-test
 
 plain-opposite : (v : Value) → Plain (opposite v)
-unfolding opposite
-plain-opposite v = plain-on-test (λ t. test (not t)) v (λ t. plain-test (not t))
+plain-opposite = of-opposite Plain plain-fault plain-integer plain-test
 
 -- one operand leaves no string
 pub plain-applied : (vals : List (List ℕ)) (op : ℕ) (v : Value) → Plain (applied vals op v)
@@ -173,11 +131,7 @@ short-pick true p q = p
 short-pick false p q = q
 
 short-on-text : (f : List ℕ → Value) (v : Value) → ((b : List ℕ) → Short (f b)) → Short (onText f v)
-short-on-text f (text b) h = h b
-short-on-text f (integer i) h = short-plain fault plain-fault
-short-on-text f (test t) h = short-plain fault plain-fault
-short-on-text f (rank n) h = short-plain fault plain-fault
-short-on-text f fault h = short-plain fault plain-fault
+short-on-text = of-text Short (short-plain fault plain-fault)
 
 short-texts : (op : ℕ) (v w : Value) → Short (ofTexts op v w)
 unfolding ofTexts textual
