@@ -1,7 +1,6 @@
 // A Conditions field read, compiled and run.
 use conditions::emit::Out;
 use conditions::program::conditions;
-use expression::value::rank_in;
 use lexical::token::Token;
 use machine::run_here;
 ghost use mathlib.Core.Path.{_≡_};
@@ -39,10 +38,10 @@ fn rank_here<'a>(
         return 0;
     }
     let written = &code[..top];
-    byte(rank_in(run_here(written, s, query, consts, values, names, constants)))
+    byte(run_here(written, s, query, consts, values, names, constants))
 }
 
-// The field with its code in the table `code`.
+// The field with its code in the table `code`. The token behind it is built anew: a copy of the whole would wait for the stores of its parts.
 fn judge_in<'a>(
     s: &[u8],
     t: Token,
@@ -64,7 +63,14 @@ fn judge_in<'a>(
             next,
         } => {
             let rank = rank_here(code, top, s, query, consts, values, names, constants);
-            Judged::On { rank, next }
+            Judged::On {
+                rank,
+                next: Token {
+                    kind: next.kind,
+                    start: next.start,
+                    end: next.end,
+                },
+            }
         }
     }
 }

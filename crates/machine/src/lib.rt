@@ -13,6 +13,7 @@ use expression::value::Packed;
 use expression::value::is_fault;
 use expression::value::is_text;
 use expression::value::kind_of;
+use expression::value::rank_in;
 use expression::value::size_of;
 use expression::value::told;
 use expression::value::unpack;
@@ -30,6 +31,7 @@ ghost use Rattle.text.specs.Class.{word};
 ghost use Rattle.text.specs.Counted.{counted};
 ghost use Rattle.lexical.specs.Literal.{decodedAt};
 ghost use Rattle.expression.specs.Conditions.{indexFrom};
+ghost use Rattle.expression.specs.Operands.{rankIn};
 ghost use Rattle.expression.specs.Tables.{lookupIn};
 ghost use Rattle.machine.specs.Machine.{runAt, textStep, topOf, unaryStep, lookupStep, binaryOn, binaryStep, raised, isIdle, clauseStep, pushStep, actOf, outer, above, behindOf, stopAt, goOn, closing, begun, ended, needless, exec, resultOf, on};
 ghost use Rattle.machine.specs.Left.{leftIn};
@@ -984,7 +986,8 @@ fn run_wide<'a>(
     )
 }
 
-// Runs compiled Conditions on stacks of its own, with more and more room. It calls itself so that the compiler keeps the large tables apart.
+// The rank that compiled Conditions leave, run on stacks of its own, with more and more room. It calls itself so that the compiler keeps the
+// large tables apart.
 fn run_on<'a>(
     tier: usize,
     code: &[u32],
@@ -994,27 +997,27 @@ fn run_on<'a>(
     values: &[usize],
     names: &[usize],
     constants: &[usize],
-) -> Operand
-    ensures { λ r. ⌜ r ≡ leftIn 208 77824 (now (code .entry)) (now (s .entry)) (now (query .entry)) (now (consts .entry)) (now (values .entry)) (now (names .entry)) (now (constants .entry)) ⌝ }
+) -> usize
+    ensures { λ r. ⌜ r ≡ rankIn (leftIn 208 77824 (now (code .entry)) (now (s .entry)) (now (query .entry)) (now (consts .entry)) (now (values .entry)) (now (names .entry)) (now (constants .entry))) ⌝ }
 {
     if tier == 0 {
         let v = run_narrow(code, s, query, consts, values, names, constants);
         if is_fault(v) {
             return run_on(1, code, s, query, consts, values, names, constants);
         }
-        return v;
+        return rank_in(v);
     }
     if tier == 1 {
         let v = run_middle(code, s, query, consts, values, names, constants);
         if is_fault(v) {
             return run_on(2, code, s, query, consts, values, names, constants);
         }
-        return v;
+        return rank_in(v);
     }
-    run_wide(code, s, query, consts, values, names, constants)
+    rank_in(run_wide(code, s, query, consts, values, names, constants))
 }
 
-// Runs compiled Conditions on stacks of its own: with little room first, which most need no more than.
+// The rank that compiled Conditions leave, run on stacks of its own: with little room first, which most need no more than.
 pub fn run_here<'a>(
     code: &[u32],
     s: &[u8],
@@ -1023,8 +1026,8 @@ pub fn run_here<'a>(
     values: &[usize],
     names: &[usize],
     constants: &[usize],
-) -> Operand
-    ensures { λ r. ⌜ r ≡ leftIn 208 77824 (now (code .entry)) (now (s .entry)) (now (query .entry)) (now (consts .entry)) (now (values .entry)) (now (names .entry)) (now (constants .entry)) ⌝ }
+) -> usize
+    ensures { λ r. ⌜ r ≡ rankIn (leftIn 208 77824 (now (code .entry)) (now (s .entry)) (now (query .entry)) (now (consts .entry)) (now (values .entry)) (now (names .entry)) (now (constants .entry))) ⌝ }
 {
     run_on(0, code, s, query, consts, values, names, constants)
 }

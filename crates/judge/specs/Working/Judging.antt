@@ -58,18 +58,10 @@ module _ (s rec consts values names constants : List ℕ) (depth space : ℕ) wh
     unfolding rankAt
     rank-short h = simp (lt-ltb _ _ h)
 
-    pub rank-run : top ≤ length code → (part : List ℕ) → part ≡ take top code → (v : Operand)
-        → v ≡ resultOf (exec depth space s (lookupIn rec consts values names constants) (map (counted rec) values) part (on [] []))
-        → (k : ℕ) → k ≡ rankIn v → (r : ℕ) → r ≡ k % 256 → r ≡ rankAt code top s rec consts values names constants depth space
-    unfolding rankAt leftBy
-    rank-run h part pe v ve k ke r re = simp (le-ltb _ _ h, re, ke, ve, pe)
-
-    -- `rank_here`
-    pub rank-left : top ≤ length code → (part : List ℕ) → part ≡ take top code → (v : Operand)
-        → v ≡ leftIn depth space part s rec consts values names constants
-        → (k : ℕ) → k ≡ rankIn v → (r : ℕ) → r ≡ k % 256 → r ≡ rankAt code top s rec consts values names constants depth space
-    unfolding leftIn
-    rank-left h part pe v ve k ke r re = rank-run h part pe v ve k ke r re
+    pub rank-left : top ≤ length code → (part : List ℕ) → part ≡ take top code → (k : ℕ) → k ≡ rankIn (leftIn depth space part s rec consts values names constants)
+        → (r : ℕ) → r ≡ k % 256 → r ≡ rankAt code top s rec consts values names constants depth space
+    unfolding rankAt leftBy leftIn
+    rank-left h part pe k ke r re = simp (le-ltb _ _ h, re, ke, pe)
 
   -- `judge` and `judge_in`
   module _ (t : Token) (m b : List ℕ) (o : Out) (oe : ran o b ≡ conditionsAt s m 0 t) where

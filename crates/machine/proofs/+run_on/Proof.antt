@@ -1,4 +1,4 @@
-use Rattle.machine.specs.Theorems.Wider.{run-narrow, run-middle}
+use Rattle.machine.specs.Theorems.Wider.{rank-narrow, rank-middle, rank-wide}
 use borrow.Author.Needs.{needs}
 use Prim.Native.Nat.{ℕ, _-_, _<_}
 use borrow.Fn.Kinds.{In}
@@ -7,6 +7,7 @@ use Rattle.machine.proofs.run_on.Reads as run-on
 use Rattle.machine.proofs.run_on.Kinds as run-on-kinds
 use Rattle.machine.proofs.+run_on.Lts-run_on as run-on-lts
 use Rattle.expression.proofs.value.is_fault.Reads as is-fault-reads
+use Rattle.expression.proofs.value.rank_in.Reads as rank-in-reads
 use Rattle.machine.proofs.run_middle.Reads as run-middle-reads
 use Rattle.machine.proofs.run_narrow.Reads as run-narrow-reads
 use Rattle.machine.proofs.run_wide.Reads as run-wide-reads
@@ -22,7 +23,6 @@ run-on-at t = and 6 run-on-kinds.ps (is 6 run-on-kinds.ps μ-run-on t) run-on.Pr
 abbrev run-on-below : ℕ → In 6 run-on-kinds.ps
 run-on-below t = and 6 run-on-kinds.ps (falls 6 run-on-kinds.ps _<_ μ-run-on t) run-on.Pre
 
--- src/lib.rt:837:13
 run-on-run-narrow-requires : (t : ℕ) → run-on-lts.Need-run-narrow-requires (
   run-narrow-reads.Asked,
   run-narrow-reads.Learnt,
@@ -30,6 +30,8 @@ run-on-run-narrow-requires : (t : ℕ) → run-on-lts.Need-run-narrow-requires (
   is-fault-reads.Learnt,
   run-on-below t,
   run-on.Post,
+  rank-in-reads.Asked,
+  rank-in-reads.Learnt,
   run-middle-reads.Asked,
   run-middle-reads.Learnt,
   run-wide-reads.Asked,
@@ -37,7 +39,6 @@ run-on-run-narrow-requires : (t : ℕ) → run-on-lts.Need-run-narrow-requires (
 ) (run-on-at t) run-on.Post
 run-on-run-narrow-requires t c κs = search needs
 
--- src/lib.rt:838:12
 run-on-is-fault-requires : (t : ℕ) → run-on-lts.Need-is-fault-requires (
   run-narrow-reads.Asked,
   run-narrow-reads.Learnt,
@@ -45,6 +46,8 @@ run-on-is-fault-requires : (t : ℕ) → run-on-lts.Need-is-fault-requires (
   is-fault-reads.Learnt,
   run-on-below t,
   run-on.Post,
+  rank-in-reads.Asked,
+  rank-in-reads.Learnt,
   run-middle-reads.Asked,
   run-middle-reads.Learnt,
   run-wide-reads.Asked,
@@ -52,7 +55,6 @@ run-on-is-fault-requires : (t : ℕ) → run-on-lts.Need-is-fault-requires (
 ) (run-on-at t) run-on.Post
 run-on-is-fault-requires t c κs = search needs
 
--- src/lib.rt:839:13
 run-on-run-on-requires : (t : ℕ) → run-on-lts.Need-run-on-requires (
   run-narrow-reads.Asked,
   run-narrow-reads.Learnt,
@@ -60,6 +62,8 @@ run-on-run-on-requires : (t : ℕ) → run-on-lts.Need-run-on-requires (
   is-fault-reads.Learnt,
   run-on-below t,
   run-on.Post,
+  rank-in-reads.Asked,
+  rank-in-reads.Learnt,
   run-middle-reads.Asked,
   run-middle-reads.Learnt,
   run-wide-reads.Asked,
@@ -67,7 +71,6 @@ run-on-run-on-requires : (t : ℕ) → run-on-lts.Need-run-on-requires (
 ) (run-on-at t) run-on.Post
 run-on-run-on-requires t c κs = search needs
 
--- src/lib.rt:839:13
 run-on-returns : (t : ℕ) → run-on-lts.Need-returns (
   run-narrow-reads.Asked,
   run-narrow-reads.Learnt,
@@ -75,6 +78,8 @@ run-on-returns : (t : ℕ) → run-on-lts.Need-returns (
   is-fault-reads.Learnt,
   run-on-below t,
   run-on.Post,
+  rank-in-reads.Asked,
+  rank-in-reads.Learnt,
   run-middle-reads.Asked,
   run-middle-reads.Learnt,
   run-wide-reads.Asked,
@@ -82,7 +87,22 @@ run-on-returns : (t : ℕ) → run-on-lts.Need-returns (
 ) (run-on-at t) run-on.Post
 run-on-returns t c = search needs
 
--- src/lib.rt:841:9
+run-on-rank-in-requires : (t : ℕ) → run-on-lts.Need-rank-in-requires (
+  run-narrow-reads.Asked,
+  run-narrow-reads.Learnt,
+  is-fault-reads.Asked,
+  is-fault-reads.Learnt,
+  run-on-below t,
+  run-on.Post,
+  rank-in-reads.Asked,
+  rank-in-reads.Learnt,
+  run-middle-reads.Asked,
+  run-middle-reads.Learnt,
+  run-wide-reads.Asked,
+  run-wide-reads.Learnt,
+) (run-on-at t) run-on.Post
+run-on-rank-in-requires t c κs = search needs
+
 run-on-returns-2 : (t : ℕ) → run-on-lts.Need-returns-2 (
   run-narrow-reads.Asked,
   run-narrow-reads.Learnt,
@@ -90,14 +110,15 @@ run-on-returns-2 : (t : ℕ) → run-on-lts.Need-returns-2 (
   is-fault-reads.Learnt,
   run-on-below t,
   run-on.Post,
+  rank-in-reads.Asked,
+  rank-in-reads.Learnt,
   run-middle-reads.Asked,
   run-middle-reads.Learnt,
   run-wide-reads.Asked,
   run-wide-reads.Learnt,
 ) (run-on-at t) run-on.Post
-run-on-returns-2 t c = search run-narrow
+run-on-returns-2 t c = search rank-narrow
 
--- src/lib.rt:844:13
 run-on-run-middle-requires : (t : ℕ) → run-on-lts.Need-run-middle-requires (
   run-narrow-reads.Asked,
   run-narrow-reads.Learnt,
@@ -105,6 +126,8 @@ run-on-run-middle-requires : (t : ℕ) → run-on-lts.Need-run-middle-requires (
   is-fault-reads.Learnt,
   run-on-below t,
   run-on.Post,
+  rank-in-reads.Asked,
+  rank-in-reads.Learnt,
   run-middle-reads.Asked,
   run-middle-reads.Learnt,
   run-wide-reads.Asked,
@@ -112,7 +135,6 @@ run-on-run-middle-requires : (t : ℕ) → run-on-lts.Need-run-middle-requires (
 ) (run-on-at t) run-on.Post
 run-on-run-middle-requires t c κs = search needs
 
--- src/lib.rt:845:12
 run-on-is-fault-requires-2 : (t : ℕ) → run-on-lts.Need-is-fault-requires-2 (
   run-narrow-reads.Asked,
   run-narrow-reads.Learnt,
@@ -120,6 +142,8 @@ run-on-is-fault-requires-2 : (t : ℕ) → run-on-lts.Need-is-fault-requires-2 (
   is-fault-reads.Learnt,
   run-on-below t,
   run-on.Post,
+  rank-in-reads.Asked,
+  rank-in-reads.Learnt,
   run-middle-reads.Asked,
   run-middle-reads.Learnt,
   run-wide-reads.Asked,
@@ -127,7 +151,6 @@ run-on-is-fault-requires-2 : (t : ℕ) → run-on-lts.Need-is-fault-requires-2 (
 ) (run-on-at t) run-on.Post
 run-on-is-fault-requires-2 t c κs = search needs
 
--- src/lib.rt:846:13
 run-on-run-on-requires-2 : (t : ℕ) → run-on-lts.Need-run-on-requires-2 (
   run-narrow-reads.Asked,
   run-narrow-reads.Learnt,
@@ -135,6 +158,8 @@ run-on-run-on-requires-2 : (t : ℕ) → run-on-lts.Need-run-on-requires-2 (
   is-fault-reads.Learnt,
   run-on-below t,
   run-on.Post,
+  rank-in-reads.Asked,
+  rank-in-reads.Learnt,
   run-middle-reads.Asked,
   run-middle-reads.Learnt,
   run-wide-reads.Asked,
@@ -142,7 +167,6 @@ run-on-run-on-requires-2 : (t : ℕ) → run-on-lts.Need-run-on-requires-2 (
 ) (run-on-at t) run-on.Post
 run-on-run-on-requires-2 t c κs = search needs
 
--- src/lib.rt:846:13
 run-on-returns-3 : (t : ℕ) → run-on-lts.Need-returns-3 (
   run-narrow-reads.Asked,
   run-narrow-reads.Learnt,
@@ -150,6 +174,8 @@ run-on-returns-3 : (t : ℕ) → run-on-lts.Need-returns-3 (
   is-fault-reads.Learnt,
   run-on-below t,
   run-on.Post,
+  rank-in-reads.Asked,
+  rank-in-reads.Learnt,
   run-middle-reads.Asked,
   run-middle-reads.Learnt,
   run-wide-reads.Asked,
@@ -157,7 +183,22 @@ run-on-returns-3 : (t : ℕ) → run-on-lts.Need-returns-3 (
 ) (run-on-at t) run-on.Post
 run-on-returns-3 t c = search needs
 
--- src/lib.rt:848:9
+run-on-rank-in-requires-2 : (t : ℕ) → run-on-lts.Need-rank-in-requires-2 (
+  run-narrow-reads.Asked,
+  run-narrow-reads.Learnt,
+  is-fault-reads.Asked,
+  is-fault-reads.Learnt,
+  run-on-below t,
+  run-on.Post,
+  rank-in-reads.Asked,
+  rank-in-reads.Learnt,
+  run-middle-reads.Asked,
+  run-middle-reads.Learnt,
+  run-wide-reads.Asked,
+  run-wide-reads.Learnt,
+) (run-on-at t) run-on.Post
+run-on-rank-in-requires-2 t c κs = search needs
+
 run-on-returns-4 : (t : ℕ) → run-on-lts.Need-returns-4 (
   run-narrow-reads.Asked,
   run-narrow-reads.Learnt,
@@ -165,14 +206,15 @@ run-on-returns-4 : (t : ℕ) → run-on-lts.Need-returns-4 (
   is-fault-reads.Learnt,
   run-on-below t,
   run-on.Post,
+  rank-in-reads.Asked,
+  rank-in-reads.Learnt,
   run-middle-reads.Asked,
   run-middle-reads.Learnt,
   run-wide-reads.Asked,
   run-wide-reads.Learnt,
 ) (run-on-at t) run-on.Post
-run-on-returns-4 t c = search run-middle
+run-on-returns-4 t c = search rank-middle
 
--- src/lib.rt:850:5
 run-on-run-wide-requires : (t : ℕ) → run-on-lts.Need-run-wide-requires (
   run-narrow-reads.Asked,
   run-narrow-reads.Learnt,
@@ -180,6 +222,8 @@ run-on-run-wide-requires : (t : ℕ) → run-on-lts.Need-run-wide-requires (
   is-fault-reads.Learnt,
   run-on-below t,
   run-on.Post,
+  rank-in-reads.Asked,
+  rank-in-reads.Learnt,
   run-middle-reads.Asked,
   run-middle-reads.Learnt,
   run-wide-reads.Asked,
@@ -187,7 +231,22 @@ run-on-run-wide-requires : (t : ℕ) → run-on-lts.Need-run-wide-requires (
 ) (run-on-at t) run-on.Post
 run-on-run-wide-requires t c κs = search needs
 
--- src/lib.rt:824:1
+run-on-rank-in-requires-3 : (t : ℕ) → run-on-lts.Need-rank-in-requires-3 (
+  run-narrow-reads.Asked,
+  run-narrow-reads.Learnt,
+  is-fault-reads.Asked,
+  is-fault-reads.Learnt,
+  run-on-below t,
+  run-on.Post,
+  rank-in-reads.Asked,
+  rank-in-reads.Learnt,
+  run-middle-reads.Asked,
+  run-middle-reads.Learnt,
+  run-wide-reads.Asked,
+  run-wide-reads.Learnt,
+) (run-on-at t) run-on.Post
+run-on-rank-in-requires-3 t c κs = search needs
+
 run-on-returns-5 : (t : ℕ) → run-on-lts.Need-returns-5 (
   run-narrow-reads.Asked,
   run-narrow-reads.Learnt,
@@ -195,12 +254,14 @@ run-on-returns-5 : (t : ℕ) → run-on-lts.Need-returns-5 (
   is-fault-reads.Learnt,
   run-on-below t,
   run-on.Post,
+  rank-in-reads.Asked,
+  rank-in-reads.Learnt,
   run-middle-reads.Asked,
   run-middle-reads.Learnt,
   run-wide-reads.Asked,
   run-wide-reads.Learnt,
 ) (run-on-at t) run-on.Post
-run-on-returns-5 t c = search needs
+run-on-returns-5 t c = search rank-wide
 
 pub +run-on-spec : {M : Type 1} → statement M
 +run-on-spec = close μ-run-on λ t. run-on-lts.spec (
@@ -210,6 +271,8 @@ pub +run-on-spec : {M : Type 1} → statement M
   is-fault-reads.Learnt,
   run-on-below t,
   run-on.Post,
+  rank-in-reads.Asked,
+  rank-in-reads.Learnt,
   run-middle-reads.Asked,
   run-middle-reads.Learnt,
   run-wide-reads.Asked,
@@ -221,11 +284,14 @@ pub +run-on-spec : {M : Type 1} → statement M
     (run-on-is-fault-requires t)
     (run-on-run-on-requires t)
     (run-on-returns t)
+    (run-on-rank-in-requires t)
     (run-on-returns-2 t)
     (run-on-run-middle-requires t)
     (run-on-is-fault-requires-2 t)
     (run-on-run-on-requires-2 t)
     (run-on-returns-3 t)
+    (run-on-rank-in-requires-2 t)
     (run-on-returns-4 t)
     (run-on-run-wide-requires t)
+    (run-on-rank-in-requires-3 t)
     (run-on-returns-5 t)

@@ -9,7 +9,7 @@ use lib.ListN.{length, take, drop}
 use borrow.Author.Tests.{le-leb, leb-true, le-ltb, ltb-false}
 use Rattle.text.specs.Choice.{pick, split, clash}
 use Rattle.text.specs.Counted.{counted}
-use Rattle.expression.specs.Operands.{width, isText, isFault}
+use Rattle.expression.specs.Operands.{width, isText, isFault, rankIn}
 use Rattle.expression.specs.Conditions.{top}
 use Rattle.expression.specs.Tables.{lookupIn}
 use Rattle.expression.specs.declared.value.Operand.{Operand}
@@ -139,9 +139,14 @@ module _ (code s rec consts values names constants : List ℕ) where
       → v ≡ leftIn 208 77824 code s rec consts values names constants
   run-enough depth room d h v ve f fe ff = ve ∙ left-wider depth 208 room 77824 code s rec consts values names constants d h (ap isFault (sym ve) ∙ sym fe ∙ ff)
 
-  module _ (v : Operand) (f : Bool) (fe : f ≡ isFault v) (ff : f ≡ false) where
-    pub run-narrow : v ≡ leftIn 32 256 code s rec consts values names constants → v ≡ leftIn 208 77824 code s rec consts values names constants
-    run-narrow ve = run-enough 32 256 (omega arith) (omega arith) v ve f fe ff
+  -- `run_on`
+  module _ (v : Operand) (k : ℕ) (ke : k ≡ rankIn v) where
+    module _ (f : Bool) (fe : f ≡ isFault v) (ff : f ≡ false) where
+      pub rank-narrow : v ≡ leftIn 32 256 code s rec consts values names constants → k ≡ rankIn (leftIn 208 77824 code s rec consts values names constants)
+      rank-narrow ve = ke ∙ ap rankIn (run-enough 32 256 (omega arith) (omega arith) v ve f fe ff)
 
-    pub run-middle : v ≡ leftIn 208 8192 code s rec consts values names constants → v ≡ leftIn 208 77824 code s rec consts values names constants
-    run-middle ve = run-enough 208 8192 (omega arith) (omega arith) v ve f fe ff
+      pub rank-middle : v ≡ leftIn 208 8192 code s rec consts values names constants → k ≡ rankIn (leftIn 208 77824 code s rec consts values names constants)
+      rank-middle ve = ke ∙ ap rankIn (run-enough 208 8192 (omega arith) (omega arith) v ve f fe ff)
+
+    pub rank-wide : v ≡ leftIn 208 77824 code s rec consts values names constants → k ≡ rankIn (leftIn 208 77824 code s rec consts values names constants)
+    rank-wide ve = ke ∙ ap rankIn ve
