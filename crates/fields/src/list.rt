@@ -85,9 +85,9 @@ fn small(k: u64) -> u8
 }
 
 // Writes the licensee t, entered as e. The token behind it is built anew: a copy of the whole would wait for the stores of its parts.
-fn placed(s: &[u8], code: &mut [u16], st: State, t: Token, e: Entry) -> Licensed
+fn placed(code: &mut [u16], st: State, n: Token, e: Entry) -> Licensed
     requires { ⌜ st .listed < 16 ⌝ }
-    ensures { λ r. ⌜ wrote r (now (code .exit)) ≡ placedIn (now (s .entry)) (now (code .entry)) st t e ⌝ }
+    ensures { λ r. ⌜ wrote r (now (code .exit)) ≡ placedIn (now (code .entry)) st n e ⌝ }
 {
     match e {
         Entry::Full => Licensed::Aside {
@@ -102,7 +102,6 @@ fn placed(s: &[u8], code: &mut [u16], st: State, t: Token, e: Entry) -> Licensed
                 };
             }
             let size = push(code, st.size, narrow(number));
-            let n = token_at(s, kind::IN_LICENSEES, t.end);
             Licensed::On {
                 state: State {
                     count,
@@ -138,6 +137,7 @@ pub fn licensee(
         start: t.start,
         end: t.end,
     };
+    let n = token_at(s, kind::IN_LICENSEES, t.end);
     if is_whole(s, u) {
         if MOST_LICENSEES <= st.listed {
             return Licensed::Aside {
@@ -146,7 +146,7 @@ pub fn licensee(
             };
         }
         let e = entered(pool, places, st.count, st.end, &s[t.start + 1..t.end - 1]);
-        return placed(s, code, st, t, e);
+        return placed(code, st, n, e);
     }
     let f = identifier_fault(s, consts, constants, u);
     if f != 0 {
@@ -162,7 +162,7 @@ pub fn licensee(
         };
     }
     let e = enter_token(s, consts, constants, pool, places, st.count, st.end, u);
-    placed(s, code, st, t, e)
+    placed(code, st, n, e)
 }
 
 // How many licensees were read since there were `before`; 0 where that is no list's length.

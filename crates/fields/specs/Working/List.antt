@@ -52,11 +52,11 @@ onEntered s code st t (entry (At i c e) pool places) =
     pick (leb 32768 i) (ran (Aside 0 0) pool places code)
     (ran (On (stateOf c e (above code (st .size)) (st .listed + 1)) (after s t)) pool places (pushed code (st .size) i))
 
--- the same of an answer alone
-unfoldable pub placedIn : List ℕ → List ℕ → State → Token → Entry → Wrote
-placedIn s code st t Full = wrote (Aside 0 0) code
-placedIn s code st t (At i c e) =
-    pick (leb 32768 i) (wrote (Aside 0 0) code) (wrote (On (stateOf c e (above code (st .size)) (st .listed + 1)) (after s t)) (pushed code (st .size) i))
+-- the same of an answer alone, n the token behind the licensee
+unfoldable pub placedIn : List ℕ → State → Token → Entry → Wrote
+placedIn code st n Full = wrote (Aside 0 0) code
+placedIn code st n (At i c e) =
+    pick (leb 32768 i) (wrote (Aside 0 0) code) (wrote (On (stateOf c e (above code (st .size)) (st .listed + 1)) n) (pushed code (st .size) i))
 
 unfoldable pub licenseeIn : List ℕ → List ℕ → List ℕ → List ℕ → List ℕ → List ℕ → State → Token → Ran
 licenseeIn s consts constants pool places code st t =

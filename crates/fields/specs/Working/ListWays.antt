@@ -48,26 +48,25 @@ module _ (code : List ℕ) (size : ℕ) where
   pushed-room x h = simp (lt-leb _ _ h)
 
 -- `placed`
-module _ (s code : List ℕ) (st : State) (t : Token) where
-  module _ (e : Entry) where
-    pub placed-full : e ≡ Full → wrote (Aside 0 0) code ≡ placedIn s code st t e
-    unfolding placedIn
-    placed-full k = rw k
-
-    module _ (i c m : ℕ) (k : e ≡ At i c m) where
-      pub placed-high : 32768 ≤ i → wrote (Aside 0 0) code ≡ placedIn s code st t e
-      unfolding placedIn
-      placed-high g = simp (k, le-leb _ _ g)
-
-      pub placed-on : (x y : ℕ) (b : List ℕ) (n : Token) → i < 32768 → x ≡ i → y ≡ above code (st .size) → b ≡ pushed code (st .size) x → n ≡ tokenAt s Kind.IN-LICENSEES (t .end)
-          → wrote (On (stateOf c m y (st .listed + 1)) n) b ≡ placedIn s code st t e
-      unfolding placedIn
-      placed-on x y b n g xe ye be ne = rw (ye, be, xe, ne) (simp (k, lt-leb _ _ g))
-
-  placed-is : (e : Entry) (p q : List ℕ) → onWrote p q (placedIn s code st t e) ≡ onEntered s code st t (entry e p q)
+module _ (code : List ℕ) (st : State) (n : Token) (e : Entry) where
+  pub placed-full : e ≡ Full → wrote (Aside 0 0) code ≡ placedIn code st n e
   unfolding placedIn
-  placed-is Full p q = refl
-  placed-is (At i c m) p q = split (leb 32768 i) (λ h. rw h) (λ h. rw h)
+  placed-full k = rw k
+
+  module _ (i c m : ℕ) (k : e ≡ At i c m) where
+    pub placed-high : 32768 ≤ i → wrote (Aside 0 0) code ≡ placedIn code st n e
+    unfolding placedIn
+    placed-high g = simp (k, le-leb _ _ g)
+
+    pub placed-on : (x y : ℕ) (b : List ℕ) → i < 32768 → x ≡ i → y ≡ above code (st .size) → b ≡ pushed code (st .size) x
+        → wrote (On (stateOf c m y (st .listed + 1)) n) b ≡ placedIn code st n e
+    unfolding placedIn
+    placed-on x y b g xe ye be = rw (ye, be, xe) (simp (k, lt-leb _ _ g))
+
+placed-is : (s code : List ℕ) (st : State) (t : Token) (e : Entry) (p q : List ℕ) → onWrote p q (placedIn code st (tokenAt s Kind.IN-LICENSEES (t .end)) e) ≡ onEntered s code st t (entry e p q)
+unfolding placedIn
+placed-is s code st t Full p q = refl
+placed-is s code st t (At i c m) p q = split (leb 32768 i) (λ h. rw h) (λ h. rw h)
 
 -- `licensee`
 module _ (s consts constants pool places code : List ℕ) (st : State) (t : Token) (f : ℕ) (fe : f ≡ faultIn s consts constants t) where
@@ -81,19 +80,20 @@ module _ (s consts constants pool places code : List ℕ) (st : State) (t : Toke
     licensee-most h = simp (sym fe, eq-eqb _ _ z, le-leb _ _ h)
 
     module _ (h : st .listed < mostLicensees) (r : Entry) (p q : List ℕ) (re : entry r p q ≡ tokenIn s consts constants pool places (st .count) (st .end) t) where
-      pub licensee-placed : (a : Licensed) (b : List ℕ) → wrote a b ≡ placedIn s code st t r → ran a p q b ≡ licenseeIn s consts constants pool places code st t
+      pub licensee-placed : (n : Token) → n ≡ tokenAt s Kind.IN-LICENSEES (t .end) → (a : Licensed) (b : List ℕ) → wrote a b ≡ placedIn code st n r
+          → ran a p q b ≡ licenseeIn s consts constants pool places code st t
       unfolding licenseeIn
-      licensee-placed a b e = ap (onWrote p q) e ∙ placed-is s code st t r p q ∙ simp (sym fe, eq-eqb _ _ z, lt-leb _ _ h, sym re)
+      licensee-placed n ne a b e = ap (onWrote p q) (rw ne at e) ∙ placed-is s code st t r p q ∙ simp (sym fe, eq-eqb _ _ z, lt-leb _ _ h, sym re)
 
 module _ (s consts constants pool places code : List ℕ) (st : State) (t : Token) (w : Bool) (we : w ≡ whole s t) (y : w ≡ true) where
   pub whole-most : mostLicensees ≤ st .listed → ran (Aside 7 (t .start)) pool places code ≡ licenseeIn s consts constants pool places code st t
   whole-most h = licensee-most s consts constants pool places code st t 0 (whole-fault s t w we y consts constants) refl h
 
   pub whole-placed : st .listed < mostLicensees → (r : Entry) (p q : List ℕ) → entry r p q ≡ enterIn pool places (st .count) (st .end) (inner s (t .start) (t .end))
-      → (a : Licensed) (b : List ℕ) → wrote a b ≡ placedIn s code st t r → ran a p q b ≡ licenseeIn s consts constants pool places code st t
-  whole-placed h r p q re a b e =
+      → (n : Token) → n ≡ tokenAt s Kind.IN-LICENSEES (t .end) → (a : Licensed) (b : List ℕ) → wrote a b ≡ placedIn code st n r → ran a p q b ≡ licenseeIn s consts constants pool places code st t
+  whole-placed h r p q re n ne a b e =
       licensee-placed s consts constants pool places code st t 0 (whole-fault s t w we y consts constants) refl h r p q
-      (re ∙ whole-token s t w we y consts constants pool places (st .count) (st .end)) a b e
+      (re ∙ whole-token s t w we y consts constants pool places (st .count) (st .end)) n ne a b e
 
 -- `items`
 module _ (before listed : ℕ) where
