@@ -20,11 +20,9 @@ use Rattle.lexical.specs.Literal.{units, unitsAt, given, literalEnd, dec
 use Rattle.lexical.specs.LiteralLaws.{units-more, units-last, units-end}
 use Rattle.lexical.specs.Decode.{Ran, ran, decodeInto}
 use Rattle.text.specs.Scan.{past, past-end, past-from}
-use Rattle.text.specs.All.{all, all-empty, all-fails, all-passes}
 use Rattle.text.specs.Copy.{Copied, copied, put, copyAt}
 use Rattle.lexical.specs.DecodeLaws.{decode-fits, decode-full}
 use Rattle.lexical.specs.Short.{near, near-short, sized}
-use Rattle.lexical.specs.Bare.{high, straight, inner, bare}
 use Rattle.lexical.specs.Plain.{plain, bareEnd, end-plain, quote-within, quote-units, end-quote, given-plain}
 
 module _ (s : List ℕ) (i : ℕ) (u : Unit) (ue : u ≡ unitAt s i) where
@@ -304,38 +302,3 @@ module _ (s : List ℕ) (start : ℕ) where
     pub bare-open : t ≡ false → 0 ≡ bareEnd s start
     unfolding bareEnd
     bare-open h = simp (sym ee, sym te, h)
-
--- `is_high` and `is_straight`
-pub all-done : (p : ℕ → Bool) (s : List ℕ) (i : ℕ) (b : Bool) → b ≡ all p (take i s) → length s ≤ i → b ≡ all p s
-all-done p s i b e h = rw (take-all i s h) at e
-
-pub all-start : (p : ℕ → Bool) (s : List ℕ) → true ≡ all p (take 0 s)
-all-start p s = sym (all-empty p)
-
-module _ (s : List ℕ) (i : ℕ) (h : i < length s) where
-  pub high-fails : getD s i 0 < 35 → (f : Bool) → f ≡ false → f ≡ all high (take (i + 1) s)
-  unfolding high
-  high-fails l f e = e ∙ sym (all-fails high s i h (lt-leb _ _ l))
-
-  pub high-more : 35 ≤ getD s i 0 → (b f : Bool) → b ≡ all high (take i s) → f ≡ b → f ≡ all high (take (i + 1) s)
-  unfolding high
-  high-more l b f e g = g ∙ e ∙ sym (all-passes high s i h (le-leb _ _ l))
-
-  pub straight-fails : getD s i 0 ≡ 92 → (f : Bool) → f ≡ false → f ≡ all straight (take (i + 1) s)
-  unfolding straight
-  straight-fails q f e = let z : straight (getD s i 0) ≡ false = simp (eq-eqb _ _ q) in e ∙ sym (all-fails straight s i h z)
-
-  pub straight-more : (getD s i 0 ≡ 92 → ⊥) → (b f : Bool) → b ≡ all straight (take i s) → f ≡ b → f ≡ all straight (take (i + 1) s)
-  unfolding straight
-  straight-more n b f e g = let z : straight (getD s i 0) ≡ true = simp (ne-eqb _ _ n) in g ∙ e ∙ sym (all-passes straight s i h z)
-
--- `is_bare`
-module _ (s : List ℕ) (start end : ℕ) (l : end ≤ length s) (h : start < end) (n : 32 ≤ end - start) (q : getD s (end - 1) 0 ≡ 34)
-    (t : Bool) (te : t ≡ all high (inner s start end)) where
-  pub bare-low : t ≡ false → false ≡ bare s start end
-  unfolding bare
-  bare-low f = simp (le-ltb _ _ l, lt-leb _ _ h, le-ltb _ _ n, eq-eqb _ _ q, sym te, f)
-
-  pub bare-high : t ≡ true → (r : Bool) → r ≡ all straight (inner s start end) → r ≡ bare s start end
-  unfolding bare
-  bare-high y r re = re ∙ simp (le-ltb _ _ l, lt-leb _ _ h, le-ltb _ _ n, eq-eqb _ _ q, sym te, y)

@@ -12,7 +12,6 @@ pub mod UnitLaws
 pub mod Literal
 pub mod LiteralLaws
 pub mod Plain
-pub mod Bare
 pub mod Decode
 pub mod Token
 pub mod Line

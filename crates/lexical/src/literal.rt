@@ -11,11 +11,9 @@ ghost use lib.Dec.{eqb, leb};
 ghost use lib.ListN.{length, getD};
 ghost use lib.Seq.{sets};
 ghost use Rattle.text.specs.Scan.{past};
-ghost use Rattle.text.specs.All.{all};
 ghost use Rattle.lexical.specs.Literal.{literalEnd, decodedAt, unitsAt, given};
 ghost use Rattle.lexical.specs.Decode.{ran, decodeInto};
 ghost use Rattle.lexical.specs.Plain.{plain, bareEnd};
-ghost use Rattle.lexical.specs.Bare.{high, straight, bare};
 ghost use Rattle.lexical.specs.Short.{near, sized};
 
 fn count(kind: u8) -> usize
@@ -187,59 +185,6 @@ pub fn bare_end(s: &[u8], start: usize) -> usize
         return e;
     }
     0
-}
-
-// Is every byte above the quote? The loop has no early end, so that many bytes are compared at once.
-fn is_high(s: &[u8]) -> bool
-    ensures { λ r. ⌜ r ≡ all high (now (s .entry)) ⌝ }
-{
-    let mut held = true;
-    let mut i: usize = 0;
-    while i < s.len() {
-        if s[i] < 35 {
-            held = false;
-        }
-        i += 1;
-    }
-    held
-}
-
-// Is no byte a backslash? As `is_high`.
-fn is_straight(s: &[u8]) -> bool
-    ensures { λ r. ⌜ r ≡ all straight (now (s .entry)) ⌝ }
-{
-    let mut held = true;
-    let mut i: usize = 0;
-    while i < s.len() {
-        if s[i] == b'\\' {
-            held = false;
-        }
-        i += 1;
-    }
-    held
-}
-
-// Is the literal from `start` to `end` of 32 bytes or more, all between its quotes above the quote and none a backslash? Then it stands as it reads.
-pub fn is_bare(s: &[u8], start: usize, end: usize) -> bool
-    ensures { λ r. ⌜ r ≡ bare (now (s .entry)) start end ⌝ }
-{
-    if s.len() < end {
-        return false;
-    }
-    if end <= start {
-        return false;
-    }
-    if end - start < 32 {
-        return false;
-    }
-    if s[end - 1] != b'"' {
-        return false;
-    }
-    let part = &s[start + 1..end - 1];
-    if is_high(part) {
-        return is_straight(part);
-    }
-    false
 }
 
 // Writes what the units from `from` on give into buf, from `at` on.
