@@ -2,7 +2,7 @@
 use compliance::Solution;
 use limits::MOST_ITEMS;
 use record::Reading;
-use record::locate;
+use record::read;
 use system::solved::solved;
 ghost use mathlib.Core.Path.{_≡_};
 ghost use lib.ListN.{length, take, drop};
@@ -92,7 +92,7 @@ pub extern "C" fn lampsickle_answer(query: &[u8], page: &mut [u8]) -> Outcome
     ensures { λ _. ⌜ now (page .exit) ≡ pageAfter (now (query .entry)) (now (page .entry)) ⌝ }
 {
     let mut table = [0usize; MOST_ITEMS];
-    match locate(query, &mut table) {
+    match read(query, &mut table) {
         Reading::Refused { number, at } => refused(number, at),
         Reading::Accepted {
             values,

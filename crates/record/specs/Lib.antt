@@ -6,7 +6,6 @@ pub mod Record
 pub mod Places
 pub mod Lies
 pub mod Reading
-pub mod Locating
 pub mod Encode
 pub mod Valid
 pub mod Stands

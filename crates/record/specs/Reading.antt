@@ -1,5 +1,5 @@
 -- What the library's reader gives for a record, and what it leaves in the table that is lent. Assumes nothing.
-use mathlib.Core.List.{List, []}
+use mathlib.Core.List.{List}
 use Prim.Native.Nat.{ℕ, _+_}
 use lib.ListN.{length}
 use Rattle.text.specs.Copy.{put}
@@ -28,11 +28,6 @@ leaves (refused n p) t = told (Refused n p) t
 
 unfoldable pub readInto : List ℕ → List ℕ → Told
 readInto s t = leaves (readRecord s) t
-
--- what is told but for the table of a refusal, for a caller who has no use for it
-unfoldable pub located : Told → Told
-located (told (Accepted v r a c) t) = told (Accepted v r a c) t
-located (told (Refused n p) t) = told (Refused n p) []
 
 -- the number and the place of each case, as in the table of refusals: 0 and 0 when accepted
 unfoldable pub tabled : Reading → ℕ × ℕ

@@ -9,7 +9,7 @@ ghost use Rattle.text.specs.Copy.{put};
 ghost use Rattle.text.specs.Counted.{counted};
 ghost use Rattle.record.specs.Field.{nameFront, among};
 ghost use Rattle.record.specs.Working.Groups.{ran, byGroup, itemsInto, groupInto, both, groupsInto, restInto, tableInto};
-ghost use Rattle.record.specs.Reading.{told, readInto, located, tabled, tabledVerdict};
+ghost use Rattle.record.specs.Reading.{told, readInto, tabled, tabledVerdict};
 ghost use Rattle.record.specs.Record.{readRecord};
 ghost use Rattle.record.specs.Working.Moves.{countMove, lengthMove, contentMove, fieldMove, plainMove, nameMove, valueMove, attributeMove, assertionMove, itemMove, seenOf};
 
@@ -424,13 +424,6 @@ fn record_at(s: &[u8], table: &mut [usize]) -> Reading
             next,
         } => rest_at(s, table, first, second, next),
     }
-}
-
-// Reads a record into a table of the caller's own: its first entries become the places of all items. What a refusal leaves there is of no use.
-pub fn locate(s: &[u8], table: &mut [usize; MOST_ITEMS]) -> Reading
-    ensures { λ r. ⌜ located (told r (now (table .exit))) ≡ located (readInto (now (s .entry)) (now (table .entry))) ⌝ }
-{
-    record_at(s, table)
 }
 
 // Copies the first n entries.

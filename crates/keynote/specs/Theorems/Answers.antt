@@ -10,8 +10,7 @@ use Rattle.text.specs.Choice.{pick, split}
 use Rattle.record.specs.Query.{Query}
 use Rattle.record.specs.Read.{Verdict, accepted, refused}
 use Rattle.record.specs.Record.{readRecord}
-use Rattle.record.specs.Reading.{told, readInto, located}
-use Rattle.record.specs.Locating.{located-accepted, located-refused}
+use Rattle.record.specs.Reading.{told, readInto}
 use Rattle.record.specs.RoundTrip.{Bytes}
 use Rattle.record.specs.declared.Reading.{Reading}
 use Rattle.record.specs.declared.Reading.the-variants.{Accepted, Refused}
@@ -71,34 +70,28 @@ answer-accepted s t table page m v n a c bytes h e k r out g =
     parted-is s bytes q acc page r out (g ∙ rw (ps .valuesPart, ps .requestersPart, ps .attributesPart, ps .assertionsPart))
 
 -- the same for the function's four ways out, from an empty table
-module _ (s table : List ℕ) (m : Reading) (found : located (told m table) ≡ located (readInto s (replicate 88 0))) where
+module _ (s table : List ℕ) (m : Reading) (e : told m table ≡ readInto s (replicate 88 0)) where
   module _ (page : List ℕ) (n p : ℕ) (k : m ≡ Refused n p) where
-    e : told m (replicate 88 0) ≡ readInto s (replicate 88 0)
-    e = located-refused s (replicate 88 0) table m found n p k
-
     pub refused-outcome : (r : Outcome) → r ≡ refusal n p → r ≡ outcome s (length page)
-    refused-outcome r re = answer-refused s (replicate 88 0) (replicate 88 0) page m n p e k r re .0
+    refused-outcome r re = answer-refused s (replicate 88 0) table page m n p e k r re .0
 
     pub refused-page : page ≡ pageAfter s page
-    refused-page = answer-refused s (replicate 88 0) (replicate 88 0) page m n p e k (refusal n p) refl .1
+    refused-page = answer-refused s (replicate 88 0) table page m n p e k (refusal n p) refl .1
 
   module _ (bytes : Bytes s) (v n a c : ℕ) (k : m ≡ Accepted v n a c) where
-    told-table : told m table ≡ readInto s (replicate 88 0)
-    told-table = located-accepted s (replicate 88 0) table m found v n a c k
-
     h : length (replicate {A = ℕ} 88 0) ≡ 88
     h = length-replicate {A = ℕ} 88 0
 
     pub accepted-table : 88 ≡ length table
     accepted-table =
-        let f : told (Accepted v n a c) table ≡ readInto s (replicate 88 0) = ap (λ (x : Reading). told x table) (sym k) ∙ told-table in
+        let f : told (Accepted v n a c) table ≡ readInto s (replicate 88 0) = ap (λ (x : Reading). told x table) (sym k) ∙ e in
         let (q, acc) = accepted-query s (replicate 88 0) table v n a c f in
         let ps : Parts q (replicate 88 0) table v n a c = accepted-parts s q bytes acc (replicate 88 0) table (omega (arith, h)) v n a c f in
         sym (ps .long ∙ h)
 
     module _ (page : List ℕ) (r : Outcome) (out : List ℕ) (g : givenBy r out ≡ answeredIn s table v n a c page) where
       pub accepted-outcome : r ≡ outcome s (length page)
-      accepted-outcome = answer-accepted s (replicate 88 0) table page m v n a c bytes (omega (arith, h)) told-table k r out g .0
+      accepted-outcome = answer-accepted s (replicate 88 0) table page m v n a c bytes (omega (arith, h)) e k r out g .0
 
       pub accepted-page : out ≡ pageAfter s page
-      accepted-page = answer-accepted s (replicate 88 0) table page m v n a c bytes (omega (arith, h)) told-table k r out g .1
+      accepted-page = answer-accepted s (replicate 88 0) table page m v n a c bytes (omega (arith, h)) e k r out g .1

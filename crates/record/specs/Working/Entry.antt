@@ -14,7 +14,7 @@ use Rattle.record.specs.Query.{Query}
 use Rattle.record.specs.Read.{Verdict, accepted, refused}
 use Rattle.record.specs.Record.{readRecord}
 use Rattle.record.specs.Places.{placesFrom, stringSize, attributeSize, assertionSize, requestersStart, attributesStart, assertionsStart, places}
-use Rattle.record.specs.Reading.{Told, told, groupEnds, leaves, readInto, located, tabled, tabledVerdict}
+use Rattle.record.specs.Reading.{Told, told, groupEnds, leaves, readInto, tabled, tabledVerdict}
 use Rattle.record.specs.Working.Groups.{tableInto}
 use Rattle.record.specs.Working.Tables.{Whole, whole-to, whole-no, places-length, table-tie}
 use Rattle.record.specs.declared.Reading.{Reading}
@@ -136,13 +136,3 @@ module _ (s table : List ℕ) (m : Reading) (u : List ℕ) (me : told m u ≡ ta
     pub tabled-accepted : tabled (Accepted v r a c) ≡ tabledVerdict (readRecord s)
     unfolding tabled tabledVerdict
     tabled-accepted = rw (took .is)
-
--- `locate`
-whole-located : {s t : List ℕ} {w : Verdict} {x : Told} → Whole s t w x → located x ≡ located (leaves w t)
-unfolding located leaves
-whole-located (whole-to q l lies) = refl
-whole-located whole-no = refl
-
-pub locate-is : (s t : List ℕ) (m : Reading) (u : List ℕ) → told m u ≡ tableInto s t → length t ≡ mostItems → located (told m u) ≡ located (readInto s t)
-unfolding readInto
-locate-is s t m u e l = ap located e ∙ whole-located (table-tie s t (omega (arith, l)))
