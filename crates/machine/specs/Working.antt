@@ -1,6 +1,7 @@
 pub mod Stepping
 pub mod Quick
 pub mod Alike
+pub mod Joining
 pub mod Rating
 pub mod Passing
 pub mod Ending

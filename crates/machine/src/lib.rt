@@ -38,6 +38,7 @@ ghost use Rattle.machine.specs.Left.{leftIn};
 ghost use Rattle.machine.specs.Live.{Live, landed, putAt, settled};
 ghost use Rattle.machine.specs.Working.Quick.{putTwo, isNatural, isTold, isLogical, decides};
 ghost use Rattle.machine.specs.Working.Alike.{isAlike, agrees, alikeOn};
+ghost use Rattle.machine.specs.Working.Joining.{isJoining, joinOn};
 ghost use Rattle.machine.specs.Working.Rating.{isRating, valuedOn};
 
 // How many numbers and bytes the stacks hold; or that the machine can't go on, the code being none or a buffer too small.
@@ -90,7 +91,7 @@ fn push_text(stack: &mut [u64], n: usize, bytes: &mut [u8], t: usize, b: &[u8]) 
     if LONGEST < k {
         return put(stack, n, t, Operand::Fault);
     }
-    if text::copy_at(bytes, t, b) {
+    if text::copy_long(bytes, t, b) {
         return put(stack, n, t + k, Operand::Text { length: k });
     }
     Tops::Stuck
@@ -371,9 +372,40 @@ fn texts_step(
         return Tops::Stuck;
     }
     let base = mid - wx;
-    let same = text::same_bytes(&bytes[base..mid], &bytes[mid..t]);
+    let same = text::same_long(&bytes[base..mid], &bytes[mid..t]);
     let q = told(agreed(op, same));
     land(stack, n, base, q)
+}
+
+// Is it ".", and are both kinds those of strings?
+fn is_joining(op: u32, x: u64, y: u64) -> bool
+    ensures { λ r. ⌜ r ≡ isJoining op x y ⌝ }
+{
+    if op != syntax::JOIN {
+        return false;
+    }
+    if x != 0 {
+        return false;
+    }
+    y == 0
+}
+
+// Two strings that end the bytes give way to the one that they make where they lie; one that is too long is a fault.
+fn join_step(wx: usize, wy: usize, stack: &mut [u64], n: usize, bytes: &[u8], t: usize) -> Tops
+    requires { ⌜ (n + 2 ≤ length (now stack)) × (t ≤ length (now bytes)) ⌝ }
+    ensures { λ r. ⌜ Live r (now (stack .exit)) (now (bytes .entry)) (joinOn (length (now (stack .entry))) wx wy (take n (now (stack .entry))) (take t (now (bytes .entry)))) ⌝ }
+{
+    if t < wy {
+        return Tops::Stuck;
+    }
+    let mid = t - wy;
+    if mid < wx {
+        return Tops::Stuck;
+    }
+    if LONGEST < wx + wy {
+        return put(stack, n, mid - wx, Operand::Fault);
+    }
+    put(stack, n, t, Operand::Text { length: wx + wy })
 }
 
 // Is it the operation k of clauses, and are the kinds those of a test and of what k takes besides?
@@ -490,6 +522,11 @@ fn operator_step(
         let wx = count_of(stack[n - 3]);
         let wy = count_of(stack[n - 1]);
         return texts_step(op, wx, wy, stack, n - 4, bytes, t);
+    }
+    if is_joining(op, stack[n - 4], stack[n - 2]) {
+        let wx = count_of(stack[n - 3]);
+        let wy = count_of(stack[n - 1]);
+        return join_step(wx, wy, stack, n - 4, bytes, t);
     }
     binary_step(op, query, values, stack, n, bytes, t)
 }

@@ -41,22 +41,23 @@ pub const WORD: u8 = 2;
 // Numbers are told apart up to here.
 pub const LIMIT: u64 = 4294967295;
 
+// The longest string that is moved at once.
+const BLOCK: usize = 4096;
+
 const ZERO: Integer = Integer {
     negative: false,
     size: 0,
 };
 
-// Are the 64 bytes from i on the same in both? The loop has no early end, so that many bytes are compared at once.
-fn same_block(a: &[u8], b: &[u8], i: usize) -> bool
-    requires { ⌜ (i + 64 ≤ length (now a)) × (i + 64 ≤ length (now b)) ⌝ }
-    ensures { λ r. ⌜ r ≡ alike (now (a .entry)) (now (b .entry)) i 64 ⌝ }
+// Are the n bytes from i on the same in both? The loop has no early end, so that many bytes are compared at once.
+fn same_part(a: &[u8], b: &[u8], i: usize, n: usize) -> bool
+    requires { ⌜ (i + n ≤ length (now a)) × (i + n ≤ length (now b)) ⌝ }
+    ensures { λ r. ⌜ r ≡ alike (now (a .entry)) (now (b .entry)) i n ⌝ }
 {
     let mut same = true;
     let mut j: usize = 0;
-    while j < 64 {
-        if a[i + j] != b[i + j] {
-            same = false;
-        }
+    while j < n {
+        same = same & (a[i + j] == b[i + j]);
         j += 1;
     }
     same
@@ -71,7 +72,7 @@ fn same_blocks(a: &[u8], b: &[u8]) -> usize
         if b.len() - i < 64 {
             return i;
         }
-        if same_block(a, b, i) {
+        if same_part(a, b, i, 64) {
             i += 64;
         } else {
             return i;
@@ -104,7 +105,7 @@ fn same_below(a: &[u8], b: &[u8], n: usize) -> bool
 {
     let mut k = n;
     while 0 < k {
-        if same_block(a, b, (k - 1) * 64) {
+        if same_part(a, b, (k - 1) * 64, 64) {
             k -= 1;
         } else {
             return false;
@@ -131,6 +132,24 @@ pub fn same_bytes(a: &[u8], b: &[u8]) -> bool
     same_below(a, b, k)
 }
 
+// The same for strings that may be long: in blocks of 1,024 bytes first.
+pub fn same_long(a: &[u8], b: &[u8]) -> bool
+    ensures { λ r. ⌜ r ≡ equal (now (a .entry)) (now (b .entry)) ⌝ }
+{
+    if a.len() != b.len() {
+        return false;
+    }
+    let mut i: usize = 0;
+    while 1024 <= a.len() - i {
+        if same_part(a, b, i, 1024) {
+            i += 1024;
+        } else {
+            return false;
+        }
+    }
+    same_bytes(&a[i..], &b[i..])
+}
+
 // The order by byte; a proper prefix is less.
 pub fn compare(a: &[u8], b: &[u8]) -> Order
     ensures { λ r. ⌜ r ≡ order (now (a .entry)) (now (b .entry)) ⌝ }
@@ -151,6 +170,18 @@ pub fn compare(a: &[u8], b: &[u8]) -> Order
     Order::Greater
 }
 
+// Copies src into dst at a place where it fits.
+fn paste(dst: &mut [u8], at: usize, src: &[u8])
+    requires { ⌜ (at ≤ length (now dst)) × (length (now src) ≤ length (now dst) - at) ⌝ }
+    ensures { λ _. ⌜ now (dst .exit) ≡ put (now (dst .entry)) at (now (src .entry)) ⌝ }
+{
+    let mut i: usize = 0;
+    while i < src.len() {
+        dst[at + i] = src[i];
+        i += 1;
+    }
+}
+
 // Copies src into dst at a place, and tells whether it fits; where it doesn't, nothing is written.
 pub fn copy_at(dst: &mut [u8], at: usize, src: &[u8]) -> bool
     ensures { λ r. ⌜ copied r (now (dst .exit)) ≡ copyAt (now (dst .entry)) at (now (src .entry)) ⌝ }
@@ -161,11 +192,40 @@ pub fn copy_at(dst: &mut [u8], at: usize, src: &[u8]) -> bool
     if dst.len() - at < src.len() {
         return false;
     }
-    let mut i: usize = 0;
-    while i < src.len() {
-        dst[at + i] = src[i];
-        i += 1;
+    paste(dst, at, src);
+    true
+}
+
+// Copies src, of no more bytes than the table has, by way of a table of its own: neither string overlaps that, so the compiler moves all
+// bytes at once.
+fn transfer(dst: &mut [u8], at: usize, src: &[u8])
+    requires { ⌜ (at ≤ length (now dst)) × (length (now src) ≤ length (now dst) - at) × (length (now src) ≤ 4096) ⌝ }
+    ensures { λ _. ⌜ now (dst .exit) ≡ put (now (dst .entry)) at (now (src .entry)) ⌝ }
+{
+    let mut block = [0u8; BLOCK];
+    paste(&mut block, 0, src);
+    paste(dst, at, &block[..src.len()]);
+}
+
+// The same as `copy_at` for strings that may be long.
+pub fn copy_long(dst: &mut [u8], at: usize, src: &[u8]) -> bool
+    ensures { λ r. ⌜ copied r (now (dst .exit)) ≡ copyAt (now (dst .entry)) at (now (src .entry)) ⌝ }
+{
+    if dst.len() < at {
+        return false;
     }
+    if dst.len() - at < src.len() {
+        return false;
+    }
+    if src.len() < 128 {
+        paste(dst, at, src);
+        return true;
+    }
+    if BLOCK < src.len() {
+        paste(dst, at, src);
+        return true;
+    }
+    transfer(dst, at, src);
     true
 }
 

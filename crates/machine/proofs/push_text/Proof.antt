@@ -5,7 +5,7 @@ use Rattle.machine.proofs.push_text.Tie as tie
 use Rattle.machine.proofs.push_text.Reads as reads
 use Rattle.machine.proofs.push_text.Lts as lts
 use Rattle.machine.proofs.put.Reads as put-reads
-use Rattle.text.proofs.copy_at.Reads as copy-at-reads
+use Rattle.text.proofs.copy_long.Reads as copy-long-reads
 
 -- src/lib.rt:80:9
 put-requires : tie.Need-put-requires
@@ -20,8 +20,8 @@ returns : tie.Need-returns
 returns c = search text-over
 
 -- src/lib.rt:82:8
-copy-at-requires : tie.Need-copy-at-requires
-copy-at-requires c κs = search needs
+copy-long-requires : tie.Need-copy-long-requires
+copy-long-requires c κs = search needs
 
 -- src/lib.rt:83:30
 add-put : tie.Need-add-put
@@ -58,7 +58,7 @@ push-text-spec =
     put-requires
     same-length
     returns
-    copy-at-requires
+    copy-long-requires
     add-put
     put-requires-2
     same-length-2

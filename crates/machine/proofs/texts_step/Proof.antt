@@ -7,7 +7,7 @@ use Rattle.machine.proofs.texts_step.Lts as lts
 use Rattle.expression.proofs.value.told.Reads as told-reads
 use Rattle.machine.proofs.agreed.Reads as agreed-reads
 use Rattle.machine.proofs.land.Reads as land-reads
-use Rattle.text.proofs.same_bytes.Reads as same-bytes-reads
+use Rattle.text.proofs.same_long.Reads as same-long-reads
 
 -- src/lib.rt:384:9
 returns : tie.Need-returns
@@ -18,32 +18,32 @@ returns-2 : tie.Need-returns-2
 returns-2 c = search texts-shorter
 
 -- src/lib.rt:391:33
-sub-same-bytes : tie.Need-sub-same-bytes
-sub-same-bytes c = search needs
+sub-same-long : tie.Need-sub-same-long
+sub-same-long c = search needs
 
 -- src/lib.rt:391:33
-part-same-bytes-start : tie.Need-part-same-bytes-start
-part-same-bytes-start c = search needs
+part-same-long-start : tie.Need-part-same-long-start
+part-same-long-start c = search needs
 
 -- src/lib.rt:391:33
-part-same-bytes-end : tie.Need-part-same-bytes-end
-part-same-bytes-end c = search needs
+part-same-long-end : tie.Need-part-same-long-end
+part-same-long-end c = search needs
 
 -- src/lib.rt:391:52
-sub-same-bytes-2 : tie.Need-sub-same-bytes-2
-sub-same-bytes-2 c = search needs
+sub-same-long-2 : tie.Need-sub-same-long-2
+sub-same-long-2 c = search needs
 
 -- src/lib.rt:391:52
-part-same-bytes-start-2 : tie.Need-part-same-bytes-start-2
-part-same-bytes-start-2 c = search needs
+part-same-long-start-2 : tie.Need-part-same-long-start-2
+part-same-long-start-2 c = search needs
 
 -- src/lib.rt:391:52
-part-same-bytes-end-2 : tie.Need-part-same-bytes-end-2
-part-same-bytes-end-2 c = search needs
+part-same-long-end-2 : tie.Need-part-same-long-end-2
+part-same-long-end-2 c = search needs
 
 -- src/lib.rt:391:9
-same-bytes-requires : tie.Need-same-bytes-requires
-same-bytes-requires c κs = search needs
+same-long-requires : tie.Need-same-long-requires
+same-long-requires c κs = search needs
 
 -- src/lib.rt:392:18
 agreed-requires : tie.Need-agreed-requires
@@ -71,13 +71,13 @@ texts-step-spec =
     (tie.spec
     returns
     returns-2
-    sub-same-bytes
-    part-same-bytes-start
-    part-same-bytes-end
-    sub-same-bytes-2
-    part-same-bytes-start-2
-    part-same-bytes-end-2
-    same-bytes-requires
+    sub-same-long
+    part-same-long-start
+    part-same-long-end
+    sub-same-long-2
+    part-same-long-start-2
+    part-same-long-end-2
+    same-long-requires
     agreed-requires
     told-requires
     land-requires

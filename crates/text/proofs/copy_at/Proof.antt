@@ -1,82 +1,34 @@
-use mathlib.Core.Path.{_≡_}
-use Prim.Native.Nat.{_-_, _≤_}
-use lib.ListN.{length}
-use Rattle.text.specs.Working.Copying.{pasted, past-end, no-room, paste-none, paste-step, paste-done}
+use Rattle.text.specs.Working.Copying.{past-end, no-room, copy-done}
 use borrow.Author.Needs.{needs}
 use Rattle.text.proofs.copy_at.Statement.{statement}
 use Rattle.text.proofs.copy_at.Tie as tie
 use Rattle.text.proofs.copy_at.Reads as reads
 use Rattle.text.proofs.copy_at.Lts as lts
+use Rattle.text.proofs.paste.Reads as paste-reads
 
-abbrev Inv-loop : tie.InvT-loop
-Inv-loop dst₀ at src i₀ dst i = (i ≤ length src) × (length dst ≡ length dst₀) × (dst ≡ pasted dst₀ at src i)
-
-abbrev μ-loop : tie.MeasureT-loop
-μ-loop dst₀ at src i₀ dst i = length src - i
-
--- src/lib.rt:71:9
-returns : tie.Need-returns Inv-loop μ-loop
+-- src/lib.rt:190:9
+returns : tie.Need-returns
 returns c = search past-end
 
--- src/lib.rt:73:8
-sub-if2 : tie.Need-sub-if2 Inv-loop μ-loop
+-- src/lib.rt:192:8
+sub-if2 : tie.Need-sub-if2
 sub-if2 c = search needs
 
--- src/lib.rt:74:9
-returns-2 : tie.Need-returns-2 Inv-loop μ-loop
+-- src/lib.rt:193:9
+returns-2 : tie.Need-returns-2
 returns-2 c = search no-room
 
--- src/lib.rt:77:5
-loop-holds : tie.Need-loop-holds Inv-loop μ-loop
-loop-holds c = (search needs, search needs, search paste-none)
+-- src/lib.rt:195:5
+paste-requires : tie.Need-paste-requires
+paste-requires c κs = search needs
 
--- src/lib.rt:78:23
-shared-slice-read-dst : tie.Need-shared-slice-read-dst Inv-loop μ-loop
-shared-slice-read-dst c = search needs
-
--- src/lib.rt:78:13
-add-dst : tie.Need-add-dst Inv-loop μ-loop
-add-dst c = search needs
-
--- src/lib.rt:78:9
-slice-write-dst : tie.Need-slice-write-dst Inv-loop μ-loop
-slice-write-dst c = search needs
-
--- src/lib.rt:79:9
-add-i : tie.Need-add-i Inv-loop μ-loop
-add-i c = search needs
-
--- src/lib.rt:77:5
-loop-less : tie.Need-loop-less Inv-loop μ-loop
-loop-less c = search needs
-
--- src/lib.rt:77:5
-loop-again : tie.Need-loop-again Inv-loop μ-loop
-loop-again c = (search needs, search needs, search paste-step)
-
--- src/lib.rt:67:1
-same-length : tie.Need-same-length Inv-loop μ-loop
+-- src/lib.rt:186:1
+same-length : tie.Need-same-length
 same-length c = search needs
 
--- src/lib.rt:67:1
-returns-3 : tie.Need-returns-3 Inv-loop μ-loop
-returns-3 c = search paste-done
+-- src/lib.rt:186:1
+returns-3 : tie.Need-returns-3
+returns-3 c = search copy-done
 
 pub copy-at-spec : {M : Type 1} → statement M
-copy-at-spec =
-    tie.close
-    (tie.spec
-    Inv-loop
-    μ-loop
-    returns
-    sub-if2
-    returns-2
-    loop-holds
-    shared-slice-read-dst
-    add-dst
-    slice-write-dst
-    add-i
-    loop-less
-    loop-again
-    same-length
-    returns-3)
+copy-at-spec = tie.close (tie.spec returns sub-if2 returns-2 paste-requires same-length returns-3)

@@ -8,7 +8,7 @@ use Rattle.text.proofs.same_below.Statement.{statement}
 use Rattle.text.proofs.same_below.Tie as tie
 use Rattle.text.proofs.same_below.Reads as reads
 use Rattle.text.proofs.same_below.Lts as lts
-use Rattle.text.proofs.same_block.Reads as same-block-reads
+use Rattle.text.proofs.same_part.Reads as same-part-reads
 
 abbrev Inv-loop : tie.InvT-loop
 Inv-loop a b n k₀ k = (k * 64 ≤ length a) × (k * 64 ≤ length b) × (equal (take (k * 64) a) (take (k * 64) b) ≡ equal (take (n * 64) a) (take (n * 64) b))
@@ -21,16 +21,16 @@ loop-holds : tie.Need-loop-holds Inv-loop μ-loop
 loop-holds c = search needs
 
 -- src/lib.rt:107:30
-sub-same-block : tie.Need-sub-same-block Inv-loop μ-loop
-sub-same-block c = search needs
+sub-same-part : tie.Need-sub-same-part Inv-loop μ-loop
+sub-same-part c = search needs
 
 -- src/lib.rt:107:29
-mul-same-block : tie.Need-mul-same-block Inv-loop μ-loop
-mul-same-block c = search needs
+mul-same-part : tie.Need-mul-same-part Inv-loop μ-loop
+mul-same-part c = search needs
 
 -- src/lib.rt:107:12
-same-block-requires : tie.Need-same-block-requires Inv-loop μ-loop
-same-block-requires c κs = search needs
+same-part-requires : tie.Need-same-part-requires Inv-loop μ-loop
+same-part-requires c κs = search needs
 
 -- src/lib.rt:108:13
 sub-k : tie.Need-sub-k Inv-loop μ-loop
@@ -59,9 +59,9 @@ same-below-spec =
     Inv-loop
     μ-loop
     loop-holds
-    sub-same-block
-    mul-same-block
-    same-block-requires
+    sub-same-part
+    mul-same-part
+    same-part-requires
     sub-k
     loop-less
     loop-again

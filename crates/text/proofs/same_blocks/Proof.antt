@@ -8,7 +8,7 @@ use Rattle.text.proofs.same_blocks.Statement.{statement}
 use Rattle.text.proofs.same_blocks.Tie as tie
 use Rattle.text.proofs.same_blocks.Reads as reads
 use Rattle.text.proofs.same_blocks.Lts as lts
-use Rattle.text.proofs.same_block.Reads as same-block-reads
+use Rattle.text.proofs.same_part.Reads as same-part-reads
 
 abbrev Inv-loop : tie.InvT-loop
 Inv-loop a b i₀ i = (i ≤ length a) × (i ≤ length b) × (commonFrom a b i ≡ common a b)
@@ -33,8 +33,8 @@ returns : tie.Need-returns Inv-loop μ-loop
 returns c = search needs
 
 -- src/lib.rt:74:12
-same-block-requires : tie.Need-same-block-requires Inv-loop μ-loop
-same-block-requires c κs = search needs
+same-part-requires : tie.Need-same-part-requires Inv-loop μ-loop
+same-part-requires c κs = search needs
 
 -- src/lib.rt:75:13
 add-i : tie.Need-add-i Inv-loop μ-loop
@@ -46,7 +46,7 @@ loop-less c = search needs
 
 -- src/lib.rt:70:5
 loop-again : tie.Need-loop-again Inv-loop μ-loop
-loop-again c = (search needs, search needs, blocks-more _ _ (c .before .before .before .before .loop .i) 64 _ (c .before .before .before .loop-test .taken) _ (c .before .same-block .ensures) (c .if2 .taken) (c .before .before .before .before .loop .inv .2))
+loop-again c = (search needs, search needs, blocks-more _ _ (c .before .before .before .before .loop .i) 64 _ (c .before .before .before .loop-test .taken) _ (c .before .same-part .ensures) (c .if2 .taken) (c .before .before .before .before .loop .inv .2))
 
 -- src/lib.rt:77:13
 returns-2 : tie.Need-returns-2 Inv-loop μ-loop
@@ -66,7 +66,7 @@ same-blocks-spec =
     sub-loop
     sub-if1
     returns
-    same-block-requires
+    same-part-requires
     add-i
     loop-less
     loop-again

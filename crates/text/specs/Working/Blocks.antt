@@ -8,7 +8,7 @@ use native.Mathlib.Nat.{zero-add, suc-add}
 use native.Mathlib.Numerals.{add-one}
 use lib.Dec.{eqb}
 use lib.ListN.{length, getD, take, drop, length-drop, take-append-drop}
-use lib.Seq.{take-nil, take-suc, drop-drop, getD-drop, length-take-le}
+use lib.Seq.{take-nil, take-suc, take-all, drop-drop, getD-drop, length-take-le}
 use borrow.Author.Tests.{eq-eqb, ne-eqb}
 use Rattle.text.specs.Choice.{pick, split}
 use Rattle.text.specs.Equal.{equal, equal-true}
@@ -54,37 +54,32 @@ module _ (x y : List ℕ) (u v : ℕ) (h : length x ≡ length y) where
   pub byte-like : u ≡ v → equal (x ++ (u ∷ [])) (y ++ (v ∷ [])) ≡ equal x y
   byte-like e = append-like x y (u ∷ []) (v ∷ []) h (equal-byte u v ∙ eq-eqb u v e)
 
--- the ways out of `same_block`
+-- the ways out of `same_part`
 pub alike-none : (a b : List ℕ) (i : ℕ) → true ≡ alike a b i 0
 unfolding alike equal
 alike-none a b i = refl
 
-pub alike-done : (a b : List ℕ) (i j : ℕ) (s : Bool) → s ≡ alike a b i j → j ≤ 64 → 64 ≤ j → s ≡ alike a b i 64
-alike-done a b i j s e l h = let z : j ≡ 64 = omega (arith, l, h) in e ∙ ap (alike a b i) z
+pub alike-done : (a b : List ℕ) (i j n : ℕ) (s : Bool) → s ≡ alike a b i j → j ≤ n → n ≤ j → s ≡ alike a b i n
+alike-done a b i j n s e l h = let z : j ≡ n = omega (arith, l, h) in e ∙ ap (alike a b i) z
 
-module _ (a b : List ℕ) (i j : ℕ) (ha : i + 64 ≤ length a) (hb : i + 64 ≤ length b) (l : j < 64) where
-  part-more : (c : List ℕ) → i + 64 ≤ length c → take (suc j) (drop i c) ≡ take j (drop i c) ++ (getD c (i + j) 0 ∷ [])
+module _ (a b : List ℕ) (i j n : ℕ) (ha : i + n ≤ length a) (hb : i + n ≤ length b) (l : j < n) where
+  part-more : (c : List ℕ) → i + n ≤ length c → take (suc j) (drop i c) ≡ take j (drop i c) ++ (getD c (i + j) 0 ∷ [])
   part-more c h =
       let k : j < length (drop i c) = rw (length-drop i c) (omega (arith, h, l)) in
       take-suc (drop i c) j 0 k ∙ ap (λ (x : ℕ). take j (drop i c) ++ (x ∷ [])) (getD-drop i c j 0)
 
-  part-length : (c : List ℕ) → i + 64 ≤ length c → length (take j (drop i c)) ≡ j
+  part-length : (c : List ℕ) → i + n ≤ length c → length (take j (drop i c)) ≡ j
   part-length c h = length-take-le j (drop i c) (rw (length-drop i c) (omega (arith, h, l)))
 
   same-length : length (take j (drop i a)) ≡ length (take j (drop i b))
   same-length = part-length a ha ∙ sym (part-length b hb)
 
-  pub alike-unlike : (getD a (i + j) 0 ≡ getD b (i + j) 0 → ⊥) → (f : Bool) → f ≡ false → f ≡ alike a b i (j + 1)
+  pub alike-more : (s : Bool) → s ≡ alike a b i j → (s && eqb (getD a (i + j) 0) (getD b (i + j) 0)) ≡ alike a b i (j + 1)
   unfolding alike
-  alike-unlike n f e =
-      rw (add-one j, part-more a ha, part-more b hb)
-      (e ∙ sym (byte-unlike (take j (drop i a)) (take j (drop i b)) (getD a (i + j) 0) (getD b (i + j) 0) same-length n))
-
-  pub alike-like : getD a (i + j) 0 ≡ getD b (i + j) 0 → (s f : Bool) → s ≡ alike a b i j → f ≡ s → f ≡ alike a b i (j + 1)
-  unfolding alike
-  alike-like q s f e g =
-      rw (add-one j, part-more a ha, part-more b hb)
-      (g ∙ e ∙ sym (byte-like (take j (drop i a)) (take j (drop i b)) (getD a (i + j) 0) (getD b (i + j) 0) same-length q))
+  alike-more s e =
+      rw (add-one j, part-more a ha, part-more b hb, e)
+      (sym (equal-append (take j (drop i a)) (take j (drop i b)) (getD a (i + j) 0 ∷ []) (getD b (i + j) 0 ∷ []) same-length
+      ∙ ap (λ (x : Bool). equal (take j (drop i a)) (take j (drop i b)) && x) (equal-byte (getD a (i + j) 0) (getD b (i + j) 0))))
 
 -- the ways out of `same_blocks`
 common-front : (x u v : List ℕ) → common (x ++ u) (x ++ v) ≡ length x + common u v
@@ -134,3 +129,28 @@ module _ (a b : List ℕ) (k : ℕ) (r : Bool) (inv : equal (take (k * 64) a) (t
   below-like tt =
       sym (append-like (take ((k - 1) * 64) a) (take ((k - 1) * 64) b) (take 64 (drop ((k - 1) * 64) a)) (take 64 (drop ((k - 1) * 64) b)) fronts (sym te ∙ tt))
       ∙ (rw (whole a, whole b) at inv)
+
+-- the ways out of `same_long`
+module _ (a b : List ℕ) (i n : ℕ) (r : Bool) (inv : equal (drop i a) (drop i b) ≡ r) (ha : n ≤ length a - i) (long : length a ≡ length b) (t : Bool) (te : t ≡ alike a b i n) where
+  behind : (c : List ℕ) → drop i c ≡ take n (drop i c) ++ drop (i + n) c
+  behind c = sym (take-append-drop n (drop i c)) ∙ ap (λ (k : List ℕ). take n (drop i c) ++ k) (drop-drop n i c)
+
+  parted : (equal (take n (drop i a)) (take n (drop i b)) && equal (drop (i + n) a) (drop (i + n) b)) ≡ r
+  parted =
+      let m : (c : List ℕ) → n ≤ length c - i → length (take n (drop i c)) ≡ n = λ c h. length-take-le n (drop i c) (rw (length-drop i c) h) in
+      sym (ap (λ (x : List ℕ). equal x (drop i b)) (behind a) ∙ ap (equal (take n (drop i a) ++ drop (i + n) a)) (behind b)
+      ∙ equal-append (take n (drop i a)) (take n (drop i b)) (drop (i + n) a) (drop (i + n) b) (m a ha ∙ sym (m b (omega (arith, ha, long)))))
+      ∙ inv
+
+  pub long-like : t ≡ true → equal (drop (i + n) a) (drop (i + n) b) ≡ r
+  unfolding alike
+  long-like tt = let q : equal (take n (drop i a)) (take n (drop i b)) ≡ true = sym te ∙ tt in rw q at parted
+
+  pub long-unlike : t ≡ false → false ≡ r
+  unfolding alike
+  long-unlike tf = let q : equal (take n (drop i a)) (take n (drop i b)) ≡ false = sym te ∙ tf in rw q at parted
+
+pub long-rest : (a b : List ℕ) (i : ℕ) (r : Bool) → equal (drop i a) (drop i b) ≡ r → (t : Bool) → t ≡ equal (take (length a - i) (drop i a)) (take (length b - i) (drop i b)) → t ≡ r
+long-rest a b i r inv t e =
+    let w : (c : List ℕ) → take (length c - i) (drop i c) ≡ drop i c = λ c. take-all (length c - i) (drop i c) (rw (length-drop i c) (omega arith)) in
+    e ∙ (rw (w a, w b) inv)
