@@ -6,10 +6,7 @@ use crate::machine::number_at;
 use crate::machine::worth_of;
 use crate::tables::program;
 ghost use mathlib.Core.Path.{_≡_};
-ghost use Prim.Native.Nat.{_≤_};
-ghost use lib.Dec.{eqb};
 ghost use lib.ListN.{length, replicate};
-ghost use Rattle.text.specs.Choice.{pick};
 ghost use Rattle.compliance.specs.Working.Rounds.{grantedOf, raised, relaxedAt, relaxFrom, directAt, directTable, Advanced, settledAt, settleFrom, settleOn};
 
 // The rank of assertion j: the lesser of its conditions' and its licensees'.
@@ -119,29 +116,19 @@ fn set_direct(direct: &[u8], reach: &[u8], top: u8, next: &mut [u8])
     }
 }
 
-// 0 where two ranks are equal, else 1.
-fn unlike(a: u8, b: u8) -> usize
-    ensures { λ r. ⌜ (r ≡ pick (eqb a b) 0 1) × (r ≤ 1) ⌝ }
-{
-    if a == b {
-        return 0;
-    }
-    1
-}
-
-// `ranks` becomes `next`; how many ranks changed.
-fn adopt(ranks: &mut [u8], next: &[u8]) -> usize
+// `ranks` becomes `next`; did no rank change?
+fn adopt(ranks: &mut [u8], next: &[u8]) -> bool
     requires { ⌜ length (now ranks) ≡ length (now next) ⌝ }
     ensures { λ r. ⌜ Advanced r (now (ranks .exit)) (now (ranks .entry)) (now (next .entry)) ⌝ }
 {
-    let mut changed: usize = 0;
+    let mut same = true;
     let mut i: usize = 0;
     while i < ranks.len() {
-        changed += unlike(ranks[i], next[i]);
+        same = same & (ranks[i] == next[i]);
         ranks[i] = next[i];
         i += 1;
     }
-    changed
+    same
 }
 
 // Rounds from a table of direct ranks on, until one changes nothing, at most limit; how many changed something. Ranks only rise, so each
@@ -164,7 +151,7 @@ fn settle_on(
     let mut n: usize = 0;
     while n < limit {
         relax_all(authors, conds, ends, code, top, reach, ranks, next, stack);
-        if adopt(ranks, next) == 0 {
+        if adopt(ranks, next) {
             return n;
         }
         n += 1;

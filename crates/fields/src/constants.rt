@@ -10,9 +10,11 @@ use index::Entered;
 use lexical::kind;
 use lexical::line::token_at;
 use lexical::literal::decode_into;
+use lexical::literal::is_short;
 use lexical::literal::literal_length;
 use lexical::token::Token;
 ghost use mathlib.Core.Path.{_≡_};
+ghost use lib.ListN.{length};
 ghost use Rattle.text.specs.Copy.{copied};
 ghost use Rattle.lexical.specs.Literal.{decodedAt};
 ghost use Rattle.index.specs.Working.Adding.{countedInto, entered};
@@ -81,11 +83,11 @@ fn name_fault(s: &[u8], consts: &[u8], places: &[usize], count: usize, t: Token)
     0
 }
 
-// Puts what the literal at `start` gives behind its two-byte length into buf at a place; where there is no room, nothing is written.
-fn put_literal(s: &[u8], start: usize, buf: &mut [u8], at: usize) -> bool
+// Puts what the literal at `start` gives, n bytes, behind its two-byte length into buf at a place; where there is no room, nothing is written.
+fn put_literal(s: &[u8], start: usize, n: usize, buf: &mut [u8], at: usize) -> bool
+    requires { ⌜ n ≡ length (decodedAt (now s) start) ⌝ }
     ensures { λ r. ⌜ copied r (now (buf .exit)) ≡ countedInto (now (buf .entry)) at (decodedAt (now (s .entry)) start) ⌝ }
 {
-    let n = literal_length(s, start);
     if 65535 < n {
         return false;
     }
@@ -119,7 +121,7 @@ fn store(
         Entered::Full => Entered::Full,
         Entered::Now { count: c, end: e } => {
             let n = literal_length(s, start);
-            if put_literal(s, start, consts, e) {
+            if put_literal(s, start, n, consts, e) {
                 return Entered::Now {
                     count: c,
                     end: e + 2 + n,
@@ -145,7 +147,7 @@ fn valued(
     if v.kind != kind::LITERAL {
         return refused(v);
     }
-    if MOST_LITERAL < literal_length(s, v.start) {
+    if !is_short(s, v.start, v.end, MOST_LITERAL) {
         return Settings::Aside {
             reason: 7,
             place: v.start,

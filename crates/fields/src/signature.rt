@@ -2,7 +2,7 @@
 use crate::out::Out;
 use crate::out::unexpected;
 use lexical::kind;
-use lexical::literal::literal_length;
+use lexical::literal::is_short;
 use lexical::token::Token;
 ghost use mathlib.Core.Path.{_≡_};
 ghost use Rattle.fields.specs.Signature.{signature};
@@ -18,7 +18,7 @@ pub fn signature(s: &[u8], t: Token) -> Out
     if t.kind != kind::LITERAL {
         return unexpected(t);
     }
-    if MOST_LITERAL < literal_length(s, t.start) {
+    if !is_short(s, t.start, t.end, MOST_LITERAL) {
         return Out::Aside {
             reason: 7,
             place: t.start,

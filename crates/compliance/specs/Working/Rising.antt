@@ -1,6 +1,6 @@
 -- Ranks rise from round to round, so a round may go on from the one before. Assumes nothing.
 use mathlib.Core.Path.{_≡_, refl, sym, ap, _∙_}
-use mathlib.Core.Bool.{true, false}
+use mathlib.Core.Bool.{Bool, true, false}
 use mathlib.Core.List.{List, [], _∷_, _++_}
 use Prim.Native.Nat.{ℕ, zero, suc, _+_, _-_, _/_, _%_, _≤_, _<_, min, max, zero-le}
 use native.Mathlib.Nat.{le-trans, le-refl, le-antisymm, sub-zero}
@@ -218,24 +218,24 @@ module _ (authors conds ends code : List ℕ) (top depth : ℕ) (reach : List �
       settle-end h = let z : limit - m ≡ 0 = omega arith in rw z at inv
 
       module _ (h : m < limit) (next : List ℕ) (u : Rising ranks next) (st : ℕ) (se : st ≡ depth)
-          (z : List ℕ) (ze : z ≡ relaxFrom authors conds ends code top st reach ranks (length authors) 0 next) (c : ℕ) (y : List ℕ) (adv : Advanced c y ranks z) where
+          (z : List ℕ) (ze : z ≡ relaxFrom authors conds ends code top st reach ranks (length authors) 0 next) (c : Bool) (y : List ℕ) (adv : Advanced c y ranks z) where
         rounded : z ≡ roundOn authors conds ends code top depth reach d ranks
         rounded = (rw se at ze) ∙ rising-round ranks next u
 
-        counted : c ≡ changesOf ranks (roundOn authors conds ends code top depth reach d ranks)
-        counted = adv .count ∙ ap (changesOf ranks) rounded
+        told : c ≡ eqb (changesOf ranks (roundOn authors conds ends code top depth reach d ranks)) 0
+        told = adv .told ∙ ap (λ (x : List ℕ). eqb (changesOf ranks x) 0) rounded
 
         pub settle-on : Rising y z
         settle-on = rw (adv .ranks, rounded) (rising-next ranks next u)
 
-        pub settle-stop : c ≡ 0 → settledAt m y ≡ a
+        pub settle-stop : c ≡ true → settledAt m y ≡ a
         unfolding settleOn
         settle-stop q =
-            let t : eqb (changesOf ranks (roundOn authors conds ends code top depth reach d ranks)) 0 ≡ true = eq-eqb _ 0 (sym counted ∙ q) in
+            let t : eqb (changesOf ranks (roundOn authors conds ends code top depth reach d ranks)) 0 ≡ true = sym told ∙ q in
             rw (adv .ranks, rounded) (rw (one-less limit m h, t) at inv)
 
-        pub settle-more : (c ≡ 0 → ⊥) → settleOn authors conds ends code top depth reach d (limit - (m + 1)) (m + 1) y ≡ a
+        pub settle-more : c ≡ false → settleOn authors conds ends code top depth reach d (limit - (m + 1)) (m + 1) y ≡ a
         unfolding settleOn
         settle-more q =
-            let t : eqb (changesOf ranks (roundOn authors conds ends code top depth reach d ranks)) 0 ≡ false = ne-eqb _ 0 (λ e. q (counted ∙ e)) in
+            let t : eqb (changesOf ranks (roundOn authors conds ends code top depth reach d ranks)) 0 ≡ false = sym told ∙ q in
             rw (adv .ranks, rounded, add-one m) (rw (one-less limit m h, t, add-one m) at inv)

@@ -1,16 +1,16 @@
 -- The ways of the functions that compute rounds. Assumes nothing.
 use mathlib.Core.Path.{_≡_, refl, sym, ap, _∙_}
-use mathlib.Core.Bool.{true, false}
+use mathlib.Core.Bool.{Bool, true, false, _&&_}
 use mathlib.Core.List.{List, [], _++_, append-nil}
 use Prim.Native.Nat.{ℕ, zero, suc, _+_, _-_, _≤_, _<_, min, max}
 use native.Mathlib.Omega.{arith}
 use native.Mathlib.Numerals.{add-one}
-use native.Mathlib.Nat.{sub-zero}
+use native.Mathlib.Nat.{sub-zero, zero-add}
 use lib.Dec.{eqb}
 use lib.ListN.{length, getD, set, take, drop, replicate, length-append, drop-of-length-le}
 use lib.Seq.{drop-cons, set-getD, set-out, set-at, take-suc, take-all, length-take-le, append-snoc, getD-at, drop-length}
 use borrow.Author.Tests.{eq-eqb, ne-eqb}
-use Rattle.text.specs.Choice.{pick}
+use Rattle.text.specs.Choice.{pick, split}
 use Rattle.compliance.specs.Working.Machine.{worth}
 use Rattle.compliance.specs.Tables.{programOf}
 use Rattle.compliance.specs.Working.Tables.{one-less}
@@ -97,10 +97,10 @@ module _ (direct reach : List ℕ) (top i : ℕ) (d next : List ℕ) (inv : next
       let e : i ≡ length d = omega arith in
       inv ∙ rw (e, drop-length d) (append-nil _)
 
--- ---- adopt: a becomes b, and the changes are counted
+-- ---- adopt: a becomes b, and it is told whether nothing changed
 
-unfoldable pub changesFrom : List ℕ → List ℕ → ℕ → ℕ → ℕ
-changesFrom a b i count = count + changesOf (drop i a) (drop i b)
+unfoldable pub stillFrom : List ℕ → List ℕ → ℕ → Bool → Bool
+stillFrom a b i still = still && eqb (changesOf (drop i a) (drop i b)) 0
 
 unfoldable pub adopted : List ℕ → List ℕ → ℕ → List ℕ
 adopted a b i = take i b ++ drop i a
@@ -109,9 +109,18 @@ pub adopt-start : (a b : List ℕ) → a ≡ adopted a b 0
 unfolding adopted
 adopt-start a b = refl
 
-pub changes-start : (a b : List ℕ) → changesFrom a b 0 0 ≡ changesOf a b
-unfolding changesFrom
-changes-start a b = omega arith
+pub still-start : (a b : List ℕ) → stillFrom a b 0 true ≡ eqb (changesOf a b) 0
+unfolding stillFrom
+still-start a b = refl
+
+-- one place more
+still-next : (still : Bool) (x y n : ℕ) → ((still && eqb x y) && eqb n 0) ≡ (still && eqb (pick (eqb x y) 0 1 + n) 0)
+still-next false x y n = refl
+still-next true x y n = split (eqb x y) (λ e. rw (e, zero-add n)) (λ e. rw (e, ne-eqb (1 + n) 0 (λ z. omega (arith, z))))
+
+still-last : (still : Bool) → (still && true) ≡ still
+still-last true = refl
+still-last false = refl
 
 module _ (a b : List ℕ) (l : length a ≡ length b) (i : ℕ) (r : List ℕ) (inv : r ≡ adopted a b i) (k : length r ≡ length a) where
   adopt-read : i < length r → getD r i 0 ≡ getD a i 0
@@ -124,21 +133,19 @@ module _ (a b : List ℕ) (l : length a ≡ length b) (i : ℕ) (r : List ℕ) (
       (set-at (take i b) (getD a i 0) (drop (suc i) a) (getD b i 0) i (length-take-le i b (omega arith))
       ∙ sym (rw (take-suc b i 0 (omega arith)) (append-snoc (take i b) (getD b i 0) (drop (suc i) a))))
 
-  pub changes-more : (count c : ℕ) → changesFrom a b i count ≡ c → i < length r → (o : ℕ) → (o ≡ pick (eqb (getD r i 0) (getD b i 0)) 0 1) × (o ≤ 1)
-      → changesFrom a b (i + 1) (count + o) ≡ c
-  unfolding changesFrom changesOf
-  changes-more count c e h o oe =
-      let u : count + (pick (eqb (getD a i 0) (getD b i 0)) 0 1 + changesOf (drop (suc i) a) (drop (suc i) b)) ≡ c =
+  pub still-more : (still c : Bool) → stillFrom a b i still ≡ c → i < length r → stillFrom a b (i + 1) (still && eqb (getD r i 0) (getD b i 0)) ≡ c
+  unfolding stillFrom changesOf
+  still-more still c e h =
+      let u : (still && eqb (pick (eqb (getD a i 0) (getD b i 0)) 0 1 + changesOf (drop (suc i) a) (drop (suc i) b)) 0) ≡ c =
       rw (drop-cons a i 0 (rw k at h), drop-cons b i 0 (omega arith)) at e in
-      let v : o ≡ pick (eqb (getD a i 0) (getD b i 0)) 0 1 = rw (adopt-read h) at (oe .0) in
-      rw (add-one i) (omega arith)
+      rw (add-one i, adopt-read h) (still-next still (getD a i 0) (getD b i 0) (changesOf (drop (suc i) a) (drop (suc i) b)) ∙ u)
 
-  pub adopt-end : length r ≤ i → (count : ℕ) → changesFrom a b i count ≡ changesOf a b → Advanced count r a b
-  unfolding adopted changesFrom changesOf
-  adopt-end h count e =
+  pub adopt-end : length r ≤ i → (still : Bool) → stillFrom a b i still ≡ eqb (changesOf a b) 0 → Advanced still r a b
+  unfolding adopted stillFrom changesOf
+  adopt-end h still e =
       let z : drop i a ≡ [] = drop-of-length-le a (let q : length a ≤ i = omega arith in q) in
-      let u : count + 0 ≡ changesOf a b = rw z at e in
-      record { count = omega arith; ranks = inv ∙ rw (z, take-all i b (omega arith)) (append-nil b) }
+      let u : (still && true) ≡ eqb (changesOf a b) 0 = rw z at e in
+      record { told = sym (still-last still) ∙ u; ranks = inv ∙ rw (z, take-all i b (omega arith)) (append-nil b) }
 
 -- ---- `settle`
 

@@ -1,5 +1,6 @@
 -- A round over tables of numbers, and rounds until one changes nothing, in the code's shape. Assumes nothing.
 use mathlib.Core.Path.{_≡_}
+use mathlib.Core.Bool.{Bool}
 use mathlib.Core.List.{List, [], _∷_, _++_}
 use Prim.Native.Nat.{ℕ, zero, suc, _+_, min, max}
 use lib.Dec.{eqb}
@@ -31,9 +32,9 @@ changesOf [] ys = 0
 changesOf (x ∷ xs) [] = 0
 changesOf (x ∷ xs) (y ∷ ys) = pick (eqb x y) 0 1 + changesOf xs ys
 
--- the ranks `old` have become `new`, and n of them changed
-pub record Advanced (n : ℕ) (now old new : List ℕ) : Type 0 where
-  pub count : n ≡ changesOf old new
+-- the ranks `old` have become `new`, and whether none of them changed
+pub record Advanced (still : Bool) (now old new : List ℕ) : Type 0 where
+  pub told : still ≡ eqb (changesOf old new) 0
   pub ranks : now ≡ new
 
 -- a number of rounds, and the ranks after them

@@ -1,13 +1,13 @@
 -- Working definitions and laws: the answer to a reading, and the ways out of the readers of KeyNote-Version and Signature. Assumes nothing.
 use mathlib.Core.Path.{_≡_, refl, sym, ap, _∙_}
-use mathlib.Core.Bool.{Bool, true, false}
+use mathlib.Core.Bool.{Bool, true, false, not}
 use mathlib.Core.List.{List, [], _∷_, append-nil}
 use Prim.Native.Nat.{ℕ, zero, suc, _+_, _-_, _<_, _≤_}
 use native.Mathlib.Omega.{arith}
 use lib.Dec.{eqb, leb, ltb}
 use lib.ListN.{length, getD, take, drop, length-drop, drop-of-length-le}
 use lib.Seq.{sets, take-all}
-use borrow.Author.Tests.{lt-ltb, le-ltb, le-leb, lt-leb, eq-eqb, ne-eqb}
+use borrow.Author.Tests.{lt-ltb, le-ltb, le-leb, lt-leb, eq-eqb, ne-eqb, leb-true, leb-false, not-true, not-false}
 use Rattle.text.specs.Choice.{pick, split, clash}
 use Rattle.text.specs.Counted.{part}
 use Rattle.text.specs.Equal.{equal}
@@ -150,11 +150,11 @@ module _ (s : List ℕ) (t : Token) (r : Out) where
   unfolding signature
   signature-none h e = e ∙ simp (ne-eqb _ _ h)
 
-module _ (s : List ℕ) (t : Token) (is : t .kind ≡ Kind.LITERAL) (n : ℕ) (ne : n ≡ length (decodedAt s (t .start))) where
-  pub signature-long : mostLiteral < n → Aside 7 (t .start) ≡ outOf (signature s t)
+module _ (s : List ℕ) (t : Token) (is : t .kind ≡ Kind.LITERAL) (b : Bool) (be : b ≡ leb (length (decodedAt s (t .start))) mostLiteral) where
+  pub signature-long : not b ≡ true → Aside 7 (t .start) ≡ outOf (signature s t)
   unfolding signature
-  signature-long h = simp (eq-eqb _ _ is, sym ne, lt-ltb _ _ h)
+  signature-long h = simp (eq-eqb _ _ is, lt-ltb mostLiteral (length (decodedAt s (t .start))) (leb-false (length (decodedAt s (t .start))) mostLiteral (sym be ∙ not-true b h)))
 
-  pub signature-read : n ≤ mostLiteral → On t ≡ outOf (signature s t)
+  pub signature-read : not b ≡ false → On t ≡ outOf (signature s t)
   unfolding signature
-  signature-read h = simp (eq-eqb _ _ is, sym ne, le-ltb _ _ h)
+  signature-read h = simp (eq-eqb _ _ is, le-ltb mostLiteral (length (decodedAt s (t .start))) (leb-true (length (decodedAt s (t .start))) mostLiteral (sym be ∙ not-false b h)))

@@ -1,12 +1,12 @@
 -- Working definitions: Local-Constants put into the buffer and the table, and the ways out of the functions that do it. Assumes nothing.
 use mathlib.Core.Path.{_≡_, refl, sym, ap, _∙_}
-use mathlib.Core.Bool.{Bool, true, false}
+use mathlib.Core.Bool.{Bool, true, false, not}
 use mathlib.Core.List.{List, [], _∷_, _++_}
 use Prim.Native.Nat.{ℕ, zero, suc, _+_, _-_, _/_, _%_, _<_, _≤_}
 use native.Mathlib.Omega.{arith}
 use lib.Dec.{eqb, leb, ltb}
 use lib.ListN.{length, getD, take, drop, set}
-use borrow.Author.Tests.{lt-ltb, le-ltb, le-leb, lt-leb, eq-eqb, ne-eqb, leb-true, leb-false}
+use borrow.Author.Tests.{lt-ltb, le-ltb, le-leb, lt-leb, eq-eqb, ne-eqb, leb-true, leb-false, not-true, not-false}
 use Rattle.text.specs.Choice.{pick, split}
 use Rattle.text.specs.Copy.{Copied, copied, put, copyAt}
 use Rattle.text.specs.Loop.{Step, next, done, loop, loop-next, loop-done}
@@ -190,19 +190,19 @@ module _ (s m places : List ℕ) (count end : ℕ) (t v : Token) where
   unfolding valueIn
   value-none r h re = rw re (simp (ne-eqb _ _ h))
 
-  module _ (h : v .kind ≡ Kind.LITERAL) (n : ℕ) (ne : n ≡ length (decodedAt s (v .start))) where
-    pub value-long : mostLiteral < n → stored (Aside 7 (v .start)) m places ≡ valueIn s m places count end t v
+  module _ (h : v .kind ≡ Kind.LITERAL) (b : Bool) (be : b ≡ leb (length (decodedAt s (v .start))) mostLiteral) where
+    pub value-long : not b ≡ true → stored (Aside 7 (v .start)) m places ≡ valueIn s m places count end t v
     unfolding valueIn
-    value-long k = simp (eq-eqb _ _ h, sym ne, lt-ltb _ _ k)
+    value-long k = simp (eq-eqb _ _ h, lt-ltb mostLiteral (length (decodedAt s (v .start))) (leb-false (length (decodedAt s (v .start))) mostLiteral (sym be ∙ not-true b k)))
 
-    module _ (k : n ≤ mostLiteral) (w : List ℕ) (we : w ≡ wordOf s t) (r : Entered) (p q : List ℕ) (re : entered r p q ≡ storeIn m places count end w (decodedAt s (v .start))) where
+    module _ (k : not b ≡ false) (w : List ℕ) (we : w ≡ wordOf s t) (r : Entered) (p q : List ℕ) (re : entered r p q ≡ storeIn m places count end w (decodedAt s (v .start))) where
       pub value-full : r ≡ Full → stored (Aside 0 0) p q ≡ valueIn s m places count end t v
       unfolding valueIn
-      value-full f = simp (eq-eqb _ _ h, sym ne, le-ltb _ _ k, sym we, sym re, f)
+      value-full f = simp (eq-eqb _ _ h, le-ltb mostLiteral (length (decodedAt s (v .start))) (leb-true (length (decodedAt s (v .start))) mostLiteral (sym be ∙ not-false b k)), sym we, sym re, f)
 
       pub value-on : (c e : ℕ) (u : Token) → r ≡ Now c e → u ≡ tokenAt s Kind.IN-FIELD (v .end) → stored (On c e u) p q ≡ valueIn s m places count end t v
       unfolding valueIn
-      value-on c e u f ue = rw ue (simp (eq-eqb _ _ h, sym ne, le-ltb _ _ k, sym we, sym re, f))
+      value-on c e u f ue = rw ue (simp (eq-eqb _ _ h, le-ltb mostLiteral (length (decodedAt s (v .start))) (leb-true (length (decodedAt s (v .start))) mostLiteral (sym be ∙ not-false b k)), sym we, sym re, f))
 
 -- `assigned`
 module _ (s m places : List ℕ) (count end : ℕ) (t a : Token) (ae : a ≡ tokenAt s Kind.IN-FIELD (t .end)) where

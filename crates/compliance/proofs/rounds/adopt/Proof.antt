@@ -1,54 +1,58 @@
 use mathlib.Core.Path.{_≡_}
-use Prim.Native.Nat.{_-_, _≤_}
+use Prim.Native.Nat.{_-_}
+use lib.Dec.{eqb}
 use lib.ListN.{length}
 use Rattle.compliance.specs.Working.Rounds.{changesOf}
-use Rattle.compliance.specs.Working.RoundWays.{adopted, changesFrom, adopt-start, changes-start, adopt-more, changes-more, adopt-end}
+use Rattle.compliance.specs.Working.RoundWays.{adopted, stillFrom, adopt-start, still-start, adopt-more, still-more, adopt-end}
 use borrow.Author.Needs.{needs}
 use Rattle.compliance.proofs.rounds.adopt.Statement.{statement}
 use Rattle.compliance.proofs.rounds.adopt.Tie as tie
 use Rattle.compliance.proofs.rounds.adopt.Reads as reads
 use Rattle.compliance.proofs.rounds.adopt.Lts as lts
-use Rattle.compliance.proofs.rounds.unlike.Reads as unlike-reads
 
 abbrev Inv-loop : tie.InvT-loop
-Inv-loop ranks₀ next changed₀ i₀ ranks changed i = (changed ≤ i) × (length ranks ≡ length ranks₀) × (ranks ≡ adopted ranks₀ next i) × (changesFrom ranks₀ next i changed ≡ changesOf ranks₀ next)
+Inv-loop ranks₀ next same₀ i₀ ranks same i = (length ranks ≡ length ranks₀) × (ranks ≡ adopted ranks₀ next i) × (stillFrom ranks₀ next i same ≡ eqb (changesOf ranks₀ next) 0)
 
 abbrev μ-loop : tie.MeasureT-loop
-μ-loop ranks₀ next changed₀ i₀ ranks changed i = length ranks₀ - i
+μ-loop ranks₀ next same₀ i₀ ranks same i = length ranks₀ - i
 
+-- src/rounds.rt:128:5
 loop-holds : tie.Need-loop-holds Inv-loop μ-loop
-loop-holds c = (search needs, search needs, search adopt-start, search changes-start)
+loop-holds c = (search needs, search adopt-start, search still-start)
 
-slice-read-unlike : tie.Need-slice-read-unlike Inv-loop μ-loop
-slice-read-unlike c = search needs
+-- src/rounds.rt:129:24
+slice-read-same : tie.Need-slice-read-same Inv-loop μ-loop
+slice-read-same c = search needs
 
-shared-slice-read-unlike : tie.Need-shared-slice-read-unlike Inv-loop μ-loop
-shared-slice-read-unlike c = search needs
+-- src/rounds.rt:129:36
+shared-slice-read-same : tie.Need-shared-slice-read-same Inv-loop μ-loop
+shared-slice-read-same c = search needs
 
-unlike-requires : tie.Need-unlike-requires Inv-loop μ-loop
-unlike-requires c κs = search needs
-
-add-changed : tie.Need-add-changed Inv-loop μ-loop
-add-changed c = search needs
-
+-- src/rounds.rt:130:20
 shared-slice-read-ranks : tie.Need-shared-slice-read-ranks Inv-loop μ-loop
 shared-slice-read-ranks c = search needs
 
+-- src/rounds.rt:130:9
 slice-write-ranks : tie.Need-slice-write-ranks Inv-loop μ-loop
 slice-write-ranks c = search needs
 
+-- src/rounds.rt:131:9
 add-i : tie.Need-add-i Inv-loop μ-loop
 add-i c = search needs
 
+-- src/rounds.rt:128:5
 loop-less : tie.Need-loop-less Inv-loop μ-loop
 loop-less c = search needs
 
+-- src/rounds.rt:128:5
 loop-again : tie.Need-loop-again Inv-loop μ-loop
-loop-again c = (search needs, search needs, search adopt-more, search changes-more)
+loop-again c = (search needs, search adopt-more, search still-more)
 
+-- src/rounds.rt:122:1
 same-length : tie.Need-same-length Inv-loop μ-loop
 same-length c = search needs
 
+-- src/rounds.rt:122:1
 returns : tie.Need-returns Inv-loop μ-loop
 returns c = search adopt-end
 
@@ -59,10 +63,8 @@ adopt-spec =
     Inv-loop
     μ-loop
     loop-holds
-    slice-read-unlike
-    shared-slice-read-unlike
-    unlike-requires
-    add-changed
+    slice-read-same
+    shared-slice-read-same
     shared-slice-read-ranks
     slice-write-ranks
     add-i

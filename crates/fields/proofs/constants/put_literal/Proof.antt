@@ -6,11 +6,6 @@ use Rattle.fields.proofs.constants.put_literal.Tie as tie
 use Rattle.fields.proofs.constants.put_literal.Reads as reads
 use Rattle.fields.proofs.constants.put_literal.Lts as lts
 use Rattle.lexical.proofs.decode_into.Reads as decode-into-reads
-use Rattle.lexical.proofs.literal_length.Reads as literal-length-reads
-
--- src/constants.rt:88:9
-literal-length-requires : tie.Need-literal-length-requires
-literal-length-requires c κs = search needs
 
 -- src/constants.rt:90:9
 returns : tie.Need-returns
@@ -76,7 +71,6 @@ pub put-literal-spec : {M : Type 1} → statement M
 put-literal-spec =
     tie.close
     (tie.spec
-    literal-length-requires
     returns
     returns-2
     sub-if3
