@@ -18,7 +18,7 @@ use Rattle.record.specs.Read.{accepted}
 use Rattle.record.specs.Record.{readRecord}
 use Rattle.record.specs.Lies.{Lie, lie[], lie∷, StringAt, AttributeAt, AssertionAt, Lies}
 use Rattle.record.specs.Located.{read-lies}
-use Rattle.record.specs.Places.{stringSize, attributeSize, assertionSize, placesFrom, attributesStart, assertionsStart}
+use Rattle.record.specs.Places.{stringSize, attributeSize, assertionSize, placesFrom, requestersStart, attributesStart, assertionsStart}
 use Rattle.record.specs.Valid.{Valid, SuppliedOk}
 use Rattle.record.specs.Valid.{Each as All, each[], each∷}
 use Rattle.record.specs.RoundTrip.{Bytes, read-back}
@@ -79,6 +79,23 @@ data Ended (size : Size) (q : Query) (start : ℕ) (direct sheet : List ℕ) (l 
 ended-same : {size : Size} {q : Query} {start : ℕ} {direct sheet : List ℕ} {l l′ : List Assertion} {i i′ : ℕ} {f f′ : List ℕ} {w : Went} → l ≡ l′ → i ≡ i′ → f ≡ f′
     → Ended size q start direct sheet l i f w → Ended size q start direct sheet l′ i′ f′ w
 ended-same a b c r = rw (← a, ← b, ← c) r
+
+-- the places of a query's items in its record
+abbrev pub valuesAt : Query → List ℕ
+valuesAt q = placesFrom stringSize 2 2 (q .values)
+
+abbrev pub requestersAt : Query → List ℕ
+requestersAt q = placesFrom stringSize 2 (requestersStart q) (q .requesters)
+
+abbrev pub attributesAt : Query → List ℕ
+attributesAt q = placesFrom attributeSize 2 (attributesStart q) (q .attributes)
+
+abbrev pub assertionsAt : Query → List ℕ
+assertionsAt q = placesFrom assertionSize 3 (assertionsStart q) (q .assertions)
+
+-- the three numbers, and the page with the report in front
+abbrev pub solvedAs : Query → List ℕ → Solved
+solvedAs q page = solvedBy (record { rank = classOf q; rounds = roundsOf q; reached = reachedOf q }) (report (readings q) ++ drop (needed q) page)
 
 -- the three numbers of the system that those assertions make, and the page
 abbrev gives : Query → List Assertion → List ℕ → Solved
@@ -298,13 +315,13 @@ module _ (s : List ℕ) (q : Query) (page : List ℕ) (start : ℕ) (consts : Li
     head-is = header-is page (length texts) (omega (arith, room)) (omega (arith, n, few))
 
     page-is : _≡_ {A = Solved} (gives q (map (ranked q) (keptOf (map reading (q .assertions)))) (((1 ∷ pairBytes (3 * length texts)) ++ entriesBytes (map reading (q .assertions))) ++ drop (3 + 3 * (0 + length (q .assertions))) page))
-        (solvedBy (record { rank = classOf q; rounds = roundsOf q; reached = reachedOf q }) (report (readings q) ++ drop (needed q) page))
+        (solvedAs q page)
     unfolding classOf roundsOf reachedOf system readings
     page-is = ap (solvedBy (record { rank = rank (system q) policy; rounds = rounds (system q); reached = reached (system q) })) (page-end q (length texts) page n)
 
     -- in small tables first
     filled-from : filledIn s values names texts start consts pool places direct x page
-        ≡ solvedBy (record { rank = classOf q; rounds = roundsOf q; reached = reachedOf q }) (report (readings q) ++ drop (needed q) page)
+        ≡ solvedAs q page
     unfolding filledIn
     filled-from =
         each-small direct fit texts tl oks smalls [] 0 (1 ∷ pairBytes (3 * length texts)) _ (omega arith) (omega (arith, n)) refl
@@ -314,7 +331,7 @@ module _ (s : List ℕ) (q : Query) (page : List ℕ) (start : ℕ) (consts : Li
 
     -- in large tables at once
     long-from : filledLong s values names texts start consts pool places direct x page
-        ≡ solvedBy (record { rank = classOf q; rounds = roundsOf q; reached = reachedOf q }) (report (readings q) ++ drop (needed q) page)
+        ≡ solvedAs q page
     unfolding filledLong grownIn
     long-from =
         solved-ended (topOf values) te (each-large direct fit tl oks smalls [] 0 (1 ∷ pairBytes (3 * length texts)) _ (omega arith)
@@ -339,18 +356,18 @@ module _ (s : List ℕ) (q : Query) (b : Bytes s) (e : readRecord s ≡ accepted
   lies : Lies s q
   lies = read-lies s q e
 
-  pub filled-is : filledIn s (placesFrom stringSize 2 2 (q .values)) (placesFrom attributeSize 2 (attributesStart q) (q .attributes)) (placesFrom assertionSize 3 (assertionsStart q) (q .assertions))
+  pub filled-is : filledIn s (valuesAt q) (attributesAt q) (assertionsAt q)
       start consts pool places direct x page
-      ≡ solvedBy (record { rank = classOf q; rounds = roundsOf q; reached = reachedOf q }) (report (readings q) ++ drop (needed q) page)
+      ≡ solvedAs q page
   filled-is =
-      filled-from s q page start consts x pool places direct st (placesFrom stringSize 2 2 (q .values)) (placesFrom attributeSize 2 (attributesStart q) (q .attributes))
-      (placesFrom assertionSize 3 (assertionsStart q) (q .assertions)) (lies .values) (lies .attributes) (lies .assertions) (valid .assertions .1)
+      filled-from s q page start consts x pool places direct st (valuesAt q) (attributesAt q)
+      (assertionsAt q) (lies .values) (lies .attributes) (lies .assertions) (valid .assertions .1)
       (small-readings s q b e) (omega (arith, valid .values .0 .1)) (valid .assertions .0 .1) (page-room q page room)
 
-  pub long-is : filledLong s (placesFrom stringSize 2 2 (q .values)) (placesFrom attributeSize 2 (attributesStart q) (q .attributes)) (placesFrom assertionSize 3 (assertionsStart q) (q .assertions))
+  pub long-is : filledLong s (valuesAt q) (attributesAt q) (assertionsAt q)
       start consts pool places direct x page
-      ≡ solvedBy (record { rank = classOf q; rounds = roundsOf q; reached = reachedOf q }) (report (readings q) ++ drop (needed q) page)
+      ≡ solvedAs q page
   long-is =
-      long-from s q page start consts x pool places direct st (placesFrom stringSize 2 2 (q .values)) (placesFrom attributeSize 2 (attributesStart q) (q .attributes))
-      (placesFrom assertionSize 3 (assertionsStart q) (q .assertions)) (lies .values) (lies .attributes) (lies .assertions) (valid .assertions .1)
+      long-from s q page start consts x pool places direct st (valuesAt q) (attributesAt q)
+      (assertionsAt q) (lies .values) (lies .attributes) (lies .assertions) (valid .assertions .1)
       (small-readings s q b e) (omega (arith, valid .values .0 .1)) (valid .assertions .0 .1) (page-room q page room)

@@ -4,14 +4,13 @@ use mathlib.Core.List.{List, [], _++_}
 use Prim.Native.Nat.{ℕ, _+_, _≤_}
 use native.Mathlib.Omega.{arith}
 use lib.Dec.{ltb}
-use lib.ListN.{length, take, drop, replicate, length-replicate}
+use lib.ListN.{length, take, replicate, length-replicate}
 use Rattle.text.specs.CopyLaws.{put-length}
 use Rattle.text.specs.Copy.{put}
 use Rattle.text.specs.Choice.{split}
 use Rattle.text.specs.Join.{joined}
 use Rattle.record.specs.Query.{Query}
 use Rattle.record.specs.Encode.{stringBytes}
-use Rattle.record.specs.Places.{stringSize, attributeSize, assertionSize, placesFrom, requestersStart, attributesStart, assertionsStart}
 use Rattle.record.specs.Read.{accepted}
 use Rattle.record.specs.Record.{readRecord}
 use Rattle.record.specs.Lies.{Lies}
@@ -23,31 +22,12 @@ use Rattle.constants.specs.Theorems.Begun.{begun-is}
 use Rattle.expression.specs.Conditions.{top}
 use Rattle.system.specs.declared.asked.Index.{Index}
 use Rattle.system.specs.Working.Asking.{Asked, Begun, begun}
-use Rattle.system.specs.Working.Solving.{Solved, solvedBy, filledIn, filledLong, onAsked, onBegun, onWritten, solvedIn}
-use Rattle.keynote.specs.Answer.{readings, classOf, roundsOf, reachedOf}
-use Rattle.keynote.specs.Report.{report}
+use Rattle.system.specs.Working.Solving.{filledIn, filledLong, onAsked, onBegun, onWritten, solvedIn}
 use Rattle.keynote.specs.Outcome.{needed}
-use Rattle.keynote.specs.Theorems.Filled.{long-is, filled-is}
+use Rattle.keynote.specs.Theorems.Filled.{valuesAt, requestersAt, attributesAt, assertionsAt, solvedAs, long-is, filled-is}
 use Rattle.keynote.specs.Theorems.Started.{startNames, Started}
 use Rattle.keynote.specs.Theorems.Marked.{Stage, Staged, staged, all-staged}
 use Rattle.keynote.specs.Theorems.Starting.{lie-strings, values-joined, requesters-joined, string-length, beginning, begun-fits, Rooted, rooted, begin-rooted}
-
--- the places of a query's items in its record
-abbrev pub valuesAt : Query → List ℕ
-valuesAt q = placesFrom stringSize 2 2 (q .values)
-
-abbrev pub requestersAt : Query → List ℕ
-requestersAt q = placesFrom stringSize 2 (requestersStart q) (q .requesters)
-
-abbrev pub attributesAt : Query → List ℕ
-attributesAt q = placesFrom attributeSize 2 (attributesStart q) (q .attributes)
-
-abbrev pub assertionsAt : Query → List ℕ
-assertionsAt q = placesFrom assertionSize 3 (assertionsStart q) (q .assertions)
-
--- the three numbers, and the page with the report in front
-abbrev pub solvedAs : Query → List ℕ → Solved
-solvedAs q page = solvedBy (record { rank = classOf q; rounds = roundsOf q; reached = reachedOf q }) (report (readings q) ++ drop (needed q) page)
 
 -- that the assertions, read into tables that are started, give them
 abbrev pub Filled : List ℕ → Query → List ℕ → Type 0
