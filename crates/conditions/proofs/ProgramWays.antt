@@ -164,11 +164,11 @@ module _ (s m : List ℕ) (top : ℕ) (t : Token) where
   unfolding conditionsAt
   conditions-none h = simp (lt-ltb _ _ h)
 
-  module _ (h : top ≤ length m) where
-    pub conditions-short : length m - top < length s → ran (Aside 0 (t .start)) m ≡ conditionsAt s m top t
+  module _ (h : top ≤ length m) (n : ℕ) (ne : n ≡ length s - t .start) where
+    pub conditions-short : length m - top < n → ran (Aside 0 (t .start)) m ≡ conditionsAt s m top t
     unfolding conditionsAt
-    conditions-short k = simp (le-ltb _ _ h, lt-ltb _ _ k)
+    conditions-short k = simp (le-ltb _ _ h, sym ne, lt-ltb _ _ k)
 
-    pub conditions-read : length s ≤ length m - top → (y : Ran) → y ≡ programAt DEPTH s m top 0 t → y ≡ conditionsAt s m top t
+    pub conditions-read : n ≤ length m - top → (y : Ran) → y ≡ programAt DEPTH s m top 0 t → y ≡ conditionsAt s m top t
     unfolding conditionsAt
-    conditions-read k y ye = simp (le-ltb _ _ h, le-ltb _ _ k) ye
+    conditions-read k y ye = simp (le-ltb _ _ h, sym ne, le-ltb _ _ k) ye

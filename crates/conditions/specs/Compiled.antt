@@ -41,17 +41,17 @@ module _ (s m : List ℕ) (top : ℕ) where
       → Compiled s m top (ok q n) (ran (Found x p u n) b)
   compiled-from q x p u n b e l h (wrote c k w) = compiled q x p u n b c e l h k w
 
-  both-hold : (at : ℕ) → length s + 2 ≤ length m - top → top ≤ length m → (q : Parsed Program) (r : Ran) → SameAs (ProgramCodes s) s m top q r → Blocked s 0 top at r → Compiled s m top q r
+  both-hold : (at : ℕ) → length s - at + 2 ≤ length m - top → top ≤ length m → (q : Parsed Program) (r : Ran) → SameAs (ProgramCodes s) s m top q r → Blocked s 0 top at r → Compiled s m top q r
   both-hold at room fit _ _ (as-aside r p b i) (blocked-aside _ _ _ k) = refused r p b k i
   both-hold at room fit _ _ (as-ok q x p u n b w (grown (keeps l f) t g)) (blocked-found _ _ _ _ _ k e i j) =
-      let h : u < length m = omega (arith, room, fit, w, j) in compiled-from q x p u n b e l h (g h)
+      let h : u < length m = omega (arith, room, fit, w, i, j) in compiled-from q x p u n b e l h (g h)
 
-  whole-paced : (at : ℕ) → top ≤ length m → length s ≤ length m - top → Blocked s 0 top (nextAt s at .start) (conditionsAt s m top (nextAt s at))
+  whole-paced : (at : ℕ) → top ≤ length m → length s - nextAt s at .start ≤ length m - top → Blocked s 0 top (nextAt s at .start) (conditionsAt s m top (nextAt s at))
   unfolding conditionsAt
   whole-paced at fit room = rw (le-ltb _ _ fit, le-ltb _ _ room) (block-paced s DEPTH m top 0 (nextAt s at) (next-sound s at) (omega arith))
 
-  -- With an entry for each byte of the text and two more the code is whole, and the depth is never exhausted.
-  pub conditions-compiled : (at : ℕ) → length s < 65536 → top ≤ length m → length s + 2 ≤ length m - top
+  -- With an entry for each byte from the first token on and two more the code is whole, and the depth is never exhausted.
+  pub conditions-compiled : (at : ℕ) → length s < 65536 → top ≤ length m → length s - nextAt s at .start + 2 ≤ length m - top
       → Compiled s m top (readProgram s (nextAt s at)) (conditionsAt s m top (nextAt s at))
   conditions-compiled at short fit room =
       both-hold (nextAt s at .start) room fit (readProgram s (nextAt s at)) (conditionsAt s m top (nextAt s at))

@@ -17,6 +17,8 @@ use lexical::line::token_at;
 use lexical::token::Token;
 use syntax;
 ghost use mathlib.Core.Path.{_≡_};
+ghost use Prim.Native.Nat.{_-_};
+ghost use lib.ListN.{length};
 ghost use Rattle.conditions.specs.Working.Emit.{ran};
 ghost use Rattle.conditions.specs.Working.Program.{clauseAt, testedAt, valueAt, nestedAt, programAt, clausesAt, lastAt, conditionsAt};
 
@@ -213,8 +215,18 @@ fn clauses(s: &[u8], code: &mut [u32], from: usize, nest: usize, first: Token, d
     last(nest, top, t)
 }
 
-// Reads a Conditions field from the token behind its label on, and writes its code from `top` on. It asks for room for an entry a byte
-// of the text, and writes nothing where there is less.
+// How many bytes a text has from a place on.
+pub fn bytes_left(s: &[u8], at: usize) -> usize
+    ensures { λ r. ⌜ r ≡ length (now (s .entry)) - at ⌝ }
+{
+    if s.len() <= at {
+        return 0;
+    }
+    s.len() - at
+}
+
+// Reads a Conditions field from the token behind its label on, and writes its code from `top` on. It asks for room for an entry for each
+// byte from that token on, and writes nothing where there is less.
 pub fn conditions(s: &[u8], code: &mut [u32], top: usize, t: Token) -> Out
     ensures { λ r. ⌜ ran r (now (code .exit)) ≡ conditionsAt (now (s .entry)) (now (code .entry)) top t ⌝ }
 {
@@ -224,7 +236,7 @@ pub fn conditions(s: &[u8], code: &mut [u32], top: usize, t: Token) -> Out
             at: t.start,
         };
     }
-    if code.len() - top < s.len() {
+    if code.len() - top < bytes_left(s, t.start) {
         return Out::Aside {
             reason: 0,
             at: t.start,

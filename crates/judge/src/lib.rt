@@ -1,5 +1,6 @@
 // A Conditions field read, compiled and run.
 use conditions::emit::Out;
+use conditions::program::bytes_left;
 use conditions::program::conditions;
 use lexical::token::Token;
 use machine::run_here;
@@ -90,6 +91,21 @@ fn judge_tiny<'a>(
     judge_in(s, t, query, consts, values, names, constants, &mut code)
 }
 
+fn judge_brief<'a>(
+    s: &[u8],
+    t: Token,
+    query: &'a [u8],
+    consts: &'a [u8],
+    values: &[usize],
+    names: &[usize],
+    constants: &[usize],
+) -> Judged
+    ensures { λ r. ⌜ r ≡ judgedIn (now (s .entry)) t (now (query .entry)) (now (consts .entry)) (now (values .entry)) (now (names .entry)) (now (constants .entry)) (replicate 256 0) 208 77824 ⌝ }
+{
+    let mut code = [0u32; 256];
+    judge_in(s, t, query, consts, values, names, constants, &mut code)
+}
+
 fn judge_short<'a>(
     s: &[u8],
     t: Token,
@@ -135,8 +151,8 @@ fn judge_long<'a>(
     judge_in(s, t, query, consts, values, names, constants, &mut code)
 }
 
-// The rank of the Conditions field whose first token is t, and the token behind it; or the first fault. The tables are its own: small ones
-// for the code of short texts.
+// The rank of the Conditions field whose first token is t, and the token behind it; or the first fault. The tables are its own, that of the
+// code by how many bytes are left of the text.
 pub fn judge_field<'a>(
     s: &[u8],
     t: Token,
@@ -148,13 +164,17 @@ pub fn judge_field<'a>(
 ) -> Judged
     ensures { λ r. ⌜ r ≡ judgedHere (now (s .entry)) t (now (query .entry)) (now (consts .entry)) (now (values .entry)) (now (names .entry)) (now (constants .entry)) ⌝ }
 {
-    if s.len() <= 126 {
+    let n = bytes_left(s, t.start);
+    if n <= 126 {
         return judge_tiny(s, t, query, consts, values, names, constants);
     }
-    if s.len() <= 510 {
+    if n <= 254 {
+        return judge_brief(s, t, query, consts, values, names, constants);
+    }
+    if n <= 510 {
         return judge_short(s, t, query, consts, values, names, constants);
     }
-    if s.len() <= 2046 {
+    if n <= 2046 {
         return judge_middle(s, t, query, consts, values, names, constants);
     }
     judge_long(s, t, query, consts, values, names, constants)

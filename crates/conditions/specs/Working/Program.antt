@@ -95,4 +95,4 @@ clausesRest k s m top nest t = clausesLoop (λ m top nest t. clauseAt k s m top 
 unfoldable pub conditionsAt : List ℕ → List ℕ → ℕ → Token → Ran
 conditionsAt s m top t =
     pick (ltb (length m) top) (ran (Aside 0 (t .start)) m)
-    (pick (ltb (length m - top) (length s)) (ran (Aside 0 (t .start)) m) (programAt DEPTH s m top 0 t))
+    (pick (ltb (length m - top) (length s - t .start)) (ran (Aside 0 (t .start)) m) (programAt DEPTH s m top 0 t))

@@ -179,7 +179,7 @@ module _ (s : List ℕ) (short : length s < 65536) where
         clauses-body m₀ top₀ d nest (λ m top t within. clause-same d m top nest t within) t top m within g
 
   -- The code that `conditions` writes says what the field says.
-  pub conditions-same : (m : List ℕ) (top : ℕ) (t : Token) → t .start ≤ length s → top ≤ length m → length s ≤ length m - top
+  pub conditions-same : (m : List ℕ) (top : ℕ) (t : Token) → t .start ≤ length s → top ≤ length m → length s - t .start ≤ length m - top
       → SameProgram m top (Read.readProgram s t) (Write.conditionsAt s m top t)
   unfolding Read.readProgram Write.conditionsAt
   conditions-same m top t within h k = rw (le-ltb _ _ h, le-ltb _ _ k) (block-same Read.DEPTH m top 0 t within)

@@ -53,7 +53,7 @@ module _ {rec consts values names constants : List ℕ} {env : Environment} (sho
       rw (le-ltb _ _ fit, k, run-conditions shows depth space s q c codes (omega (arith, deep, read-need s t q n e)) (omega (arith, wide, read-room s t q n e)))
       (rank-byte env q few)
 
-  module _ (at : ℕ) (m : List ℕ) (room : length s + 2 ≤ length m) where
+  module _ (at : ℕ) (m : List ℕ) (room : length s - nextAt s at .start + 2 ≤ length m) where
     abbrev ranks : List ℕ → ℕ → ℕ
     ranks b u = rankAt b u s rec consts values names constants depth space
 
@@ -70,16 +70,17 @@ module _ {rec consts values names constants : List ℕ} {env : Environment} (sho
 -- With at most 256 values and a text of at most 8,192 bytes, `judge_field` gives the field's rank or its first fault.
 module _ {rec consts values names constants : List ℕ} {env : Environment} (shows : Shows rec consts values names constants env) (few : length (env .values) ≤ 256)
     (s : List ℕ) (short : length s ≤ 8192) (at : ℕ) where
-  size-fits : length s + 2 ≤ codeSize (length s)
+  size-fits : (n : ℕ) → n ≤ 8192 → n + 2 ≤ codeSize n
   unfolding codeSize
-  size-fits =
-      split (leb (length s) 126) (λ f. rw f (omega (arith, leb-true (length s) 126 f)))
-      (λ f. split (leb (length s) 510) (λ g. rw (f, g) (omega (arith, leb-true (length s) 510 g)))
-      (λ g. split (leb (length s) 2046) (λ e. rw (f, g, e) (omega (arith, leb-true (length s) 2046 e))) (λ e. rw (f, g, e) (omega (arith, short)))))
+  size-fits n h =
+      split (leb n 126) (λ f. rw f (omega (arith, leb-true n 126 f)))
+      (λ f. split (leb n 254) (λ d. rw (f, d) (omega (arith, leb-true n 254 d)))
+      (λ d. split (leb n 510) (λ g. rw (f, d, g) (omega (arith, leb-true n 510 g)))
+      (λ g. split (leb n 2046) (λ e. rw (f, d, g, e) (omega (arith, leb-true n 2046 e))) (λ e. rw (f, d, g, e) (omega (arith, h))))))
 
-  code-fits : length s + 2 ≤ length (codeRoom s)
-  code-fits = rw (length-replicate {A = ℕ} (codeSize (length s)) 0) size-fits
+  code-fits : length s - nextAt s at .start + 2 ≤ length (codeRoom s (nextAt s at))
+  code-fits = rw (length-replicate {A = ℕ} (codeSize (length s - nextAt s at .start)) 0) (size-fits (length s - nextAt s at .start) (omega (arith, short)))
 
   pub judge-field-read : Judging s env (readProgram s (nextAt s at)) (judgedHere s (nextAt s at) rec consts values names constants)
   unfolding judgedHere
-  judge-field-read = judge-read shows few s (omega (arith, short)) 208 77824 (omega arith) (omega arith) at (codeRoom s) code-fits
+  judge-field-read = judge-read shows few s (omega (arith, short)) 208 77824 (omega arith) (omega arith) at (codeRoom s (nextAt s at)) code-fits

@@ -1,7 +1,7 @@
 -- Conditions read into code that is run, as the program does it; and the ways out of its functions. Assumes nothing.
 use mathlib.Core.Path.{_≡_, sym}
 use mathlib.Core.List.{List, [], map}
-use Prim.Native.Nat.{ℕ, _%_, _<_, _≤_}
+use Prim.Native.Nat.{ℕ, _-_, _%_, _<_, _≤_}
 use lib.Dec.{ltb, leb}
 use lib.ListN.{length, take, replicate}
 use borrow.Author.Tests.{lt-ltb, le-ltb, le-leb, lt-leb}
@@ -40,16 +40,17 @@ unfoldable pub judgedIn : List ℕ → Token → List ℕ → List ℕ → List 
 judgedIn s t rec consts values names constants m depth space =
     judgedOf (λ b u. rankAt b u s rec consts values names constants depth space) (conditionsAt s m 0 t)
 
--- the entries of a table for the code of a text of n bytes: one for each byte and two more, for texts of at most 8,192 bytes
+-- the entries of a table for the code of n bytes of text: one for each byte and two more, for at most 8,192 bytes
 unfoldable pub codeSize : ℕ → ℕ
-codeSize n = pick (leb n 126) 128 (pick (leb n 510) 512 (pick (leb n 2046) 2048 8194))
+codeSize n = pick (leb n 126) 128 (pick (leb n 254) 256 (pick (leb n 510) 512 (pick (leb n 2046) 2048 8194)))
 
-abbrev pub codeRoom : List ℕ → List ℕ
-codeRoom s = replicate (codeSize (length s)) 0
+-- by the bytes from the token t on
+abbrev pub codeRoom : List ℕ → Token → List ℕ
+codeRoom s t = replicate (codeSize (length s - t .start)) 0
 
 -- the same in tables of its own: room for 208 numbers and 77,824 bytes
 unfoldable pub judgedHere : List ℕ → Token → List ℕ → List ℕ → List ℕ → List ℕ → List ℕ → Judged
-judgedHere s t rec consts values names constants = judgedIn s t rec consts values names constants (codeRoom s) 208 77824
+judgedHere s t rec consts values names constants = judgedIn s t rec consts values names constants (codeRoom s t) 208 77824
 
 module _ (s rec consts values names constants : List ℕ) (depth space : ℕ) where
   -- `rank_here`
@@ -75,25 +76,30 @@ module _ (s rec consts values names constants : List ℕ) (depth space : ℕ) wh
     judge-on x p u n e k ke = simp (sym oe, e, ke)
 
 -- `judge_field`
-module _ (s rec consts values names constants : List ℕ) (t : Token) (r : Judged) where
-  here : (n : ℕ) → codeSize (length s) ≡ n → r ≡ judgedIn s t rec consts values names constants (replicate n 0) 208 77824 → r ≡ judgedHere s t rec consts values names constants
+module _ (s rec consts values names constants : List ℕ) (t : Token) (r : Judged) (n : ℕ) (ne : n ≡ length s - t .start) where
+  here : (k : ℕ) → codeSize n ≡ k → r ≡ judgedIn s t rec consts values names constants (replicate k 0) 208 77824 → r ≡ judgedHere s t rec consts values names constants
   unfolding judgedHere
-  here n h e = rw h e
+  here k h e = rw (← ne, h) e
 
-  pub here-tiny : length s ≤ 126 → r ≡ judgedIn s t rec consts values names constants (replicate 128 0) 208 77824 → r ≡ judgedHere s t rec consts values names constants
+  pub here-tiny : n ≤ 126 → r ≡ judgedIn s t rec consts values names constants (replicate 128 0) 208 77824 → r ≡ judgedHere s t rec consts values names constants
   unfolding codeSize
-  here-tiny h = here 128 (rw (le-leb (length s) 126 h))
+  here-tiny h = here 128 (rw (le-leb n 126 h))
 
-  module _ (more : 126 < length s) where
-    pub here-short : length s ≤ 510 → r ≡ judgedIn s t rec consts values names constants (replicate 512 0) 208 77824 → r ≡ judgedHere s t rec consts values names constants
+  module _ (more : 126 < n) where
+    pub here-brief : n ≤ 254 → r ≡ judgedIn s t rec consts values names constants (replicate 256 0) 208 77824 → r ≡ judgedHere s t rec consts values names constants
     unfolding codeSize
-    here-short h = here 512 (rw (lt-leb (length s) 126 more, le-leb (length s) 510 h))
+    here-brief h = here 256 (rw (lt-leb n 126 more, le-leb n 254 h))
 
-    module _ (yet : 510 < length s) where
-      pub here-middle : length s ≤ 2046 → r ≡ judgedIn s t rec consts values names constants (replicate 2048 0) 208 77824 → r ≡ judgedHere s t rec consts values names constants
+    module _ (still : 254 < n) where
+      pub here-short : n ≤ 510 → r ≡ judgedIn s t rec consts values names constants (replicate 512 0) 208 77824 → r ≡ judgedHere s t rec consts values names constants
       unfolding codeSize
-      here-middle h = here 2048 (rw (lt-leb (length s) 126 more, lt-leb (length s) 510 yet, le-leb (length s) 2046 h))
+      here-short h = here 512 (rw (lt-leb n 126 more, lt-leb n 254 still, le-leb n 510 h))
 
-      pub here-long : 2046 < length s → r ≡ judgedIn s t rec consts values names constants (replicate 8194 0) 208 77824 → r ≡ judgedHere s t rec consts values names constants
-      unfolding codeSize
-      here-long h = here 8194 (rw (lt-leb (length s) 126 more, lt-leb (length s) 510 yet, lt-leb (length s) 2046 h))
+      module _ (yet : 510 < n) where
+        pub here-middle : n ≤ 2046 → r ≡ judgedIn s t rec consts values names constants (replicate 2048 0) 208 77824 → r ≡ judgedHere s t rec consts values names constants
+        unfolding codeSize
+        here-middle h = here 2048 (rw (lt-leb n 126 more, lt-leb n 254 still, lt-leb n 510 yet, le-leb n 2046 h))
+
+        pub here-long : 2046 < n → r ≡ judgedIn s t rec consts values names constants (replicate 8194 0) 208 77824 → r ≡ judgedHere s t rec consts values names constants
+        unfolding codeSize
+        here-long h = here 8194 (rw (lt-leb n 126 more, lt-leb n 254 still, lt-leb n 510 yet, lt-leb n 2046 h))

@@ -196,7 +196,7 @@ raise s m top at _ _ (as-ok q x p u n b w g) (blocked-found _ _ _ _ _ k e i j) h
 blocked-in : (s m : List ℕ) (at : ℕ) → length s ≤ length m → Blocked s 0 0 (nextAt s at .start) (conditionsAt s m 0 (nextAt s at))
 unfolding conditionsAt
 blocked-in s m at room =
-    rw (le-ltb (length m) 0 zero-le, le-ltb (length m - 0) (length s) (omega arith)) (block-paced s DEPTH m 0 0 (nextAt s at) (next-sound s at) (omega arith))
+    rw (le-ltb (length m) 0 zero-le, le-ltb (length m - 0) (length s - nextAt s at .start) (omega arith)) (block-paced s DEPTH m 0 0 (nextAt s at) (next-sound s at) (omega arith))
 
 pub program-reasoned : (s : List ℕ) → length s < 65536 → (at : ℕ) → Placed s 1 (readProgram s (nextAt s at))
 program-reasoned s short at =
