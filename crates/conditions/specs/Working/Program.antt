@@ -91,7 +91,7 @@ unfoldable mutual
 unfoldable pub clausesRest : ℕ → List ℕ → List ℕ → ℕ → ℕ → Token → Ran
 clausesRest k s m top nest t = clausesLoop (λ m top nest t. clauseAt k s m top nest t) s m top nest t
 
--- a whole field, with room for an entry a byte of the text
+-- a whole field, with room for an entry for each byte from its first token on
 unfoldable pub conditionsAt : List ℕ → List ℕ → ℕ → Token → Ran
 conditionsAt s m top t =
     pick (ltb (length m) top) (ran (Aside 0 (t .start)) m)
