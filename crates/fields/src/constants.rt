@@ -4,13 +4,12 @@ use crate::out::NO_ROOM;
 use crate::out::is_ending;
 use crate::out::refusal_of;
 use crate::out::word;
-use crate::signature::MOST_LITERAL;
+use crate::signature::is_fitting;
 use expression::name::find;
 use index::Entered;
 use lexical::kind;
 use lexical::line::token_at;
 use lexical::literal::decode_into;
-use lexical::literal::is_short;
 use lexical::literal::literal_length;
 use lexical::token::Token;
 ghost use mathlib.Core.Path.{_≡_};
@@ -147,7 +146,7 @@ fn valued(
     if v.kind != kind::LITERAL {
         return refused(v);
     }
-    if !is_short(s, v.start, v.end, MOST_LITERAL) {
+    if !is_fitting(s, v) {
         return Settings::Aside {
             reason: 7,
             place: v.start,

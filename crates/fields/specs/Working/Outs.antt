@@ -11,6 +11,7 @@ use borrow.Author.Tests.{lt-ltb, le-ltb, le-leb, lt-leb, eq-eqb, ne-eqb, leb-tru
 use Rattle.text.specs.Choice.{pick, split, clash}
 use Rattle.text.specs.Counted.{part}
 use Rattle.text.specs.Equal.{equal}
+use Rattle.lexical.specs.Short.{sized, sized-length}
 use Rattle.lexical.specs.Kind
 use Rattle.lexical.specs.Literal.{decodedAt}
 use Rattle.lexical.specs.Decode.{Ran, ran, decodeInto}
@@ -149,6 +150,14 @@ module _ (s : List ℕ) (t : Token) (r : Out) where
   pub signature-none : (t .kind ≡ Kind.LITERAL → ⊥) → r ≡ refusedOut t → r ≡ outOf (signature s t)
   unfolding signature
   signature-none h e = e ∙ simp (ne-eqb _ _ h)
+
+-- `is_fitting`
+module _ (s : List ℕ) (start : ℕ) where
+  pub fitting-sized : (end : ℕ) (b : Bool) → b ≡ sized s start end mostLiteral → b ≡ true → true ≡ leb (length (decodedAt s start)) mostLiteral
+  fitting-sized end b be h = sym (le-leb (length (decodedAt s start)) mostLiteral (sized-length s start end mostLiteral (sym be ∙ h) .1))
+
+  pub fitting-told : (n : ℕ) → n ≡ length (decodedAt s start) → (r : Bool) → r ≡ leb n mostLiteral → r ≡ leb (length (decodedAt s start)) mostLiteral
+  fitting-told n ne r e = e ∙ ap (λ (k : ℕ). leb k mostLiteral) ne
 
 module _ (s : List ℕ) (t : Token) (is : t .kind ≡ Kind.LITERAL) (b : Bool) (be : b ≡ leb (length (decodedAt s (t .start))) mostLiteral) where
   pub signature-long : not b ≡ true → Aside 7 (t .start) ≡ outOf (signature s t)

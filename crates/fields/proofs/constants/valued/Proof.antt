@@ -8,7 +8,7 @@ use Rattle.fields.proofs.constants.refused.Reads as refused-reads
 use Rattle.fields.proofs.constants.store.Reads as store-reads
 use Rattle.fields.proofs.out.word.Reads as word-reads
 use Rattle.lexical.proofs.token_at.Reads as token-at-reads
-use Rattle.lexical.proofs.is_short.Reads as is-short-reads
+use Rattle.fields.proofs.signature.is_fitting.Reads as is-fitting-reads
 
 -- src/constants.rt:146:9
 refused-requires : tie.Need-refused-requires
@@ -19,8 +19,8 @@ returns : tie.Need-returns
 returns c = search value-none
 
 -- src/constants.rt:148:23
-is-short-requires : tie.Need-is-short-requires
-is-short-requires c κs = search needs
+is-fitting-requires : tie.Need-is-fitting-requires
+is-fitting-requires c κs = search needs
 
 -- src/constants.rt:149:9
 returns-2 : tie.Need-returns-2
@@ -76,7 +76,7 @@ valued-spec =
     (tie.spec
     refused-requires
     returns
-    is-short-requires
+    is-fitting-requires
     returns-2
     word-requires
     store-requires

@@ -5,7 +5,7 @@ use Rattle.fields.proofs.signature.signature.Tie as tie
 use Rattle.fields.proofs.signature.signature.Reads as reads
 use Rattle.fields.proofs.signature.signature.Lts as lts
 use Rattle.fields.proofs.out.unexpected.Reads as unexpected-reads
-use Rattle.lexical.proofs.is_short.Reads as is-short-reads
+use Rattle.fields.proofs.signature.is_fitting.Reads as is-fitting-reads
 
 -- src/signature.rt:19:9
 unexpected-requires : tie.Need-unexpected-requires
@@ -16,8 +16,8 @@ returns : tie.Need-returns
 returns c = search signature-none
 
 -- src/signature.rt:21:23
-is-short-requires : tie.Need-is-short-requires
-is-short-requires c κs = search needs
+is-fitting-requires : tie.Need-is-fitting-requires
+is-fitting-requires c κs = search needs
 
 -- src/signature.rt:22:9
 returns-2 : tie.Need-returns-2
@@ -29,4 +29,4 @@ returns-3 c = search signature-read
 
 pub signature-spec : {M : Type 1} → statement M
 signature-spec =
-    tie.close (tie.spec unexpected-requires returns is-short-requires returns-2 returns-3)
+    tie.close (tie.spec unexpected-requires returns is-fitting-requires returns-2 returns-3)
