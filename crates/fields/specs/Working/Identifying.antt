@@ -123,9 +123,6 @@ pub enter-anew : (e f : Entry) (p q : List ℕ) (k : Kept) → entry e p q ≡ k
 enter-anew e f p q k h ef = ap (λ (x : Entry). entry x p q) (sym ef) ∙ h
 
 -- `enter_decoded`
-pub front-of : (s : List ℕ) (k n : ℕ) → k ≤ n → length s ≡ n → k ≡ length (take k s)
-front-of s k n h l = sym (length-take-le k s (omega arith))
-
 pub front-length : (s : List ℕ) (k : ℕ) → k ≤ length s → k ≡ length (take k s)
 front-length s k h = sym (length-take-le k s h)
 

@@ -1,5 +1,6 @@
 use Rattle.fields.proofs.identifier.enter_decoded.Statement.{statement}
-use Rattle.fields.specs.Working.Identifying.{front-of, literal-entered, literal-long, literal-never}
+use Rattle.fields.specs.Working.Identifying.{literal-entered, literal-long, literal-never}
+use Rattle.text.specs.Working.Copying.{front-long}
 use borrow.Author.Needs.{needs}
 use Rattle.fields.proofs.identifier.enter_decoded.Tie as tie
 use Rattle.fields.proofs.identifier.enter_decoded.Reads as reads
@@ -30,7 +31,7 @@ array-share-prefix-id c = search needs
 
 -- src/identifier.rt:106:48
 slice-aggregate-entered : tie.Need-slice-aggregate-entered
-slice-aggregate-entered c = search (needs, front-of)
+slice-aggregate-entered c = search (needs, front-long)
 
 -- src/identifier.rt:106:9
 entered-requires : tie.Need-entered-requires
