@@ -60,7 +60,7 @@ fn word_at(s: &[u8], at: usize) -> &[u8]
     if s.len() <= at {
         return &s[..0];
     }
-    let e = text::word_end(s, at);
+    let e = text::word_end_by_blocks(s, at);
     &s[at..e]
 }
 

@@ -4,6 +4,7 @@ ghost use mathlib.Core.List.{map, _++_};
 ghost use Prim.Native.Nat.{_+_, _-_, _*_, _≤_, _<_, min};
 ghost use lib.Dec.{leb};
 ghost use lib.ListN.{length, take};
+ghost use Rattle.text.specs.Choice.{pick};
 ghost use Rattle.text.specs.Scan.{run, past};
 ghost use Rattle.text.specs.Equal.{equal};
 ghost use Rattle.text.specs.Order.{order};
@@ -17,6 +18,7 @@ ghost use Rattle.text.specs.Working.Common.{common, commonFrom};
 ghost use Rattle.text.specs.Working.Blocks.{alike};
 ghost use Rattle.text.specs.Working.Holding.{hold};
 ghost use Rattle.text.specs.Working.Joining.{comma};
+ghost use Rattle.text.specs.Working.WordBlocks.{firstOther};
 
 // How one byte string stands to another.
 pub enum Order {
@@ -304,6 +306,85 @@ pub fn word_end(s: &[u8], at: usize) -> usize
         } else {
             return i;
         }
+    }
+    i
+}
+
+// `is_word` without branches.
+fn is_word_flat(b: u8) -> bool
+    ensures { λ r. ⌜ r ≡ isWord b ⌝ }
+{
+    let small = (97 <= b) & (b <= 122);
+    let capital = (65 <= b) & (b <= 90);
+    let figure = (48 <= b) & (b <= 57);
+    small | capital | figure | (b == 95)
+}
+
+// j, or 16 for a byte of a word.
+fn mark(in_word: bool, j: u8) -> u8
+    ensures { λ r. ⌜ r ≡ pick in_word 16 j ⌝ }
+{
+    if in_word {
+        return 16;
+    }
+    j
+}
+
+fn lesser(a: u8, b: u8) -> u8
+    ensures { λ r. ⌜ r ≡ min a b ⌝ }
+{
+    if b < a {
+        return b;
+    }
+    a
+}
+
+fn byte(n: usize) -> u8
+    requires { ⌜ n < 256 ⌝ }
+    ensures { λ r. ⌜ r ≡ n ⌝ }
+{
+    n as u8
+}
+
+// Which of the n bytes from i on, at most 16, is the first that is no word's; 16 where none is. The loop has no early end, so that all are
+// tested at once.
+fn first_other(s: &[u8], i: usize, n: usize) -> usize
+    requires { ⌜ (i + n ≤ length (now s)) × (n ≤ 16) ⌝ }
+    ensures { λ r. ⌜ r ≡ firstOther isWord (now (s .entry)) i n ⌝ }
+{
+    let mut e: u8 = 16;
+    let mut j: usize = 0;
+    while j < n {
+        let m = mark(is_word_flat(s[i + j]), byte(j));
+        e = lesser(e, m);
+        j += 1;
+    }
+    wide(e)
+}
+
+// How many bytes are left from i on, but at most 16.
+fn block_at(s: &[u8], i: usize) -> usize
+    requires { ⌜ i ≤ length (now s) ⌝ }
+    ensures { λ r. ⌜ r ≡ min 16 (length (now (s .entry)) - i) ⌝ }
+{
+    if s.len() - i < 16 {
+        return s.len() - i;
+    }
+    16
+}
+
+// The same as `word_end`, in blocks of 16 bytes: where a word ends hardly changes the time.
+pub fn word_end_by_blocks(s: &[u8], at: usize) -> usize
+    ensures { λ r. ⌜ r ≡ past isWord (now (s .entry)) at ⌝ }
+{
+    let mut i = at;
+    while i < s.len() {
+        let n = block_at(s, i);
+        let e = first_other(s, i, n);
+        if e < n {
+            return i + e;
+        }
+        i += n;
     }
     i
 }

@@ -4,7 +4,7 @@ use Rattle.machine.proofs.word_at.Statement.{statement}
 use Rattle.machine.proofs.word_at.Tie as tie
 use Rattle.machine.proofs.word_at.Reads as reads
 use Rattle.machine.proofs.word_at.Lts as lts
-use Rattle.text.proofs.word_end.Reads as word-end-reads
+use Rattle.text.proofs.word_end_by_blocks.Reads as word-end-by-blocks-reads
 
 -- src/lib.rt:54:9
 slice-aggregate-result : tie.Need-slice-aggregate-result
@@ -15,8 +15,8 @@ returns : tie.Need-returns
 returns c = search word-past
 
 -- src/lib.rt:56:9
-word-end-requires : tie.Need-word-end-requires
-word-end-requires c κs = search needs
+word-end-by-blocks-requires : tie.Need-word-end-by-blocks-requires
+word-end-by-blocks-requires c κs = search needs
 
 -- src/lib.rt:57:5
 sub-result : tie.Need-sub-result
@@ -40,7 +40,7 @@ word-at-spec =
     (tie.spec
     slice-aggregate-result
     returns
-    word-end-requires
+    word-end-by-blocks-requires
     sub-result
     part-result-start
     part-result-end

@@ -54,6 +54,20 @@ module _ (x y : List ℕ) (u v : ℕ) (h : length x ≡ length y) where
   pub byte-like : u ≡ v → equal (x ++ (u ∷ [])) (y ++ (v ∷ [])) ≡ equal x y
   byte-like e = append-like x y (u ∷ []) (v ∷ []) h (equal-byte u v ∙ eq-eqb u v e)
 
+-- what lies behind a part
+pub behind : (c : List ℕ) (i n : ℕ) → drop i c ≡ take n (drop i c) ++ drop (i + n) c
+behind c i n = sym (take-append-drop n (drop i c)) ∙ ap (λ (k : List ℕ). take n (drop i c) ++ k) (drop-drop n i c)
+
+-- a part, and the part that is one byte longer
+module _ (c : List ℕ) (i j n : ℕ) (h : i + n ≤ length c) (l : j < n) where
+  pub part-more : take (j + 1) (drop i c) ≡ take j (drop i c) ++ (getD c (i + j) 0 ∷ [])
+  part-more =
+      let k : j < length (drop i c) = rw (length-drop i c) (omega (arith, h, l)) in
+      rw (add-one j) (take-suc (drop i c) j 0 k ∙ ap (λ (x : ℕ). take j (drop i c) ++ (x ∷ [])) (getD-drop i c j 0))
+
+  pub part-length : length (take j (drop i c)) ≡ j
+  part-length = length-take-le j (drop i c) (rw (length-drop i c) (omega (arith, h, l)))
+
 -- the ways out of `same_part`
 pub alike-none : (a b : List ℕ) (i : ℕ) → true ≡ alike a b i 0
 unfolding alike equal
@@ -63,21 +77,13 @@ pub alike-done : (a b : List ℕ) (i j n : ℕ) (s : Bool) → s ≡ alike a b i
 alike-done a b i j n s e l h = let z : j ≡ n = omega (arith, l, h) in e ∙ ap (alike a b i) z
 
 module _ (a b : List ℕ) (i j n : ℕ) (ha : i + n ≤ length a) (hb : i + n ≤ length b) (l : j < n) where
-  part-more : (c : List ℕ) → i + n ≤ length c → take (suc j) (drop i c) ≡ take j (drop i c) ++ (getD c (i + j) 0 ∷ [])
-  part-more c h =
-      let k : j < length (drop i c) = rw (length-drop i c) (omega (arith, h, l)) in
-      take-suc (drop i c) j 0 k ∙ ap (λ (x : ℕ). take j (drop i c) ++ (x ∷ [])) (getD-drop i c j 0)
-
-  part-length : (c : List ℕ) → i + n ≤ length c → length (take j (drop i c)) ≡ j
-  part-length c h = length-take-le j (drop i c) (rw (length-drop i c) (omega (arith, h, l)))
-
   same-length : length (take j (drop i a)) ≡ length (take j (drop i b))
-  same-length = part-length a ha ∙ sym (part-length b hb)
+  same-length = part-length a i j n ha l ∙ sym (part-length b i j n hb l)
 
   pub alike-more : (s : Bool) → s ≡ alike a b i j → (s && eqb (getD a (i + j) 0) (getD b (i + j) 0)) ≡ alike a b i (j + 1)
   unfolding alike
   alike-more s e =
-      rw (add-one j, part-more a ha, part-more b hb, e)
+      rw (part-more a i j n ha l, part-more b i j n hb l, e)
       (sym (equal-append (take j (drop i a)) (take j (drop i b)) (getD a (i + j) 0 ∷ []) (getD b (i + j) 0 ∷ []) same-length
       ∙ ap (λ (x : Bool). equal (take j (drop i a)) (take j (drop i b)) && x) (equal-byte (getD a (i + j) 0) (getD b (i + j) 0))))
 
@@ -93,9 +99,8 @@ blocks-more a b i n r h t te tt inv =
     let x : List ℕ = take n (drop i a) in
     let q : x ≡ take n (drop i b) = equal-true x (take n (drop i b)) (sym te ∙ tt) in
     let m : length x ≡ n = length-take-le n (drop i a) (rw (length-drop i a) h) in
-    let u : drop i a ≡ x ++ drop (i + n) a = sym (take-append-drop n (drop i a)) ∙ ap (λ (k : List ℕ). x ++ k) (drop-drop n i a) in
-    let v : drop i b ≡ x ++ drop (i + n) b =
-    sym (take-append-drop n (drop i b)) ∙ ap (λ (k : List ℕ). k ++ drop n (drop i b)) (sym q) ∙ ap (λ (k : List ℕ). x ++ k) (drop-drop n i b) in
+    let u : drop i a ≡ x ++ drop (i + n) a = behind a i n in
+    let v : drop i b ≡ x ++ drop (i + n) b = behind b i n ∙ ap (λ (k : List ℕ). k ++ drop (i + n) b) (sym q) in
     let w : common (drop i a) (drop i b) ≡ length x + common (drop (i + n) a) (drop (i + n) b) =
     ap (λ (k : List ℕ). common k (drop i b)) u ∙ ap (common (x ++ drop (i + n) a)) v ∙ common-front x (drop (i + n) a) (drop (i + n) b) in
     omega (arith, inv, w, m)
@@ -132,13 +137,10 @@ module _ (a b : List ℕ) (k : ℕ) (r : Bool) (inv : equal (take (k * 64) a) (t
 
 -- the ways out of `same_long`
 module _ (a b : List ℕ) (i n : ℕ) (r : Bool) (inv : equal (drop i a) (drop i b) ≡ r) (ha : n ≤ length a - i) (long : length a ≡ length b) (t : Bool) (te : t ≡ alike a b i n) where
-  behind : (c : List ℕ) → drop i c ≡ take n (drop i c) ++ drop (i + n) c
-  behind c = sym (take-append-drop n (drop i c)) ∙ ap (λ (k : List ℕ). take n (drop i c) ++ k) (drop-drop n i c)
-
   parted : (equal (take n (drop i a)) (take n (drop i b)) && equal (drop (i + n) a) (drop (i + n) b)) ≡ r
   parted =
       let m : (c : List ℕ) → n ≤ length c - i → length (take n (drop i c)) ≡ n = λ c h. length-take-le n (drop i c) (rw (length-drop i c) h) in
-      sym (ap (λ (x : List ℕ). equal x (drop i b)) (behind a) ∙ ap (equal (take n (drop i a) ++ drop (i + n) a)) (behind b)
+      sym (ap (λ (x : List ℕ). equal x (drop i b)) (behind a i n) ∙ ap (equal (take n (drop i a) ++ drop (i + n) a)) (behind b i n)
       ∙ equal-append (take n (drop i a)) (take n (drop i b)) (drop (i + n) a) (drop (i + n) b) (m a ha ∙ sym (m b (omega (arith, ha, long)))))
       ∙ inv
 
