@@ -3,6 +3,7 @@ use crate::list::Licensed;
 use crate::list::MOST_BRACKETS;
 use crate::list::State;
 use crate::list::licensee;
+use crate::list::licensee_before;
 use crate::list::push;
 use crate::list::refused;
 use crate::list::rest;
@@ -15,7 +16,7 @@ use lexical::line::token_at;
 use lexical::token::Token;
 ghost use mathlib.Core.Path.{_≡_};
 ghost use Rattle.fields.specs.Working.List.{ran};
-ghost use Rattle.fields.specs.Working.Chain.{jointOf, joinOf, closedIn, operandAt, moreAt, chainAt, primaryAt, endIn, fieldIn};
+ghost use Rattle.fields.specs.Working.Chain.{jointOf, joinOf, closedIn, single, operandAt, moreAt, chainAt, primaryAt, endIn, fieldIn};
 
 // Operands are joined by && inside operands that are joined by ||.
 const ALL: usize = 0;
@@ -56,6 +57,19 @@ fn closed(s: &[u8], st: State, t: Token) -> Licensed
     Licensed::On { state: st, next: n }
 }
 
+// Is an operand of that level that begins with a token of this kind a principal, if no && follows?
+fn is_single(level: usize, k: usize) -> bool
+    ensures { λ r. ⌜ r ≡ single level k ⌝ }
+{
+    if level != ANY {
+        return false;
+    }
+    if k == kind::LITERAL {
+        return true;
+    }
+    k == kind::NAME
+}
+
 // An operand of a chain of that level; `left` more brackets may be opened.
 fn operand(
     s: &[u8],
@@ -73,6 +87,26 @@ fn operand(
 {
     if level == 0 {
         return primary(s, consts, constants, pool, places, code, st, t, left);
+    }
+    if is_single(level, t.kind) {
+        let n = token_at(s, kind::IN_LICENSEES, t.end);
+        if n.kind != kind::AND {
+            return licensee_before(
+                s,
+                consts,
+                constants,
+                pool,
+                places,
+                code,
+                st,
+                t.kind,
+                t.start,
+                t.end,
+                n.kind,
+                n.start,
+                n.end,
+            );
+        }
     }
     chain(
         s,

@@ -14,7 +14,8 @@ use lexical::token::Token;
 use limits::MOST_LICENSEES;
 ghost use mathlib.Core.Path.{_≡_};
 ghost use Prim.Native.Nat.{_-_, _<_};
-ghost use Rattle.fields.specs.Working.List.{ran, above, pushed, refusedLicensed, itemsOf, listedIn, placedIn, licenseeIn, listIn, openedIn, thresholdIn, wrote};
+ghost use Rattle.fields.specs.Licensees.{after};
+ghost use Rattle.fields.specs.Working.List.{ran, above, pushed, refusedLicensed, itemsOf, listedIn, placedIn, tokenOf, licenseeIn, listIn, openedIn, thresholdIn, wrote};
 
 pub const MOST_BRACKETS: usize = 16;
 
@@ -119,7 +120,59 @@ fn placed(code: &mut [u16], st: State, n: Token, e: Entry) -> Licensed
     }
 }
 
-// The licensee t, which is handed on built anew.
+// The licensee t, before the token n. Both tokens are handed over in parts: a copy of the whole would wait for the stores of its parts.
+pub fn licensee_before(
+    s: &[u8],
+    consts: &[u8],
+    constants: &[usize],
+    pool: &mut [u8],
+    places: &mut [usize],
+    code: &mut [u16],
+    st: State,
+    kind: usize,
+    start: usize,
+    end: usize,
+    then: usize,
+    from: usize,
+    to: usize,
+) -> Licensed
+    requires { ⌜ tokenOf then from to ≡ after (now s) (tokenOf kind start end) ⌝ }
+    ensures { λ r. ⌜ ran r (now (pool .exit)) (now (places .exit)) (now (code .exit)) ≡ licenseeIn (now (s .entry)) (now (consts .entry)) (now (constants .entry)) (now (pool .entry)) (now (places .entry)) (now (code .entry)) st (tokenOf kind start end) ⌝ }
+{
+    let t = Token { kind, start, end };
+    let n = Token {
+        kind: then,
+        start: from,
+        end: to,
+    };
+    if is_whole(s, t) {
+        if MOST_LICENSEES <= st.listed {
+            return Licensed::Aside {
+                reason: 7,
+                place: start,
+            };
+        }
+        let e = entered(pool, places, st.count, st.end, &s[start + 1..end - 1]);
+        return placed(code, st, n, e);
+    }
+    let f = identifier_fault(s, consts, constants, t);
+    if f != 0 {
+        return Licensed::Aside {
+            reason: f,
+            place: start,
+        };
+    }
+    if MOST_LICENSEES <= st.listed {
+        return Licensed::Aside {
+            reason: 7,
+            place: start,
+        };
+    }
+    let e = enter_token(s, consts, constants, pool, places, st.count, st.end, t);
+    placed(code, st, n, e)
+}
+
+// The licensee t.
 pub fn licensee(
     s: &[u8],
     consts: &[u8],
@@ -132,37 +185,22 @@ pub fn licensee(
 ) -> Licensed
     ensures { λ r. ⌜ ran r (now (pool .exit)) (now (places .exit)) (now (code .exit)) ≡ licenseeIn (now (s .entry)) (now (consts .entry)) (now (constants .entry)) (now (pool .entry)) (now (places .entry)) (now (code .entry)) st t ⌝ }
 {
-    let u = Token {
-        kind: t.kind,
-        start: t.start,
-        end: t.end,
-    };
     let n = token_at(s, kind::IN_LICENSEES, t.end);
-    if is_whole(s, u) {
-        if MOST_LICENSEES <= st.listed {
-            return Licensed::Aside {
-                reason: 7,
-                place: t.start,
-            };
-        }
-        let e = entered(pool, places, st.count, st.end, &s[t.start + 1..t.end - 1]);
-        return placed(code, st, n, e);
-    }
-    let f = identifier_fault(s, consts, constants, u);
-    if f != 0 {
-        return Licensed::Aside {
-            reason: f,
-            place: t.start,
-        };
-    }
-    if MOST_LICENSEES <= st.listed {
-        return Licensed::Aside {
-            reason: 7,
-            place: t.start,
-        };
-    }
-    let e = enter_token(s, consts, constants, pool, places, st.count, st.end, u);
-    placed(code, st, n, e)
+    licensee_before(
+        s,
+        consts,
+        constants,
+        pool,
+        places,
+        code,
+        st,
+        t.kind,
+        t.start,
+        t.end,
+        n.kind,
+        n.start,
+        n.end,
+    )
 }
 
 // How many licensees were read since there were `before`; 0 where that is no list's length.
@@ -220,7 +258,22 @@ fn list(
     let mut state = st;
     let mut t = from;
     loop {
-        match licensee(s, consts, constants, pool, places, code, state, t) {
+        let n = token_at(s, kind::IN_LICENSEES, t.end);
+        match licensee_before(
+            s,
+            consts,
+            constants,
+            pool,
+            places,
+            code,
+            state,
+            t.kind,
+            t.start,
+            t.end,
+            n.kind,
+            n.start,
+            n.end,
+        ) {
             Licensed::Aside { reason, place } => {
                 return Licensed::Aside { reason, place };
             }

@@ -58,6 +58,10 @@ abbrev pub operandOf : Writer → List ℕ → ℕ → Writer
 operandOf primary s zero pool places code st t = primary pool places code st t
 operandOf primary s (suc level) pool places code st t = chainBody (λ p q m u n. operandOf primary s level p q m u n) s level pool places code st t
 
+-- an operand of || that begins so is a principal where no && follows
+unfoldable pub single : ℕ → ℕ → Bool
+single level k = pick (eqb level 1) (pick (eqb k Kind.LITERAL) true (eqb k Kind.NAME)) false
+
 unfoldable pub closedIn : List ℕ → State → Token → Licensed
 closedIn s st t = pick (eqb (t .kind) Kind.CLOSE) (On st (after s t)) (refusedLicensed t)
 

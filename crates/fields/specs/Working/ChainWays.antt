@@ -6,17 +6,20 @@ use Prim.Native.Nat.{ℕ, zero, suc, _+_, _-_, _<_, _≤_}
 use native.Mathlib.Omega.{arith}
 use lib.Dec.{eqb, leb, ltb}
 use lib.ListN.{length}
-use borrow.Author.Tests.{lt-ltb, le-ltb, le-leb, lt-leb, eq-eqb, ne-eqb}
+use borrow.Author.Tests.{lt-ltb, le-ltb, le-leb, lt-leb, eq-eqb, ne-eqb, eqb-true}
+use Rattle.text.specs.Choice.{clash}
 use Rattle.text.specs.Loop.{loop-next, loop-done}
 use Rattle.limits.specs.Limits.{mostLicensees}
 use Rattle.lexical.specs.Kind
+use Rattle.lexical.specs.Bounds.{chosen}
 use Rattle.lexical.specs.Line.{tokenAt}
 use Rattle.lexical.specs.declared.token.Token.{Token}
 use Rattle.compliance.specs.Codes.{andCode, orCode, zeroCode}
 use Rattle.fields.specs.Limits.{mostBrackets}
 use Rattle.fields.specs.Parsed.{ending}
 use Rattle.fields.specs.Working.List.{Ran, ran, refusedLicensed, above, pushed, sized, stateOf, licenseeIn, thresholdIn}
-use Rattle.fields.specs.Working.Chain.{jointOf, joinOf, closedIn, operandAt, moreAt, chainAt, primaryAt, primaryBody, innerAt, endIn, fieldIn}
+use Rattle.fields.specs.Working.ListWays.{licensee-next}
+use Rattle.fields.specs.Working.Chain.{jointOf, joinOf, onOn, single, closedIn, operandAt, moreAt, chainAt, primaryAt, primaryBody, innerAt, endIn, fieldIn}
 use Rattle.fields.specs.declared.list.State.{State}
 use Rattle.fields.specs.declared.list.Licensed.{Licensed}
 use Rattle.fields.specs.declared.list.Licensed.the-variants.{On, Aside}
@@ -149,6 +152,62 @@ module _ (left : ℕ) (s consts constants pool places code : List ℕ) (st : Sta
 
         pub primary-on : (u : State) (v : Token) (w : Licensed) → r ≡ On u v → w ≡ closedIn s u v → ran w p q m ≡ primaryAt left s consts constants pool places code st t
         primary-on u v w k we = rw we (simp (primary-unfold left, ne-eqb _ _ nd, eq-eqb _ _ h, ne-eqb _ _ nz, inside, k))
+
+-- `is_single`
+module _ (level k : ℕ) where
+  pub single-not : (level ≡ 1 → ⊥) → false ≡ single level k
+  unfolding single
+  single-not h = simp (ne-eqb _ _ h)
+
+  module _ (h : level ≡ 1) where
+    pub single-literal : k ≡ Kind.LITERAL → true ≡ single level k
+    unfolding single
+    single-literal e = simp (eq-eqb _ _ h, eq-eqb _ _ e)
+
+    pub single-name : (b : Bool) → (k ≡ Kind.LITERAL → ⊥) → b ≡ eqb k Kind.NAME → b ≡ single level k
+    unfolding single
+    single-name b e be = be ∙ simp (eq-eqb _ _ h, ne-eqb _ _ e)
+
+  single-is : single level k ≡ true → (level ≡ 1) × (k ≡ Kind.DIGITS → ⊥) × (k ≡ Kind.OPEN → ⊥)
+  unfolding single
+  single-is =
+      chosen Then (eqb level 1) _ false
+      (λ e. chosen Then (eqb k Kind.LITERAL) true _
+      (λ f h. let g : k ≡ Kind.LITERAL = eqb-true _ _ f in (eqb-true _ _ e, (λ z. omega (arith, g, z)), (λ z. omega (arith, g, z))))
+      (λ f h. let g : k ≡ Kind.NAME = eqb-true _ _ h in (eqb-true _ _ e, (λ z. omega (arith, g, z)), (λ z. omega (arith, g, z)))))
+      (λ e h. clash h refl)
+    where
+      Then : Bool → Type 0
+      Then b = b ≡ true → (level ≡ 1) × (k ≡ Kind.DIGITS → ⊥) × (k ≡ Kind.OPEN → ⊥)
+
+-- `operand`: a principal before another token than &&
+module _ (left : ℕ) (s consts constants pool places code : List ℕ) (st : State) (t : Token) where
+  -- behind what was read nothing is joined by &&
+  unjoined : (r : Ran) → ((u : State) (v : Token) (p q m : List ℕ) → r ≡ ran (On u v) p q m → v .kind ≡ Kind.AND → ⊥)
+      → onOn r (λ u v p q m. moreAt left 0 s consts constants p q m u v) ≡ r
+  unjoined (ran (Aside x y) p q m) f = refl
+  unjoined (ran (On u v) p q m) f = sym (more-end left 0 s consts constants p q m u v _ refl Kind.AND (joint-all 0 refl) (f u v p q m refl))
+
+  module _ (level : ℕ) (b : Bool) (be : b ≡ single level (t .kind)) (y : b ≡ true) (n : Token) (ne : n ≡ tokenAt s Kind.IN-LICENSEES (t .end)) (no : n .kind ≡ Kind.AND → ⊥) where
+    facts : (level ≡ 1) × (t .kind ≡ Kind.DIGITS → ⊥) × (t .kind ≡ Kind.OPEN → ⊥)
+    facts = single-is level (t .kind) (sym be ∙ y)
+
+    lone : operandAt left 0 s consts constants pool places code st t ≡ licenseeIn s consts constants pool places code st t
+    lone =
+        sym (operand-primary left 0 s consts constants pool places code st t (licenseeIn s consts constants pool places code st t) refl
+        (primary-one left s consts constants pool places code st t (facts .1) (licenseeIn s consts constants pool places code st t) (facts .2) refl))
+
+    last : (u : State) (v : Token) (p q m : List ℕ) → licenseeIn s consts constants pool places code st t ≡ ran (On u v) p q m → v .kind ≡ Kind.AND → ⊥
+    last u v p q m e h = no (ap (λ (x : Token). x .kind) (ne ∙ sym (licensee-next s consts constants pool places code st t u v p q m (sym e))) ∙ h)
+
+    whole : operandAt left 1 s consts constants pool places code st t ≡ licenseeIn s consts constants pool places code st t
+    unfolding chainAt
+    whole =
+        sym (operand-up left 0 s consts constants pool places code st t)
+        ∙ rw lone (unjoined (licenseeIn s consts constants pool places code st t) last)
+
+    pub operand-single : (r : Ran) → r ≡ licenseeIn s consts constants pool places code st t → r ≡ operandAt left level s consts constants pool places code st t
+    operand-single r re = re ∙ sym whole ∙ rw (facts .0)
 
 -- `finished`
 module _ (st : State) (t : Token) (b : Bool) (be : b ≡ ending (t .kind)) where

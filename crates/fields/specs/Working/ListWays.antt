@@ -18,7 +18,7 @@ use Rattle.compliance.specs.Codes.{kOfCode}
 use Rattle.syntax.specs.Parsed.{refusal}
 use Rattle.fields.specs.Working.Whole.{whole, inner}
 use Rattle.fields.specs.Working.Identifying.{Kept, entry, faultIn, enterIn, tokenIn, whole-fault, whole-token}
-use Rattle.fields.specs.Working.List.{Ran, ran, Wrote, wrote, refusedLicensed, above, pushed, sized, stateOf, onEntered, placedIn, licenseeIn, itemsOf, listedIn, onWrote, listIn, openedIn, thresholdIn}
+use Rattle.fields.specs.Working.List.{Ran, ran, Wrote, wrote, refusedLicensed, above, pushed, sized, stateOf, tokenOf, onEntered, placedIn, licenseeIn, itemsOf, listedIn, onWrote, listIn, openedIn, thresholdIn}
 use Rattle.fields.specs.declared.identifier.Entry.{Entry}
 use Rattle.fields.specs.declared.identifier.Entry.the-variants.{At, Full}
 use Rattle.fields.specs.declared.list.State.{State}
@@ -68,32 +68,54 @@ unfolding placedIn
 placed-is s code st t Full p q = refl
 placed-is s code st t (At i c m) p q = split (leb 32768 i) (λ h. rw h) (λ h. rw h)
 
--- `licensee`
-module _ (s consts constants pool places code : List ℕ) (st : State) (t : Token) (f : ℕ) (fe : f ≡ faultIn s consts constants t) where
-  pub licensee-fault : (f ≡ 0 → ⊥) → ran (Aside f (t .start)) pool places code ≡ licenseeIn s consts constants pool places code st t
+-- `licensee_before`, whose token is of the parts k, a and b
+module _ (s consts constants pool places code : List ℕ) (st : State) (k a b f : ℕ) (fe : f ≡ faultIn s consts constants (tokenOf k a b)) where
+  pub licensee-fault : (f ≡ 0 → ⊥) → ran (Aside f a) pool places code ≡ licenseeIn s consts constants pool places code st (tokenOf k a b)
   unfolding licenseeIn
   licensee-fault h = simp (sym fe, ne-eqb _ _ h)
 
   module _ (z : f ≡ 0) where
-    pub licensee-most : mostLicensees ≤ st .listed → ran (Aside 7 (t .start)) pool places code ≡ licenseeIn s consts constants pool places code st t
+    pub licensee-most : mostLicensees ≤ st .listed → ran (Aside 7 a) pool places code ≡ licenseeIn s consts constants pool places code st (tokenOf k a b)
     unfolding licenseeIn
     licensee-most h = simp (sym fe, eq-eqb _ _ z, le-leb _ _ h)
 
-    module _ (h : st .listed < mostLicensees) (r : Entry) (p q : List ℕ) (re : entry r p q ≡ tokenIn s consts constants pool places (st .count) (st .end) t) where
-      pub licensee-placed : (n : Token) → n ≡ tokenAt s Kind.IN-LICENSEES (t .end) → (a : Licensed) (b : List ℕ) → wrote a b ≡ placedIn code st n r
-          → ran a p q b ≡ licenseeIn s consts constants pool places code st t
+    module _ (h : st .listed < mostLicensees) (r : Entry) (p q : List ℕ) (re : entry r p q ≡ tokenIn s consts constants pool places (st .count) (st .end) (tokenOf k a b)) where
+      pub licensee-placed : (n : Token) → n ≡ tokenAt s Kind.IN-LICENSEES b → (x : Licensed) (m : List ℕ) → wrote x m ≡ placedIn code st n r
+          → ran x p q m ≡ licenseeIn s consts constants pool places code st (tokenOf k a b)
       unfolding licenseeIn
-      licensee-placed n ne a b e = ap (onWrote p q) (rw ne at e) ∙ placed-is s code st t r p q ∙ simp (sym fe, eq-eqb _ _ z, lt-leb _ _ h, sym re)
+      licensee-placed n ne x m e = ap (onWrote p q) (rw ne at e) ∙ placed-is s code st (tokenOf k a b) r p q ∙ simp (sym fe, eq-eqb _ _ z, lt-leb _ _ h, sym re)
 
-module _ (s consts constants pool places code : List ℕ) (st : State) (t : Token) (w : Bool) (we : w ≡ whole s t) (y : w ≡ true) where
-  pub whole-most : mostLicensees ≤ st .listed → ran (Aside 7 (t .start)) pool places code ≡ licenseeIn s consts constants pool places code st t
-  whole-most h = licensee-most s consts constants pool places code st t 0 (whole-fault s t w we y consts constants) refl h
+module _ (s consts constants pool places code : List ℕ) (st : State) (k a b : ℕ) (w : Bool) (we : w ≡ whole s (tokenOf k a b)) (y : w ≡ true) where
+  pub whole-most : mostLicensees ≤ st .listed → ran (Aside 7 a) pool places code ≡ licenseeIn s consts constants pool places code st (tokenOf k a b)
+  whole-most h = licensee-most s consts constants pool places code st k a b 0 (whole-fault s (tokenOf k a b) w we y consts constants) refl h
 
-  pub whole-placed : st .listed < mostLicensees → (r : Entry) (p q : List ℕ) → entry r p q ≡ enterIn pool places (st .count) (st .end) (inner s (t .start) (t .end))
-      → (n : Token) → n ≡ tokenAt s Kind.IN-LICENSEES (t .end) → (a : Licensed) (b : List ℕ) → wrote a b ≡ placedIn code st n r → ran a p q b ≡ licenseeIn s consts constants pool places code st t
-  whole-placed h r p q re n ne a b e =
-      licensee-placed s consts constants pool places code st t 0 (whole-fault s t w we y consts constants) refl h r p q
-      (re ∙ whole-token s t w we y consts constants pool places (st .count) (st .end)) n ne a b e
+  pub whole-placed : st .listed < mostLicensees → (r : Entry) (p q : List ℕ) → entry r p q ≡ enterIn pool places (st .count) (st .end) (inner s a b)
+      → (n : Token) → n ≡ tokenAt s Kind.IN-LICENSEES b → (x : Licensed) (m : List ℕ) → wrote x m ≡ placedIn code st n r → ran x p q m ≡ licenseeIn s consts constants pool places code st (tokenOf k a b)
+  whole-placed h r p q re n ne x m e =
+      licensee-placed s consts constants pool places code st k a b 0 (whole-fault s (tokenOf k a b) w we y consts constants) refl h r p q
+      (re ∙ whole-token s (tokenOf k a b) w we y consts constants pool places (st .count) (st .end)) n ne x m e
+
+-- the token behind a licensee that was read
+abbrev behind : Token → Ran → Token
+behind d (ran (Aside r p) pool places code) = d
+behind d (ran (On u n) pool places code) = n
+
+behind-entered : (s code : List ℕ) (st : State) (t : Token) (k : Kept) → behind (tokenAt s Kind.IN-LICENSEES (t .end)) (onEntered s code st t k) ≡ tokenAt s Kind.IN-LICENSEES (t .end)
+behind-entered s code st t (entry Full pool places) = refl
+behind-entered s code st t (entry (At i c e) pool places) = split (leb 32768 i) (λ h. rw h) (λ h. rw h)
+
+behind-licensee : (s consts constants pool places code : List ℕ) (st : State) (t : Token)
+    → behind (tokenAt s Kind.IN-LICENSEES (t .end)) (licenseeIn s consts constants pool places code st t) ≡ tokenAt s Kind.IN-LICENSEES (t .end)
+unfolding licenseeIn
+behind-licensee s consts constants pool places code st t =
+    split (eqb (faultIn s consts constants t) 0)
+    (λ f. rw f (split (leb mostLicensees (st .listed)) (λ h. rw h) (λ h. rw h (behind-entered s code st t (tokenIn s consts constants pool places (st .count) (st .end) t)))))
+    (λ f. rw f)
+
+pub licensee-next : (s consts constants pool places code : List ℕ) (st : State) (t : Token) (u : State) (n : Token) (p q m : List ℕ)
+    → ran (On u n) p q m ≡ licenseeIn s consts constants pool places code st t → n ≡ tokenAt s Kind.IN-LICENSEES (t .end)
+licensee-next s consts constants pool places code st t u n p q m e =
+    ap (behind (tokenAt s Kind.IN-LICENSEES (t .end))) e ∙ behind-licensee s consts constants pool places code st t
 
 -- `items`
 module _ (before listed : ℕ) where

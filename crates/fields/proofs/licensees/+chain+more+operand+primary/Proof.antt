@@ -1,13 +1,11 @@
 use Prim.Native.Nat.{ℕ, _-_, _+_, _*_, _<_}
-use Rattle.fields.proofs.licensees.+chain+more+operand+primary.{statement}
-use Rattle.fields.proofs.licensees.+chain+more+operand+primary.Tie.{close}
 use Rattle.fields.specs.Working.Chain.{moreAt}
-use Rattle.fields.specs.Working.ChainWays.{more-again, more-less, chain-aside, chain-on, more-aside, more-end, more-stuck, operand-chain, operand-primary, primary-aside, primary-digits, primary-most, primary-on, primary-one}
+use Rattle.fields.specs.Working.ChainWays.{more-again, more-less, chain-aside, chain-on, more-aside, more-end, more-stuck, operand-chain, operand-primary, operand-single, primary-aside, primary-digits, primary-most, primary-on, primary-one}
+use lib.ListN.{length}
+use mathlib.Core.Path.{_≡_}
 use borrow.Author.Needs.{needs}
 use borrow.Fn.Kinds.{In}
 use borrow.Fn.PlainCycle.{Measures, is, falls, and}
-use lib.ListN.{length}
-use mathlib.Core.Path.{_≡_}
 use Rattle.fields.proofs.licensees.chain.Reads as chain
 use Rattle.fields.proofs.licensees.chain.Kinds as chain-kinds
 use Rattle.fields.proofs.licensees.+chain+more+operand+primary.Lts-chain as chain-lts
@@ -21,13 +19,17 @@ use Rattle.fields.proofs.licensees.primary.Reads as primary
 use Rattle.fields.proofs.licensees.primary.Kinds as primary-kinds
 use Rattle.fields.proofs.licensees.+chain+more+operand+primary.Lts-primary as primary-lts
 use Rattle.fields.proofs.licensees.closed.Reads as closed-reads
+use Rattle.fields.proofs.licensees.is_single.Reads as is-single-reads
 use Rattle.fields.proofs.licensees.join_of.Reads as join-of-reads
 use Rattle.fields.proofs.licensees.joint_of.Reads as joint-of-reads
 use Rattle.fields.proofs.list.licensee.Reads as licensee-reads
+use Rattle.fields.proofs.list.licensee_before.Reads as licensee-before-reads
 use Rattle.fields.proofs.list.push.Reads as push-reads
 use Rattle.fields.proofs.list.rest.Reads as rest-reads
 use Rattle.fields.proofs.list.threshold.Reads as threshold-reads
 use Rattle.lexical.proofs.token_at.Reads as token-at-reads
+use Rattle.fields.proofs.licensees.+chain+more+operand+primary.{statement}
+use Rattle.fields.proofs.licensees.+chain+more+operand+primary.Tie.{close}
 
 abbrev μ-chain : Measures 6 chain-kinds.ps ℕ
 μ-chain κs a = 7 * (a .1 .1 .1 .1 .1 .1 .1 .1 .1 .0) + 3 * (a .1 .1 .1 .1 .1 .1 .1 .1 .0) + 3
@@ -65,7 +67,7 @@ primary-at t = and 6 primary-kinds.ps (is 6 primary-kinds.ps μ-primary t) prima
 abbrev primary-below : ℕ → In 6 primary-kinds.ps
 primary-below t = and 6 primary-kinds.ps (falls 6 primary-kinds.ps _<_ μ-primary t) primary.Pre
 
--- src/licensees.rt:140:11
+-- src/licensees.rt:196:11
 chain-operand-requires : (t : ℕ) → chain-lts.Need-operand-requires (
   operand-below t,
   operand.Post,
@@ -74,7 +76,7 @@ chain-operand-requires : (t : ℕ) → chain-lts.Need-operand-requires (
 ) (chain-at t) chain.Post
 chain-operand-requires t c κs = search needs
 
--- src/licensees.rt:141:27
+-- src/licensees.rt:197:27
 chain-enum-known-reason : (t : ℕ) → chain-lts.Need-enum-known-reason (
   operand-below t,
   operand.Post,
@@ -83,7 +85,7 @@ chain-enum-known-reason : (t : ℕ) → chain-lts.Need-enum-known-reason (
 ) (chain-at t) chain.Post
 chain-enum-known-reason t c = search needs
 
--- src/licensees.rt:142:24
+-- src/licensees.rt:198:24
 chain-enum-known-state : (t : ℕ) → chain-lts.Need-enum-known-state (
   operand-below t,
   operand.Post,
@@ -92,7 +94,7 @@ chain-enum-known-state : (t : ℕ) → chain-lts.Need-enum-known-state (
 ) (chain-at t) chain.Post
 chain-enum-known-state t c = search needs
 
--- src/licensees.rt:143:13
+-- src/licensees.rt:199:13
 chain-more-requires : (t : ℕ) → chain-lts.Need-more-requires (
   operand-below t,
   operand.Post,
@@ -101,7 +103,7 @@ chain-more-requires : (t : ℕ) → chain-lts.Need-more-requires (
 ) (chain-at t) chain.Post
 chain-more-requires t c κs = search needs
 
--- src/licensees.rt:126:1
+-- src/licensees.rt:182:1
 chain-same-length : (t : ℕ) → chain-lts.Need-same-length (
   operand-below t,
   operand.Post,
@@ -110,7 +112,7 @@ chain-same-length : (t : ℕ) → chain-lts.Need-same-length (
 ) (chain-at t) chain.Post
 chain-same-length t c = search needs
 
--- src/licensees.rt:126:1
+-- src/licensees.rt:182:1
 chain-same-length-2 : (t : ℕ) → chain-lts.Need-same-length-2 (
   operand-below t,
   operand.Post,
@@ -119,7 +121,7 @@ chain-same-length-2 : (t : ℕ) → chain-lts.Need-same-length-2 (
 ) (chain-at t) chain.Post
 chain-same-length-2 t c = search needs
 
--- src/licensees.rt:126:1
+-- src/licensees.rt:182:1
 chain-same-length-3 : (t : ℕ) → chain-lts.Need-same-length-3 (
   operand-below t,
   operand.Post,
@@ -128,7 +130,7 @@ chain-same-length-3 : (t : ℕ) → chain-lts.Need-same-length-3 (
 ) (chain-at t) chain.Post
 chain-same-length-3 t c = search needs
 
--- src/licensees.rt:126:1
+-- src/licensees.rt:182:1
 chain-returns : (t : ℕ) → chain-lts.Need-returns (
   operand-below t,
   operand.Post,
@@ -137,7 +139,7 @@ chain-returns : (t : ℕ) → chain-lts.Need-returns (
 ) (chain-at t) chain.Post
 chain-returns t c = search chain-aside
 
--- src/licensees.rt:126:1
+-- src/licensees.rt:182:1
 chain-same-length-4 : (t : ℕ) → chain-lts.Need-same-length-4 (
   operand-below t,
   operand.Post,
@@ -146,7 +148,7 @@ chain-same-length-4 : (t : ℕ) → chain-lts.Need-same-length-4 (
 ) (chain-at t) chain.Post
 chain-same-length-4 t c = search needs
 
--- src/licensees.rt:126:1
+-- src/licensees.rt:182:1
 chain-same-length-5 : (t : ℕ) → chain-lts.Need-same-length-5 (
   operand-below t,
   operand.Post,
@@ -155,7 +157,7 @@ chain-same-length-5 : (t : ℕ) → chain-lts.Need-same-length-5 (
 ) (chain-at t) chain.Post
 chain-same-length-5 t c = search needs
 
--- src/licensees.rt:126:1
+-- src/licensees.rt:182:1
 chain-same-length-6 : (t : ℕ) → chain-lts.Need-same-length-6 (
   operand-below t,
   operand.Post,
@@ -164,7 +166,7 @@ chain-same-length-6 : (t : ℕ) → chain-lts.Need-same-length-6 (
 ) (chain-at t) chain.Post
 chain-same-length-6 t c = search needs
 
--- src/licensees.rt:126:1
+-- src/licensees.rt:182:1
 chain-returns-2 : (t : ℕ) → chain-lts.Need-returns-2 (
   operand-below t,
   operand.Post,
@@ -181,7 +183,7 @@ abbrev more-μ-loop : more-lts.MeasureT-loop
 more-μ-loop s consts constants pool₀ places₀ code₀ level left joint state₀ t₀ pool places code state t =
     16 - state .listed
 
--- src/licensees.rt:95:9
+-- src/licensees.rt:140:9
 more-joint-of-requires : (t : ℕ) → more-lts.Need-joint-of-requires (
   joint-of-reads.Asked,
   joint-of-reads.Learnt,
@@ -198,7 +200,7 @@ more-joint-of-requires : (t : ℕ) → more-lts.Need-joint-of-requires (
 ) (more-at t) more.Post more-Inv-loop more-μ-loop
 more-joint-of-requires t c κs = search needs
 
--- src/licensees.rt:98:5
+-- src/licensees.rt:143:5
 more-loop-holds : (t : ℕ) → more-lts.Need-loop-holds (
   joint-of-reads.Asked,
   joint-of-reads.Learnt,
@@ -215,7 +217,7 @@ more-loop-holds : (t : ℕ) → more-lts.Need-loop-holds (
 ) (more-at t) more.Post more-Inv-loop more-μ-loop
 more-loop-holds t c = search needs
 
--- src/licensees.rt:99:13
+-- src/licensees.rt:144:13
 more-token-at-requires : (t : ℕ) → more-lts.Need-token-at-requires (
   joint-of-reads.Asked,
   joint-of-reads.Learnt,
@@ -232,7 +234,7 @@ more-token-at-requires : (t : ℕ) → more-lts.Need-token-at-requires (
 ) (more-at t) more.Post more-Inv-loop more-μ-loop
 more-token-at-requires t c κs = search needs
 
--- src/licensees.rt:100:15
+-- src/licensees.rt:145:15
 more-operand-requires : (t : ℕ) → more-lts.Need-operand-requires (
   joint-of-reads.Asked,
   joint-of-reads.Learnt,
@@ -249,7 +251,7 @@ more-operand-requires : (t : ℕ) → more-lts.Need-operand-requires (
 ) (more-at t) more.Post more-Inv-loop more-μ-loop
 more-operand-requires t c κs = search needs
 
--- src/licensees.rt:101:31
+-- src/licensees.rt:157:31
 more-enum-known-reason : (t : ℕ) → more-lts.Need-enum-known-reason (
   joint-of-reads.Asked,
   joint-of-reads.Learnt,
@@ -266,7 +268,7 @@ more-enum-known-reason : (t : ℕ) → more-lts.Need-enum-known-reason (
 ) (more-at t) more.Post more-Inv-loop more-μ-loop
 more-enum-known-reason t c = search needs
 
--- src/licensees.rt:102:17
+-- src/licensees.rt:158:17
 more-same-length : (t : ℕ) → more-lts.Need-same-length (
   joint-of-reads.Asked,
   joint-of-reads.Learnt,
@@ -283,7 +285,7 @@ more-same-length : (t : ℕ) → more-lts.Need-same-length (
 ) (more-at t) more.Post more-Inv-loop more-μ-loop
 more-same-length t c = search needs
 
--- src/licensees.rt:102:17
+-- src/licensees.rt:158:17
 more-same-length-2 : (t : ℕ) → more-lts.Need-same-length-2 (
   joint-of-reads.Asked,
   joint-of-reads.Learnt,
@@ -300,7 +302,7 @@ more-same-length-2 : (t : ℕ) → more-lts.Need-same-length-2 (
 ) (more-at t) more.Post more-Inv-loop more-μ-loop
 more-same-length-2 t c = search needs
 
--- src/licensees.rt:102:17
+-- src/licensees.rt:158:17
 more-same-length-3 : (t : ℕ) → more-lts.Need-same-length-3 (
   joint-of-reads.Asked,
   joint-of-reads.Learnt,
@@ -317,7 +319,7 @@ more-same-length-3 : (t : ℕ) → more-lts.Need-same-length-3 (
 ) (more-at t) more.Post more-Inv-loop more-μ-loop
 more-same-length-3 t c = search needs
 
--- src/licensees.rt:102:17
+-- src/licensees.rt:158:17
 more-returns : (t : ℕ) → more-lts.Need-returns (
   joint-of-reads.Asked,
   joint-of-reads.Learnt,
@@ -334,7 +336,7 @@ more-returns : (t : ℕ) → more-lts.Need-returns (
 ) (more-at t) more.Post more-Inv-loop more-μ-loop
 more-returns t c = search more-aside
 
--- src/licensees.rt:104:35
+-- src/licensees.rt:160:35
 more-enum-known-u : (t : ℕ) → more-lts.Need-enum-known-u (
   joint-of-reads.Asked,
   joint-of-reads.Learnt,
@@ -351,7 +353,7 @@ more-enum-known-u : (t : ℕ) → more-lts.Need-enum-known-u (
 ) (more-at t) more.Post more-Inv-loop more-μ-loop
 more-enum-known-u t c = search needs
 
--- src/licensees.rt:105:20
+-- src/licensees.rt:161:20
 more-rest-requires : (t : ℕ) → more-lts.Need-rest-requires (
   joint-of-reads.Asked,
   joint-of-reads.Learnt,
@@ -368,7 +370,7 @@ more-rest-requires : (t : ℕ) → more-lts.Need-rest-requires (
 ) (more-at t) more.Post more-Inv-loop more-μ-loop
 more-rest-requires t c κs = search needs
 
--- src/licensees.rt:105:42
+-- src/licensees.rt:161:42
 more-rest-requires-2 : (t : ℕ) → more-lts.Need-rest-requires-2 (
   joint-of-reads.Asked,
   joint-of-reads.Learnt,
@@ -385,7 +387,7 @@ more-rest-requires-2 : (t : ℕ) → more-lts.Need-rest-requires-2 (
 ) (more-at t) more.Post more-Inv-loop more-μ-loop
 more-rest-requires-2 t c κs = search needs
 
--- src/licensees.rt:106:21
+-- src/licensees.rt:162:21
 more-same-length-4 : (t : ℕ) → more-lts.Need-same-length-4 (
   joint-of-reads.Asked,
   joint-of-reads.Learnt,
@@ -402,7 +404,7 @@ more-same-length-4 : (t : ℕ) → more-lts.Need-same-length-4 (
 ) (more-at t) more.Post more-Inv-loop more-μ-loop
 more-same-length-4 t c = search needs
 
--- src/licensees.rt:106:21
+-- src/licensees.rt:162:21
 more-same-length-5 : (t : ℕ) → more-lts.Need-same-length-5 (
   joint-of-reads.Asked,
   joint-of-reads.Learnt,
@@ -419,7 +421,7 @@ more-same-length-5 : (t : ℕ) → more-lts.Need-same-length-5 (
 ) (more-at t) more.Post more-Inv-loop more-μ-loop
 more-same-length-5 t c = search needs
 
--- src/licensees.rt:106:21
+-- src/licensees.rt:162:21
 more-same-length-6 : (t : ℕ) → more-lts.Need-same-length-6 (
   joint-of-reads.Asked,
   joint-of-reads.Learnt,
@@ -436,7 +438,7 @@ more-same-length-6 : (t : ℕ) → more-lts.Need-same-length-6 (
 ) (more-at t) more.Post more-Inv-loop more-μ-loop
 more-same-length-6 t c = search needs
 
--- src/licensees.rt:106:21
+-- src/licensees.rt:162:21
 more-returns-2 : (t : ℕ) → more-lts.Need-returns-2 (
   joint-of-reads.Asked,
   joint-of-reads.Learnt,
@@ -453,7 +455,7 @@ more-returns-2 : (t : ℕ) → more-lts.Need-returns-2 (
 ) (more-at t) more.Post more-Inv-loop more-μ-loop
 more-returns-2 t c = search more-stuck
 
--- src/licensees.rt:111:47
+-- src/licensees.rt:167:47
 more-join-of-requires : (t : ℕ) → more-lts.Need-join-of-requires (
   joint-of-reads.Asked,
   joint-of-reads.Learnt,
@@ -470,7 +472,7 @@ more-join-of-requires : (t : ℕ) → more-lts.Need-join-of-requires (
 ) (more-at t) more.Post more-Inv-loop more-μ-loop
 more-join-of-requires t c κs = search needs
 
--- src/licensees.rt:111:21
+-- src/licensees.rt:167:21
 more-push-requires : (t : ℕ) → more-lts.Need-push-requires (
   joint-of-reads.Asked,
   joint-of-reads.Learnt,
@@ -487,7 +489,7 @@ more-push-requires : (t : ℕ) → more-lts.Need-push-requires (
 ) (more-at t) more.Post more-Inv-loop more-μ-loop
 more-push-requires t c κs = search needs
 
--- src/licensees.rt:98:5
+-- src/licensees.rt:143:5
 more-loop-less : (t : ℕ) → more-lts.Need-loop-less (
   joint-of-reads.Asked,
   joint-of-reads.Learnt,
@@ -504,7 +506,7 @@ more-loop-less : (t : ℕ) → more-lts.Need-loop-less (
 ) (more-at t) more.Post more-Inv-loop more-μ-loop
 more-loop-less t c = let f = more-less _ _ _ _ _ _ _ _ _ _ _ (c .before .before .before .before .before .before .before .before .before .before .before .before .before .before .before .before .before .before .before .before .before .before .before .before .loop .inv .3) _ (c .before .before .before .before .before .before .before .before .before .before .before .before .before .before .before .before .before .before .before .before .before .before .before .before .before .joint-of .ensures) (c .before .before .before .before .before .before .before .before .before .before .before .before .before .before .before .before .before .before .before .before .before .before .if1 .taken) _ (c .before .before .before .before .before .before .before .before .before .before .before .before .before .before .before .before .before .before .before .before .before .token-at .ensures) _ _ _ _ (c .before .before .before .before .before .before .before .before .before .before .before .before .before .before .before .before .before .operand .ensures) in search f
 
--- src/licensees.rt:98:5
+-- src/licensees.rt:143:5
 more-loop-again : (t : ℕ) → more-lts.Need-loop-again (
   joint-of-reads.Asked,
   joint-of-reads.Learnt,
@@ -521,7 +523,7 @@ more-loop-again : (t : ℕ) → more-lts.Need-loop-again (
 ) (more-at t) more.Post more-Inv-loop more-μ-loop
 more-loop-again t c = ((let w = c .before .before .before .before .before .before .before .before .before .before .before .before .before .before .before .before .before .before .before .before .before .before .before .before .loop .inv .0 in search needs), (let w = c .before .before .before .before .before .before .before .before .before .before .before .before .before .before .before .before .before .before .before .before .before .before .before .before .loop .inv .1 in search needs), (let w = c .before .before .before .before .before .before .before .before .before .before .before .before .before .before .before .before .before .before .before .before .before .before .before .before .loop .inv .2 in search needs), (let f = more-again _ _ _ _ _ _ _ _ _ _ _ (c .before .before .before .before .before .before .before .before .before .before .before .before .before .before .before .before .before .before .before .before .before .before .before .before .loop .inv .3) _ (c .before .before .before .before .before .before .before .before .before .before .before .before .before .before .before .before .before .before .before .before .before .before .before .before .before .joint-of .ensures) (c .before .before .before .before .before .before .before .before .before .before .before .before .before .before .before .before .before .before .before .before .before .before .if1 .taken) _ (c .before .before .before .before .before .before .before .before .before .before .before .before .before .before .before .before .before .before .before .before .before .token-at .ensures) _ _ _ _ (c .before .before .before .before .before .before .before .before .before .before .before .before .before .before .before .before .before .operand .ensures) in search f))
 
--- src/licensees.rt:81:1
+-- src/licensees.rt:126:1
 more-same-length-7 : (t : ℕ) → more-lts.Need-same-length-7 (
   joint-of-reads.Asked,
   joint-of-reads.Learnt,
@@ -538,7 +540,7 @@ more-same-length-7 : (t : ℕ) → more-lts.Need-same-length-7 (
 ) (more-at t) more.Post more-Inv-loop more-μ-loop
 more-same-length-7 t c = search needs
 
--- src/licensees.rt:81:1
+-- src/licensees.rt:126:1
 more-same-length-8 : (t : ℕ) → more-lts.Need-same-length-8 (
   joint-of-reads.Asked,
   joint-of-reads.Learnt,
@@ -555,7 +557,7 @@ more-same-length-8 : (t : ℕ) → more-lts.Need-same-length-8 (
 ) (more-at t) more.Post more-Inv-loop more-μ-loop
 more-same-length-8 t c = search needs
 
--- src/licensees.rt:81:1
+-- src/licensees.rt:126:1
 more-same-length-9 : (t : ℕ) → more-lts.Need-same-length-9 (
   joint-of-reads.Asked,
   joint-of-reads.Learnt,
@@ -572,7 +574,7 @@ more-same-length-9 : (t : ℕ) → more-lts.Need-same-length-9 (
 ) (more-at t) more.Post more-Inv-loop more-μ-loop
 more-same-length-9 t c = search needs
 
--- src/licensees.rt:81:1
+-- src/licensees.rt:126:1
 more-returns-3 : (t : ℕ) → more-lts.Need-returns-3 (
   joint-of-reads.Asked,
   joint-of-reads.Learnt,
@@ -589,106 +591,277 @@ more-returns-3 : (t : ℕ) → more-lts.Need-returns-3 (
 ) (more-at t) more.Post more-Inv-loop more-μ-loop
 more-returns-3 t c = search more-end
 
--- src/licensees.rt:75:9
+-- src/licensees.rt:89:9
 operand-primary-requires : (t : ℕ) → operand-lts.Need-primary-requires (
   primary-below t,
   primary.Post,
+  is-single-reads.Asked,
+  is-single-reads.Learnt,
+  token-at-reads.Asked,
+  token-at-reads.Learnt,
+  licensee-before-reads.Asked,
+  licensee-before-reads.Learnt,
   chain-below t,
   chain.Post,
 ) (operand-at t) operand.Post
 operand-primary-requires t c κs = search needs
 
--- src/licensees.rt:75:9
+-- src/licensees.rt:89:9
 operand-same-length : (t : ℕ) → operand-lts.Need-same-length (
   primary-below t,
   primary.Post,
+  is-single-reads.Asked,
+  is-single-reads.Learnt,
+  token-at-reads.Asked,
+  token-at-reads.Learnt,
+  licensee-before-reads.Asked,
+  licensee-before-reads.Learnt,
   chain-below t,
   chain.Post,
 ) (operand-at t) operand.Post
 operand-same-length t c = search needs
 
--- src/licensees.rt:75:9
+-- src/licensees.rt:89:9
 operand-same-length-2 : (t : ℕ) → operand-lts.Need-same-length-2 (
   primary-below t,
   primary.Post,
+  is-single-reads.Asked,
+  is-single-reads.Learnt,
+  token-at-reads.Asked,
+  token-at-reads.Learnt,
+  licensee-before-reads.Asked,
+  licensee-before-reads.Learnt,
   chain-below t,
   chain.Post,
 ) (operand-at t) operand.Post
 operand-same-length-2 t c = search needs
 
--- src/licensees.rt:75:9
+-- src/licensees.rt:89:9
 operand-same-length-3 : (t : ℕ) → operand-lts.Need-same-length-3 (
   primary-below t,
   primary.Post,
+  is-single-reads.Asked,
+  is-single-reads.Learnt,
+  token-at-reads.Asked,
+  token-at-reads.Learnt,
+  licensee-before-reads.Asked,
+  licensee-before-reads.Learnt,
   chain-below t,
   chain.Post,
 ) (operand-at t) operand.Post
 operand-same-length-3 t c = search needs
 
--- src/licensees.rt:75:9
+-- src/licensees.rt:89:9
 operand-returns : (t : ℕ) → operand-lts.Need-returns (
   primary-below t,
   primary.Post,
+  is-single-reads.Asked,
+  is-single-reads.Learnt,
+  token-at-reads.Asked,
+  token-at-reads.Learnt,
+  licensee-before-reads.Asked,
+  licensee-before-reads.Learnt,
   chain-below t,
   chain.Post,
 ) (operand-at t) operand.Post
 operand-returns t c = search operand-primary
 
--- src/licensees.rt:77:60
-operand-sub-chain : (t : ℕ) → operand-lts.Need-sub-chain (
+-- src/licensees.rt:91:8
+operand-is-single-requires : (t : ℕ) → operand-lts.Need-is-single-requires (
   primary-below t,
   primary.Post,
+  is-single-reads.Asked,
+  is-single-reads.Learnt,
+  token-at-reads.Asked,
+  token-at-reads.Learnt,
+  licensee-before-reads.Asked,
+  licensee-before-reads.Learnt,
   chain-below t,
   chain.Post,
 ) (operand-at t) operand.Post
-operand-sub-chain t c = search needs
+operand-is-single-requires t c κs = search needs
 
--- src/licensees.rt:77:5
-operand-chain-requires : (t : ℕ) → operand-lts.Need-chain-requires (
+-- src/licensees.rt:92:13
+operand-token-at-requires : (t : ℕ) → operand-lts.Need-token-at-requires (
   primary-below t,
   primary.Post,
+  is-single-reads.Asked,
+  is-single-reads.Learnt,
+  token-at-reads.Asked,
+  token-at-reads.Learnt,
+  licensee-before-reads.Asked,
+  licensee-before-reads.Learnt,
   chain-below t,
   chain.Post,
 ) (operand-at t) operand.Post
-operand-chain-requires t c κs = search needs
+operand-token-at-requires t c κs = search needs
 
--- src/licensees.rt:60:1
+-- src/licensees.rt:94:13
+operand-licensee-before-requires : (t : ℕ) → operand-lts.Need-licensee-before-requires (
+  primary-below t,
+  primary.Post,
+  is-single-reads.Asked,
+  is-single-reads.Learnt,
+  token-at-reads.Asked,
+  token-at-reads.Learnt,
+  licensee-before-reads.Asked,
+  licensee-before-reads.Learnt,
+  chain-below t,
+  chain.Post,
+) (operand-at t) operand.Post
+operand-licensee-before-requires t c κs = search needs
+
+-- src/licensees.rt:94:13
 operand-same-length-4 : (t : ℕ) → operand-lts.Need-same-length-4 (
   primary-below t,
   primary.Post,
+  is-single-reads.Asked,
+  is-single-reads.Learnt,
+  token-at-reads.Asked,
+  token-at-reads.Learnt,
+  licensee-before-reads.Asked,
+  licensee-before-reads.Learnt,
   chain-below t,
   chain.Post,
 ) (operand-at t) operand.Post
 operand-same-length-4 t c = search needs
 
--- src/licensees.rt:60:1
+-- src/licensees.rt:94:13
 operand-same-length-5 : (t : ℕ) → operand-lts.Need-same-length-5 (
   primary-below t,
   primary.Post,
+  is-single-reads.Asked,
+  is-single-reads.Learnt,
+  token-at-reads.Asked,
+  token-at-reads.Learnt,
+  licensee-before-reads.Asked,
+  licensee-before-reads.Learnt,
   chain-below t,
   chain.Post,
 ) (operand-at t) operand.Post
 operand-same-length-5 t c = search needs
 
--- src/licensees.rt:60:1
+-- src/licensees.rt:94:13
 operand-same-length-6 : (t : ℕ) → operand-lts.Need-same-length-6 (
   primary-below t,
   primary.Post,
+  is-single-reads.Asked,
+  is-single-reads.Learnt,
+  token-at-reads.Asked,
+  token-at-reads.Learnt,
+  licensee-before-reads.Asked,
+  licensee-before-reads.Learnt,
   chain-below t,
   chain.Post,
 ) (operand-at t) operand.Post
 operand-same-length-6 t c = search needs
 
--- src/licensees.rt:60:1
+-- src/licensees.rt:94:13
 operand-returns-2 : (t : ℕ) → operand-lts.Need-returns-2 (
   primary-below t,
   primary.Post,
+  is-single-reads.Asked,
+  is-single-reads.Learnt,
+  token-at-reads.Asked,
+  token-at-reads.Learnt,
+  licensee-before-reads.Asked,
+  licensee-before-reads.Learnt,
   chain-below t,
   chain.Post,
 ) (operand-at t) operand.Post
-operand-returns-2 t c = search operand-chain
+operand-returns-2 t c = search operand-single
 
--- src/licensees.rt:163:9
+-- src/licensees.rt:120:9
+operand-sub-chain : (t : ℕ) → operand-lts.Need-sub-chain (
+  primary-below t,
+  primary.Post,
+  is-single-reads.Asked,
+  is-single-reads.Learnt,
+  token-at-reads.Asked,
+  token-at-reads.Learnt,
+  licensee-before-reads.Asked,
+  licensee-before-reads.Learnt,
+  chain-below t,
+  chain.Post,
+) (operand-at t) operand.Post
+operand-sub-chain t c = search needs
+
+-- src/licensees.rt:111:5
+operand-chain-requires : (t : ℕ) → operand-lts.Need-chain-requires (
+  primary-below t,
+  primary.Post,
+  is-single-reads.Asked,
+  is-single-reads.Learnt,
+  token-at-reads.Asked,
+  token-at-reads.Learnt,
+  licensee-before-reads.Asked,
+  licensee-before-reads.Learnt,
+  chain-below t,
+  chain.Post,
+) (operand-at t) operand.Post
+operand-chain-requires t c κs = search needs
+
+-- src/licensees.rt:74:1
+operand-same-length-7 : (t : ℕ) → operand-lts.Need-same-length-7 (
+  primary-below t,
+  primary.Post,
+  is-single-reads.Asked,
+  is-single-reads.Learnt,
+  token-at-reads.Asked,
+  token-at-reads.Learnt,
+  licensee-before-reads.Asked,
+  licensee-before-reads.Learnt,
+  chain-below t,
+  chain.Post,
+) (operand-at t) operand.Post
+operand-same-length-7 t c = search needs
+
+-- src/licensees.rt:74:1
+operand-same-length-8 : (t : ℕ) → operand-lts.Need-same-length-8 (
+  primary-below t,
+  primary.Post,
+  is-single-reads.Asked,
+  is-single-reads.Learnt,
+  token-at-reads.Asked,
+  token-at-reads.Learnt,
+  licensee-before-reads.Asked,
+  licensee-before-reads.Learnt,
+  chain-below t,
+  chain.Post,
+) (operand-at t) operand.Post
+operand-same-length-8 t c = search needs
+
+-- src/licensees.rt:74:1
+operand-same-length-9 : (t : ℕ) → operand-lts.Need-same-length-9 (
+  primary-below t,
+  primary.Post,
+  is-single-reads.Asked,
+  is-single-reads.Learnt,
+  token-at-reads.Asked,
+  token-at-reads.Learnt,
+  licensee-before-reads.Asked,
+  licensee-before-reads.Learnt,
+  chain-below t,
+  chain.Post,
+) (operand-at t) operand.Post
+operand-same-length-9 t c = search needs
+
+-- src/licensees.rt:74:1
+operand-returns-3 : (t : ℕ) → operand-lts.Need-returns-3 (
+  primary-below t,
+  primary.Post,
+  is-single-reads.Asked,
+  is-single-reads.Learnt,
+  token-at-reads.Asked,
+  token-at-reads.Learnt,
+  licensee-before-reads.Asked,
+  licensee-before-reads.Learnt,
+  chain-below t,
+  chain.Post,
+) (operand-at t) operand.Post
+operand-returns-3 t c = search operand-chain
+
+-- src/licensees.rt:230:9
 primary-threshold-requires : (t : ℕ) → primary-lts.Need-threshold-requires (
   threshold-reads.Asked,
   threshold-reads.Learnt,
@@ -703,7 +876,7 @@ primary-threshold-requires : (t : ℕ) → primary-lts.Need-threshold-requires (
 ) (primary-at t) primary.Post
 primary-threshold-requires t c κs = search needs
 
--- src/licensees.rt:163:9
+-- src/licensees.rt:230:9
 primary-same-length : (t : ℕ) → primary-lts.Need-same-length (
   threshold-reads.Asked,
   threshold-reads.Learnt,
@@ -718,7 +891,7 @@ primary-same-length : (t : ℕ) → primary-lts.Need-same-length (
 ) (primary-at t) primary.Post
 primary-same-length t c = search needs
 
--- src/licensees.rt:163:9
+-- src/licensees.rt:230:9
 primary-same-length-2 : (t : ℕ) → primary-lts.Need-same-length-2 (
   threshold-reads.Asked,
   threshold-reads.Learnt,
@@ -733,7 +906,7 @@ primary-same-length-2 : (t : ℕ) → primary-lts.Need-same-length-2 (
 ) (primary-at t) primary.Post
 primary-same-length-2 t c = search needs
 
--- src/licensees.rt:163:9
+-- src/licensees.rt:230:9
 primary-same-length-3 : (t : ℕ) → primary-lts.Need-same-length-3 (
   threshold-reads.Asked,
   threshold-reads.Learnt,
@@ -748,7 +921,7 @@ primary-same-length-3 : (t : ℕ) → primary-lts.Need-same-length-3 (
 ) (primary-at t) primary.Post
 primary-same-length-3 t c = search needs
 
--- src/licensees.rt:163:9
+-- src/licensees.rt:230:9
 primary-returns : (t : ℕ) → primary-lts.Need-returns (
   threshold-reads.Asked,
   threshold-reads.Learnt,
@@ -763,7 +936,7 @@ primary-returns : (t : ℕ) → primary-lts.Need-returns (
 ) (primary-at t) primary.Post
 primary-returns t c = search primary-digits
 
--- src/licensees.rt:166:9
+-- src/licensees.rt:233:9
 primary-licensee-requires : (t : ℕ) → primary-lts.Need-licensee-requires (
   threshold-reads.Asked,
   threshold-reads.Learnt,
@@ -778,7 +951,7 @@ primary-licensee-requires : (t : ℕ) → primary-lts.Need-licensee-requires (
 ) (primary-at t) primary.Post
 primary-licensee-requires t c κs = search needs
 
--- src/licensees.rt:166:9
+-- src/licensees.rt:233:9
 primary-same-length-4 : (t : ℕ) → primary-lts.Need-same-length-4 (
   threshold-reads.Asked,
   threshold-reads.Learnt,
@@ -793,7 +966,7 @@ primary-same-length-4 : (t : ℕ) → primary-lts.Need-same-length-4 (
 ) (primary-at t) primary.Post
 primary-same-length-4 t c = search needs
 
--- src/licensees.rt:166:9
+-- src/licensees.rt:233:9
 primary-same-length-5 : (t : ℕ) → primary-lts.Need-same-length-5 (
   threshold-reads.Asked,
   threshold-reads.Learnt,
@@ -808,7 +981,7 @@ primary-same-length-5 : (t : ℕ) → primary-lts.Need-same-length-5 (
 ) (primary-at t) primary.Post
 primary-same-length-5 t c = search needs
 
--- src/licensees.rt:166:9
+-- src/licensees.rt:233:9
 primary-same-length-6 : (t : ℕ) → primary-lts.Need-same-length-6 (
   threshold-reads.Asked,
   threshold-reads.Learnt,
@@ -823,7 +996,7 @@ primary-same-length-6 : (t : ℕ) → primary-lts.Need-same-length-6 (
 ) (primary-at t) primary.Post
 primary-same-length-6 t c = search needs
 
--- src/licensees.rt:166:9
+-- src/licensees.rt:233:9
 primary-returns-2 : (t : ℕ) → primary-lts.Need-returns-2 (
   threshold-reads.Asked,
   threshold-reads.Learnt,
@@ -838,7 +1011,7 @@ primary-returns-2 : (t : ℕ) → primary-lts.Need-returns-2 (
 ) (primary-at t) primary.Post
 primary-returns-2 t c = search primary-one
 
--- src/licensees.rt:169:9
+-- src/licensees.rt:236:9
 primary-returns-3 : (t : ℕ) → primary-lts.Need-returns-3 (
   threshold-reads.Asked,
   threshold-reads.Learnt,
@@ -853,7 +1026,7 @@ primary-returns-3 : (t : ℕ) → primary-lts.Need-returns-3 (
 ) (primary-at t) primary.Post
 primary-returns-3 t c = search primary-most
 
--- src/licensees.rt:174:9
+-- src/licensees.rt:241:9
 primary-token-at-requires : (t : ℕ) → primary-lts.Need-token-at-requires (
   threshold-reads.Asked,
   threshold-reads.Learnt,
@@ -868,7 +1041,7 @@ primary-token-at-requires : (t : ℕ) → primary-lts.Need-token-at-requires (
 ) (primary-at t) primary.Post
 primary-token-at-requires t c κs = search needs
 
--- src/licensees.rt:175:71
+-- src/licensees.rt:252:9
 primary-sub-chain : (t : ℕ) → primary-lts.Need-sub-chain (
   threshold-reads.Asked,
   threshold-reads.Learnt,
@@ -883,7 +1056,7 @@ primary-sub-chain : (t : ℕ) → primary-lts.Need-sub-chain (
 ) (primary-at t) primary.Post
 primary-sub-chain t c = search needs
 
--- src/licensees.rt:175:11
+-- src/licensees.rt:242:11
 primary-chain-requires : (t : ℕ) → primary-lts.Need-chain-requires (
   threshold-reads.Asked,
   threshold-reads.Learnt,
@@ -898,7 +1071,7 @@ primary-chain-requires : (t : ℕ) → primary-lts.Need-chain-requires (
 ) (primary-at t) primary.Post
 primary-chain-requires t c κs = search needs
 
--- src/licensees.rt:176:27
+-- src/licensees.rt:254:27
 primary-enum-known-reason : (t : ℕ) → primary-lts.Need-enum-known-reason (
   threshold-reads.Asked,
   threshold-reads.Learnt,
@@ -913,7 +1086,7 @@ primary-enum-known-reason : (t : ℕ) → primary-lts.Need-enum-known-reason (
 ) (primary-at t) primary.Post
 primary-enum-known-reason t c = search needs
 
--- src/licensees.rt:177:24
+-- src/licensees.rt:255:24
 primary-enum-known-state : (t : ℕ) → primary-lts.Need-enum-known-state (
   threshold-reads.Asked,
   threshold-reads.Learnt,
@@ -928,7 +1101,7 @@ primary-enum-known-state : (t : ℕ) → primary-lts.Need-enum-known-state (
 ) (primary-at t) primary.Post
 primary-enum-known-state t c = search needs
 
--- src/licensees.rt:177:41
+-- src/licensees.rt:255:41
 primary-closed-requires : (t : ℕ) → primary-lts.Need-closed-requires (
   threshold-reads.Asked,
   threshold-reads.Learnt,
@@ -943,7 +1116,7 @@ primary-closed-requires : (t : ℕ) → primary-lts.Need-closed-requires (
 ) (primary-at t) primary.Post
 primary-closed-requires t c κs = search needs
 
--- src/licensees.rt:149:1
+-- src/licensees.rt:216:1
 primary-same-length-7 : (t : ℕ) → primary-lts.Need-same-length-7 (
   threshold-reads.Asked,
   threshold-reads.Learnt,
@@ -958,7 +1131,7 @@ primary-same-length-7 : (t : ℕ) → primary-lts.Need-same-length-7 (
 ) (primary-at t) primary.Post
 primary-same-length-7 t c = search needs
 
--- src/licensees.rt:149:1
+-- src/licensees.rt:216:1
 primary-same-length-8 : (t : ℕ) → primary-lts.Need-same-length-8 (
   threshold-reads.Asked,
   threshold-reads.Learnt,
@@ -973,7 +1146,7 @@ primary-same-length-8 : (t : ℕ) → primary-lts.Need-same-length-8 (
 ) (primary-at t) primary.Post
 primary-same-length-8 t c = search needs
 
--- src/licensees.rt:149:1
+-- src/licensees.rt:216:1
 primary-same-length-9 : (t : ℕ) → primary-lts.Need-same-length-9 (
   threshold-reads.Asked,
   threshold-reads.Learnt,
@@ -988,7 +1161,7 @@ primary-same-length-9 : (t : ℕ) → primary-lts.Need-same-length-9 (
 ) (primary-at t) primary.Post
 primary-same-length-9 t c = search needs
 
--- src/licensees.rt:149:1
+-- src/licensees.rt:216:1
 primary-returns-4 : (t : ℕ) → primary-lts.Need-returns-4 (
   threshold-reads.Asked,
   threshold-reads.Learnt,
@@ -1003,7 +1176,7 @@ primary-returns-4 : (t : ℕ) → primary-lts.Need-returns-4 (
 ) (primary-at t) primary.Post
 primary-returns-4 t c = search primary-aside
 
--- src/licensees.rt:149:1
+-- src/licensees.rt:216:1
 primary-same-length-10 : (t : ℕ) → primary-lts.Need-same-length-10 (
   threshold-reads.Asked,
   threshold-reads.Learnt,
@@ -1018,7 +1191,7 @@ primary-same-length-10 : (t : ℕ) → primary-lts.Need-same-length-10 (
 ) (primary-at t) primary.Post
 primary-same-length-10 t c = search needs
 
--- src/licensees.rt:149:1
+-- src/licensees.rt:216:1
 primary-same-length-11 : (t : ℕ) → primary-lts.Need-same-length-11 (
   threshold-reads.Asked,
   threshold-reads.Learnt,
@@ -1033,7 +1206,7 @@ primary-same-length-11 : (t : ℕ) → primary-lts.Need-same-length-11 (
 ) (primary-at t) primary.Post
 primary-same-length-11 t c = search needs
 
--- src/licensees.rt:149:1
+-- src/licensees.rt:216:1
 primary-same-length-12 : (t : ℕ) → primary-lts.Need-same-length-12 (
   threshold-reads.Asked,
   threshold-reads.Learnt,
@@ -1048,7 +1221,7 @@ primary-same-length-12 : (t : ℕ) → primary-lts.Need-same-length-12 (
 ) (primary-at t) primary.Post
 primary-same-length-12 t c = search needs
 
--- src/licensees.rt:149:1
+-- src/licensees.rt:216:1
 primary-returns-5 : (t : ℕ) → primary-lts.Need-returns-5 (
   threshold-reads.Asked,
   threshold-reads.Learnt,
@@ -1126,8 +1299,18 @@ pub +chain+more+operand+primary-spec : {M : Type 1} → statement M
     (more-same-length-8 t)
     (more-same-length-9 t)
     (more-returns-3 t))
-    (λ t. operand-lts.spec
-    (primary-below t, primary.Post, chain-below t, chain.Post)
+    (λ t. operand-lts.spec (
+      primary-below t,
+      primary.Post,
+      is-single-reads.Asked,
+      is-single-reads.Learnt,
+      token-at-reads.Asked,
+      token-at-reads.Learnt,
+      licensee-before-reads.Asked,
+      licensee-before-reads.Learnt,
+      chain-below t,
+      chain.Post,
+    )
     (operand-at t)
     operand.Post
     (operand-primary-requires t)
@@ -1135,12 +1318,19 @@ pub +chain+more+operand+primary-spec : {M : Type 1} → statement M
     (operand-same-length-2 t)
     (operand-same-length-3 t)
     (operand-returns t)
-    (operand-sub-chain t)
-    (operand-chain-requires t)
+    (operand-is-single-requires t)
+    (operand-token-at-requires t)
+    (operand-licensee-before-requires t)
     (operand-same-length-4 t)
     (operand-same-length-5 t)
     (operand-same-length-6 t)
-    (operand-returns-2 t))
+    (operand-returns-2 t)
+    (operand-sub-chain t)
+    (operand-chain-requires t)
+    (operand-same-length-7 t)
+    (operand-same-length-8 t)
+    (operand-same-length-9 t)
+    (operand-returns-3 t))
     λ t. primary-lts.spec (
       threshold-reads.Asked,
       threshold-reads.Learnt,

@@ -1,0 +1,20 @@
+use Rattle.fields.specs.Working.ChainWays.{single-not, single-literal, single-name}
+use Rattle.fields.proofs.licensees.is_single.Statement.{statement}
+use Rattle.fields.proofs.licensees.is_single.Tie as tie
+use Rattle.fields.proofs.licensees.is_single.Reads as reads
+use Rattle.fields.proofs.licensees.is_single.Lts as lts
+
+-- src/licensees.rt:64:9
+returns : tie.Need-returns
+returns c = search single-not
+
+-- src/licensees.rt:67:9
+returns-2 : tie.Need-returns-2
+returns-2 c = search single-literal
+
+-- src/licensees.rt:60:1
+returns-3 : tie.Need-returns-3
+returns-3 c = search single-name
+
+pub is-single-spec : {M : Type 1} → statement M
+is-single-spec = tie.close (tie.spec returns returns-2 returns-3)
