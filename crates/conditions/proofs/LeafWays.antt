@@ -49,15 +49,15 @@ module _ (s m : List ℕ) (top : ℕ) (t : Token) where
     unfolding literalRead
     literal-long h = simp (lt-ltb _ _ (leb-false (length (decodedAt s (t .start))) 2048 (sym fe ∙ h)))
 
-  module _ (v : ℕ) (ve : v ≡ numberAt s (t .start) (t .end)) where
-    pub digits-large : LIMIT ≤ v → ran (Aside 5 (t .start)) m ≡ digitsRead s m top t
+  module _ (v : Bool) (ve : v ≡ leb LIMIT (numberAt s (t .start) (t .end))) where
+    pub digits-large : v ≡ true → ran (Aside 5 (t .start)) m ≡ digitsRead s m top t
     unfolding digitsRead
-    digits-large h = simp (sym ve, le-leb _ _ h)
+    digits-large h = simp (sym ve, h)
 
-    pub digits-made : v < LIMIT → (u : ℕ) (b : List ℕ) (x : Token) → u ≡ above m top → b ≡ put m top Op.NUMBER (t .start) → x ≡ nextAt s (t .end)
+    pub digits-made : v ≡ false → (u : ℕ) (b : List ℕ) (x : Token) → u ≡ above m top → b ≡ put m top Op.NUMBER (t .start) → x ≡ nextAt s (t .end)
         → ran (Found NUMBER 0 u x) b ≡ digitsRead s m top t
     unfolding digitsRead
-    digits-made h u b x ue be xe = simp (sym ve, lt-leb _ _ h, sym ue, sym be, sym xe)
+    digits-made h u b x ue be xe = simp (sym ve, h, sym ue, sym be, sym xe)
 
   module _ (want w : ℕ) (we : w ≡ wordSort s want (t .start) (t .end)) (x : Token) (xe : x ≡ nextAt s (t .end)) where
     pub name-bare : (w ≡ TEXT → ⊥) → ran (Found w (t .start) top x) m ≡ nameRead s m top want t

@@ -9,8 +9,7 @@ use crate::table::TRUE;
 use lexical::kind;
 use lexical::line::token_at;
 use lexical::literal::is_short;
-use lexical::number::LIMIT;
-use lexical::number::number_at;
+use lexical::number::is_large;
 use lexical::token::Token;
 use lexical::word::is_false;
 use lexical::word::is_true;
@@ -88,8 +87,7 @@ fn name(s: &[u8], code: &mut [u32], top: usize, want: u8, t: Token) -> Out
 fn digits(s: &[u8], code: &mut [u32], top: usize, t: Token) -> Out
     ensures { λ r. ⌜ ran r (now (code .exit)) ≡ digitsRead (now (s .entry)) (now (code .entry)) top t ⌝ }
 {
-    let v = number_at(s, t.start, t.end);
-    if LIMIT <= v {
+    if is_large(s, t.start, t.end) {
         return Out::Aside {
             reason: 5,
             at: t.start,

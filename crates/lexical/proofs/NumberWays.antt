@@ -1,13 +1,16 @@
 -- The ways out of the functions of `number`. Assumes nothing.
-use mathlib.Core.Path.{_≡_, refl, ap, _∙_}
+use mathlib.Core.Path.{_≡_, refl, sym, ap, _∙_}
+use mathlib.Core.Bool.{false}
 use mathlib.Core.List.{List, [], _∷_}
 use Prim.Native.Nat.{ℕ, zero, suc, _+_, _-_, _*_, _≤_, _<_}
 use native.Mathlib.Omega.{arith}
 use native.Mathlib.Numerals.{add-one}
 use lib.Dec.{leb}
-use lib.ListN.{length, getD, take, drop-of-length-le}
-use lib.Seq.{slice, drop-cons, getD-take}
-use borrow.Author.Tests.{le-leb, leb-true, leb-false}
+use lib.ListN.{length, getD, take, drop-of-length-le, length-drop}
+use lib.Seq.{slice, drop-cons, getD-take, getD-drop}
+use mir.Syntax.{w8}
+use mir.Val.{Fits}
+use borrow.Author.Tests.{le-leb, lt-leb, leb-true, leb-false}
 use Rattle.lexical.specs.Bounds.{chosen}
 use Rattle.lexical.specs.Number.{LIMIT, decimal, held, numberAt}
 
@@ -94,3 +97,44 @@ module _ (s : List ℕ) (start end : ℕ) where
       let e : d ≡ 0 * 10 + d = omega arith in
       let w : d ≡ held (0 * 10 + d) = low-held d (omega (arith, small)) ∙ ap held e in
       number-end s (start + 1) end d (numberAt s start end) (number-more s start end 0 (numberAt s start end) (number-start s start end) h l d de d w) (omega (arith, small)) (omega (arith, o))
+
+-- each of them is a byte, from which 48 leaves at most 207
+Bytes : List ℕ → Type 0
+Bytes s = (i : ℕ) → getD s i 0 < 256
+
+bytes-take : (n : ℕ) (s : List ℕ) → Bytes s → Bytes (take n s)
+unfolding Bytes
+bytes-take zero s f i = omega arith
+bytes-take (suc n) [] f i = omega arith
+bytes-take (suc n) (x ∷ xs) f zero = f 0
+bytes-take (suc n) (x ∷ xs) f (suc i) = bytes-take n xs (λ j. f (suc j)) i
+
+-- no less than what up to n bytes write behind w
+top : ℕ → ℕ → ℕ
+top zero w = w
+top (suc n) w = top n (w * 10 + 207)
+
+decimal-top : (n : ℕ) (bs : List ℕ) (v w : ℕ) → Bytes bs → length bs ≤ n → v ≤ w → decimal v bs ≤ top n w
+unfolding decimal top Bytes
+decimal-top zero [] v w f l h = h
+decimal-top zero (b ∷ bs) v w f l h = let no : ⊥ = omega (arith, l) in absurd no
+decimal-top (suc n) [] v w f l h = decimal-top n [] v (w * 10 + 207) f (omega arith) (omega (arith, h))
+decimal-top (suc n) (b ∷ bs) v w f l h =
+    decimal-top n bs (v * 10 + (b - 48)) (w * 10 + 207) (λ i. f (suc i)) (omega (arith, l)) (omega (arith, h, f 0))
+
+-- the ways out of `is_large`; seven bytes write at most 207 * 1111111
+module _ (s : List ℕ) (start end : ℕ) where
+  pub large-none : end ≤ start → false ≡ leb LIMIT (numberAt s start end)
+  large-none h = rw (sym (number-none s start end h)) refl
+
+  pub large-few : ((i : ℕ) → Fits w8 (getD s i 0)) → end - start < 8 → false ≡ leb LIMIT (numberAt s start end)
+  unfolding numberAt top Bytes
+  large-few f h =
+      let b : Bytes (slice start end s) = λ i. rw (getD-drop start (take end s) i 0) (bytes-take end s (λ j. f j .fits) (start + i)) in
+      let l : length (slice start end s) ≤ 7 = rw length-drop (omega (arith, h, take-short end s .0)) in
+      let d : decimal 0 (slice start end s) ≤ 229999977 = decimal-top 7 (slice start end s) 0 0 b l (omega arith) in
+      let low : held (decimal 0 (slice start end s)) < LIMIT = omega (arith, d, low-held (decimal 0 (slice start end s)) (omega (arith, d))) in
+      sym (lt-leb _ _ low)
+
+  pub large-tested : (v : ℕ) → v ≡ numberAt s start end → leb LIMIT v ≡ leb LIMIT (numberAt s start end)
+  large-tested v e = ap (leb LIMIT) e

@@ -1,6 +1,8 @@
 // Digits and the numbers that they write.
 ghost use mathlib.Core.Path.{_≡_};
 ghost use Prim.Native.Nat.{_-_, _<_};
+ghost use lib.Dec.{leb};
+ghost use Rattle.lexical.specs.Number;
 ghost use Rattle.lexical.specs.Number.{held, numberAt};
 
 fn wide(b: u8) -> u64
@@ -63,4 +65,17 @@ pub fn number_at(s: &[u8], start: usize, end: usize) -> u64
         return number_from(s, start, end);
     }
     digit(s[start])
+}
+
+// Do the digits from start to end write the limit or more? No seven bytes do.
+pub fn is_large(s: &[u8], start: usize, end: usize) -> bool
+    ensures { λ r. ⌜ r ≡ leb Number.LIMIT (numberAt (now (s .entry)) start end) ⌝ }
+{
+    if end <= start {
+        return false;
+    }
+    if end - start < 8 {
+        return false;
+    }
+    LIMIT <= number_at(s, start, end)
 }
