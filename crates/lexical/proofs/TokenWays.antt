@@ -26,6 +26,7 @@ use Rattle.lexical.specs.TokenLaws.{operator-next}
 use Rattle.lexical.specs.Working.Open.{literalFrom, settled, settled-other, settled-line, settled-open, number-other}
 use Rattle.lexical.specs.Bounds.{byte-within}
 use Rattle.lexical.specs.Lone.{lone, lone-kind, lone-width}
+use Rattle.lexical.specs.Common.{commonPair, common-kind, common-width, common-mark}
 use Rattle.lexical.specs.KindLaws.{Wide, operator-wide}
 use Rattle.lexical.proofs.LiteralWays.{end-end, end-found}
 
@@ -51,14 +52,14 @@ module _ (s : List ℕ) (mode i k w : ℕ) (ke : k ≡ operatorAt s mode i) (we 
   operator-made = simp (sym ke, we)
 
 -- the byte at i, as it was read
-first-byte : (s : List ℕ) (i b : ℕ) → b ≡ getD s (i + 0) 0 → b ≡ getD s i 0
+pub first-byte : (s : List ℕ) (i b : ℕ) → b ≡ getD s (i + 0) 0 → b ≡ getD s i 0
 first-byte s i b be = be ∙ ap (λ (j : ℕ). getD s j 0) (add-zero i)
 
-pub class-passed : (s : List ℕ) (i b c : ℕ) → c ≡ classOf b → b ≡ getD s (i + 0) 0 → c ≡ classOf (getD s i 0)
-class-passed s i b c ce be = ce ∙ ap classOf (first-byte s i b be)
+pub class-passed : (s : List ℕ) (i b c : ℕ) → c ≡ classOf b → b ≡ getD s i 0 → c ≡ classOf (getD s i 0)
+class-passed s i b c ce be = ce ∙ ap classOf be
 
 -- an operator that begins no longer one
-module _ (s : List ℕ) (i b c : ℕ) (be : b ≡ getD s (i + 0) 0) (ce : c ≡ classOf b) (l : Bool) (le : l ≡ lone c) (ly : l ≡ true) where
+module _ (s : List ℕ) (i b c : ℕ) (be : b ≡ getD s i 0) (ce : c ≡ classOf b) (l : Bool) (le : l ≡ lone c) (ly : l ≡ true) where
   lone-here : lone (classOf (getD s i 0)) ≡ true
   lone-here = rw (sym (class-passed s i b c ce be)) (sym le ∙ ly)
 
@@ -69,12 +70,38 @@ module _ (s : List ℕ) (i b c : ℕ) (be : b ≡ getD s (i + 0) 0) (ce : c ≡ 
       let m : i + 1 ≤ length s = omega arith in
       record { fits = lt-of-le-of-lt m n }
 
-  lone-made : (mode : ℕ) → token c i (i + 1) ≡ operatorToken s mode i
+  pub lone-made : (mode : ℕ) → token c i (i + 1) ≡ operatorToken s mode i
   unfolding operatorToken operatorAt
   lone-made mode =
       let k : classOf (getD s i 0) ≡ operatorKind mode (classOf (getD s i 0)) (getD s (i + 1) 0) (getD s (i + 2) 0)
       = lone-kind (classOf (getD s i 0)) lone-here mode (getD s (i + 1) 0) (getD s (i + 2) 0) in
       simp (class-passed s i b c ce be, sym k, lone-width (classOf (getD s i 0)) lone-here)
+
+-- a common operator of two bytes
+module _ (s : List ℕ) (i k b x : ℕ) (ke : k ≡ commonPair b x) (kn : k ≡ Kind.ILLEGAL → ⊥) (be : b ≡ getD s (i + 0) 0) (xe : x ≡ getD s (i + 1) 0) where
+  pair-found : commonPair b x ≡ Kind.ILLEGAL → ⊥
+  pair-found z = kn (ke ∙ z)
+
+  pair-here : (mode : ℕ) → k ≡ operatorAt s mode i
+  pair-here mode =
+      operator-here s mode i x (classOf b) (getD s (i + 2) 0) k (ke ∙ common-kind b x pair-found mode (getD s (i + 2) 0))
+      (ap classOf (first-byte s i b be)) xe refl
+
+  pair-width : 2 ≡ widthOf k
+  pair-width = common-width b x pair-found ∙ ap widthOf (sym ke)
+
+  pub pair-fits : length s < 2 ^ 64 → Fits w64 i → Fits w64 (i + 2)
+  pair-fits = operator-fits s 0 i k 2 (pair-here 0) pair-width
+
+  pub from-pair : (mode : ℕ) → settled s (token k i (i + 2)) ≡ tokenFrom s mode i
+  unfolding tokenFrom operatorToken
+  from-pair mode =
+      let m : (eqb (classOf b) LETTER ≡ false) × (eqb (classOf b) DIGIT ≡ false) × (eqb (classOf b) QUOTE ≡ false) = common-mark b x pair-found in
+      let l : eqb (classOf b) LETTER ≡ false = m .0 in
+      let d : eqb (classOf b) DIGIT ≡ false = m .1 in
+      let q : eqb (classOf b) QUOTE ≡ false = m .2 in
+      settled-other s (token k i (i + 2)) (rw (pair-here mode) (operator-next s mode i))
+      ∙ simp (sym (first-byte s i b be), l, d, q) (operator-made s mode i k 2 (pair-here mode) pair-width)
 
 -- a byte of a class below NUL's stands within the text, and begins its run
 module _ (s : List ℕ) (i k : ℕ) (e : classOf (getD s i 0) ≡ k) (l : k < NUL) where
@@ -126,9 +153,6 @@ module _ (s : List ℕ) (mode i b : ℕ) (be : b ≡ getD s (i + 0) 0) (t : Bool
         pub from-operator : (r : Token) → r ≡ operatorToken s mode i → settled s (token (r .kind) (r .start) (r .end)) ≡ tokenFrom s mode i
         unfolding tokenFrom operatorToken
         from-operator r re = settled-other s r (rw re (operator-next s mode i)) ∙ simp (sym at-i, sym te, tn, sym ue, un, sym ve, vn) re
-
-        pub from-lone : (c : ℕ) (l : Bool) → c ≡ classOf b → l ≡ lone c → l ≡ true → settled s (token c i (i + 1)) ≡ tokenFrom s mode i
-        from-lone c l ce le ly = from-operator (token c i (i + 1)) (lone-made s i b c be ce l le ly mode)
 
 module _ (s : List ℕ) (i : ℕ) where
   pub literal-past : length s ≤ i → settled s (illegalAt i) ≡ literalToken s i

@@ -18,6 +18,7 @@ pub mod Line
 pub mod KindLaws
 pub mod TokenLaws
 pub mod Lone
+pub mod Common
 pub mod LineLaws
 pub mod Number
 pub mod Decoded

@@ -15,6 +15,7 @@ ghost use mathlib.Core.Path.{_≡_};
 ghost use lib.ListN.{getD};
 ghost use Rattle.lexical.specs.Class.{classOf, DIGIT};
 ghost use Rattle.lexical.specs.Lone.{lone};
+ghost use Rattle.lexical.specs.Common.{commonPair};
 ghost use Rattle.lexical.specs.Token.{widthOf, operatorAt, operatorToken, literalToken, floatEnd, numberToken, tokenFrom};
 ghost use Rattle.lexical.specs.Working.Open.{literalFrom, settled};
 
@@ -194,6 +195,47 @@ fn is_lone(c: usize) -> bool
     c != kind::MINUS
 }
 
+// The operator at i, where the byte b stands, or a fault.
+fn mark_token(s: &[u8], mode: u8, i: usize, b: u8) -> Token
+    requires { ⌜ b ≡ getD (now s) i 0 ⌝ }
+    ensures { λ r. ⌜ r ≡ operatorToken (now (s .entry)) mode i ⌝ }
+{
+    let c = class_of(b);
+    if is_lone(c) {
+        return Token {
+            kind: c,
+            start: i,
+            end: i + 1,
+        };
+    }
+    operator_token(s, mode, i, c)
+}
+
+// The kind of a common operator of two bytes; ILLEGAL for any other two.
+fn common_pair(b: u8, x: u8) -> usize
+    ensures { λ r. ⌜ r ≡ commonPair b x ⌝ }
+{
+    if b == x {
+        if b == b'=' {
+            return kind::EQUAL;
+        }
+        if b == b'&' {
+            return kind::AND;
+        }
+        if b == b'|' {
+            return kind::OR;
+        }
+        return kind::ILLEGAL;
+    }
+    if x != b'>' {
+        return kind::ILLEGAL;
+    }
+    if b == b'-' {
+        return kind::ARROW;
+    }
+    kind::ILLEGAL
+}
+
 // The token that starts at i, by the class of its first byte; a literal may be left open.
 pub fn token_from(s: &[u8], mode: u8, i: usize) -> Token
     ensures { λ r. ⌜ settled (now (s .entry)) r ≡ tokenFrom (now (s .entry)) mode i ⌝ }
@@ -213,15 +255,15 @@ pub fn token_from(s: &[u8], mode: u8, i: usize) -> Token
     if is_quote(b) {
         return literal_token(s, i);
     }
-    let c = class_of(b);
-    if is_lone(c) {
+    let k = common_pair(b, byte_at(s, i, 1));
+    if k != kind::ILLEGAL {
         return Token {
-            kind: c,
+            kind: k,
             start: i,
-            end: i + 1,
+            end: i + 2,
         };
     }
-    let t = operator_token(s, mode, i, c);
+    let t = mark_token(s, mode, i, b);
     Token {
         kind: t.kind,
         start: t.start,
