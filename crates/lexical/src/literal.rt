@@ -210,11 +210,11 @@ fn write(s: &[u8], from: usize, buf: &mut [u8], at: usize)
     }
 }
 
-// Decodes unit by unit.
-fn decode_units(s: &[u8], start: usize, buf: &mut [u8], at: usize) -> bool
+// Decodes unit by unit, where that gives n bytes.
+pub fn decode_units(s: &[u8], start: usize, buf: &mut [u8], at: usize, n: usize) -> bool
+    requires { ⌜ n ≡ length (decodedAt (now s) start) ⌝ }
     ensures { λ r. ⌜ ran r (now (buf .exit)) ≡ decodeInto (now (s .entry)) start (now (buf .entry)) at ⌝ }
 {
-    let n = units_length(s, start);
     if buf.len() < at {
         return false;
     }
@@ -233,11 +233,12 @@ pub fn decode_into(s: &[u8], start: usize, buf: &mut [u8], at: usize) -> bool
     ensures { λ r. ⌜ ran r (now (buf .exit)) ≡ decodeInto (now (s .entry)) start (now (buf .entry)) at ⌝ }
 {
     if s.len() <= start {
-        return decode_units(s, start, buf, at);
+        return decode_units(s, start, buf, at, 0);
     }
     let e = plain_end(s, start + 1);
     if closes_at(s, e) {
         return copy_at(buf, at, &s[start + 1..e]);
     }
-    decode_units(s, start, buf, at)
+    let n = units_length(s, start);
+    decode_units(s, start, buf, at, n)
 }

@@ -19,7 +19,7 @@ use expression::value::told;
 use expression::value::unpack;
 use expression::value::width_of;
 use lexical::literal::bare_end;
-use lexical::literal::decode_into;
+use lexical::literal::decode_units;
 use lexical::literal::literal_length;
 ghost use mathlib.Core.Path.{_≡_};
 ghost use mathlib.Core.List.{[], map};
@@ -117,7 +117,7 @@ fn push_literal(
     if LONGEST < k {
         return put(stack, n, t, Operand::Fault);
     }
-    if decode_into(s, at, bytes, t) {
+    if decode_units(s, at, bytes, t, k) {
         return put(stack, n, t + k, Operand::Text { length: k });
     }
     Tops::Stuck

@@ -6,7 +6,7 @@ use Rattle.machine.proofs.push_literal.Tie as tie
 use Rattle.machine.proofs.push_literal.Reads as reads
 use Rattle.machine.proofs.push_literal.Lts as lts
 use Rattle.lexical.proofs.literal.bare_end.Reads as bare-end-reads
-use Rattle.lexical.proofs.literal.decode_into.Reads as decode-into-reads
+use Rattle.lexical.proofs.literal.decode_units.Reads as decode-units-reads
 use Rattle.lexical.proofs.literal.literal_length.Reads as literal-length-reads
 use Rattle.machine.proofs.push_text.Reads as push-text-reads
 use Rattle.machine.proofs.put.Reads as put-reads
@@ -64,8 +64,8 @@ returns-2 : tie.Need-returns-2
 returns-2 c = search literal-over
 
 -- src/lib.rt:115:8
-decode-into-requires : tie.Need-decode-into-requires
-decode-into-requires c κs = search needs
+decode-units-requires : tie.Need-decode-units-requires
+decode-units-requires c κs = search needs
 
 -- src/lib.rt:116:30
 add-put : tie.Need-add-put
@@ -112,7 +112,7 @@ push-literal-spec =
     put-requires
     same-length-3
     returns-2
-    decode-into-requires
+    decode-units-requires
     add-put
     put-requires-2
     same-length-4

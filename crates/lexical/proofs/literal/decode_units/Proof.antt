@@ -4,55 +4,41 @@ use Rattle.lexical.proofs.literal.decode_units.Statement.{statement}
 use Rattle.lexical.proofs.literal.decode_units.Tie as tie
 use Rattle.lexical.proofs.literal.decode_units.Reads as reads
 use Rattle.lexical.proofs.literal.decode_units.Lts as lts
-use Rattle.lexical.proofs.literal.units_length.Reads as units-length-reads
 use Rattle.lexical.proofs.literal.write.Reads as write-reads
 
--- src/literal.rt:78:9
-units-length-requires : tie.Need-units-length-requires
-units-length-requires c κs = search needs
-
--- src/literal.rt:80:9
+-- src/literal.rt:219:9
 returns : tie.Need-returns
 returns c = search into-none
 
--- src/literal.rt:82:8
+-- src/literal.rt:221:8
 sub-if2 : tie.Need-sub-if2
 sub-if2 c = search needs
 
--- src/literal.rt:83:9
+-- src/literal.rt:222:9
 returns-2 : tie.Need-returns-2
 returns-2 c = search into-full
 
--- src/literal.rt:86:9
+-- src/literal.rt:225:9
 returns-3 : tie.Need-returns-3
 returns-3 c = search into-past
 
--- src/literal.rt:88:14
+-- src/literal.rt:227:14
 add-write : tie.Need-add-write
 add-write c = search needs
 
--- src/literal.rt:88:5
+-- src/literal.rt:227:5
 write-requires : tie.Need-write-requires
 write-requires c κs = search into-room
 
--- src/literal.rt:75:1
+-- src/literal.rt:214:1
 same-length : tie.Need-same-length
 same-length c = search needs
 
--- src/literal.rt:75:1
+-- src/literal.rt:214:1
 returns-4 : tie.Need-returns-4
 returns-4 c = search into-all
 
 pub decode-units-spec : {M : Type 1} → statement M
 decode-units-spec =
     tie.close
-    (tie.spec
-    units-length-requires
-    returns
-    sub-if2
-    returns-2
-    returns-3
-    add-write
-    write-requires
-    same-length
-    returns-4)
+    (tie.spec returns sub-if2 returns-2 returns-3 add-write write-requires same-length returns-4)
