@@ -52,16 +52,24 @@ fn string_at<'a>(s: &'a [u8], places: &[usize], i: usize) -> &'a [u8]
     text::counted_at(s, p)
 }
 
+// The value behind the name of the table's entry i, where that is the first with that name; empty past the end.
+fn setting<'a>(s: &'a [u8], places: &[usize], name: &[u8], i: usize) -> &'a [u8]
+    requires { ⌜ i ≡ firstFrom (now s) (now name) 0 (now places) ⌝ }
+    ensures { λ r. ⌜ now r ≡ settingIn (now (s .entry)) (now (places .entry)) (now (name .entry)) [] ⌝ }
+{
+    if places.len() <= i {
+        return &s[..0];
+    }
+    let p = places[i];
+    behind(s, p, name.len())
+}
+
 // The value of the attribute with that name, empty where none has it.
 pub fn attribute<'a>(query: &'a [u8], names: &[usize], name: &[u8]) -> &'a [u8]
     ensures { λ r. ⌜ now r ≡ settingIn (now (query .entry)) (now (names .entry)) (now (name .entry)) [] ⌝ }
 {
     let i = find(query, names, name);
-    if names.len() <= i {
-        return &query[..0];
-    }
-    let p = names[i];
-    behind(query, p, name.len())
+    setting(query, names, name, i)
 }
 
 // The last of the compliance values.
@@ -123,7 +131,8 @@ fn from_query<'a>(
     if is_marked(name) {
         return from_reserved(query, consts, values, names, name);
     }
-    attribute(query, names, name)
+    let i = find(query, names, name);
+    setting(query, names, name, i)
 }
 
 // A name's value where it lies: a part of the constants or of the record; an unset name shows an empty part.

@@ -4,31 +4,42 @@ use Rattle.expression.proofs.name.from_query.Statement.{statement}
 use Rattle.expression.proofs.name.from_query.Tie as tie
 use Rattle.expression.proofs.name.from_query.Reads as reads
 use Rattle.expression.proofs.name.from_query.Lts as lts
-use Rattle.expression.proofs.name.attribute.Reads as attribute-reads
+use Rattle.expression.proofs.name.find.Reads as find-reads
 use Rattle.expression.proofs.name.from_reserved.Reads as from-reserved-reads
 use Rattle.expression.proofs.name.is_marked.Reads as is-marked-reads
+use Rattle.expression.proofs.name.setting.Reads as setting-reads
 
--- src/name.rt:123:8
+-- src/name.rt:131:8
 is-marked-requires : tie.Need-is-marked-requires
 is-marked-requires c κs = search needs
 
--- src/name.rt:124:9
+-- src/name.rt:132:9
 from-reserved-requires : tie.Need-from-reserved-requires
 from-reserved-requires c κs = search needs
 
--- src/name.rt:124:9
+-- src/name.rt:132:9
 returns : tie.Need-returns
 returns c = search needs
 
--- src/name.rt:126:5
-attribute-requires : tie.Need-attribute-requires
-attribute-requires c κs = search needs
+-- src/name.rt:134:9
+find-requires : tie.Need-find-requires
+find-requires c κs = search needs
 
--- src/name.rt:114:1
+-- src/name.rt:135:5
+setting-requires : tie.Need-setting-requires
+setting-requires c κs = search needs
+
+-- src/name.rt:122:1
 returns-2 : tie.Need-returns-2
 returns-2 c = search query-unmarked
 
 pub from-query-spec : {M : Type 1} → statement M
 from-query-spec =
     tie.close
-    (tie.spec is-marked-requires from-reserved-requires returns attribute-requires returns-2)
+    (tie.spec
+    is-marked-requires
+    from-reserved-requires
+    returns
+    find-requires
+    setting-requires
+    returns-2)
