@@ -14,8 +14,9 @@ use lexical::token::Token;
 use limits::MOST_LICENSEES;
 ghost use mathlib.Core.Path.{_≡_};
 ghost use Prim.Native.Nat.{_-_, _<_};
+ghost use Rattle.lexical.specs.Token.{token};
 ghost use Rattle.fields.specs.Licensees.{after};
-ghost use Rattle.fields.specs.Working.List.{ran, above, pushed, refusedLicensed, itemsOf, listedIn, placedIn, tokenOf, licenseeIn, listIn, openedIn, thresholdIn, wrote};
+ghost use Rattle.fields.specs.Working.List.{ran, above, pushed, refusedLicensed, itemsOf, listedIn, placedIn, licenseeIn, listIn, openedIn, thresholdIn, wrote};
 
 pub const MOST_BRACKETS: usize = 16;
 
@@ -121,7 +122,7 @@ fn placed(code: &mut [u16], st: State, n: Token, e: Entry) -> Licensed
 }
 
 // The licensee t, before the token n. Both tokens are handed over in parts: a copy of the whole would wait for the stores of its parts.
-pub fn licensee_before(
+pub(crate) fn licensee_before(
     s: &[u8],
     consts: &[u8],
     constants: &[usize],
@@ -136,8 +137,8 @@ pub fn licensee_before(
     from: usize,
     to: usize,
 ) -> Licensed
-    requires { ⌜ tokenOf then from to ≡ after (now s) (tokenOf kind start end) ⌝ }
-    ensures { λ r. ⌜ ran r (now (pool .exit)) (now (places .exit)) (now (code .exit)) ≡ licenseeIn (now (s .entry)) (now (consts .entry)) (now (constants .entry)) (now (pool .entry)) (now (places .entry)) (now (code .entry)) st (tokenOf kind start end) ⌝ }
+    requires { ⌜ token then from to ≡ after (now s) (token kind start end) ⌝ }
+    ensures { λ r. ⌜ ran r (now (pool .exit)) (now (places .exit)) (now (code .exit)) ≡ licenseeIn (now (s .entry)) (now (consts .entry)) (now (constants .entry)) (now (pool .entry)) (now (places .entry)) (now (code .entry)) st (token kind start end) ⌝ }
 {
     let t = Token { kind, start, end };
     let n = Token {

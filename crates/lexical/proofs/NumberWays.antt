@@ -12,6 +12,7 @@ use mir.Syntax.{w8}
 use mir.Val.{Fits}
 use borrow.Author.Tests.{le-leb, lt-leb, leb-true, leb-false}
 use Rattle.lexical.specs.Bounds.{chosen}
+use Rattle.lexical.specs.UnitLaws.{Bytes}
 use Rattle.lexical.specs.Number.{LIMIT, decimal, held, numberAt}
 
 -- two numbers that are one below the limit
@@ -98,24 +99,20 @@ module _ (s : List ℕ) (start end : ℕ) where
       let w : d ≡ held (0 * 10 + d) = low-held d (omega (arith, small)) ∙ ap held e in
       number-end s (start + 1) end d (numberAt s start end) (number-more s start end 0 (numberAt s start end) (number-start s start end) h l d de d w) (omega (arith, small)) (omega (arith, o))
 
--- each of them is a byte, from which 48 leaves at most 207
-Bytes : List ℕ → Type 0
-Bytes s = (i : ℕ) → getD s i 0 < 256
-
+-- a front of bytes
 bytes-take : (n : ℕ) (s : List ℕ) → Bytes s → Bytes (take n s)
-unfolding Bytes
 bytes-take zero s f i = omega arith
 bytes-take (suc n) [] f i = omega arith
 bytes-take (suc n) (x ∷ xs) f zero = f 0
 bytes-take (suc n) (x ∷ xs) f (suc i) = bytes-take n xs (λ j. f (suc j)) i
 
--- no less than what up to n bytes write behind w
+-- no less than what up to n bytes write behind w: 48 leaves at most 207 of a byte
 top : ℕ → ℕ → ℕ
 top zero w = w
 top (suc n) w = top n (w * 10 + 207)
 
 decimal-top : (n : ℕ) (bs : List ℕ) (v w : ℕ) → Bytes bs → length bs ≤ n → v ≤ w → decimal v bs ≤ top n w
-unfolding decimal top Bytes
+unfolding decimal top
 decimal-top zero [] v w f l h = h
 decimal-top zero (b ∷ bs) v w f l h = let no : ⊥ = omega (arith, l) in absurd no
 decimal-top (suc n) [] v w f l h = decimal-top n [] v (w * 10 + 207) f (omega arith) (omega (arith, h))
@@ -128,7 +125,7 @@ module _ (s : List ℕ) (start end : ℕ) where
   large-none h = rw (sym (number-none s start end h)) refl
 
   pub large-few : ((i : ℕ) → Fits w8 (getD s i 0)) → end - start < 8 → false ≡ leb LIMIT (numberAt s start end)
-  unfolding numberAt top Bytes
+  unfolding numberAt top
   large-few f h =
       let b : Bytes (slice start end s) = λ i. rw (getD-drop start (take end s) i 0) (bytes-take end s (λ j. f j .fits) (start + i)) in
       let l : length (slice start end s) ≤ 7 = rw length-drop (omega (arith, h, take-short end s .0)) in

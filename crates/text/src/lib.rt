@@ -373,7 +373,7 @@ fn block_at(s: &[u8], i: usize) -> usize
     16
 }
 
-// The same as `word_end`, in blocks of 16 bytes: where a word ends hardly changes the time.
+// The same as `word_end`, in blocks of 16 bytes.
 pub fn word_end_by_blocks(s: &[u8], at: usize) -> usize
     ensures { λ r. ⌜ r ≡ past isWord (now (s .entry)) at ⌝ }
 {

@@ -46,10 +46,6 @@ sized st size = record { count = st .count; end = st .end; size = size; listed =
 abbrev pub stateOf : ℕ → ℕ → ℕ → ℕ → State
 stateOf c e z n = record { count = c; end = e; size = z; listed = n }
 
--- a token of its parts
-abbrev pub tokenOf : ℕ → ℕ → ℕ → Token
-tokenOf k a b = record { kind = k; start = a; end = b }
-
 abbrev pub onEntered : List ℕ → List ℕ → State → Token → Kept → Ran
 onEntered s code st t (entry Full pool places) = ran (Aside 0 0) pool places code
 onEntered s code st t (entry (At i c e) pool places) =
