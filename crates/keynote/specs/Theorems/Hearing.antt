@@ -33,19 +33,17 @@ module _ (ps : List Principal) (f : Conditions → Bool) where
     pub reached : member (by .authorizer) ps ≡ true
     pub does : f (by .conditions) ≡ true
 
+  such-later : {b : Assertion} {l : List Assertion} → Such l → Such (b ∷ l)
+  such-later s = record { by = s .by; among = there (s .among); reached = s .reached; does = s .does }
+
   such-some : (l : List Assertion) → suchIn ps f l ≡ true → Such l
   unfolding suchIn
   such-some [] h = clash h refl
   such-some (b ∷ l) h = split (member (b .authorizer) ps)
       (λ e. split (f (b .conditions))
       (λ d. record { by = b; among = here refl; reached = e; does = d })
-      (λ d. later (rw (e, d) at h)))
-      (λ e. later (rw e at h))
-    where
-      later : suchIn ps f l ≡ true → Such (b ∷ l)
-      later k =
-          let s : Such l = such-some l k in
-          record { by = s .by; among = there (s .among); reached = s .reached; does = s .does }
+      (λ d. such-later (such-some l (rw (e, d) at h))))
+      (λ e. such-later (such-some l (rw e at h)))
 
 -- where it tells that there is none, no assertion heard has such Conditions
 pub none-heard : (f : Conditions → Bool) (q : Query) → heardSuch f q ≡ false → (a : Assertion) → Heard q a → f (a .conditions) ≡ false
