@@ -3,3 +3,4 @@ pub mod Ready
 pub mod Held
 pub mod Fielded
 pub mod Reads
+pub mod Exits

@@ -6,6 +6,5 @@ pub mod Tables
 pub mod System
 pub mod Reach
 pub mod Rounds
-pub mod Rulings
 pub mod Theorems
 pub mod Working

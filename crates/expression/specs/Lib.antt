@@ -7,6 +7,6 @@ pub mod Conditions
 pub mod Clauses
 pub mod Tables
 pub mod Reads
+pub mod Standing
 pub mod Theorems
-pub mod Rulings
 pub mod Working

@@ -5,7 +5,7 @@ use lib.ListN.{length, getD}
 use Rattle.text.specs.Choice.{pick}
 use Rattle.text.specs.Equal.{equal}
 use Rattle.text.specs.Join.{joined}
-use Rattle.record.specs.Query.{Attribute}
+use Rattle.record.specs.Query.{Query, Attribute}
 
 -- what an assertion's Conditions are evaluated in: its constants that stand earlier in the text, and the query
 pub record Environment : Type 0 where
@@ -13,6 +13,10 @@ pub record Environment : Type 0 where
   pub values : List (List ℕ)
   pub requesters : List (List ℕ)
   pub attributes : List Attribute
+
+-- a query's environment, with the constants that an assertion's Conditions see
+unfoldable pub environment : Query → List Attribute → Environment
+environment q cs = record { constants = cs; values = q .values; requesters = q .requesters; attributes = q .attributes }
 
 -- "_MIN_TRUST"
 abbrev pub minTrust : List ℕ

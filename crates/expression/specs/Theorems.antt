@@ -2,3 +2,4 @@ pub mod Unread
 pub mod Shown
 pub mod Queried
 pub mod Topmost
+pub mod Standing

@@ -5,8 +5,8 @@ use Rattle.record.specs.Query.{Query, Supplied}
 use Rattle.principal.specs.Principal.{policy}
 use Rattle.compliance.specs.System.{Assertion, System}
 use Rattle.compliance.specs.Rounds.{rank, rounds, reached}
+use Rattle.expression.specs.Names.{environment}
 use Rattle.expression.specs.Conditions.{top, conditions}
-use Rattle.expression.specs.Theorems.Queried.{environment}
 use Rattle.assertion.specs.Assertion.{Assertion as Said, Conditions, absent, stated}
 use Rattle.assertion.specs.Read.{Read, kept, dropped, readAssertion}
 

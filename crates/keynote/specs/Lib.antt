@@ -1,3 +1,4 @@
+pub mod Mission
 pub mod Answer
 pub mod Report
 pub mod Outcome

@@ -1,11 +1,13 @@
--- The starred rulings of 01, and a few others, computed from the definitions as a single table: texts are read, answers given. Assumes nothing.
+-- The starred rulings of 01, and a few others, computed from the definitions as a single table: texts are read, answers given; then worked
+-- instances of what demand 3 supposes. Assumes nothing.
 use mathlib.Core.Path.{_≡_, refl}
+use mathlib.Core.Bool.{Bool, true, false}
 use mathlib.Core.List.{List, [], _∷_, _++_, map}
 use Prim.Native.Nat.{ℕ}
 use Prim.Native.Char.{code}
 use Prim.Native.String.{String, [] as nothing, _∷_ as _then_}
 use lib.ListN.{length, replicate}
-use Rattle.record.specs.Query.{Query, Supplied}
+use Rattle.record.specs.Query.{Query, Attribute, Supplied}
 use Rattle.record.specs.Encode.{stringBytes, assertionBytes, itemsBytes, groupBytes, encode}
 use Rattle.record.specs.Field as RecordField
 use Rattle.record.specs.Item as RecordItem
@@ -17,11 +19,15 @@ use Rattle.compliance.specs.Highest.{highest}
 use Rattle.keynote.specs.Answer.{worth, ranked, reading, readings, keptOf, system, classOf, roundsOf, reachedOf}
 use Rattle.keynote.specs.Report.{reasonOf, placeOf, pairBytes, entryBytes, entriesBytes, report, reportSize}
 use Rattle.keynote.specs.Outcome.{answer, needed, judged, outcome, written, pageAfter}
+use Rattle.keynote.specs.Secrets.{dereferences}
+use Rattle.keynote.specs.Mission.{standing, computed}
+use Rattle.keynote.specs.Working.Hearing.{suchIn, heardSuch}
 use Rattle.text.specs.Class as TextClass
 use Rattle.text.specs.Decimal as TextDecimal
 use Rattle.text.specs.Digits as TextDigits
 use Rattle.text.specs.Equal as TextEqual
 use Rattle.text.specs.Loop as TextLoop
+use Rattle.text.specs.Order as TextOrder
 use Rattle.text.specs.Scan as TextScan
 use Rattle.lexical.specs.Class as LexicalClass
 use Rattle.lexical.specs.Kind as LexicalKind
@@ -36,6 +42,7 @@ use Rattle.lexical.specs.Token as LexicalToken
 use Rattle.lexical.specs.Unit as LexicalUnit
 use Rattle.lexical.specs.Word as LexicalWord
 use Rattle.fields.specs.Authorizer as FieldsAuthorizer
+use Rattle.fields.specs.Constants as FieldsConstants
 use Rattle.fields.specs.Identifier as FieldsIdentifier
 use Rattle.fields.specs.Licensees as FieldsLicensees
 use Rattle.fields.specs.Parsed as FieldsParsed
@@ -56,7 +63,9 @@ use Rattle.principal.specs.Principal as PrincipalPrincipal
 use Rattle.expression.specs.Conditions as ExpressionConditions
 use Rattle.expression.specs.Integers as ExpressionIntegers
 use Rattle.expression.specs.Operations as ExpressionOperations
-use Rattle.expression.specs.Theorems.Queried as ExpressionQueried
+use Rattle.expression.specs.Names as ExpressionNames
+use Rattle.expression.specs.Reads as ExpressionReads
+use Rattle.expression.specs.Standing as ExpressionStanding
 
 -- the bytes of a text
 unfoldable pub bytes : String → List ℕ
@@ -121,6 +130,47 @@ five =
     ∷ "Authorizer: \"e\"\nLicensees: \"r\"\nConditions: true -> \"full\";"
     ∷ []
 
+-- ---- queries for demand 3
+
+-- an attribute and its value
+unfoldable pub set : String → String → Attribute
+set n v = record { name = bytes n; value = bytes v }
+
+-- POLICY licenses a; a licenses r, under Conditions in which a constant hides "hidden"; b, whom POLICY doesn't reach, reads "idle"
+unfoldable pub secretTexts : String → List (List ℕ)
+secretTexts test =
+    bytes "Authorizer: \"POLICY\"\nLicensees: \"a\""
+    ∷ (bytes "Local-Constants: hidden=\"x\"\nAuthorizer: \"a\"\nLicensees: \"r\"\nConditions: hidden==\"x\"&&" ++ bytes test ++ bytes ";")
+    ∷ bytes "Authorizer: \"b\"\nLicensees: \"r\"\nConditions: idle==\"x\";"
+    ∷ []
+
+unfoldable pub secretQuery : String → Attribute → Attribute → Attribute → Attribute → Query
+secretQuery test i h u v = record { values = map bytes ("hold" ∷ "immediate" ∷ []); requesters = bytes "r" ∷ []; attributes = i ∷ h ∷ u ∷ v ∷ []; assertions = map supplied (secretTexts test) }
+
+-- a reads "seen" itself
+abbrev pub one : Query
+one = secretQuery "seen==\"y\"" (set "idle" "x") (set "hidden" "x") (set "unread" "") (set "seen" "y")
+
+-- other values, of other lengths, of the three that nobody who is reached reads
+abbrev pub other : Query
+other = secretQuery "seen==\"y\"" (set "idle" "longer") (set "hidden" "") (set "unread" "zz") (set "seen" "y")
+
+-- and another value of "seen"
+abbrev pub seen : Query
+seen = secretQuery "seen==\"y\"" (set "idle" "longer") (set "hidden" "") (set "unread" "zz") (set "seen" "")
+
+-- a computes the name
+abbrev pub computing : Query
+computing = secretQuery "$\"seen\"==\"y\"" (set "idle" "x") (set "hidden" "x") (set "unread" "") (set "seen" "y")
+
+-- is the name dereferenced by an assertion heard?
+unfoldable pub isRead : Query → String → Bool
+isRead q n = heardSuch (λ c. dereferences c (bytes n)) q
+
+-- does it stand in the Conditions of one?
+unfoldable pub stands : Query → String → Bool
+stands q n = heardSuch (λ c. standing c (bytes n)) q
+
 pub record Rulings : Type 0 where
   -- "POLICY licenses "a", requester a: rank 1, rounds 2, reached 2."
   pub licence : told first ≡ (0 ∷ [], 1 ∷ 2 ∷ 2 ∷ [])
@@ -156,9 +206,28 @@ pub record Rulings : Type 0 where
   pub first-long : length (encode first) ≡ 63
   pub first-outcome : outcome (encode first) 8 ≡ record { number = 0; place = 0; rank = 1; rounds = 2; reached = 2 }
   pub first-page : pageAfter (encode first) (replicate 8 7) ≡ 1 ∷ 0 ∷ 3 ∷ 0 ∷ 0 ∷ 0 ∷ 7 ∷ 7 ∷ []
+  -- instances of demand 3: read only outside the reach, hidden by a constant, or unread; and read within the reach, though not by POLICY
+  pub idle-unread : isRead one "idle" ≡ false
+  pub hidden-unread : isRead one "hidden" ≡ false
+  pub unread-unread : isRead one "unread" ≡ false
+  pub seen-read : isRead one "seen" ≡ true
+  -- with "$" all are read but what is hidden
+  pub computed-idle : isRead computing "idle" ≡ true
+  pub computed-hidden : isRead computing "hidden" ≡ false
+  -- in the words of the two suppositions
+  pub idle-stands : stands one "idle" ≡ false
+  pub hidden-stands : stands one "hidden" ≡ false
+  pub unread-stands : stands one "unread" ≡ false
+  pub seen-stands : stands one "seen" ≡ true
+  pub none-computed : heardSuch computed one ≡ false
+  pub one-computed : heardSuch computed computing ≡ true
+  -- the answers: equal where only what isn't read differs, another where what is read does
+  pub one-told : told one ≡ (0 ∷ 0 ∷ 0 ∷ [], 1 ∷ 3 ∷ 3 ∷ [])
+  pub other-told : told other ≡ (0 ∷ 0 ∷ 0 ∷ [], 1 ∷ 3 ∷ 3 ∷ [])
+  pub seen-told : told seen ≡ (0 ∷ 0 ∷ 0 ∷ [], 0 ∷ 1 ∷ 3 ∷ [])
 
 pub rulings : Rulings
-unfolding bytes supplied query reasons told class tested worth ranked reading readings keptOf system classOf roundsOf reachedOf reasonOf highest TextClass.isDigit TextClass.inClass TextDecimal.inRange TextDecimal.roundedDown TextDecimal.withFraction TextDecimal.unsigned TextDecimal.decimal TextDigits.valueFrom TextDigits.value TextEqual.equal TextLoop.turns TextLoop.loop TextScan.past LexicalClass.classOf LexicalKind.opened LexicalLabel.labelKind LexicalLine.visible LexicalLine.inLine LexicalLine.blankTo LexicalLine.lineAt LexicalLine.linesFrom LexicalLine.tokenAt LexicalLiteral.units LexicalLiteral.unitsAt LexicalLiteral.literalEnd LexicalLiteral.decodedAt LexicalNumber.decimal LexicalNumber.held LexicalNumber.numberAt LexicalOperator.equalPair LexicalOperator.pairOf LexicalOperator.markKind LexicalOperator.isOf LexicalOperator.operatorKind LexicalRun.hasClass LexicalRun.inRun LexicalToken.widthOf LexicalToken.operatorAt LexicalToken.operatorToken LexicalToken.literalToken LexicalToken.floatEnd LexicalToken.numberToken LexicalToken.tokenFrom LexicalUnit.barred LexicalUnit.unitAt LexicalWord.lower LexicalWord.stands LexicalWord.spells FieldsAuthorizer.authorized FieldsAuthorizer.authorizer FieldsIdentifier.sizeFault FieldsIdentifier.identifierFault FieldsIdentifier.identified FieldsIdentifier.identifier FieldsLicensees.licensee FieldsLicensees.listed FieldsLicensees.listFrom FieldsLicensees.listOpened FieldsLicensees.ofRead FieldsLicensees.threshold FieldsLicensees.primary FieldsLicensees.expression FieldsLicensees.licensees FieldsParsed.ending AssertionDraft.without AssertionDraft.total AssertionRead.finished AssertionRead.field AssertionRead.fieldsFrom AssertionRead.readAssertion ConditionsExpression.readExpression ConditionsOperand.readLiteral ConditionsOperand.readName ConditionsOperand.readDigits ConditionsOperand.readLeaf ConditionsOperand.settledTree ConditionsOperand.applied ConditionsProgram.ending ConditionsProgram.valuing ConditionsProgram.stopping ConditionsProgram.readProgram ConditionsProgram.readBlock ConditionsTable.beginsString ConditionsTable.beginsNumber ConditionsTable.beginsFloat ConditionsTable.allows ConditionsTable.comparison ConditionsTable.numberOperator ConditionsTable.textOperator ConditionsTable.testOperator ConditionsTable.operator ConditionsTable.prefixOperator ConditionsTable.levelOf ConditionsTable.operandOf ConditionsTable.resultOf ConditionsTable.operandLevel ConditionsTable.operandWant ConditionsTable.rightWant ConditionsTable.rightLevel ConditionsTable.binds ConditionsTable.insideLevel ConditionsTable.fits ConditionsTable.stops ConditionsWord.wordSort SyntaxCode.numberAt ComplianceLicensees.value ComplianceLicensees.licensed ComplianceLicensees.named ComplianceLicensees.licensees ComplianceReach.licenseesOf ComplianceReach.reachFrom ComplianceReach.namings ComplianceReach.reach ComplianceRounds.equalOn ComplianceRounds.settled ComplianceRounds.reached ComplianceRounds.firstSettled ComplianceRounds.rounds ComplianceRounds.mentioned ComplianceRounds.rank ComplianceSystem.direct ComplianceSystem.asserted ComplianceSystem.delegated ComplianceSystem.equations ComplianceSystem.round PrincipalMembers.member PrincipalPrincipal.same PrincipalPrincipal.policy ExpressionConditions.evaluate ExpressionConditions.indexFrom ExpressionConditions.rankOf ExpressionConditions.top ExpressionConditions.clause ExpressionIntegers.ranged ExpressionIntegers.negated ExpressionIntegers.differ ExpressionIntegers.over ExpressionIntegers.raisedTo ExpressionIntegers.odd ExpressionIntegers.signOfPower ExpressionIntegers.power ExpressionIntegers.sizes ExpressionIntegers.compared ExpressionOperations.held ExpressionOperations.relates ExpressionOperations.arithmetic ExpressionOperations.logical ExpressionOperations.ofTexts ExpressionOperations.ofIntegers ExpressionOperations.ofTests ExpressionOperations.isTextual ExpressionOperations.binaryOf ExpressionOperations.converted ExpressionOperations.negative ExpressionOperations.opposite ExpressionOperations.unaryOf ExpressionQueried.environment stringBytes assertionBytes itemsBytes groupBytes encode placeOf pairBytes entryBytes entriesBytes report reportSize answer needed judged outcome written pageAfter TextCounted.part TextCounted.pairAt SyntaxParsed.refusal LexicalReason.reasonOf TextClass.isPlain RecordField.countAt RecordField.lengthAt RecordField.contentAt RecordField.fieldAt RecordField.nameFront RecordField.among RecordItem.plainAt RecordItem.valueAt RecordItem.requesterAt RecordItem.nameAt RecordItem.attributeAt RecordItem.assertionAt RecordItem.itemsAt RecordItem.groupAt RecordRecord.queryAt RecordRecord.readRecord
+unfolding SyntaxCode.nameAt TextClass.isLetter TextClass.isWord FieldsConstants.isSet FieldsConstants.reserved FieldsConstants.constantValue FieldsConstants.assigned FieldsConstants.nameFault FieldsConstants.constant FieldsConstants.constantsFrom FieldsParsed.wordOf FieldsIdentifier.nameFault TextOrder.order ExpressionNames.settingOr ExpressionNames.fromQuery ExpressionNames.lookup ExpressionOperations.textual set secretTexts secretQuery isRead stands standing computed dereferences suchIn heardSuch ExpressionReads.reads ExpressionReads.programReads ExpressionReads.clauseReads ExpressionReads.isSet ExpressionStanding.names ExpressionStanding.programNames ExpressionStanding.clauseNames ExpressionStanding.computes ExpressionStanding.programComputes ExpressionStanding.clauseComputes bytes supplied query reasons told class tested worth ranked reading readings keptOf system classOf roundsOf reachedOf reasonOf highest TextClass.isDigit TextClass.inClass TextDecimal.inRange TextDecimal.roundedDown TextDecimal.withFraction TextDecimal.unsigned TextDecimal.decimal TextDigits.valueFrom TextDigits.value TextEqual.equal TextLoop.turns TextLoop.loop TextScan.past LexicalClass.classOf LexicalKind.opened LexicalLabel.labelKind LexicalLine.visible LexicalLine.inLine LexicalLine.blankTo LexicalLine.lineAt LexicalLine.linesFrom LexicalLine.tokenAt LexicalLiteral.units LexicalLiteral.unitsAt LexicalLiteral.literalEnd LexicalLiteral.decodedAt LexicalNumber.decimal LexicalNumber.held LexicalNumber.numberAt LexicalOperator.equalPair LexicalOperator.pairOf LexicalOperator.markKind LexicalOperator.isOf LexicalOperator.operatorKind LexicalRun.hasClass LexicalRun.inRun LexicalToken.widthOf LexicalToken.operatorAt LexicalToken.operatorToken LexicalToken.literalToken LexicalToken.floatEnd LexicalToken.numberToken LexicalToken.tokenFrom LexicalUnit.barred LexicalUnit.unitAt LexicalWord.lower LexicalWord.stands LexicalWord.spells FieldsAuthorizer.authorized FieldsAuthorizer.authorizer FieldsIdentifier.sizeFault FieldsIdentifier.identifierFault FieldsIdentifier.identified FieldsIdentifier.identifier FieldsLicensees.licensee FieldsLicensees.listed FieldsLicensees.listFrom FieldsLicensees.listOpened FieldsLicensees.ofRead FieldsLicensees.threshold FieldsLicensees.primary FieldsLicensees.expression FieldsLicensees.licensees FieldsParsed.ending AssertionDraft.without AssertionDraft.total AssertionRead.finished AssertionRead.field AssertionRead.fieldsFrom AssertionRead.readAssertion ConditionsExpression.readExpression ConditionsOperand.readLiteral ConditionsOperand.readName ConditionsOperand.readDigits ConditionsOperand.readLeaf ConditionsOperand.settledTree ConditionsOperand.applied ConditionsProgram.ending ConditionsProgram.valuing ConditionsProgram.stopping ConditionsProgram.readProgram ConditionsProgram.readBlock ConditionsTable.beginsString ConditionsTable.beginsNumber ConditionsTable.beginsFloat ConditionsTable.allows ConditionsTable.comparison ConditionsTable.numberOperator ConditionsTable.textOperator ConditionsTable.testOperator ConditionsTable.operator ConditionsTable.prefixOperator ConditionsTable.levelOf ConditionsTable.operandOf ConditionsTable.resultOf ConditionsTable.operandLevel ConditionsTable.operandWant ConditionsTable.rightWant ConditionsTable.rightLevel ConditionsTable.binds ConditionsTable.insideLevel ConditionsTable.fits ConditionsTable.stops ConditionsWord.wordSort SyntaxCode.numberAt ComplianceLicensees.value ComplianceLicensees.licensed ComplianceLicensees.named ComplianceLicensees.licensees ComplianceReach.licenseesOf ComplianceReach.reachFrom ComplianceReach.namings ComplianceReach.reach ComplianceRounds.equalOn ComplianceRounds.settled ComplianceRounds.reached ComplianceRounds.firstSettled ComplianceRounds.rounds ComplianceRounds.mentioned ComplianceRounds.rank ComplianceSystem.direct ComplianceSystem.asserted ComplianceSystem.delegated ComplianceSystem.equations ComplianceSystem.round PrincipalMembers.member PrincipalPrincipal.same PrincipalPrincipal.policy ExpressionConditions.evaluate ExpressionConditions.indexFrom ExpressionConditions.rankOf ExpressionConditions.top ExpressionConditions.clause ExpressionIntegers.ranged ExpressionIntegers.negated ExpressionIntegers.differ ExpressionIntegers.over ExpressionIntegers.raisedTo ExpressionIntegers.odd ExpressionIntegers.signOfPower ExpressionIntegers.power ExpressionIntegers.sizes ExpressionIntegers.compared ExpressionOperations.held ExpressionOperations.relates ExpressionOperations.arithmetic ExpressionOperations.logical ExpressionOperations.ofTexts ExpressionOperations.ofIntegers ExpressionOperations.ofTests ExpressionOperations.isTextual ExpressionOperations.binaryOf ExpressionOperations.converted ExpressionOperations.negative ExpressionOperations.opposite ExpressionOperations.unaryOf ExpressionNames.environment stringBytes assertionBytes itemsBytes groupBytes encode placeOf pairBytes entryBytes entriesBytes report reportSize answer needed judged outcome written pageAfter TextCounted.part TextCounted.pairAt SyntaxParsed.refusal LexicalReason.reasonOf TextClass.isPlain RecordField.countAt RecordField.lengthAt RecordField.contentAt RecordField.fieldAt RecordField.nameFront RecordField.among RecordItem.plainAt RecordItem.valueAt RecordItem.requesterAt RecordItem.nameAt RecordItem.attributeAt RecordItem.assertionAt RecordItem.itemsAt RecordItem.groupAt RecordRecord.queryAt RecordRecord.readRecord
 rulings = record {
   licence = refl;
   ring-c = refl;
@@ -183,4 +252,19 @@ rulings = record {
   first-long = refl;
   first-outcome = refl;
   first-page = refl;
+  idle-unread = refl;
+  hidden-unread = refl;
+  unread-unread = refl;
+  seen-read = refl;
+  computed-idle = refl;
+  computed-hidden = refl;
+  idle-stands = refl;
+  hidden-stands = refl;
+  unread-stands = refl;
+  seen-stands = refl;
+  none-computed = refl;
+  one-computed = refl;
+  one-told = refl;
+  other-told = refl;
+  seen-told = refl;
 }

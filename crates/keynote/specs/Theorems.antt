@@ -19,3 +19,5 @@ pub mod Grown
 pub mod Filled
 pub mod Solved
 pub mod Answers
+pub mod Hearing
+pub mod Instances

@@ -871,7 +871,7 @@ fn onward(code: &[u32], i: usize, stack: &[u64], n: usize, values: &[usize]) -> 
 
 // Runs compiled Conditions over the assertion's text: the operand left on top, for a program its rank. Where the code is none or
 // a buffer is too small, a fault.
-pub fn run<'a>(
+fn run<'a>(
     code: &[u32],
     s: &[u8],
     query: &'a [u8],

@@ -1,6 +1,9 @@
-// Demand 3 of the code: two queries asked one after the other. Its contract is the demand.
+// Demand 3 of the code: two queries asked one after the other. Its contract is what each call gives and leaves, and the demand.
 use keynote::Outcome;
 use keynote::lampsickle_answer;
+ghost use mathlib.Core.Path.{_≡_};
+ghost use lib.ListN.{length};
+ghost use Rattle.keynote.specs.Outcome.{outcome, pageAfter};
 ghost use Rattle.secrecy.specs.Demand3.{Secret};
 
 // What the two calls return.
@@ -11,6 +14,10 @@ pub struct Both {
 
 // Asks two records, with pages of any size and content.
 pub fn ask_both(one: &[u8], other: &[u8], page: &mut [u8], leaf: &mut [u8]) -> Both
+    ensures { λ r. ⌜ r .first ≡ outcome (now (one .entry)) (length (now (page .entry))) ⌝ }
+    ensures { λ r. ⌜ r .second ≡ outcome (now (other .entry)) (length (now (leaf .entry))) ⌝ }
+    ensures { λ _. ⌜ now (page .exit) ≡ pageAfter (now (one .entry)) (now (page .entry)) ⌝ }
+    ensures { λ _. ⌜ now (leaf .exit) ≡ pageAfter (now (other .entry)) (now (leaf .entry)) ⌝ }
     ensures { λ r. ⌜ Secret (now (one .entry)) (now (other .entry)) r (now (page .exit)) (now (leaf .exit)) ⌝ }
 {
     let first = lampsickle_answer(one, page);

@@ -20,9 +20,9 @@ use Rattle.index.specs.EnterLaws.{fresh, freshAll, enter-is, enter-all-is, ente
 use Rattle.syntax.specs.Expr.{Program}
 use Rattle.syntax.specs.Parsed.{Parsed, ok, aside, andThen, refusal}
 use Rattle.syntax.specs.Stood.{Stood, stood-at}
+use Rattle.expression.specs.Names.{environment}
 use Rattle.expression.specs.Conditions.{conditions}
 use Rattle.expression.specs.Tables.{Shows}
-use Rattle.expression.specs.Theorems.Queried.{environment}
 use Rattle.constants.specs.Theorems.Begun.{begun-shows}
 use Rattle.conditions.specs.Word.{nextAt}
 use Rattle.conditions.specs.Program.{readProgram}

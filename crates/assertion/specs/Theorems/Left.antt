@@ -17,7 +17,7 @@ clear-most (x ∷ l) zero (suc j) = omega arith
 clear-most (x ∷ l) (suc i) zero = omega arith
 clear-most (x ∷ l) (suc i) (suc j) = clear-most l i j
 
-clear-none : (l : List ℕ) (i : ℕ) → getD (set l i 0) i 0 ≡ 0
+pub clear-none : (l : List ℕ) (i : ℕ) → getD (set l i 0) i 0 ≡ 0
 clear-none [] i = refl
 clear-none (x ∷ l) zero = refl
 clear-none (x ∷ l) (suc i) = clear-none l i

@@ -13,8 +13,8 @@ use Rattle.principal.specs.Members.{member}
 use Rattle.compliance.specs.Licensees.{Expression, given, licensees}
 use Rattle.compliance.specs.Tables.{place, compiled, Formed}
 use Rattle.index.specs.Index.{enterAll, Holds}
+use Rattle.expression.specs.Names.{environment}
 use Rattle.expression.specs.Conditions.{conditions}
-use Rattle.expression.specs.Theorems.Queried.{environment}
 use Rattle.assertion.specs.Assertion.{Assertion, Conditions, absent, stated}
 use Rattle.assertion.specs.Read.{Read, kept, dropped}
 use Rattle.assertion.specs.Working.Field.{Given, Tables}

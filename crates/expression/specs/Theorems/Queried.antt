@@ -8,13 +8,9 @@ use Rattle.text.specs.Join.{joined}
 use Rattle.record.specs.Query.{Query, Attribute}
 use Rattle.record.specs.Places.{stringSize, attributeSize, placesFrom, requestersStart, attributesStart}
 use Rattle.record.specs.Lies.{Lie, AttributeAt, Lies}
-use Rattle.expression.specs.Names.{Environment}
+use Rattle.expression.specs.Names.{environment}
 use Rattle.expression.specs.Tables.{Shows}
 use Rattle.expression.specs.Theorems.Shown.{strings-are}
-
--- a query's environment, with an assertion's constants
-unfoldable pub environment : Query → List Attribute → Environment
-environment q cs = record { constants = cs; values = q .values; requesters = q .requesters; attributes = q .attributes }
 
 module _ {s : List ℕ} {q : Query} (lies : Lies s q) where
   -- the strings at the requesters' places are the requesters

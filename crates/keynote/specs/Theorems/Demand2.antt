@@ -1,5 +1,5 @@
 -- Demand 2, of the definition: an answer is the least solution, its rounds and reached are those of the rounds and of the reach; every
--- kept assertion takes part and no other does; every dropped one is reported. Assumes nothing.
+-- kept assertion takes part and no other does; every dropped one is named by a reason and a place in its text. Assumes nothing.
 use mathlib.Core.Path.{_≡_, refl, sym, ap, _∙_, subst}
 use mathlib.Core.Bool.{true}
 use mathlib.Core.Option.{some}
@@ -9,29 +9,33 @@ use Prim.Native.Nat.{ℕ, zero, suc, _+_, _*_, _-_, _≤_, _<_}
 use native.Mathlib.Omega.{arith}
 use lib.ListN.{length, getD, getElem?, drop, length-append, length-map, length-drop}
 use lib.Seq.{drop-append-seam}
+use Rattle.limits.specs.Limits.{mostText}
 use Rattle.text.specs.Choice.{clash}
 use Rattle.text.specs.Counted.{pairAt}
 use Rattle.record.specs.Query.{Query, Supplied}
 use Rattle.record.specs.Read.{accepted}
 use Rattle.record.specs.Record.{readRecord}
+use Rattle.record.specs.Valid.{Each, each∷, SuppliedOk}
+use Rattle.record.specs.RoundTrip.{Bytes, read-back}
 use Rattle.principal.specs.Principal.{Principal, policy}
 use Rattle.principal.specs.Members.{member, Distinct, distinct-le}
 use Rattle.compliance.specs.Licensees.{Rank}
 use Rattle.compliance.specs.System.{Assertion, round, Least}
 use Rattle.compliance.specs.Reach.{reach, Reachable}
-use Rattle.compliance.specs.Rounds.{settled, rank, rounds, reached}
+use Rattle.compliance.specs.Rounds.{settled, mentioned, rank, rounds, reached}
 use Rattle.compliance.specs.Theorems.Reach.{reach-sound, reach-complete, reach-distinct}
-use Rattle.compliance.specs.Theorems.Settle.{rank-least, least-unique, settled-equal, equal-settled, rounds-settled, rounds-first, rounds-bound, rounds-times, rounds-rank}
+use Rattle.compliance.specs.Theorems.Settle.{rank-least, least-unique, settled-equal, equal-settled, rounds-settled, rounds-first, rounds-bound, rounds-times, rounds-rank, rounds-end}
 use Rattle.expression.specs.Conditions.{top}
 use Rattle.assertion.specs.Assertion.{Assertion as Said}
 use Rattle.assertion.specs.Read.{Read, kept, dropped, readAssertion}
 use Rattle.keynote.specs.Answer.{ranked, reading, readings, keptOf, system, classOf, roundsOf, reachedOf}
-use Rattle.keynote.specs.Report.{report, reportSize}
+use Rattle.keynote.specs.Report.{reasonOf, report, reportSize}
 use Rattle.keynote.specs.Outcome.{answer, needed, outcome, pageAfter}
 use Rattle.keynote.specs.declared.Outcome.{Outcome}
 use Rattle.keynote.specs.Theorems.Report.{Entry, report-head, report-entry, report-needed}
 use Rattle.keynote.specs.Theorems.Answered.{outcome-answered, page-answered}
 use Rattle.keynote.specs.Theorems.Numbers.{Accepted, answered-is}
+use Rattle.keynote.specs.Theorems.PlacesAssertion.{PlacedRead, assertion-placed, zero-kept}
 
 -- ---- the class
 
@@ -73,6 +77,13 @@ rounds-product q = rounds-times (system q)
 pub rounds-solve : (q : Query) (p : Principal) → Reachable (system q) p → round (system q) (roundsOf q) p ≡ rank (system q) p
 unfolding roundsOf
 rounds-solve q p i = rounds-rank (system q) p (reach-complete (system q) i)
+
+-- "that the rounds end at the least solution is proved": from some round on each is it, for every principal
+abbrev pub RoundsEnd : Query → Type 0
+RoundsEnd q = (m : ℕ) × ((n : ℕ) → m ≤ n → (p : Principal) → round (system q) n p ≡ rank (system q) p)
+
+pub rounds-last : (q : Query) → RoundsEnd q
+rounds-last q = (suc (length (mentioned (system q .assertions))), rounds-end (system q))
 
 -- ---- the reach
 
@@ -146,6 +157,31 @@ reading-at q i a e = map-at reading (q .assertions) i a e
 pub reported : (q : Query) (i : ℕ) (a : Supplied) → getElem? (q .assertions) i ≡ some a → Entry (report (readings q)) i (readAssertion (a .standing) (a .text))
 reported q i a e = report-entry (readings q) i _ (reading-at q i a e)
 
+text-short : (seen l : List Supplied) → Each SuppliedOk seen l → (i : ℕ) (a : Supplied) → getElem? l i ≡ some a → length (a .text) ≤ mostText
+text-short seen [] e i a g = let z : _≡_ {A = ℕ} 0 1 = cc in absurd (omega arith)
+text-short seen (x ∷ l) (each∷ k t) zero a g = let z : x ≡ a = cc in rw (← z) (k .1 .1)
+text-short seen (x ∷ l) (each∷ k t) (suc i) a g = text-short _ l t i a g
+
+found-in : {A : Type 0} (l : List A) (i : ℕ) (a : A) → getElem? l i ≡ some a → Mem a l
+found-in [] i a e = let z : _≡_ {A = ℕ} 0 1 = cc in absurd (omega arith)
+found-in (x ∷ l) zero a e = let z : x ≡ a = cc in here (sym z)
+found-in (x ∷ l) (suc i) a e = there (found-in l i a e)
+
+module _ (s : List ℕ) (bytes : Bytes s) (q : Query) (acc : readRecord s ≡ accepted q) (i : ℕ) (a : Supplied) (at : getElem? (q .assertions) i ≡ some a) where
+  short : length (a .text) < 65536
+  short = omega (arith, text-short [] (q .assertions) (read-back s bytes q acc .0 .assertions .1) i a at)
+
+  -- "Every other assertion is named by number and place": kept, or set aside with a reason from 1 to 9 and a place in its text or at its end
+  pub placed-at : PlacedRead (a .text) (readAssertion (a .standing) (a .text))
+  placed-at = assertion-placed (a .standing) (a .text) short
+
+  -- reason 0 is of an assertion that takes part
+  pub zero-takes-part : reasonOf (readAssertion (a .standing) (a .text)) ≡ 0
+      → (b : Said) × ((readAssertion (a .standing) (a .text) ≡ kept b) × Mem (ranked q b) (system q .assertions))
+  zero-takes-part z =
+      let (b, k) = zero-kept (a .standing) (a .text) short z in
+      (b, (k, kept-takes-part q b (subst (λ (r : Read). Mem r (readings q)) k (found-in (readings q) i _ (reading-at q i a at)))))
+
 -- ---- the report at the front of a page
 
 front-at : (l m : List ℕ) (i : ℕ) → i < length l → getD (l ++ m) i 0 ≡ getD l i 0
@@ -201,40 +237,54 @@ pub record Answered (q : Query) (o : Outcome) (page after : List ℕ) : Type 0 w
   pub class : (r : Rank) → Least (system q) r → o .rank ≡ r policy
   pub settled : EqualOnReach q (o .rounds) (suc (o .rounds))
   pub first : (n : ℕ) → n < o .rounds → EqualOnReach q n (suc n) → ⊥
+  pub product : o .rounds ≤ o .reached * (length (q .values) - 1)
+  pub ends : RoundsEnd q
   pub reached : Reached q (o .reached)
   pub each : (a : Said) → Mem (kept a) (readings q) → Mem (ranked q a) (system q .assertions)
   pub only : (b : Assertion) → Mem b (system q .assertions) → (a : Said) × (Mem (kept a) (readings q) × (b ≡ ranked q a))
   pub head : (getD after 0 0 ≡ 1) × (pairAt after 1 ≡ 3 * length (q .assertions))
   pub entries : (i : ℕ) (a : Supplied) → getElem? (q .assertions) i ≡ some a → Entry after i (readAssertion (a .standing) (a .text))
+  pub placed : (i : ℕ) (a : Supplied) → getElem? (q .assertions) i ≡ some a → PlacedRead (a .text) (readAssertion (a .standing) (a .text))
+  pub zero-kept : (i : ℕ) (a : Supplied) → getElem? (q .assertions) i ≡ some a → getD after (3 + 3 * i) 0 ≡ 0
+      → (b : Said) × ((readAssertion (a .standing) (a .text) ≡ kept b) × Mem (ranked q b) (system q .assertions))
   pub beyond : drop (needed q) after ≡ drop (needed q) page
   pub size : length after ≡ length page
 
-told : (q : Query) (page : List ℕ) → needed q ≤ length page → (o : Outcome) (after : List ℕ) → o ≡ answer q → after ≡ report (readings q) ++ drop (needed q) page → Answered q o page after
+entry-told : (q : Query) (page after : List ℕ) → after ≡ report (readings q) ++ drop (needed q) page
+    → (i : ℕ) (a : Supplied) → getElem? (q .assertions) i ≡ some a → Entry after i (readAssertion (a .standing) (a .text))
+entry-told q page after ae i a g = subst (λ (x : List ℕ). Entry x i (readAssertion (a .standing) (a .text))) (sym ae) (page-entry q (drop (needed q) page) i a g)
+
+told : (s : List ℕ) → Bytes s → (q : Query) → readRecord s ≡ accepted q → (page : List ℕ) → needed q ≤ length page
+    → (o : Outcome) (after : List ℕ) → o ≡ answer q → after ≡ report (readings q) ++ drop (needed q) page → Answered q o page after
 unfolding answer
-told q page h o after oe ae = record {
+told s bytes q acc page h o after oe ae = record {
   number = ap (λ (x : Outcome). x .number) oe;
   place = ap (λ (x : Outcome). x .place) oe;
   solution = rank-least (system q);
   class = λ r l. ap (λ (x : Outcome). x .rank) oe ∙ class-is q r l;
   settled = subst (λ (n : ℕ). EqualOnReach q n (suc n)) (sym (ap (λ (x : Outcome). x .rounds) oe)) (rounds-equal q);
   first = λ n l. rounds-least q n (subst (λ (m : ℕ). n < m) (ap (λ (x : Outcome). x .rounds) oe) l);
+  product = omega (arith, ap (λ (x : Outcome). x .rounds) oe, ap (λ (x : Outcome). x .reached * (length (q .values) - 1)) oe, rounds-product q);
+  ends = rounds-last q;
   reached = subst (Reached q) (sym (ap (λ (x : Outcome). x .reached) oe)) (reached-is q);
   each = kept-takes-part q;
   only = only-kept-take-part q;
   head = subst (λ (x : List ℕ). (getD x 0 0 ≡ 1) × (pairAt x 1 ≡ 3 * length (q .assertions))) (sym ae) (page-head q (drop (needed q) page));
-  entries = λ i a g. subst (λ (x : List ℕ). Entry x i (readAssertion (a .standing) (a .text))) (sym ae) (page-entry q (drop (needed q) page) i a g);
+  entries = entry-told q page after ae;
+  placed = placed-at s bytes q acc;
+  zero-kept = λ i a g z. zero-takes-part s bytes q acc i a g (sym (entry-told q page after ae i a g .reason) ∙ z);
   beyond = ap (drop (needed q)) ae ∙ page-beyond q (drop (needed q) page);
   size = ap length ae ∙ page-size q page h;
 }
 
 -- Demand 2: a record that is accepted is answered, on every page that is large enough
-pub demand-2 : (s : List ℕ) (q : Query) → readRecord s ≡ accepted q → (page : List ℕ) → needed q ≤ length page
+pub demand-2 : (s : List ℕ) → Bytes s → (q : Query) → readRecord s ≡ accepted q → (page : List ℕ) → needed q ≤ length page
     → Answered q (outcome s (length page)) page (pageAfter s page)
-demand-2 s q e page h = told q page h (outcome s (length page)) (pageAfter s page) (outcome-answered s q e (length page) h) (page-answered s q e page h)
+demand-2 s bytes q e page h = told s bytes q e page h (outcome s (length page)) (pageAfter s page) (outcome-answered s q e (length page) h) (page-answered s q e page h)
 
 -- so it is wherever the number is 0
-pub demand-2-accepted : (s page : List ℕ) → outcome s (length page) .number ≡ 0
+pub demand-2-accepted : (s : List ℕ) → Bytes s → (page : List ℕ) → outcome s (length page) .number ≡ 0
     → (q : Query) × ((readRecord s ≡ accepted q) × Answered q (outcome s (length page)) page (pageAfter s page))
-demand-2-accepted s page h =
+demand-2-accepted s bytes page h =
     let a : Accepted s (length page) = answered-is s (length page) h in
-    (a .query, (a .read, demand-2 s (a .query) (a .read) page (a .fits)))
+    (a .query, (a .read, demand-2 s bytes (a .query) (a .read) page (a .fits)))

@@ -12,11 +12,10 @@ use Rattle.principal.specs.Principal.{Principal}
 use Rattle.principal.specs.Members.{member}
 use Rattle.compliance.specs.Reach.{InReach}
 use Rattle.compliance.specs.Theorems.Alike.{Alike, a[], a∷, AlikeIn, reach-same, rounds-same, reached-same, policy-same}
-use Rattle.expression.specs.Names.{Environment}
+use Rattle.expression.specs.Names.{Environment, environment}
 use Rattle.expression.specs.Conditions.{top, conditions}
 use Rattle.expression.specs.Reads.{programReads, isSet, Alike as AlikeAttributes, alike[], alike∷, withAttributes}
 use Rattle.expression.specs.Theorems.Unread.{conditions-same}
-use Rattle.expression.specs.Theorems.Queried.{environment}
 use Rattle.assertion.specs.Assertion.{Assertion, Conditions, absent, stated}
 use Rattle.keynote.specs.Answer.{worth, ranked, readings, keptOf, system, classOf, roundsOf, reachedOf}
 use Rattle.keynote.specs.Report.{report, reportSize}
