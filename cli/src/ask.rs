@@ -21,6 +21,7 @@ use crate::text::shown;
 use attributes::Attribute;
 use faults::Origins;
 use request::{Attributes, Request, Trust};
+use warnings::Kind;
 
 /// The query and where its parts came from.
 struct Gathered {
@@ -72,8 +73,9 @@ fn tell(request: &Request, gathered: &Gathered, answer: &Answer) -> Result<End, 
 }
 
 fn warn(request: &Request, gathered: &Gathered, answer: &Answer) {
-    let found = warnings::found(&gathered.query, &gathered.attributes, &gathered.sources, answer);
-    for (kind, words) in found.iter().filter(|(kind, _)| !request.unsaid.contains(kind)) {
+    let kinds: Vec<Kind> = Kind::ALL.into_iter().filter(|kind| !request.unsaid.contains(kind)).collect();
+    let readings = warnings::readings(&gathered.query, &gathered.sources, answer);
+    for (kind, words) in warnings::found(&kinds, &gathered.query, &gathered.attributes, &readings) {
         told(&format!("warning: {words} (--no-warn {})", kind.name()));
     }
 }

@@ -2,6 +2,8 @@
 //! worth is the library's to say: nothing here changes a record.
 
 pub mod literal;
+#[cfg(test)]
+mod random;
 pub mod reading;
 pub mod tokens;
 

@@ -64,7 +64,7 @@ fn ends(front: &[u8]) -> bool {
 }
 
 /// What becomes of a text as a local assertion, where it fits in a record.
-fn judged(text: Vec<u8>) -> Option<Entry> {
+pub fn judged(text: Vec<u8>) -> Option<Entry> {
     if !limits::TEXT_BYTES.holds(text.len()) {
         return None;
     }

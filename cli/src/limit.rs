@@ -55,17 +55,11 @@ fn size(text: &[u8], token: Token, tokens: &[Token]) -> Option<usize> {
 #[cfg(test)]
 mod tests {
     use super::*;
-    use lampsickle::{ask, Query};
+    use crate::could::judged;
 
     /// The library's place of reason 7, in words.
     fn of(text: &str) -> String {
-        let mut query = Query {
-            values: vec![b"no".to_vec(), b"yes".to_vec()],
-            requesters: vec![b"a".to_vec()],
-            ..Query::default()
-        };
-        query.local(text);
-        let entry = ask(&query.record().expect("a record")).expect("an answer").entries[0];
+        let entry = judged(text.as_bytes().to_vec()).expect("an entry");
         assert_eq!(entry.reason, 7, "{text}");
         words(text.as_bytes(), entry.place)
     }

@@ -7,10 +7,18 @@ const SHOWN: usize = 40;
 
 /// Bytes in quotes, cut where they are long, with escapes for what can't be shown.
 pub fn quoted(bytes: &[u8]) -> String {
-    let text = escaped(bytes, |character| matches!(character, '"' | '\\'));
-    match text.chars().count() > SHOWN {
-        true => format!("\"{}…\"", text.chars().take(SHOWN).collect::<String>()),
-        false => format!("\"{text}\""),
+    format!("\"{}\"", cut(escaped(bytes, |character| matches!(character, '"' | '\\'))))
+}
+
+/// Bytes cut where they are long, with escapes for what can't be shown.
+pub fn brief(bytes: &[u8]) -> String {
+    cut(shown(bytes))
+}
+
+fn cut(text: String) -> String {
+    match text.char_indices().nth(SHOWN) {
+        Some((end, _)) => format!("{}…", &text[..end]),
+        None => text,
     }
 }
 

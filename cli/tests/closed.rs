@@ -56,7 +56,10 @@ fn a_stray_blank_line_grants_nothing() {
     let other = "Authorizer: \"POLICY\"\nLicensees: \"a\"\n\nConditions: x == \"1\";\n";
     for option in ["--local", "--verified", "--all-verified", "--unverified"] {
         let words = mistake(4, &plain(&[option, "-"]), cut.as_bytes());
-        assert!(words.contains("-:1: ") && words.contains("take out"), "{words}");
+        assert!(
+            words.contains("-:3: this part of the file has no Authorizer") && words.contains("take out"),
+            "{words}"
+        );
         let words = mistake(4, &plain(&[option, "-"]), other.as_bytes());
         assert!(words.contains("-:4: this part of the file has no Authorizer"), "{words}");
     }
@@ -114,6 +117,8 @@ fn warnings_of_attributes() {
     assert!(words.contains("\"@\" makes 0 of dollars, which isn't set"), "{words}");
     assert!(words.contains("--attribute \"dolars=450\": no assertion that was kept reads dolars"), "{words}");
     assert_eq!(ask(&["-a", "dolars=450", "--no-warn", "number,unread,unset"]), "");
+    // What one kind no longer says the other does.
+    assert!(ask(&["--no-warn", "number"]).contains("dollars isn't set, so it is empty (--no-warn unset)"));
 }
 
 #[test]

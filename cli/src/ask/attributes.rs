@@ -4,7 +4,7 @@ use crate::arguments::Word;
 use crate::assertion::literal::{self, Literal};
 use crate::end::Trouble;
 use crate::input::{byte_order_mark, front};
-use crate::text::{quoted, shown};
+use crate::text::{brief, quoted, shown};
 
 /// How much of a file is read: many times what a record holds.
 const FILE_BYTES: usize = 1 << 20;
@@ -44,31 +44,36 @@ impl Origin {
 
 /// An attribute given as a word.
 pub fn pair(word: &[u8]) -> Result<Attribute, Trouble> {
-    one(word, word.len(), Origin::Option(format!("--attribute {}", quoted(word)))).map(|(attribute, _)| attribute)
+    let origin = Origin::Option(format!("--attribute {}", quoted(word)));
+    let (attribute, end) = one(word, word, origin)?;
+    match end {
+        Some(end) if end < word.len() => Err(attribute.origin.trouble("more stands behind the closing quote")),
+        _ => Ok(attribute),
+    }
 }
 
 /// The attributes of a file, each on a line; blank lines and lines whose text begins
-/// with "#" are skipped.
+/// with "#" are skipped, as is a return at a line's end.
 pub fn of_file(file: &Word) -> Result<Vec<Attribute>, Trouble> {
     let name = shown(file);
     let front = front("--attributes", file, FILE_BYTES)?;
     if front.more {
-        return Err(Trouble::file(format!(
-            "--attributes {name}: more than {FILE_BYTES} bytes, which no query has room for"
-        )));
+        let words = format!("--attributes {name}: more than {FILE_BYTES} bytes, which no query has room for");
+        return Err(Trouble::file(words));
     }
     if let Some(words) = byte_order_mark(&front.bytes) {
         return Err(Trouble::file(format!("--attributes {name}: {words}")));
     }
-    let (mut attributes, mut rest, mut line) = (Vec::new(), &front.bytes[..], 1);
+    let (mut attributes, mut rest, mut number) = (Vec::new(), &front.bytes[..], 1);
     while !rest.is_empty() {
         let mut end = line_end(rest, 0);
-        if !matches!(rest[..end].trim_ascii_start(), [] | [b'#', ..]) {
-            let (attribute, behind) = one(rest, end, Origin::Line(format!("{name}:{line}")))?;
+        let line = rest[..end].strip_suffix(b"\r").unwrap_or(&rest[..end]);
+        if !matches!(line.trim_ascii_start(), [] | [b'#', ..]) {
+            let (attribute, behind) = one(rest, line, Origin::Line(format!("{name}:{number}")))?;
             attributes.push(attribute);
-            end = behind;
+            end = behind.unwrap_or(end);
         }
-        line += rest[..end].iter().filter(|byte| **byte == b'\n').count() + 1;
+        number += rest[..end].iter().filter(|byte| **byte == b'\n').count() + 1;
         rest = rest.get(end + 1..).unwrap_or_default();
     }
     Ok(attributes)
@@ -79,10 +84,9 @@ fn line_end(text: &[u8], place: usize) -> usize {
     text[place..].iter().position(|byte| *byte == b'\n').map_or(text.len(), |length| place + length)
 }
 
-/// The attribute at the front of a text, whose first line ends at `end`, and the end
-/// of its own last line.
-fn one(text: &[u8], end: usize, origin: Origin) -> Result<(Attribute, usize), Trouble> {
-    let line = text[..end].strip_suffix(b"\r").unwrap_or(&text[..end]);
+/// The attribute at the front of a text, whose first line is given; for one in quotes
+/// also the end of its last line.
+fn one(text: &[u8], line: &[u8], origin: Origin) -> Result<(Attribute, Option<usize>), Trouble> {
     let Some(equals) = line.iter().position(|byte| *byte == b'=') else {
         return Err(origin.trouble(&format!("no \"=\" between name and value in {}", quoted(line))));
     };
@@ -90,8 +94,8 @@ fn one(text: &[u8], end: usize, origin: Origin) -> Result<(Attribute, usize), Tr
     let value = &line[equals + 1..];
     let spaces = value.len() - value.trim_ascii_start().len();
     let read = match value.get(spaces) {
-        Some(b'"') => in_quotes(text, equals + 1 + spaces),
-        _ => plain(value, &name).map(|()| (value.to_vec(), end)),
+        Some(b'"') => in_quotes(text, equals + 1 + spaces).map(|(value, end)| (value, Some(end))),
+        _ => plain(value, &name).map(|()| (value.to_vec(), None)),
     };
     match read {
         Ok((value, end)) => Ok((Attribute { origin, name, value }, end)),
@@ -115,31 +119,29 @@ fn in_quotes(text: &[u8], start: usize) -> Result<(Vec<u8>, usize), String> {
     }
 }
 
+/// Quotes that are none of the language's.
+const OTHER_QUOTES: [&str; 8] = ["'", "`", "\u{2018}", "\u{2019}", "\u{201c}", "\u{201d}", "\u{201e}", "\u{ab}"];
+
 /// Whether a value without quotes can be meant as it is only.
 fn plain(value: &[u8], name: &[u8]) -> Result<(), String> {
     let trimmed = value.trim_ascii();
-    let comment = value.windows(2).any(|pair| pair[0].is_ascii_whitespace() && pair[1] == b'#');
     let what = if value.iter().any(u8::is_ascii_control) {
         "holds a control character"
     } else if trimmed.len() < value.len() {
         "begins or ends with a space"
     } else if value.contains(&b'"') {
         "holds a quote"
-    } else if value.len() > 1 && value.starts_with(b"'") && value.ends_with(b"'") {
-        "is in single quotes, which would be part of it"
-    } else if comment {
-        "holds a \"#\" behind a space, which isn't a comment there"
+    } else if value.starts_with(b"=") {
+        "begins with a second \"=\""
+    } else if OTHER_QUOTES.iter().any(|quote| value.starts_with(quote.as_bytes())) {
+        "begins with a quote that would be part of it"
+    } else if value.windows(2).any(|pair| pair == b" #") {
+        "holds a \"#\" behind a space, which is no comment there"
     } else {
         return Ok(());
     };
-    let (name, meant) = (shown(name), literal_of(trimmed));
-    Err(format!("the value {} {what}: say what is meant in double quotes, as {name} = {meant}", quoted(value)))
-}
-
-/// How a value is written as a literal.
-fn literal_of(value: &[u8]) -> String {
-    let value = value.strip_prefix(b"'").and_then(|value| value.strip_suffix(b"'")).unwrap_or(value);
-    quoted(value)
+    let (name, value) = (brief(name), quoted(value));
+    Err(format!("the value {value} {what}: say what is meant in double quotes, as {name} = \"…\""))
 }
 
 #[cfg(test)]
@@ -159,7 +161,7 @@ mod tests {
         is("n=J. Feigenbaum", "J. Feigenbaum");
         is("n =45", "45");
         is("n=a\\b", "a\\b");
-        is("n='s-Gravenhage", "'s-Gravenhage");
+        is("n=a#b", "a#b");
         is("n = \"45\"", "45");
         is("\tn=\"\" ", "");
         is("n=\"a\\\"\\t\\101 #\" # x", "a\"\tA #");
@@ -170,6 +172,11 @@ mod tests {
     fn in_neither() {
         for word in ["n", "n= 45", "n = 45", "n=45 ", "n=\t", "n=a\"b", "n='45'", "n=45 # x", "n=\"45", "n=\"4\"5"] {
             assert_eq!(value(word), None, "{word}");
+        }
+        for word in
+            ["n==45", "n=='45'", "n=\u{201c}45\u{201d}", "n='s-Gravenhage", "n=`45`", "n=45\r", "n=\"4\"\nx=\"5\""]
+        {
+            assert_eq!(value(word), None, "{word:?}");
         }
         for word in ["n=a\rb", "n=a\nb", "n=a\tb", "n=\"a\nb\""] {
             assert_eq!(value(word), None, "{word:?}");

@@ -66,7 +66,8 @@ fn check(trust: Trust, parts: &[Part]) -> Result<(), Trouble> {
         ));
     }
     if parts.len() > 1 {
-        parts.iter().try_for_each(whole)?;
+        parts.iter().try_for_each(authorized)?;
+        parts.iter().try_for_each(bounded)?;
     }
     match trust {
         Trust::Verified if parts.len() > 1 => Err(parts[1].trouble(
@@ -79,9 +80,9 @@ fn check(trust: Trust, parts: &[Part]) -> Result<(), Trouble> {
     }
 }
 
-/// Whether one part of several is an assertion of its own, and not what a stray
-/// blank line has cut off or left over.
-fn whole(part: &Part) -> Result<(), Trouble> {
+/// One part of several is an assertion of its own, and not what a stray blank line
+/// has cut off.
+fn authorized(part: &Part) -> Result<(), Trouble> {
     if !part.has(Field::Authorizer) {
         let mark = byte_order_mark(&part.source.text).map_or(String::new(), |words| format!(" ({words})"));
         return Err(part.trouble(
@@ -92,6 +93,11 @@ fn whole(part: &Part) -> Result<(), Trouble> {
             ),
         ));
     }
+    Ok(())
+}
+
+/// One part of several is not what a stray blank line has left of an assertion.
+fn bounded(part: &Part) -> Result<(), Trouble> {
     if !part.has(Field::Licensees) && !part.has(Field::Conditions) {
         return Err(part.trouble(
             0,
@@ -265,7 +271,7 @@ mod tests {
     #[test]
     fn parts_that_are_not_whole() {
         let cases = [
-            ("Authorizer: \"POLICY\"\n\nLicensees: \"a\"\n", "f:1: this part of the file has neither"),
+            ("Authorizer: \"POLICY\"\n\nLicensees: \"a\"\n", "f:3: this part of the file has no Authorizer; "),
             ("Authorizer: \"POLICY\"\nLicensees: \"a\"\n\nConditions: x;\n", "f:4: this part of the file has no Auth"),
             ("Comment: x\n\nAuthorizer: \"POLICY\"\nLicensees: \"a\"\n", "f:1: this part of the file has no Auth"),
             (

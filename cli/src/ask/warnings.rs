@@ -7,7 +7,7 @@ use lampsickle::{Answer, Query};
 use super::attributes::Attribute;
 use crate::assertion::reading::{integer, read, reserved, Conversion, Reading};
 use crate::report::Source;
-use crate::text::{quoted, shown};
+use crate::text::{brief, quoted};
 
 #[derive(Clone, Copy, Debug, PartialEq, Eq)]
 pub enum Kind {
@@ -35,18 +35,27 @@ impl Kind {
     }
 }
 
-/// All warnings about the assertions that were kept and the attributes, in words.
-pub fn found(query: &Query, attributes: &[Attribute], sources: &[Source], answer: &Answer) -> Vec<(Kind, String)> {
+/// What the assertions of a query that were kept read.
+pub fn readings<'a>(query: &Query, sources: &'a [Source], answer: &Answer) -> Vec<(&'a Source, Reading)> {
     let kept = sources.iter().zip(&answer.entries).filter(|(_, entry)| entry.reason == 0);
-    let readings: Vec<(&Source, Reading)> = kept.map(|(source, _)| (source, read(&source.text, query))).collect();
+    kept.map(|(source, _)| (source, read(&source.text, query))).collect()
+}
+
+/// The warnings of these kinds, in words.
+pub fn found(
+    kinds: &[Kind],
+    query: &Query,
+    attributes: &[Attribute],
+    readings: &[(&Source, Reading)],
+) -> Vec<(Kind, String)> {
     let mut told = Told { query, names: HashSet::new(), warnings: Vec::new() };
-    for (source, reading) in &readings {
-        reading.conversions.iter().for_each(|conversion| told.number(source, conversion));
+    for kind in kinds {
+        match kind {
+            Kind::Number => readings.iter().for_each(|(source, reading)| told.numbers(source, reading)),
+            Kind::Unset => readings.iter().for_each(|(source, reading)| told.unset_names(source, reading)),
+            Kind::Unread => told.unread(attributes, readings),
+        }
     }
-    for (source, reading) in &readings {
-        reading.names.iter().for_each(|(name, place)| told.unset(source, name, *place));
-    }
-    told.unread(attributes, &readings);
     told.warnings
 }
 
@@ -58,6 +67,14 @@ struct Told<'a> {
 }
 
 impl Told<'_> {
+    fn numbers(&mut self, source: &Source, reading: &Reading) {
+        reading.conversions.iter().for_each(|conversion| self.number(source, conversion));
+    }
+
+    fn unset_names(&mut self, source: &Source, reading: &Reading) {
+        reading.names.iter().for_each(|(name, place)| self.unset(source, name, *place));
+    }
+
     fn number(&mut self, source: &Source, conversion: &Conversion) {
         let string = &conversion.string;
         let new = match &string.name {
@@ -68,9 +85,9 @@ impl Told<'_> {
             return;
         }
         let what = match &string.name {
-            Some(name) if !string.set => format!("{}, which isn't set", shown(name)),
+            Some(name) if !string.set => format!("{}, which isn't set", brief(name)),
             Some(name) => {
-                format!("{}, which is {}, no number from -2147483648 to 2147483647", shown(name), quoted(&string.value))
+                format!("{}, which is {}, no number from -2147483648 to 2147483647", brief(name), quoted(&string.value))
             }
             None => format!("{}, which is no number from -2147483648 to 2147483647", quoted(&string.value)),
         };
@@ -82,7 +99,7 @@ impl Told<'_> {
         if test || self.is_set(name) || !self.names.insert(name.to_vec()) {
             return;
         }
-        self.warnings.push((Kind::Unset, format!("{}: {} isn't set, so it is empty", source.at(place), shown(name))));
+        self.warnings.push((Kind::Unset, format!("{}: {} isn't set, so it is empty", source.at(place), brief(name))));
     }
 
     fn is_set(&self, name: &[u8]) -> bool {
@@ -97,7 +114,7 @@ impl Told<'_> {
         let names: HashSet<&Vec<u8>> =
             readings.iter().flat_map(|(_, reading)| &reading.names).map(|(name, _)| name).collect();
         for attribute in attributes.iter().filter(|attribute| !names.contains(&attribute.name)) {
-            let (origin, name) = (attribute.origin.words(), shown(&attribute.name));
+            let (origin, name) = (attribute.origin.words(), brief(&attribute.name));
             self.warnings.push((Kind::Unread, format!("{origin}: no assertion that was kept reads {name}")));
         }
     }

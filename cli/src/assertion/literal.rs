@@ -82,6 +82,7 @@ fn octal(text: &[u8], place: usize, value: &mut Vec<u8>) -> Result<usize, Flaw> 
 
 #[cfg(test)]
 mod tests {
+    use super::super::random::Random;
     use super::*;
     use lampsickle::{ask, Query};
 
@@ -145,14 +146,10 @@ mod tests {
             b"\r",
             b"\n",
         ];
-        let mut seed = 2704_u64;
-        let mut next = |below: usize| {
-            seed = seed.wrapping_mul(6364136223846793005).wrapping_add(1442695040888963407);
-            (seed >> 33) as usize % below
-        };
+        let mut random = Random::new(2704);
         let (mut read_ones, mut flawed) = (0, 0);
         for _ in 0..20_000 {
-            let inner: Vec<u8> = (0..next(9)).flat_map(|_| pieces[next(pieces.len())]).copied().collect();
+            let inner = random.joined(9, &pieces);
             let literal = [b"\"", &inner[..], b"\""].concat();
             match read(&literal, 0) {
                 Ok(Literal { value, end }) if end == literal.len() => {

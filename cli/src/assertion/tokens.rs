@@ -191,7 +191,57 @@ fn number(rest: &[u8]) -> usize {
 
 #[cfg(test)]
 mod tests {
+    use super::super::random::Random;
     use super::*;
+    use crate::could::judged;
+
+    /// A text that the library keeps has no lines and tokens that are none, and its
+    /// end is where the library's is: behind a Signature nothing is read, and
+    /// otherwise a line that follows is.
+    #[test]
+    fn as_the_library_reads_them() {
+        let pieces = [
+            &b"Authorizer: \"a\""[..],
+            b"\nLicensees: 1-of(\"b\",c)",
+            b"\nComment: \" x \\",
+            b"\nLocal-Constants: c=\"\\\n\n#\"",
+            b"\nConditions: x.\"#\" == \"\\\"\" -> {1<2;};",
+            b"\nSIGNATURE: \"s\\\n\nt\"",
+            b"\nsignature:\n # \"\n\t\"u\"",
+            b"\n# \"",
+            b"\n x",
+            b"\n",
+            b" ",
+            b"\n\t# \"\\",
+            b"\nauthorizer:\"b\"",
+            b"\nSignature: \"s\"",
+            b"\"",
+            b" \"v\"",
+        ];
+        let mut random = Random::new(5);
+        let (mut signed, mut unsigned) = (0, 0);
+        for _ in 0..60_000 {
+            let text = random.joined(8, &pieces);
+            let kept = |text: Vec<u8>| judged(text).is_some_and(|entry| entry.reason == 0);
+            if !kept(text.clone()) {
+                continue;
+            }
+            let mut tokens = Tokens::new(&text);
+            assert!(
+                tokens.by_ref().all(|token| !matches!(token.kind, Kind::Blank | Kind::Line | Kind::Unknown)),
+                "{text:?}"
+            );
+            let more = [&text[..], b"\n\nx"].concat();
+            assert_eq!(kept(more), tokens.signed().is_some(), "{:?}", String::from_utf8_lossy(&text));
+            if let Some(end) = tokens.signed() {
+                assert!(kept(text[..end].to_vec()) && !kept(text[..end - 1].to_vec()));
+                signed += 1;
+            } else {
+                unsigned += 1;
+            }
+        }
+        assert!(signed > 500 && unsigned > 500, "{signed} {unsigned}");
+    }
 
     fn kinds(text: &str) -> Vec<(Kind, String)> {
         let shown = |token: Token| (token.kind, String::from_utf8_lossy(token.of(text.as_bytes())).into_owned());
