@@ -30,7 +30,7 @@ const GROUPS: [(&[&str], &str); 4] = [
 
 /// What could have stood at a place of reason 2; nothing where that can't be told.
 pub fn stood(text: &[u8], place: usize) -> String {
-    let front = &text[..place.min(text.len())];
+    let front = text[..place.min(text.len())].trim_ascii_end();
     let mut all: Vec<String> = Vec::new();
     all.extend(TOKENS.iter().filter(|(token, _)| follows(front, token)).map(|(_, words)| words.to_string()));
     for (tokens, words) in GROUPS {
@@ -49,8 +49,9 @@ pub fn stood(text: &[u8], place: usize) -> String {
 /// Whether a token can follow: the library finds no fault in it, or one that isn't
 /// the grammar's (a name that isn't set, a threshold, another version).
 fn follows(front: &[u8], token: &str) -> bool {
-    let start = front.len() + 1;
-    match judged([front, b" ", token.as_bytes()].concat()) {
+    // On a line of its own, so that no comment hides it.
+    let start = front.len() + 2;
+    match judged([front, b"\n ", token.as_bytes()].concat()) {
         Some(Entry { reason: 0, .. }) => true,
         Some(Entry { reason, place }) => place > start || place == start && matches!(reason, 4..=6),
         None => false,
@@ -59,7 +60,6 @@ fn follows(front: &[u8], token: &str) -> bool {
 
 /// Whether the field may end here.
 fn ends(front: &[u8]) -> bool {
-    let front = front.trim_ascii_end();
     judged(front.to_vec()).is_some_and(|entry| entry.reason != 2)
 }
 
@@ -91,6 +91,10 @@ mod tests {
         assert_eq!(of("Authorizer: \"a\" \"b\""), "the end of the field");
         assert_eq!(of("Authorizer: \"a\"\nLicensees: \"b\" ; \"c\""), "\"&&\" or \"||\", the end of the field");
         assert_eq!(of("Authorizer: \"a\"\nLicensees: 2 (\"c\")"), "\"-of\"");
+        for end in ["", " # c", "\n", "\n  # c\n", "\nComment: c", " # c \n\t)"] {
+            let text = format!("Authorizer: \"a\"\nLicensees: \"b\" &&{end}");
+            assert_eq!(of(&text), "a string in quotes, a name, an integer, \"(\"", "{text}");
+        }
         assert_eq!(of("Authorizer: \"a\"\nLicensees: 2-of(\"c\""), "\")\", \",\"");
         assert_eq!(of("Authorizer: \"a\"\nConditions: dollars < 100;"), "a string in quotes, a name, \"(\", \"$\"");
         assert_eq!(of("Authorizer: \"a\"\nConditions: x = \"y\";"), "a comparison such as \"==\", \".\"");

@@ -65,6 +65,35 @@ fn a_stray_blank_line_grants_nothing() {
     }
 }
 
+/// Wherever a blank line gets into an example, a stranger gets no more by it.
+#[test]
+fn no_blank_line_raises_a_class() {
+    let examples = [
+        ("port/policy.kn", "--local"),
+        ("port/station-north.kn", "--local"),
+        ("port/agents.kn", "--all-verified"),
+        ("spend/policy.kn", "--local"),
+        ("spend/credential-f.kn", "--verified"),
+        ("email/credentials-cd.kn", "--all-verified"),
+    ];
+    let everybody = file("everybody.kn", "Authorizer: \"POLICY\"\nLicensees: \"station:north\" || \"RSA:dab212\"\n");
+    let (mut answered, mut stopped) = (0, 0);
+    for (name, option) in examples {
+        let text = fs::read_to_string(common::root().join("examples").join(name)).expect("an example");
+        let starts = text.match_indices('\n').map(|(place, _)| place + 1);
+        for (start, blank) in starts.flat_map(|start| ["\n", " \t\n"].map(|blank| (start, blank))) {
+            let cut = file("blank.kn", format!("{}{blank}{}", &text[..start], &text[start..]));
+            let output = run(&plain(&["--local", &everybody, option, &cut]), b"");
+            match status(&output) {
+                0 => assert!(printed(&output).starts_with("class hold\n"), "{name} at {start}"),
+                other => assert_eq!((other, output.stdout.len()), (4, 0), "{name} at {start}"),
+            }
+            *if status(&output) == 0 { &mut answered } else { &mut stopped } += 1;
+        }
+    }
+    assert!(answered > 20 && stopped > 60, "{answered} {stopped}");
+}
+
 #[test]
 fn a_part_that_lost_its_fields() {
     let lost = "Authorizer: \"POLICY\"\n\nLicensees: \"b\"\nAuthorizer: \"POLICY\"\n";

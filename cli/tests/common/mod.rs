@@ -1,4 +1,5 @@
-//! The program run, and files for it.
+//! The program run, and files for it. Each program of tests uses a part of this.
+#![allow(dead_code)]
 
 use std::fs;
 use std::io::Write;
