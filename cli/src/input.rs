@@ -9,6 +9,9 @@ use crate::arguments::STANDARD;
 use crate::end::Trouble;
 use crate::text::shown;
 
+/// How much of a file is read that isn't a record: many times what a record holds.
+pub const FILE_BYTES: usize = 1 << 20;
+
 /// The bytes at a file's front, and whether it goes on behind them.
 pub struct Front {
     pub bytes: Vec<u8>,
@@ -22,6 +25,12 @@ pub fn front(option: &str, file: &[u8], most: usize) -> Result<Front, Trouble> {
         _ => File::open(OsStr::from_bytes(file)).and_then(|mut file| taken(&mut file, most)),
     };
     read.map_err(|error| Trouble::with(format!("{option} {}", shown(file)).trim_start(), &error))
+}
+
+/// The error of a file that goes on behind `FILE_BYTES`.
+pub fn too_long(option: &str, file: &[u8]) -> Trouble {
+    let file = shown(file);
+    Trouble::file(format!("{option} {file}: more than {FILE_BYTES} bytes, which no query has room for"))
 }
 
 /// At most `most` bytes; one more is read, to know whether there are more.

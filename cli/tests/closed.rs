@@ -307,6 +307,7 @@ fn messages() {
         of(b"\xef\xbb\xbfAuthorizer: \"POLICY\"\n").contains("byte order mark stands before the text: save the file")
     );
     assert!(of(b"Authorizer: \"POLICY\"\r\n").contains("a return (\\r) isn't permitted here: lines end"));
+    assert!(of(b"Authorizer: \"k\"\r\nSignature: \"s\"\r\n").contains("a return (\\r) isn't permitted here: lines end"));
     let deep = format!("Authorizer: \"POLICY\"\nConditions: {}", "(".repeat(17));
     assert!(of(deep.as_bytes()).contains("with this bracket more than 16 are open (reason 7"));
     let words = of(b"Authorizer: \"POLICY\"\nConditions: dollars < 100;\n");

@@ -3,11 +3,8 @@
 use crate::arguments::Word;
 use crate::assertion::literal::{self, Literal};
 use crate::end::Trouble;
-use crate::input::{byte_order_mark, front};
+use crate::input::{byte_order_mark, front, too_long, FILE_BYTES};
 use crate::text::{brief, quoted, shown};
-
-/// How much of a file is read: many times what a record holds.
-const FILE_BYTES: usize = 1 << 20;
 
 /// An attribute and where it was given.
 #[derive(Clone, Debug, PartialEq, Eq)]
@@ -58,8 +55,7 @@ pub fn of_file(file: &Word) -> Result<Vec<Attribute>, Trouble> {
     let name = shown(file);
     let front = front("--attributes", file, FILE_BYTES)?;
     if front.more {
-        let words = format!("--attributes {name}: more than {FILE_BYTES} bytes, which no query has room for");
-        return Err(Trouble::file(words));
+        return Err(too_long("--attributes", file));
     }
     if let Some(words) = byte_order_mark(&front.bytes) {
         return Err(Trouble::file(format!("--attributes {name}: {words}")));

@@ -7,12 +7,9 @@ use super::request::Trust;
 use crate::arguments::Word;
 use crate::assertion::tokens::{Field, Kind, Tokens};
 use crate::end::Trouble;
-use crate::input::{byte_order_mark, front};
+use crate::input::{byte_order_mark, front, too_long, FILE_BYTES};
 use crate::report::Source;
 use crate::text::shown;
-
-/// How much of a file is read: many times what a record holds.
-const FILE_BYTES: usize = 1 << 20;
 
 /// The assertions of a file.
 pub fn of_file(trust: Trust, file: &Word) -> Result<Vec<Source>, Trouble> {
@@ -27,8 +24,7 @@ pub fn of_file(trust: Trust, file: &Word) -> Result<Vec<Source>, Trouble> {
         ));
     }
     if front.more {
-        let words = format!("{} {name}: more than {FILE_BYTES} bytes, which no query has room for", trust.option());
-        return Err(Trouble::file(words));
+        return Err(too_long(trust.option(), file));
     }
     if parts.is_empty() {
         return Err(Trouble::file(format!("{} {name}: no assertion in it", trust.option())));
@@ -186,11 +182,11 @@ fn unread_end(text: &[u8], place: usize) -> usize {
     end
 }
 
-/// What stands behind a place but spaces and comments.
+/// What stands behind a place but spaces, comments and the returns of lines.
 fn beyond(text: &[u8], place: usize) -> Option<usize> {
     let mut start = place;
     for line in text[place..].split_inclusive(|byte| *byte == b'\n') {
-        let found = line.iter().position(|byte| !matches!(byte, b' ' | b'\t' | b'\n'));
+        let found = line.iter().position(|byte| !matches!(byte, b' ' | b'\t' | b'\r' | b'\n'));
         if let Some(found) = found.filter(|found| line[*found] != b'#') {
             return Some(start + found);
         }
@@ -245,11 +241,11 @@ mod tests {
     #[test]
     fn behind_a_signature() {
         for trust in [Trust::Local, Trust::Verified, Trust::AllVerified, Trust::Unverified] {
-            for text in ["x", "\nAuthorizer: \"c\"", "\n# x\n x\n", " \"s\""] {
+            for text in ["x", "\nAuthorizer: \"c\"", "\r\n\r\nAuthorizer: \"c\"", "\rx", "\n# x\n x\n", " \"s\""] {
                 let refused = refused(trust, &format!("{A}Signature: \"s\"{text}")).expect("a refusal");
                 assert!(refused.contains("after the Signature"), "{text:?}");
             }
-            for text in ["", "\n", " # x", "\n# x\n\n # y\n", " \t\n\n"] {
+            for text in ["", "\n", " # x", "\n# x\n\n # y\n", " \t\n\n", "\r\n", "\r\n\r\n"] {
                 assert_eq!(refused(trust, &format!("{A}Signature: \"s\"{text}")), None, "{text:?}");
             }
         }
