@@ -59,13 +59,11 @@ fn no_token(here: &[u8]) -> String {
 }
 
 fn misfit(text: &[u8], place: usize) -> String {
-    let fault = match place < text.len() {
-        true => "this can't stand here by the grammar of its field",
-        false => "the text ends where its grammar asks for more",
-    };
-    match could::stood(text, place) {
-        stood if stood.is_empty() => fault.into(),
-        stood => format!("{fault}; here could stand: {stood}"),
+    match (place < text.len(), could::stood(text, place)) {
+        (true, stood) if stood.is_empty() => "this can't stand here by the grammar of its field".into(),
+        (true, stood) => format!("this can't stand here; these could: {stood}"),
+        (false, stood) if stood.is_empty() => "the text ends where its grammar asks for more".into(),
+        (false, stood) => format!("the text ends where its grammar asks for more; these could follow: {stood}"),
     }
 }
 

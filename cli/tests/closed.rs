@@ -36,7 +36,7 @@ fn text_after_a_signature_is_not_verified() {
         mistake(4, &plain(&["--local", &policy, option, &file("credential.kn", content)]), b"")
     };
     assert!(ask("--verified", &format!("{SIGNED}\n{MORE}")).contains("credential.kn:5: a second assertion"));
-    assert!(ask("--all-verified", &format!("{SIGNED}\n{MORE}")).contains("credential.kn:5: this part"));
+    assert!(ask("--all-verified", &format!("{SIGNED}\n{MORE}")).contains("credential.kn:5: no Signature in this part"));
     for option in ["--verified", "--all-verified", "--unverified", "--local"] {
         assert!(ask(option, &format!("{SIGNED}{MORE}")).contains("credential.kn:4: text after the Signature"));
     }
@@ -56,12 +56,9 @@ fn a_stray_blank_line_grants_nothing() {
     let other = "Authorizer: \"POLICY\"\nLicensees: \"a\"\n\nConditions: x == \"1\";\n";
     for option in ["--local", "--verified", "--all-verified", "--unverified"] {
         let words = mistake(4, &plain(&[option, "-"]), cut.as_bytes());
-        assert!(
-            words.contains("-:3: this part of the file has no Authorizer") && words.contains("take out"),
-            "{words}"
-        );
+        assert!(words.contains("-:3: no Authorizer in this part") && words.contains("take it out"), "{words}");
         let words = mistake(4, &plain(&[option, "-"]), other.as_bytes());
-        assert!(words.contains("-:4: this part of the file has no Authorizer"), "{words}");
+        assert!(words.contains("-:4: no Authorizer in this part"), "{words}");
     }
 }
 
@@ -311,7 +308,7 @@ fn messages() {
     let deep = format!("Authorizer: \"POLICY\"\nConditions: {}", "(".repeat(17));
     assert!(of(deep.as_bytes()).contains("with this bracket more than 16 are open (reason 7"));
     let words = of(b"Authorizer: \"POLICY\"\nConditions: dollars < 100;\n");
-    assert!(words.contains("here could stand: a string in quotes, a name, \"(\", \"$\" (reason 2"), "{words}");
+    assert!(words.contains("these could: a string in quotes, a name, \"(\", \"$\" (reason 2"), "{words}");
 }
 
 #[test]

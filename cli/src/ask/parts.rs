@@ -55,22 +55,18 @@ impl Part {
 
 fn check(trust: Trust, parts: &[Part]) -> Result<(), Trouble> {
     if let Some((part, place)) = parts.iter().find_map(|part| Some((part, part.beyond?))) {
-        return Err(part.trouble(
-            place,
-            "text after the Signature, where nothing is read: take it out, or put a blank line before it if it is an \
-             assertion of its own",
-        ));
+        return Err(part.trouble(place, "text after the Signature, where nothing is read: take it out"));
     }
     if parts.len() > 1 {
         parts.iter().try_for_each(authorized)?;
         parts.iter().try_for_each(bounded)?;
     }
     match trust {
-        Trust::Verified if parts.len() > 1 => Err(parts[1].trouble(
-            0,
-            "a second assertion begins here, but a file given by --verified is one credential: give each a file of its \
-             own, or, if you have verified the signature of each in this file, give it by --all-verified",
-        )),
+        Trust::Verified if parts.len() > 1 => {
+            let words = "a second assertion, but --verified takes one credential; \
+                         if you have verified each in this file, say --all-verified";
+            Err(parts[1].trouble(0, words))
+        }
         Trust::AllVerified => parts.iter().try_for_each(signed),
         _ => Ok(()),
     }
@@ -79,36 +75,34 @@ fn check(trust: Trust, parts: &[Part]) -> Result<(), Trouble> {
 /// One part of several is an assertion of its own, and not what a stray blank line
 /// has cut off.
 fn authorized(part: &Part) -> Result<(), Trouble> {
-    if !part.has(Field::Authorizer) {
-        let mark = byte_order_mark(&part.source.text).map_or(String::new(), |words| format!(" ({words})"));
-        return Err(part.trouble(
-            0,
-            &format!(
-                "this part of the file has no Authorizer{mark}; a blank line ends an assertion: take out the one before or \
-                 after this part if they belong together, and begin lines that only comment with \"#\""
-            ),
-        ));
+    if part.has(Field::Authorizer) {
+        return Ok(());
     }
-    Ok(())
+    let words = match byte_order_mark(&part.source.text) {
+        Some(words) => format!("no Authorizer in this part; {words}"),
+        None => {
+            "no Authorizer in this part; a blank line ends an assertion: take it out where this part belongs to the \
+                 one before or after it"
+                .into()
+        }
+    };
+    Err(part.trouble(0, &words))
 }
 
 /// One part of several is not what a stray blank line has left of an assertion.
 fn bounded(part: &Part) -> Result<(), Trouble> {
-    if !part.has(Field::Licensees) && !part.has(Field::Conditions) {
-        return Err(part.trouble(
-            0,
-            "this part of the file has neither Licensees nor Conditions, so it would grant everybody all that its \
-             Authorizer has; a blank line ends an assertion: take out the one behind this part if its fields follow, or \
-             write \"Conditions: true;\" if everybody is meant",
-        ));
+    if part.has(Field::Licensees) || part.has(Field::Conditions) {
+        return Ok(());
     }
-    Ok(())
+    let words = "neither Licensees nor Conditions in this part, so it would grant everybody: take out the blank line \
+                 behind it, or write \"Conditions: true;\"";
+    Err(part.trouble(0, words))
 }
 
 fn signed(part: &Part) -> Result<(), Trouble> {
     match part.has(Field::Signature) {
         true => Ok(()),
-        false => Err(part.trouble(0, "this part of the file has no Signature, so nobody can have verified it")),
+        false => Err(part.trouble(0, "no Signature in this part, so nobody can have verified it")),
     }
 }
 
@@ -257,8 +251,8 @@ mod tests {
     fn one_or_a_bundle() {
         let signed = format!("{A}Signature: \"s\"\n");
         let (two, half) = (format!("# x\n\n{signed}\n{signed}"), format!("{signed}\n{A}"));
-        assert!(refused(Trust::Verified, &two).expect("a refusal").starts_with("f:7: a second assertion"));
-        assert!(refused(Trust::AllVerified, &half).expect("a refusal").starts_with("f:5: "));
+        assert!(refused(Trust::Verified, &two).expect("a refusal").starts_with("f:7: a second assertion, "));
+        assert!(refused(Trust::AllVerified, &half).expect("a refusal").starts_with("f:5: no Signature"));
         assert_eq!(refused(Trust::AllVerified, &two), None);
         assert_eq!(refused(Trust::Local, &half), None);
         assert_eq!(refused(Trust::Verified, &signed), None);
@@ -267,16 +261,13 @@ mod tests {
     #[test]
     fn parts_that_are_not_whole() {
         let cases = [
-            ("Authorizer: \"POLICY\"\n\nLicensees: \"a\"\n", "f:3: this part of the file has no Authorizer; "),
-            ("Authorizer: \"POLICY\"\nLicensees: \"a\"\n\nConditions: x;\n", "f:4: this part of the file has no Auth"),
-            ("Comment: x\n\nAuthorizer: \"POLICY\"\nLicensees: \"a\"\n", "f:1: this part of the file has no Auth"),
-            (
-                "Authorizer: \"POLICY\"\n\nLicensees: \"a\"\nAuthorizer: \"POLICY\"\n",
-                "f:1: this part of the file has nei",
-            ),
+            ("Authorizer: \"POLICY\"\n\nLicensees: \"a\"\n", "f:3: no Authorizer in this part; a blank"),
+            ("Authorizer: \"POLICY\"\nLicensees: \"a\"\n\nConditions: x;\n", "f:4: no Authorizer in this part"),
+            ("Comment: x\n\nAuthorizer: \"POLICY\"\nLicensees: \"a\"\n", "f:1: no Authorizer in this part"),
+            ("Authorizer: \"POLICY\"\n\nLicensees: \"a\"\nAuthorizer: \"POLICY\"\n", "f:1: neither Licensees nor"),
             (
                 "\u{feff}# x\n\nAuthorizer: \"POLICY\"\nLicensees: \"a\"\n",
-                "f:1: this part of the file has no Authorizer (a",
+                "f:1: no Authorizer in this part; a byte order",
             ),
         ];
         for trust in [Trust::Local, Trust::Verified, Trust::AllVerified, Trust::Unverified] {
