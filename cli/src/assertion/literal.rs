@@ -121,35 +121,17 @@ mod tests {
         (answer.entries[0].reason == 0, answer.rank == 1)
     }
 
+    const PIECES: &[&[u8]] = &[
+        b"a", b"\\", b"\\", b"0", b"1", b"7", b"3", b"8", b"\\n", b"\\0", b"\\3", b"\\4", b"\"", b"\\\n", b" ", b"\t",
+        b"\\\r", b"\xff", b"#", b"\r", b"\n",
+    ];
+
     #[test]
     fn as_the_library_reads_them() {
-        let pieces = [
-            &b"a"[..],
-            b"\\",
-            b"\\",
-            b"0",
-            b"1",
-            b"7",
-            b"3",
-            b"8",
-            b"\\n",
-            b"\\0",
-            b"\\3",
-            b"\\4",
-            b"\"",
-            b"\\\n",
-            b" ",
-            b"\t",
-            b"\\\r",
-            b"\xff",
-            b"#",
-            b"\r",
-            b"\n",
-        ];
         let mut random = Random::new(2704);
         let (mut read_ones, mut flawed) = (0, 0);
         for _ in 0..20_000 {
-            let inner = random.joined(9, &pieces);
+            let inner = random.joined(9, PIECES);
             let literal = [b"\"", &inner[..], b"\""].concat();
             match read(&literal, 0) {
                 Ok(Literal { value, end }) if end == literal.len() => {

@@ -195,33 +195,34 @@ mod tests {
     use super::*;
     use crate::could::judged;
 
+    const PIECES: &[&[u8]] = &[
+        b"Authorizer: \"a\"",
+        b"\nLicensees: 1-of(\"b\",c)",
+        b"\nComment: \" x \\",
+        b"\nLocal-Constants: c=\"\\\n\n#\"",
+        b"\nConditions: x.\"#\" == \"\\\"\" -> {1<2;};",
+        b"\nSIGNATURE: \"s\\\n\nt\"",
+        b"\nsignature:\n # \"\n\t\"u\"",
+        b"\n# \"",
+        b"\n x",
+        b"\n",
+        b" ",
+        b"\n\t# \"\\",
+        b"\nauthorizer:\"b\"",
+        b"\nSignature: \"s\"",
+        b"\"",
+        b" \"v\"",
+    ];
+
     /// A text that the library keeps has no lines and tokens that are none, and its
     /// end is where the library's is: behind a Signature nothing is read, and
     /// otherwise a line that follows is.
     #[test]
     fn as_the_library_reads_them() {
-        let pieces = [
-            &b"Authorizer: \"a\""[..],
-            b"\nLicensees: 1-of(\"b\",c)",
-            b"\nComment: \" x \\",
-            b"\nLocal-Constants: c=\"\\\n\n#\"",
-            b"\nConditions: x.\"#\" == \"\\\"\" -> {1<2;};",
-            b"\nSIGNATURE: \"s\\\n\nt\"",
-            b"\nsignature:\n # \"\n\t\"u\"",
-            b"\n# \"",
-            b"\n x",
-            b"\n",
-            b" ",
-            b"\n\t# \"\\",
-            b"\nauthorizer:\"b\"",
-            b"\nSignature: \"s\"",
-            b"\"",
-            b" \"v\"",
-        ];
         let mut random = Random::new(5);
         let (mut signed, mut unsigned) = (0, 0);
         for _ in 0..60_000 {
-            let text = random.joined(8, &pieces);
+            let text = random.joined(8, PIECES);
             let kept = |text: Vec<u8>| judged(text).is_some_and(|entry| entry.reason == 0);
             if !kept(text.clone()) {
                 continue;
