@@ -1,6 +1,7 @@
 //! Links the proved static library from the repository's `target/staticlib`, or
 //! from the directory that `LAMPSICKLE_LIB` names.
 
+use std::os::unix::process::parent_id;
 use std::path::{Path, PathBuf};
 use std::process::exit;
 
@@ -22,10 +23,29 @@ fn main() {
 
 fn directory() -> PathBuf {
     match std::env::var_os("LAMPSICKLE_LIB") {
-        Some(directory) if !directory.is_empty() => PathBuf::from(directory),
+        Some(directory) if !directory.is_empty() => whole(Path::new(&directory)),
         _ => {
             let here = std::env::var_os("CARGO_MANIFEST_DIR").expect("cargo sets it");
             Path::new(&here).join("../../target/staticlib")
+        }
+    }
+}
+
+/// A relative directory is taken from where cargo is run, not from here.
+fn whole(directory: &Path) -> PathBuf {
+    if directory.is_absolute() {
+        return directory.into();
+    }
+    // From elsewhere it is another directory, so the script is run each time:
+    // what is named here is never there.
+    println!("cargo:rerun-if-changed=never-there");
+    let cargo = format!("/proc/{}/cwd", parent_id());
+    let run = std::fs::read_link(cargo).ok().or_else(|| std::env::var_os("PWD").map(PathBuf::from));
+    match run.filter(|run| run.is_absolute()) {
+        Some(run) => run.join(directory),
+        None => {
+            eprintln!("LAMPSICKLE_LIB is relative, and where cargo is run isn't known: give the whole path.");
+            exit(1);
         }
     }
 }

@@ -3,13 +3,16 @@
 
 use std::fmt::Write;
 
-use lampsickle::{Answer, Refusal};
+use lampsickle::{limits, Answer, Refusal};
 
-use crate::ask::{class_json, class_text, entry_json, refusal_json, refusal_text, set_aside};
+use crate::arguments::{Word, Words};
+use crate::end::{End, Trouble};
+use crate::help;
+use crate::input::{front, Front};
 use crate::json::Object;
-use crate::source::{self, Source};
+use crate::output::answered;
+use crate::report::{all_set_aside, class_json, class_text, entry_json, refusal_json, refusal_text, Source};
 use crate::text::{counted, quoted, shown};
-use crate::{written, End, Trouble};
 
 /// A part of a record, decoded.
 #[derive(Clone, Debug, PartialEq, Eq)]
@@ -28,33 +31,51 @@ pub struct Decoded {
     pub sources: Vec<Source>,
 }
 
-pub fn run(file: &[u8], json: bool) -> Result<End, Trouble> {
-    let record = source::read("", file)?;
-    let decoded = decode(&shown(file), &record);
-    let asked = lampsickle::ask(&record);
+pub fn run(words: Words) -> Result<End, Trouble> {
+    let Some((file, json)) = request(words)? else {
+        return help::print();
+    };
+    // One byte more than a record has, so that a longer one is refused as such.
+    let front = front("", &file, limits::RECORD_BYTES + 1)?;
+    let decoded = decode(&shown(&file), &front.bytes);
+    let asked = lampsickle::ask(&front.bytes);
     let text = match json {
         true => in_json(&decoded, &asked),
-        false => in_words(&record, &decoded, &asked),
+        false => in_words(&front, &decoded, &asked),
     };
-    let end = if asked.is_ok() { End::Answered } else { End::Refused };
-    written(text.as_bytes()).map(|()| end)
+    answered(text.as_bytes())?;
+    Ok(if asked.is_ok() { End::Answered } else { End::Refused })
 }
 
-fn in_words(record: &[u8], decoded: &Decoded, asked: &Result<Answer, Refusal>) -> String {
-    let mut text = format!("record of {}\n", counted(record.len(), "byte"));
+/// The file, and whether to print JSON; none where help is asked for.
+fn request(mut words: Words) -> Result<Option<(Word, bool)>, Trouble> {
+    let (mut json, mut help) = (false, false);
+    let mut files = words.files(|_, option| {
+        match option.name.as_slice() {
+            b"--help" | b"-h" => help = true,
+            b"--json" => json = option.flag()?,
+            _ => return Err(option.unknown("explain")),
+        }
+        Ok(())
+    })?;
+    match (help, files.pop(), files.is_empty()) {
+        (true, _, _) => Ok(None),
+        (false, Some(file), true) => Ok(Some((file, json))),
+        _ => Err(Trouble::usage("explain takes one FILE")),
+    }
+}
+
+fn in_words(front: &Front, decoded: &Decoded, asked: &Result<Answer, Refusal>) -> String {
+    let more = if front.more { " and more" } else { "" };
+    let mut text = format!("record of {}{more}\n", counted(front.bytes.len(), "byte"));
     let last = asked.as_ref().map_or_else(|refusal| refusal.place, |_| usize::MAX);
     for part in decoded.parts.iter().filter(|part| part.start <= last) {
         writeln!(text, "{:>6}  {}", part.start, part.words).expect("a string takes all");
     }
     match asked {
-        Ok(answer) => text + &class_text(&decoded.values, answer) + &all_set_aside(decoded, answer),
-        Err(refusal) => text + &drawn(record, refusal.place) + &refusal_text(*refusal, false),
+        Ok(answer) => text + &class_text(&decoded.values, answer) + &all_set_aside(&decoded.sources, answer),
+        Err(refusal) => text + &drawn(&front.bytes, refusal.place) + &refusal_text(*refusal) + "\n",
     }
-}
-
-fn all_set_aside(decoded: &Decoded, answer: &Answer) -> String {
-    let items = decoded.sources.iter().zip(&answer.entries).filter(|(_, entry)| entry.reason != 0);
-    items.map(|(source, entry)| set_aside(source, *entry)).collect()
 }
 
 fn in_json(decoded: &Decoded, asked: &Result<Answer, Refusal>) -> String {

@@ -1,13 +1,20 @@
 //! The manual.
 
-pub const MANUAL: &str = "\
+use crate::end::{End, Trouble};
+use crate::output::answered;
+
+pub fn print() -> Result<End, Trouble> {
+    answered(MANUAL.as_bytes()).map(|_| End::Answered)
+}
+
+const MANUAL: &str = "\
 NAME
     lampsickle - ask a KeyNote (RFC 2704) query in plain text
 
 SYNOPSIS
     lampsickle ask --value VALUE... --requester NAME... [OPTION...]
     lampsickle explain [--json] FILE
-    lampsickle batch [--json] [FILE...]
+    lampsickle batch [--json] [--require CLASS] [--strict] [FILE...]
     lampsickle --help
 
 DESCRIPTION
@@ -15,13 +22,14 @@ DESCRIPTION
     has the proved evaluator answer it, and prints the class by name, its rank,
     the rounds it took and how many principals POLICY reaches. For each
     assertion that was set aside it prints file, line and column, the reason
-    in words, and the line with a caret under the place.
+    in words, and the line with a caret under the place, on standard error.
 
     explain decodes a record, and shows where a refusal's place lies.
 
-    batch answers many records in order, a line for each: those in the FILEs,
-    or, where none is named, those on standard input, each behind its length in
-    four bytes, big-endian.
+    batch answers many records in order, a line for each, at once: those in the
+    FILEs, or, for \"-\" or where none is named, those on standard input, each
+    behind its length in four bytes, big-endian. A FILE that can't be read is
+    told, and the others go on.
 
 OPTIONS OF ask
     -v, --value VALUE        a compliance value; the weakest is given first.
@@ -29,27 +37,48 @@ OPTIONS OF ask
         --values A,B,C       several at once, separated by commas
     -r, --requester NAME     a principal that asks; 1 to 8, each of 1 to 256 bytes
     -a, --attribute N=VALUE  an attribute; at most 32. A name is a letter, then
-                             letters, digits and underscores
-        --attributes FILE    attributes from a file, a line N=VALUE for each; blank
-                             lines and lines that begin with \"#\" are skipped
+                             letters, digits and underscores. A value stands as
+                             it is, or in double quotes with the escapes of the
+                             RFC: N = \"VALUE\"
+        --attributes FILE    attributes from a file, each on a line; blank lines
+                             and lines that begin with \"#\" are skipped
     -l, --local FILE         local assertions, which are trusted
-    -c, --verified FILE      credentials whose signatures you have verified
+    -c, --verified FILE      one credential, whose signature you have verified
+        --all-verified FILE  credentials, and you have verified the signature of
+                             each of them; each has a Signature
     -u, --unverified FILE    credentials whose signatures you have not: they are
                              set aside, and told
         --record FILE        write the record to FILE and ask nothing
         --json               print JSON
+        --require CLASS      exit with 1 where the class is lower than CLASS
+        --strict             exit with 5 where an assertion was set aside
+        --no-warn KIND,...   leave warnings of these kinds unsaid: number (\"@\"
+                             makes 0 of what is no number), unset (a name that is
+                             read isn't set), unread (nothing reads an attribute)
 
-    A file may hold several assertions, separated by blank lines; a part with
-    nothing but comments is skipped. There are at most 32 assertions in all, each
-    of at most 8,192 bytes. \"-\" for FILE is standard input (or output).
+    A file may hold several assertions, separated by blank lines, but one given
+    by --verified; a part with nothing but comments is skipped. Of several each
+    has its own Authorizer, and Licensees or Conditions. Behind a Signature there
+    is nothing but comments. There are at most 32 assertions in all, each of at
+    most 8,192 bytes. \"-\" for FILE is standard input (or output). A value that
+    begins with \"-\" is given as --option=-value.
 
 OPTIONS OF explain AND batch
         --json               print JSON; batch prints an object on each line
+        --require, --strict  (batch) as for ask, for every record
+
+OUTPUT
+    Answers go to standard output, and what explain explains; all else goes to
+    standard error.
 
 EXIT STATUS
     0   answered; for batch, every record was
-    1   refused; for batch, some record was
-    2   a mistake in the arguments or files, or an error of the system
+    1   answered, but a class is lower than --require
+    2   the command line is wrong; nothing was asked
+    3   refused; for batch, some record was
+    4   a file can't be read or written, or not as what it was given for
+    5   answered, but under --strict an assertion was set aside
+    Where several hold, the first of 2, 4, 3, 5, 1 counts.
 
 EXAMPLE
     lampsickle ask --values hold,immediate --requester agent:castle \\

@@ -2,6 +2,8 @@
 
 use std::fmt::Write;
 
+use crate::text::is_plain;
+
 /// An object in the making.
 #[derive(Default)]
 pub struct Object {
@@ -44,8 +46,11 @@ fn string(text: &str) -> String {
         match character {
             '"' => quoted.push_str("\\\""),
             '\\' => quoted.push_str("\\\\"),
-            _ if character < ' ' => write!(quoted, "\\u{:04x}", character as u32).expect("a string takes all"),
-            _ => quoted.push(character),
+            _ if is_plain(character) => quoted.push(character),
+            _ => {
+                let units = character.encode_utf16(&mut [0; 2]).to_vec();
+                units.iter().for_each(|unit| write!(quoted, "\\u{unit:04x}").expect("a string takes all"));
+            }
         }
     }
     quoted.push('"');
@@ -61,5 +66,7 @@ mod tests {
         let inner = Object::default().truth("t", true).done();
         let object = Object::default().number("n", 7).text("s", b"a\"\\\n\xff").list("l", &[inner]);
         assert_eq!(object.done(), "{\"n\":7,\"s\":\"a\\\"\\\\\\u000a\u{fffd}\",\"l\":[{\"t\":true}]}");
+        let object = Object::default().text("s", "\u{9b}\u{202e}\u{e0041}é'");
+        assert_eq!(object.done(), "{\"s\":\"\\u009b\\u202e\\udb40\\udc41é'\"}");
     }
 }

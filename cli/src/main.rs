@@ -3,66 +3,56 @@
 
 mod arguments;
 mod ask;
+mod assertion;
 mod batch;
+mod could;
+mod demand;
+mod end;
 mod explain;
-mod faults;
 mod help;
+mod input;
 mod json;
+mod limit;
+mod output;
 mod place;
-mod source;
+mod report;
+mod terminal;
 mod text;
 mod words;
 
-use std::io::{self, Write};
 use std::process::ExitCode;
 
-use arguments::Command;
+use arguments::Words;
+use end::{End, Trouble};
 
-/// What a command came to.
-pub enum End {
-    Answered,
-    Refused,
-}
+/// A command: what is behind its name on the command line is its own to read.
+type Command = fn(Words) -> Result<End, Trouble>;
 
-/// An error of the user's own, or of the system's, in words.
-pub struct Trouble(String);
-
-impl Trouble {
-    pub fn new(words: impl Into<String>) -> Self {
-        Self(words.into())
-    }
-
-    /// An error of the system's with a file or with an output.
-    pub fn with(what: &str, error: &io::Error) -> Self {
-        Self(format!("{what}: {error}"))
-    }
-}
+const COMMANDS: [(&str, Command); 3] = [("ask", ask::run), ("explain", explain::run), ("batch", batch::run)];
 
 fn main() -> ExitCode {
-    match run() {
-        Ok(End::Answered) => ExitCode::SUCCESS,
-        Ok(End::Refused) => ExitCode::from(1),
-        Err(Trouble(words)) => {
-            eprintln!("lampsickle: {words}");
-            ExitCode::from(2)
+    let status = match run(Words::given()) {
+        Ok(end) => end.status(),
+        Err(trouble) => {
+            output::told(&trouble.words);
+            trouble.status()
         }
-    }
+    };
+    ExitCode::from(status)
 }
 
-fn run() -> Result<End, Trouble> {
-    match arguments::parse(arguments::given())? {
-        Command::Help(text) => written(text.as_bytes()).map(|()| End::Answered),
-        Command::Ask(request) => ask::run(&request),
-        Command::Explain(file, json) => explain::run(&file, json),
-        Command::Batch(files, json) => batch::run(&files, json),
+fn run(mut words: Words) -> Result<End, Trouble> {
+    let Some(name) = words.next() else {
+        return Err(Trouble::usage("no command; `lampsickle --help` tells which there are"));
+    };
+    if matches!(name.as_slice(), b"--help" | b"-h" | b"help") {
+        return help::print();
     }
-}
-
-/// Writes to standard output. A reader that went away is no error.
-pub fn written(bytes: &[u8]) -> Result<(), Trouble> {
-    let mut output = io::stdout().lock();
-    match output.write_all(bytes).and_then(|()| output.flush()) {
-        Err(error) if error.kind() != io::ErrorKind::BrokenPipe => Err(Trouble::with("standard output", &error)),
-        _ => Ok(()),
+    match COMMANDS.iter().find(|(command, _)| command.as_bytes() == name) {
+        Some((_, command)) => command(words),
+        None => {
+            let name = text::quoted(&name);
+            Err(Trouble::usage(format!("{name} is no command; `lampsickle --help` tells which there are")))
+        }
     }
 }

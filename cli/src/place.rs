@@ -21,18 +21,43 @@ pub fn spot(text: &[u8], place: usize) -> Spot<'_> {
 }
 
 impl Spot<'_> {
-    /// The line, numbered, and a caret under the place.
-    pub fn drawn(&self, line: usize) -> String {
+    /// The line, numbered, and a caret under the place, cut to a width.
+    pub fn drawn(&self, line: usize, width: usize) -> String {
         let number = line.to_string();
+        // Two spaces, the number, " | ", and a column for the caret at the line's end.
+        let room = width.saturating_sub(number.len() + 6).max(LEAST);
         let (before, after) = (visible(self.before), visible(self.after));
-        let under: String = before.chars().map(|character| if character == '\t' { '\t' } else { ' ' }).collect();
-        format!("  {number} | {before}{after}\n  {:width$} | {under}^\n", "", width = number.len())
+        let (text, caret) = window(&before, &after, room);
+        let under = " ".repeat(caret);
+        format!("  {number} | {text}\n  {:width$} | {under}^\n", "", width = number.len())
     }
 }
 
-/// Bytes as text, with tabs kept.
+/// The fewest characters of a line that are shown.
+const LEAST: usize = 20;
+
+/// What is seen of a line through a window of so many characters around the place
+/// between its two parts, and where the place lies in it.
+fn window(before: &str, after: &str, room: usize) -> (String, usize) {
+    let line: Vec<char> = before.chars().chain(after.chars()).collect();
+    let place = before.chars().count();
+    if line.len() <= room {
+        return (line.into_iter().collect(), place);
+    }
+    let start = place.saturating_sub(room / 2).min(line.len() - room);
+    let mut seen = line[start..start + room].to_vec();
+    if start > 0 {
+        seen[0] = '…';
+    }
+    if start + room < line.len() {
+        seen[room - 1] = '…';
+    }
+    (seen.into_iter().collect(), place - start)
+}
+
+/// Bytes as text, a tab as a space.
 fn visible(bytes: &[u8]) -> String {
-    bytes.split(|byte| *byte == b'\t').map(shown).collect::<Vec<_>>().join("\t")
+    bytes.split(|byte| *byte == b'\t').map(shown).collect::<Vec<_>>().join(" ")
 }
 
 #[cfg(test)]
@@ -55,6 +80,22 @@ mod tests {
 
     #[test]
     fn caret() {
-        assert_eq!(spot(b"a\n\tb c\nd", 5).drawn(12), "  12 | \tb c\n     | \t  ^\n");
+        assert_eq!(spot(b"a\n\tb c\nd", 5).drawn(12, 80), "  12 |  b c\n     |    ^\n");
+    }
+
+    /// Wherever the place lies, the window is full, holds it, and marks what is cut.
+    #[test]
+    fn a_long_line_is_cut_around_the_caret() {
+        let text: Vec<u8> = (b'a'..=b'z').cycle().take(300).collect();
+        for place in 0..=text.len() {
+            let drawn = spot(&text, place).drawn(7, 60);
+            let lines: Vec<Vec<char>> = drawn.lines().map(|line| line.chars().collect()).collect();
+            assert!(lines[0].len() == 59 && lines[1].len() <= 60, "{drawn}");
+            let caret = lines[1].len() - 1;
+            let under = lines[0].get(caret).copied();
+            let expected = text.get(place).map(|byte| char::from(*byte));
+            assert!(under == expected || under == Some('…'), "{place}: {drawn}");
+            assert!(under != Some('…') || place == 0 || place + 1 >= text.len(), "{place}: {drawn}");
+        }
     }
 }

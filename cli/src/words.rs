@@ -2,8 +2,11 @@
 
 use lampsickle::Entry;
 
-const LABELS: [&str; 7] =
-    ["keynote-version", "local-constants", "authorizer", "licensees", "conditions", "comment", "signature"];
+use crate::assertion::literal::{self, Flaw};
+use crate::assertion::tokens::{label, LABELS};
+use crate::input::{byte_order_mark, RETURN};
+use crate::text::{quoted, shown};
+use crate::{could, limit};
 
 /// Why a record is refused.
 pub fn refusal(number: u8) -> &'static str {
@@ -27,14 +30,13 @@ pub fn reason(entry: Entry, text: &[u8]) -> String {
     match entry.reason {
         0 => "kept".into(),
         1 => no_token(here),
-        2 if here.is_empty() => "the text ends where its grammar asks for more".into(),
-        2 => "this can't stand here by the grammar of its field".into(),
+        2 => misfit(text, entry.place),
         3 => line(text, entry.place),
         4 => "this name isn't set by an earlier Local-Constants field, is set twice, or begins with \"_\"".into(),
         5 if here.starts_with(b")") => "the threshold is above the number of licensees in its list".into(),
         5 => "this integer is above 2147483647, or this threshold isn't from 1 to 16".into(),
         6 => "KeyNote-Version isn't 2".into(),
-        7 => "a limit is passed here (docs/USING.md lists them)".into(),
+        7 => limit::words(text, entry.place),
         8 => unsupported(here),
         9 if entry.place > 0 => "a credential may not speak for POLICY; only a local assertion may".into(),
         9 => "the credential isn't verified, so its text isn't read".into(),
@@ -44,10 +46,24 @@ pub fn reason(entry: Entry, text: &[u8]) -> String {
 
 fn no_token(here: &[u8]) -> String {
     match here.first() {
-        Some(b'"') => "this string isn't closed on its line, or holds something that isn't permitted".into(),
-        Some(b'\r') => "a return isn't permitted; lines end with a newline alone".into(),
+        Some(b'"') => match literal::read(here, 0).map_err(|flawed| flawed.flaw) {
+            Err(Flaw::Return) => format!("in this string {RETURN}"),
+            Err(Flaw::Nul) => "a NUL byte isn't permitted in this string".into(),
+            Err(Flaw::Octal) => "an octal escape in this string is above \\377".into(),
+            _ => "this string isn't closed on its line".into(),
+        },
+        Some(b'\r') => RETURN.into(),
         Some(0) => "a NUL byte isn't permitted".into(),
         _ => "nothing in the language begins like this".into(),
+    }
+}
+
+fn misfit(text: &[u8], place: usize) -> String {
+    match (place < text.len(), could::stood(text, place)) {
+        (true, stood) if stood.is_empty() => "this can't stand here by the grammar of its field".into(),
+        (true, stood) => format!("this can't stand here; these could: {stood}"),
+        (false, stood) if stood.is_empty() => "the text ends where its grammar asks for more".into(),
+        (false, stood) => format!("the text ends where its grammar asks for more; these could follow: {stood}"),
     }
 }
 
@@ -57,17 +73,40 @@ fn line(text: &[u8], place: usize) -> String {
     if !at_start || here.is_empty() {
         return "there is no Authorizer field".into();
     }
-    match label(here) {
-        Some(label) => format!("the field {label} stands here a second time, or where it may not stand"),
-        None => "a line begins with a field's label, a space, a tab or \"#\"; this one doesn't".into(),
+    let line = here.split(|byte| *byte == b'\n').next().unwrap_or_default();
+    match (byte_order_mark(line), label(line)) {
+        (Some(words), _) if place == 0 => words.into(),
+        (_, Some((_, length))) => {
+            let label = shown(&line[..length - 1]);
+            format!("the field {label} stands here a second time, or where it may not stand")
+        }
+        _ => beginning(line),
     }
 }
 
-/// The label, as it is written, at the start of a line.
-fn label(line: &[u8]) -> Option<String> {
-    let colon = line.iter().position(|byte| *byte == b':')?;
-    let label = std::str::from_utf8(&line[..colon]).ok()?;
-    LABELS.contains(&label.to_ascii_lowercase().as_str()).then(|| label.to_string())
+/// What is wrong with the beginning of a line that has no label.
+fn beginning(line: &[u8]) -> String {
+    let text = line.trim_ascii_start();
+    match line.first() {
+        Some(b'\r') => RETURN.into(),
+        _ if line.iter().all(|byte| matches!(byte, b' ' | b'\t')) => "there are no blank lines in an assertion".into(),
+        Some(b' ' | b'\t') if label(text).is_some() => {
+            "text before the first label: a label begins its line, so take out the space before it".into()
+        }
+        Some(b' ' | b'\t') => "text before the first label".into(),
+        _ => unlabelled(line),
+    }
+}
+
+/// A line that begins with something else than a label, a space, a tab or "#".
+fn unlabelled(line: &[u8]) -> String {
+    let colon = line.iter().position(|byte| *byte == b':');
+    let word = colon.map_or(&[][..], |colon| &line[..colon]);
+    if !word.is_empty() && word.iter().all(|byte| byte.is_ascii_alphabetic() || matches!(byte, b'-' | b'_' | b' ')) {
+        let labels: Vec<&str> = LABELS.iter().map(|(label, _)| *label).collect();
+        return format!("{} is no field's label; labels are {}, each with its colon", quoted(word), labels.join(", "));
+    }
+    "a line begins with a field's label, a space, a tab or \"#\"; this one doesn't".into()
 }
 
 fn unsupported(here: &[u8]) -> String {
@@ -90,8 +129,23 @@ mod tests {
     #[test]
     fn reasons_of_lines() {
         assert!(of(3, 14, "Licensees: \"a\"").contains("no Authorizer"));
-        assert!(of(3, 0, "Colour: red").contains("begins with"));
+        assert!(of(3, 0, "Colour: red").contains("\"Colour\" is no field's label"));
+        assert!(of(3, 0, "Authorizer : x").contains("\"Authorizer \" is no field's label"));
+        assert!(of(3, 0, "\"a\": b").contains("begins with"));
         assert!(of(3, 2, "a\nAUTHORIZER: x").contains("AUTHORIZER stands"));
+        assert!(of(3, 0, "  Authorizer: x").starts_with("text before the first label: "));
+        assert!(of(3, 0, "\tx").starts_with("text before the first label"));
+        assert!(of(3, 0, "\u{feff}Authorizer: x").contains("byte order mark"));
+        assert!(of(3, 2, "a\n\r\n").contains("tr -d"));
+        assert!(of(3, 2, "a\n \t\n").contains("no blank lines"));
+    }
+
+    #[test]
+    fn reasons_of_strings() {
+        assert!(of(1, 0, "\"a").contains("isn't closed"));
+        assert!(of(1, 0, "\"a\r\n").contains("tr -d"));
+        assert!(of(1, 0, "\r\n").contains("tr -d"));
+        assert!(of(1, 0, "\"\\400\"").contains("above \\377"));
     }
 
     #[test]

@@ -3,15 +3,13 @@
 //! In a block of "console" a command begins with "$ " and goes on while lines end
 //! with a backslash; what stands behind it is what it prints, on both outputs.
 
+mod common;
+
 use std::fs;
 use std::path::{Path, PathBuf};
 use std::process::{Command, Stdio};
 
-const PROGRAM: &str = env!("CARGO_BIN_EXE_lampsickle");
-
-fn root() -> PathBuf {
-    Path::new(env!("CARGO_MANIFEST_DIR")).join("..")
-}
+use common::{root, PROGRAM};
 
 /// A folder of its own with a copy of the examples.
 fn playground(name: &str) -> PathBuf {

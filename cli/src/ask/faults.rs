@@ -3,7 +3,9 @@
 use lampsickle::limits::Range;
 use lampsickle::{Fault, Item, What};
 
-use crate::source::{Attribute, Source};
+use super::attributes::{Attribute, Origin};
+use crate::end::Trouble;
+use crate::report::Source;
 use crate::text::{counted, quoted, shown};
 
 /// Where the parts of a query came from.
@@ -14,13 +16,28 @@ pub struct Origins<'a> {
     pub assertions: &'a [Source],
 }
 
-pub fn words(fault: Fault, origins: &Origins) -> String {
+/// The mistake is in a file, or in the arguments.
+pub fn trouble(fault: Fault, origins: &Origins) -> Trouble {
+    let words = words(fault, origins);
+    let file = match fault.item {
+        Item::Name(index) | Item::Attribute(index) => matches!(origins.attributes[index].origin, Origin::Line(_)),
+        Item::Assertion(_) => true,
+        _ => false,
+    };
+    if file {
+        Trouble::file(words)
+    } else {
+        Trouble::usage(words)
+    }
+}
+
+fn words(fault: Fault, origins: &Origins) -> String {
     let (argument, noun) = (argument(fault.item, origins), noun(fault.item));
     match fault.what {
         What::Range(count, range) => range_words(fault.item, &argument, noun, count, range, origins),
         What::Byte(byte, place) => {
             let byte = quoted(&[byte]);
-            format!("{argument}: {byte} at {place} isn't permitted in {noun}{}", rule(fault.item))
+            format!("{argument}: {byte} at {place} isn't permitted in {noun}{}", rule(fault.item, origins))
         }
         What::Repeated(index) => {
             format!("{argument}: {noun} that stands twice, first {}", first(fault.item, index, origins))
@@ -35,7 +52,7 @@ fn argument(item: Item, origins: &Origins) -> String {
         Item::Requesters => "--requester".into(),
         Item::Requester(index) => format!("--requester {}", quoted(&origins.requesters[index])),
         Item::Attributes => "--attribute".into(),
-        Item::Name(index) | Item::Attribute(index) => origins.attributes[index].origin.clone(),
+        Item::Name(index) | Item::Attribute(index) => origins.attributes[index].origin.words().into(),
         Item::Assertions => "--local, --verified, --unverified".into(),
         Item::Assertion(index) => at(&origins.assertions[index]),
         Item::Record => "all together".into(),
@@ -58,10 +75,14 @@ fn noun(item: Item) -> &'static str {
 }
 
 /// Why a byte isn't permitted.
-fn rule(item: Item) -> &'static str {
-    match item {
-        Item::Name(_) => ": a letter, then letters, digits and underscores",
-        _ => "",
+fn rule(item: Item, origins: &Origins) -> &'static str {
+    let Item::Name(index) = item else {
+        return "";
+    };
+    match origins.attributes[index].name.as_slice() {
+        b"_ACTION_AUTHORIZERS" => ": it is set from the requesters, which --requester gives",
+        [b'_', ..] => ": names that begin so are set by the evaluator",
+        _ => ": a letter, then letters, digits and underscores",
     }
 }
 
@@ -82,7 +103,7 @@ fn range_words(item: Item, argument: &str, noun: &str, count: usize, range: Rang
 
 fn first(item: Item, index: usize, origins: &Origins) -> String {
     match item {
-        Item::Name(_) => format!("in {}", origins.attributes[index].origin),
+        Item::Name(_) => format!("in {}", origins.attributes[index].origin.words()),
         _ => format!("as number {}", index + 1),
     }
 }

@@ -1,0 +1,218 @@
+//! What the Conditions of an assertion that was kept read of a query.
+
+use lampsickle::Query;
+
+use super::literal;
+use super::tokens::{Field, Kind, Token, Tokens};
+
+/// What Conditions read.
+#[derive(Default)]
+pub struct Reading {
+    /// Names that no constant sets, each with its place, as often as it stands.
+    pub names: Vec<(Vec<u8>, usize)>,
+    /// A "$" stands there, so that any name may be read.
+    pub computed: bool,
+    /// Strings of which "@" makes integers.
+    pub conversions: Vec<Conversion>,
+}
+
+/// A string that is converted.
+#[derive(Clone, Debug, PartialEq, Eq)]
+pub struct Conversion {
+    /// The place of the "@".
+    pub place: usize,
+    pub string: Text,
+}
+
+/// What a string expression comes to.
+#[derive(Clone, Debug, PartialEq, Eq)]
+pub struct Text {
+    pub value: Vec<u8>,
+    /// The name that it consists of.
+    pub name: Option<Vec<u8>>,
+    /// Whether that name is set; what isn't a name is.
+    pub set: bool,
+}
+
+/// A constant's name and value.
+type Constant = (Vec<u8>, Vec<u8>);
+
+pub fn read(text: &[u8], query: &Query) -> Reading {
+    let all: Vec<Token> = Tokens::new(text).collect();
+    let tokens: Vec<Token> = of(&all, Field::Conditions);
+    let start = tokens.first().map_or(0, |token| token.start);
+    let scope = Scope { text, tokens: &tokens, query, constants: constants(text, start, &all) };
+    let mut reading = Reading::default();
+    for (index, token) in tokens.iter().enumerate() {
+        match (token.kind, token.of(text)) {
+            (Kind::Name, name) if scope.constant(name).is_none() => reading.names.push((name.to_vec(), token.start)),
+            (Kind::Sign, b"$") => reading.computed = true,
+            (Kind::Sign, b"@") => {
+                let string = scope.operand(index + 1).map(|(string, _)| string);
+                reading.conversions.extend(string.map(|string| Conversion { place: token.start, string }));
+            }
+            _ => {}
+        }
+    }
+    reading
+}
+
+/// A field's tokens behind its label.
+fn of(tokens: &[Token], field: Field) -> Vec<Token> {
+    tokens.iter().filter(|token| token.field == Some(field) && token.kind != Kind::Label).copied().collect()
+}
+
+/// The constants that are set before a place.
+pub fn constants(text: &[u8], place: usize, tokens: &[Token]) -> Vec<Constant> {
+    let constants = of(tokens, Field::Constants);
+    let triples = constants.windows(3).filter(|triple| triple[2].end <= place);
+    let named = triples.filter(|triple| triple[0].kind == Kind::Name && triple[1].is(text, b"="));
+    let value = |token: Token| literal::read(text, token.start).ok().map(|literal| literal.value);
+    let set = named.filter(|triple| triple[2].kind == Kind::Literal);
+    set.filter_map(|triple| Some((triple[0].of(text).to_vec(), value(triple[2])?))).collect()
+}
+
+/// What names stand for in a text's Conditions.
+struct Scope<'a> {
+    text: &'a [u8],
+    tokens: &'a [Token],
+    query: &'a Query,
+    constants: Vec<Constant>,
+}
+
+impl Scope<'_> {
+    fn constant(&self, name: &[u8]) -> Option<&Vec<u8>> {
+        self.constants.iter().find(|constant| constant.0 == name).map(|constant| &constant.1)
+    }
+
+    fn lookup(&self, name: &[u8]) -> Option<Vec<u8>> {
+        let set = || self.query.attributes.iter().find(|attribute| attribute.0 == name).map(|attribute| &attribute.1);
+        match (self.constant(name), reserved(name, self.query)) {
+            (Some(value), _) => Some(value.clone()),
+            (None, Some(value)) => Some(value),
+            (None, None) => set().cloned(),
+        }
+    }
+
+    fn named(&self, name: &[u8]) -> Text {
+        let value = self.lookup(name);
+        Text { set: value.is_some(), value: value.unwrap_or_default(), name: Some(name.to_vec()) }
+    }
+
+    /// What the operand at a token comes to, and the token behind it.
+    fn operand(&self, index: usize) -> Option<(Text, usize)> {
+        let token = *self.tokens.get(index)?;
+        match (token.kind, token.of(self.text)) {
+            (Kind::Literal, _) => {
+                let value = literal::read(self.text, token.start).ok()?.value;
+                Some((Text { value, name: None, set: true }, index + 1))
+            }
+            (Kind::Name, name) => Some((self.named(name), index + 1)),
+            (Kind::Sign, b"$") => self.operand(index + 1).map(|(text, next)| (self.named(&text.value), next)),
+            (Kind::Sign, b"(") => {
+                let (text, next) = self.joined(index + 1)?;
+                self.tokens.get(next)?.is(self.text, b")").then_some((text, next + 1))
+            }
+            _ => None,
+        }
+    }
+
+    /// Operands joined by ".".
+    fn joined(&self, index: usize) -> Option<(Text, usize)> {
+        let (mut text, mut next) = self.operand(index)?;
+        while self.tokens.get(next).is_some_and(|token| token.is(self.text, b".")) {
+            let (right, behind) = self.operand(next + 1)?;
+            text = Text { value: [text.value, right.value].concat(), name: None, set: true };
+            next = behind;
+        }
+        Some((text, next))
+    }
+}
+
+/// What is set in every query.
+pub fn reserved(name: &[u8], query: &Query) -> Option<Vec<u8>> {
+    match name {
+        b"_MIN_TRUST" => query.values.first().cloned(),
+        b"_MAX_TRUST" => query.values.last().cloned(),
+        b"_VALUES" => Some(query.values.join(&b',')),
+        b"_ACTION_AUTHORIZERS" => Some(query.requesters.join(&b',')),
+        _ => None,
+    }
+}
+
+/// The integer that "@" makes of a string, where it is a number in range: a "-" or
+/// none, digits, or digits and a point and digits, rounded down.
+pub fn integer(string: &[u8]) -> Option<i32> {
+    let (negative, digits) = match string.strip_prefix(b"-") {
+        Some(digits) => (true, digits),
+        None => (false, string),
+    };
+    let (whole, part) = match digits.iter().position(|byte| *byte == b'.') {
+        Some(point) => (&digits[..point], &digits[point + 1..]),
+        None => (digits, &b"0"[..]),
+    };
+    if whole.is_empty() || part.is_empty() || !whole.iter().chain(part).all(u8::is_ascii_digit) {
+        return None;
+    }
+    let size = whole
+        .iter()
+        .try_fold(0_i64, |size, digit| (size <= i64::from(u32::MAX)).then(|| 10 * size + i64::from(digit - b'0')))?;
+    let over = i64::from(part.iter().any(|digit| *digit != b'0'));
+    i32::try_from(if negative { -size - over } else { size }).ok()
+}
+
+#[cfg(test)]
+mod tests {
+    use super::*;
+    use lampsickle::ask;
+
+    fn query(attributes: &[(&str, &str)]) -> Query {
+        let pair = |(name, value): &(&str, &str)| (name.as_bytes().to_vec(), value.as_bytes().to_vec());
+        Query {
+            values: vec![b"no".to_vec(), b"yes".to_vec()],
+            requesters: vec![b"a".to_vec()],
+            attributes: attributes.iter().map(pair).collect(),
+            ..Query::default()
+        }
+    }
+
+    #[test]
+    fn names_and_conversions() {
+        let text = b"Local-Constants: c=\"5\"\nAuthorizer: \"POLICY\"\nConditions: @x<1 && @(c . (y))==2 && $z==\"w\";";
+        let reading = read(text, &query(&[("y", "6")]));
+        let names: Vec<&[u8]> = reading.names.iter().map(|(name, _)| name.as_slice()).collect();
+        assert_eq!((names, reading.computed), (vec![&b"x"[..], b"y", b"z"], true));
+        let values: Vec<&[u8]> = reading.conversions.iter().map(|item| item.string.value.as_slice()).collect();
+        assert_eq!(values, [&b""[..], b"56"]);
+        assert!(!reading.conversions[0].string.set && reading.conversions[1].string.set);
+    }
+
+    #[test]
+    fn later_constants_set_nothing() {
+        let reading = read(b"Conditions: x==\"\";\nLocal-Constants: x=\"5\"\nAuthorizer: \"a\"", &query(&[]));
+        assert_eq!(reading.names, [(b"x".to_vec(), 12)]);
+    }
+
+    #[test]
+    fn integers() {
+        let of = |string: &str| integer(string.as_bytes());
+        assert_eq!((of("-1.5"), of("1.9"), of("-2.0"), of("007")), (Some(-2), Some(1), Some(-2), Some(7)));
+        assert_eq!((of("2147483647.9"), of("-2147483648")), (Some(i32::MAX), Some(i32::MIN)));
+        for string in ["", "-", "1.", ".5", "+1", " 1", "1e3", "2147483648", "-2147483648.5", "99999999999999999999"] {
+            assert_eq!(of(string), None, "{string}");
+        }
+    }
+
+    /// What the library makes of a string is what this makes of it, or 0.
+    #[test]
+    fn as_the_library_converts() {
+        let texts = ["0", "-0.0", "12", "-7.25", "2147483647", "2147483648", "-2147483649", "1.5.5", "--1", "x", "3 "];
+        for string in texts {
+            let number = integer(string.as_bytes()).unwrap_or(0);
+            let mut query = query(&[("x", string)]);
+            let wanted = if number < 0 { format!("-{}", number.unsigned_abs()) } else { number.to_string() };
+            query.local(format!("Authorizer: \"POLICY\"\nConditions: @x == {wanted};"));
+            assert_eq!(ask(&query.record().expect("a record")).map(|answer| answer.rank), Ok(1), "{string}");
+        }
+    }
+}

@@ -1,0 +1,86 @@
+//! Which limit an assertion passes.
+
+use crate::assertion::reading::constants;
+use crate::assertion::tokens::{Field, Kind, Token, Tokens};
+use crate::assertion::{literal, BRACKETS, CONSTANTS, LICENSEES, LITERAL_BYTES, PREFIXES, PRINCIPAL_BYTES};
+use crate::text::counted;
+
+/// The limit that the token at a place passes, in words.
+pub fn words(text: &[u8], place: usize) -> String {
+    let tokens: Vec<Token> = Tokens::new(text).collect();
+    let found = tokens.iter().find(|token| token.start == place);
+    let told = found.and_then(|token| match token.kind {
+        Kind::Literal | Kind::Name => item(text, *token, &tokens),
+        Kind::Sign => Some(sign(token.of(text))),
+        _ => None,
+    });
+    told.unwrap_or_else(|| "a limit is passed here".into())
+}
+
+fn sign(sign: &[u8]) -> String {
+    match sign {
+        b"(" | b"{" => format!("with this bracket more than {BRACKETS} are open"),
+        _ => format!("with this one more than {PREFIXES} prefix operators stand in a row"),
+    }
+}
+
+/// A literal that is too long, a principal, or one item too many.
+fn item(text: &[u8], token: Token, tokens: &[Token]) -> Option<String> {
+    let size = size(text, token, tokens);
+    match (token.kind, token.field?) {
+        (Kind::Literal, _) if size? > LITERAL_BYTES => {
+            Some(format!("this literal has {}, but a literal has at most {LITERAL_BYTES}", counted(size?, "byte")))
+        }
+        (_, Field::Authorizer | Field::Licensees) if !PRINCIPAL_BYTES.holds(size?) => {
+            let (bytes, range) = (counted(size?, "byte"), PRINCIPAL_BYTES);
+            Some(format!("this identifier has {bytes}, but a principal's has {} to {}", range.least, range.most))
+        }
+        (_, Field::Licensees) => Some(format!("with this licensee there are more than {LICENSEES}")),
+        (Kind::Name, Field::Constants) => Some(format!("with this constant there are more than {CONSTANTS}")),
+        _ => None,
+    }
+}
+
+/// How many bytes a literal, or the constant of a name, stands for.
+fn size(text: &[u8], token: Token, tokens: &[Token]) -> Option<usize> {
+    match token.kind {
+        Kind::Literal => literal::read(text, token.start).ok().map(|literal| literal.value.len()),
+        _ => {
+            let set = constants(text, token.start, tokens);
+            set.iter().find(|constant| constant.0 == token.of(text)).map(|constant| constant.1.len())
+        }
+    }
+}
+
+#[cfg(test)]
+mod tests {
+    use super::*;
+    use crate::could::judged;
+
+    /// The library's place of reason 7, in words.
+    fn of(text: &str) -> String {
+        let entry = judged(text.as_bytes().to_vec()).expect("an entry");
+        assert_eq!(entry.reason, 7, "{text}");
+        words(text.as_bytes(), entry.place)
+    }
+
+    #[test]
+    fn every_limit() {
+        let told = |text: &str, words: &str| assert!(of(text).contains(words), "{}", of(text));
+        told("Authorizer: \"\"", "0 bytes, but a principal's has 1 to 256");
+        told(&format!("Authorizer: \"{}\"", "x".repeat(257)), "257 bytes, but a principal's");
+        told(&format!("Local-Constants: c=\"{}\"\nAuthorizer: c", "x".repeat(300)), "300 bytes");
+        told(
+            &format!("Comment: x\nAuthorizer: \"{}\"", "x".repeat(2_049)),
+            "2049 bytes, but a literal has at most 2048",
+        );
+        let names: String = (0..17).map(|index| format!(" c{index}=\"\"")).collect();
+        told(&format!("Local-Constants:{names}\nAuthorizer: \"a\""), "constant there are more than 16");
+        told(
+            &format!("Authorizer: \"a\"\nLicensees: \"x\"{}", " || \"x\"".repeat(16)),
+            "licensee there are more than 16",
+        );
+        told(&format!("Authorizer: \"a\"\nConditions: {}", "(".repeat(17)), "more than 16 are open");
+        told(&format!("Authorizer: \"a\"\nConditions: {}", "!".repeat(17)), "16 prefix operators");
+    }
+}
