@@ -247,7 +247,8 @@ fn repeat_name(random: &mut Random, draft: &mut Draft) {
 
 /// A requester named POLICY, or nearly; sometimes with a byte that isn't permitted in it or in another.
 fn name_policy(random: &mut Random, draft: &mut Draft) {
-    const NAMES: [&[u8]; 8] = [b"POLICY", b"POLICY", b"POLICY", b"POLICY", b"policy", b"POLICY:", b"POLIC", b"POLICY\0"];
+    const NAMES: [&[u8]; 8] =
+        [b"POLICY", b"POLICY", b"POLICY", b"POLICY", b"policy", b"POLICY:", b"POLIC", b"POLICY\0"];
     let place = random.below(draft.requesters.len());
     draft.requesters[place] = random.pick(&NAMES).to_vec();
     if random.once_in(4) {
