@@ -276,8 +276,9 @@ fn what_an_assertion_says_is_escaped() {
     }
     assert!(!obeyed(&mistake(2, &plain(&["-a", marks]), b"")));
     assert!(!obeyed(&mistake(4, &plain(&["--local", marks]), b"")));
-    let values = ["ask", "--value", "x", "--value", marks, "--requester", "a"];
-    assert!(!obeyed(&printed(&run(&values, b""))));
+    let values = ["ask", "--value", "x", "--value", marks, "--requester", "a", "--local", "-"];
+    let class = printed(&run(&values, b"Authorizer: \"POLICY\"\n"));
+    assert!(!obeyed(&class) && class.contains("202e"), "{class}");
 }
 
 #[test]
