@@ -244,10 +244,11 @@ test = b'foo == "bar" && $("foo") == "bar" && $foo == "xyz"\n && $(foo) == "xyz"
 local('dereferences', [POLICY + b'Conditions: ' + test + b';'], answered(1, 2, 1, 1, KEPT), attributes=foo)
 
 # The open points of the rules, as they are ruled.
-with open(os.path.join(ROOT, 'second', 'data', 'open-points.tsv')) as f:
-    for line in f:
-        name, text, expected = line.rstrip('\n').split('\t')
-        ruling(name, bytes.fromhex(text), expected.split('|')[:-1])
+for page in 'open-points.tsv', 'open-points-02.tsv':
+    with open(os.path.join(ROOT, 'second', 'data', page)) as f:
+        for line in f:
+            name, text, expected = line.rstrip('\n').split('\t')
+            ruling(name, bytes.fromhex(text), expected.split('|')[:-1])
 
 file = b''.join(counted(name) + counted(bytes_) for name, bytes_, _ in rulings)
 assert 65535 < len(file) <= 131072

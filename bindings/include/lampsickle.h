@@ -36,7 +36,8 @@ enum lampsickle_number {
     LAMPSICKLE_BYTE = 6,       /* a byte isn't permitted; place: that byte */
     LAMPSICKLE_REPEATED = 7,   /* a value or an attribute's name is repeated; place: the later one's first byte */
     LAMPSICKLE_STANDING = 8,   /* a standing is above 2; place: that byte */
-    LAMPSICKLE_ROOM = 9        /* the page is too small for the report; place 0 */
+    LAMPSICKLE_ROOM = 9,       /* the page is too small for the report; place 0 */
+    LAMPSICKLE_POLICY = 10     /* a requester is named POLICY; place: its first byte */
 };
 
 /* What became of an assertion: an entry's reason. LAMPSICKLE_KEPT has place 0; else the place lies in the assertion's text. */
@@ -74,7 +75,7 @@ struct lampsickle_outcome {
  *   byte 1; the length of what follows in two bytes, big-endian, which is 3 n for n assertions; then for each assertion, in the record's
  *   order, a reason byte (an enum lampsickle_reason) and a place in two bytes, big-endian. The bytes of the page beyond these 3 + 3 n keep
  *   their values.
- * - number 1 to 9: the query is refused. `place` says where; `rank`, `rounds` and `reached` are 0; every byte of the page keeps its value.
+ * - number 1 to 10: the query is refused. `place` says where; `rank`, `rounds` and `reached` are 0; every byte of the page keeps its value.
  *
  * The record is never written. The same record gives the same outcome and the same report whatever the page held and whatever its size, as
  * long as the report fits; where it doesn't fit, the number is 9. Two queries that differ only in the values of attributes that no assertion

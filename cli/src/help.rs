@@ -35,7 +35,7 @@ OPTIONS OF ask
     -v, --value VALUE        a compliance value; the weakest is given first.
                              2 to 16, each of 1 to 64 bytes
         --values A,B,C       several at once, separated by commas
-    -r, --requester NAME     a principal that asks; 1 to 8, each of 1 to 256 bytes
+    -r, --requester NAME     a principal that asks; 1 to 8, each of 1 to 256 bytes, none POLICY
     -a, --attribute N=VALUE  an attribute; at most 32. A name is a letter, then
                              letters, digits and underscores. A value stands as
                              it is, or in double quotes with the escapes of the

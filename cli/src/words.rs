@@ -20,6 +20,7 @@ pub fn refusal(number: u8) -> &'static str {
         7 => "this compliance value or attribute name stood before",
         8 => "a standing is above 2",
         9 => "the page for the report is too small",
+        10 => "a requester is named POLICY, and nobody asks as POLICY",
         _ => "a number that isn't known",
     }
 }

@@ -276,8 +276,9 @@ fn what_an_assertion_says_is_escaped() {
     }
     assert!(!obeyed(&mistake(2, &plain(&["-a", marks]), b"")));
     assert!(!obeyed(&mistake(4, &plain(&["--local", marks]), b"")));
-    let values = ["ask", "--value", "x", "--value", marks, "--requester", "POLICY"];
-    assert!(!obeyed(&printed(&run(&values, b""))));
+    let values = ["ask", "--value", "x", "--value", marks, "--requester", "a", "--local", "-"];
+    let class = printed(&run(&values, b"Authorizer: \"POLICY\"\n"));
+    assert!(!obeyed(&class) && class.contains("202e"), "{class}");
 }
 
 #[test]
@@ -395,4 +396,17 @@ fn installed_under_two_names() {
     assert_eq!((read("lampsickle"), read("lampsickle-record")), ("command line".into(), "record".into()));
     fs::remove_file(folder.join("target/bin/lampsickle")).expect("a file");
     assert!(!install().status.success());
+}
+
+#[test]
+fn nobody_asks_as_policy() {
+    let words = mistake(2, &["ask", "--values", "hold,immediate", "-r", "a", "-r", "POLICY"], b"");
+    assert!(words.contains("--requester \"POLICY\": nobody asks as POLICY"), "{words}");
+    // A record made elsewhere is refused by the library, with the place.
+    let record = b"\x01\x02\x00\x01h\x00\x01i\x01\x00\x06POLICY\x00\x00";
+    let output = run(&["batch", "-"], &[&[0, 0, 0, record.len() as u8], &record[..]].concat());
+    assert_eq!(status(&output), 3);
+    assert!(printed(&output).contains("refused 10 at 11: a requester is named POLICY"), "{}", printed(&output));
+    let other = run(&["ask", "--values", "hold,immediate", "-r", "policy"], b"");
+    assert_eq!(status(&other), 0);
 }

@@ -1,6 +1,7 @@
 //! The query record: a query, or the refusal with its number and place.
 
 use crate::bounded::Bounded;
+use crate::check::POLICY;
 use crate::limits::{self, Range};
 
 /// Why a record gives no query.
@@ -19,6 +20,7 @@ pub const BYTE: u8 = 6;
 pub const REPEATED: u8 = 7;
 pub const STANDING: u8 = 8;
 pub const ROOM: u8 = 9;
+pub const ROOT_ASKS: u8 = 10;
 
 #[derive(Clone, Copy, Debug, PartialEq, Eq)]
 pub struct Attribute<'a> {
@@ -99,6 +101,9 @@ fn read_requesters<'a>(cursor: &mut Cursor<'a>, query: &mut Query<'a>) -> Result
         let start = cursor.place;
         let requester = cursor.content(length)?;
         no_nul(requester, start)?;
+        if requester == POLICY {
+            return refuse(ROOT_ASKS, start);
+        }
         query.requesters.push(requester);
     }
     Ok(())

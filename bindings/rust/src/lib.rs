@@ -24,7 +24,7 @@ pub use query::{Fault, Item, Query, Standing, What};
 #[repr(C)]
 #[derive(Clone, Copy, Debug, Default, PartialEq, Eq)]
 pub struct Outcome {
-    /// 0 for an answer, 1 to 9 for a refusal.
+    /// 0 for an answer, 1 to 10 for a refusal.
     pub number: u8,
     /// Where in the record a refusal's cause lies.
     pub place: usize,

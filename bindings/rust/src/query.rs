@@ -48,6 +48,8 @@ pub enum What {
     Byte(u8, usize),
     /// It stood before, with this number.
     Repeated(usize),
+    /// A requester is named POLICY, as whom nobody asks.
+    Policy,
 }
 
 /// Why a query can't be written as a record that is read.
@@ -85,6 +87,9 @@ impl Query {
         in_range(Item::Requesters, self.requesters.len(), limits::REQUESTERS)?;
         for (index, requester) in self.requesters.iter().enumerate() {
             content(Item::Requester(index), requester, limits::REQUESTER_BYTES)?;
+            if requester == b"POLICY" {
+                return Err(Fault { item: Item::Requester(index), what: What::Policy });
+            }
         }
         self.check_attributes()?;
         in_range(Item::Assertions, self.assertions.len(), limits::ASSERTIONS)?;

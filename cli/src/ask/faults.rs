@@ -42,6 +42,7 @@ fn words(fault: Fault, origins: &Origins) -> String {
         What::Repeated(index) => {
             format!("{argument}: {noun} that stands twice, first {}", first(fault.item, index, origins))
         }
+        What::Policy => format!("{argument}: nobody asks as POLICY; name who asks"),
     }
 }
 

@@ -9,7 +9,10 @@ use second::generate::coverage::Coverage;
 use second::print::PAGE;
 use second::random::Random;
 
-const OPEN_POINTS: &str = include_str!("../../../second/data/open-points.tsv");
+const OPEN_POINTS: [&str; 2] = [
+    include_str!("../../../second/data/open-points.tsv"),
+    include_str!("../../../second/data/open-points-02.tsv"),
+];
 const BOTH: [(&str, Implementation); 2] = [("library", fenced), ("second", answer)];
 
 fn unhex(digits: &str) -> Vec<u8> {
@@ -25,7 +28,7 @@ fn alike(record: &[u8]) {
 #[test]
 fn open_points() {
     let mut count = 0;
-    for line in OPEN_POINTS.lines() {
+    for line in OPEN_POINTS.iter().flat_map(|page| page.lines()) {
         let columns: Vec<&str> = line.split('\t').collect();
         let [name, record, expected] = columns[..] else { panic!("three columns: {line}") };
         let record = unhex(record);

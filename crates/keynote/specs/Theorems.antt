@@ -1,6 +1,7 @@
 pub mod Report
 pub mod Answered
 pub mod Numbers
+pub mod Asking
 pub mod Demand2
 pub mod Demand3
 pub mod Few

@@ -2,7 +2,8 @@
 ghost use mathlib.Core.Path.{_≡_};
 ghost use Prim.Native.Nat.{_+_, _*_, _%_, _<_};
 ghost use lib.ListN.{length};
-ghost use Rattle.principal.specs.Principal.{same};
+ghost use Rattle.text.specs.Equal.{equal};
+ghost use Rattle.principal.specs.Principal.{policy, same};
 ghost use Rattle.principal.specs.Tag.{back, tag};
 
 // Are these the same principal?
@@ -10,6 +11,13 @@ pub fn same_principal(a: &[u8], b: &[u8]) -> bool
     ensures { λ r. ⌜ r ≡ same (now (a .entry)) (now (b .entry)) ⌝ }
 {
     text::same_bytes(a, b)
+}
+
+// Are these the bytes of POLICY?
+pub fn is_policy(b: &[u8]) -> bool
+    ensures { λ r. ⌜ r ≡ equal (now (b .entry)) policy ⌝ }
+{
+    text::same_bytes(b, b"POLICY")
 }
 
 fn wide(b: u8) -> usize

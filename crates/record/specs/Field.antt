@@ -9,6 +9,7 @@ use Rattle.text.specs.Scan.{run}
 use Rattle.text.specs.Class.{isLetter, inClass, word}
 use Rattle.text.specs.Equal.{equal}
 use Rattle.text.specs.Counted.{part, pairAt}
+use Rattle.principal.specs.Principal.{policy}
 use Rattle.record.specs.Read.{Read, got, bad, andThen}
 
 -- "out of range": the number if it lies between the two, else a refusal
@@ -38,6 +39,10 @@ nameFront b = pick (isLetter (getD b 0 0)) (run (inClass word) b) 0
 -- 6, "byte not permitted", at the first byte behind the front that may stand there
 abbrev pub permitted : {A : Type 0} → ℕ → List ℕ → ℕ → Read A → Read A
 permitted front b at r = pick (ltb front (length b)) (bad 6 (at + front)) r
+
+-- 10, W-206: "Nobody asks as POLICY", at "the identifier's first byte, after its bytes are checked"
+abbrev pub askable : {A : Type 0} → List ℕ → ℕ → Read A → Read A
+askable b at r = pick (equal b policy) (bad 10 at) r
 
 -- does a string stand among others?
 unfoldable pub among : List ℕ → List (List ℕ) → Bool

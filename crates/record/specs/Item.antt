@@ -10,7 +10,7 @@ use Rattle.text.specs.Class.{inClass, plain}
 use Rattle.limits.specs.Limits.{leastValue, mostValue, leastRequester, mostRequester, leastName, mostName, leastSetting, mostSetting, leastText, mostText, mostStanding}
 use Rattle.record.specs.Query.{Attribute, Supplied}
 use Rattle.record.specs.Read.{Read, got, bad, andThen}
-use Rattle.record.specs.Field.{countAt, fieldAt, nameFront, permitted, distinct}
+use Rattle.record.specs.Field.{countAt, fieldAt, nameFront, permitted, askable, distinct}
 
 -- "hold any byte but 0"
 unfoldable pub plainAt : List ℕ → ℕ → ℕ → ℕ → Read (List ℕ)
@@ -20,9 +20,9 @@ plainAt s least most at = andThen (fieldAt s least most at) (λ b p. permitted (
 unfoldable pub valueAt : List ℕ → List (List ℕ) → ℕ → Read (List ℕ)
 valueAt s seen at = andThen (plainAt s leastValue mostValue at) (λ b p. distinct b seen (at + 2) (got b p))
 
--- "requesters may repeat"
+-- "requesters may repeat"; none is named POLICY
 unfoldable pub requesterAt : List ℕ → List (List ℕ) → ℕ → Read (List ℕ)
-requesterAt s seen at = plainAt s leastRequester mostRequester at
+requesterAt s seen at = andThen (plainAt s leastRequester mostRequester at) (λ b p. askable b (at + 2) (got b p))
 
 -- a name, distinct from those before
 unfoldable pub nameAt : List ℕ → List (List ℕ) → ℕ → Read (List ℕ)

@@ -16,7 +16,9 @@ use Rattle.text.specs.Counted.{part, pairAt}
 use Rattle.limits.specs.Limits.{mostRecord, leastValues, mostValues, leastValue, mostValue, leastRequesters, mostRequesters, leastRequester, mostRequester, leastAttributes, mostAttributes, leastName, mostName, leastSetting, mostSetting, leastAssertions, mostAssertions, leastText, mostText, mostStanding}
 use Rattle.record.specs.Query.{Query, Attribute, Supplied}
 use Rattle.record.specs.Read.{Read, got, bad, andThen, Verdict, accepted, refused}
-use Rattle.record.specs.Field.{within, countAt, lengthAt, contentAt, fieldAt, nameFront, permitted, among, distinct}
+use Rattle.text.specs.Equal.{equal}
+use Rattle.principal.specs.Principal.{policy}
+use Rattle.record.specs.Field.{within, countAt, lengthAt, contentAt, fieldAt, nameFront, permitted, askable, among, distinct}
 use Rattle.record.specs.Item.{plainAt, valueAt, requesterAt, nameAt, attributeAt, assertionAt, itemsAt, groupAt}
 use Rattle.record.specs.Record.{queryAt, ended, readRecord}
 use Rattle.record.specs.Encode.{stringBytes, attributeBytes, assertionBytes, itemsBytes, groupBytes, encode}
@@ -155,6 +157,12 @@ permitted-filter front = record {
   past = λ at b x h. rw (le-ltb (front b) (length b) h);
 }
 
+askable-filter : Filter (λ at b x. askable b (at + 2) x) (λ b. equal b policy ≡ false)
+askable-filter = record {
+  out = λ at b x c p e. pick-got (equal b policy) 10 (at + 2) x e;
+  past = λ at b x h. rw h;
+}
+
 distinct-filter : (seen : List (List ℕ)) → Filter (λ at b x. distinct b seen (at + 2) x) (λ b. among b seen ≡ false)
 distinct-filter seen = record {
   out = λ at b x c p e. pick-got (among b seen) 7 (at + 2) x e;
@@ -193,7 +201,7 @@ module _ (s : List ℕ) where
 
   requester-means : (seen : List (List ℕ)) → Means s (requesterAt s seen) stringBytes (RequesterOk seen)
   unfolding requesterAt
-  requester-means seen = plain-means leastRequester mostRequester
+  requester-means seen = filter-means (plain-means leastRequester mostRequester) askable-filter
 
   name-means : (seen : List (List ℕ)) → Means s (nameAt s seen) stringBytes (NameOk seen)
   unfolding nameAt

@@ -5,8 +5,10 @@ use mathlib.Core.List.{List, [], _∷_, _++_, map}
 use Prim.Native.Nat.{ℕ, _≤_}
 use lib.ListN.{length}
 use Rattle.text.specs.Scan.{run}
+use Rattle.text.specs.Equal.{equal}
 use Rattle.text.specs.Class.{inClass, plain}
 use Rattle.limits.specs.Limits.{mostRecord, leastValues, mostValues, leastValue, mostValue, leastRequesters, mostRequesters, leastRequester, mostRequester, leastAttributes, mostAttributes, leastName, mostName, leastSetting, mostSetting, leastAssertions, mostAssertions, leastText, mostText, mostStanding}
+use Rattle.principal.specs.Principal.{policy}
 use Rattle.record.specs.Query.{Query, Attribute, Supplied}
 use Rattle.record.specs.Field.{nameFront, among}
 use Rattle.record.specs.Encode.{encode}
@@ -23,7 +25,7 @@ abbrev pub ValueOk : List (List ℕ) → List ℕ → Type 0
 ValueOk seen b = PlainOk leastValue mostValue b × (among b seen ≡ false)
 
 abbrev pub RequesterOk : List (List ℕ) → List ℕ → Type 0
-RequesterOk seen b = PlainOk leastRequester mostRequester b
+RequesterOk seen b = PlainOk leastRequester mostRequester b × (equal b policy ≡ false)
 
 abbrev pub NameOk : List (List ℕ) → List ℕ → Type 0
 NameOk seen b = Between leastName mostName (length b) × ((length b ≤ nameFront b) × (among b seen ≡ false))

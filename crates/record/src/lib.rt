@@ -11,7 +11,7 @@ ghost use Rattle.record.specs.Field.{nameFront, among};
 ghost use Rattle.record.specs.Working.Groups.{ran, byGroup, itemsInto, groupInto, both, groupsInto, restInto, tableInto};
 ghost use Rattle.record.specs.Reading.{told, readInto, tabled, tabledVerdict};
 ghost use Rattle.record.specs.Record.{readRecord};
-ghost use Rattle.record.specs.Working.Moves.{countMove, lengthMove, contentMove, fieldMove, plainMove, nameMove, valueMove, attributeMove, assertionMove, itemMove, seenOf};
+ghost use Rattle.record.specs.Working.Moves.{countMove, lengthMove, contentMove, fieldMove, plainMove, nameMove, valueMove, requesterMove, attributeMove, assertionMove, itemMove, seenOf};
 
 // A place in the record.
 pub struct Cursor {
@@ -208,6 +208,25 @@ impl Cursor {
         }
     }
 
+    // A requester, who isn't named POLICY.
+    fn requester(self, s: &[u8]) -> Moved
+        ensures { λ r. ⌜ r ≡ requesterMove (now (s .entry)) (self .at) ⌝ }
+    {
+        match self.plain(s, LEAST_REQUESTER, MOST_REQUESTER) {
+            Moved::Refused { number, at } => Moved::Refused { number, at },
+            Moved::To { value, next } => {
+                let b = text::counted_at(s, value);
+                if principal::is_policy(b) {
+                    return Moved::Refused {
+                        number: 10,
+                        at: value,
+                    };
+                }
+                Moved::To { value, next }
+            }
+        }
+    }
+
     // An attribute's name, distinct from those in the table's entries from..upto.
     fn name(self, s: &[u8], table: &[usize], from: usize, upto: usize) -> Moved
         ensures { λ r. ⌜ r ≡ nameMove (now (s .entry)) (seenOf (now (s .entry)) (now (table .entry)) from upto) (self .at) ⌝ }
@@ -273,7 +292,7 @@ impl Cursor {
             return self.compliance_value(s, table, from, upto);
         }
         if group == REQUESTERS {
-            return self.plain(s, LEAST_REQUESTER, MOST_REQUESTER);
+            return self.requester(s);
         }
         if group == ATTRIBUTES {
             return self.attribute(s, table, from, upto);

@@ -3,7 +3,7 @@
 use std::collections::BTreeMap;
 use std::fmt;
 
-use crate::{limits, Outcome};
+use crate::{check, limits, record, Outcome};
 
 #[derive(Clone, Debug, Default, PartialEq, Eq)]
 pub struct Coverage {
@@ -40,9 +40,11 @@ impl Coverage {
                 missing.push(what);
             }
         };
-        for number in 0..=9 {
+        for number in 0..=record::ROOT_ASKS {
             need(self.numbers.contains_key(&number), format!("number {number}"));
-            need(self.reasons.contains_key(&number), format!("reason {number}"));
+        }
+        for reason in 0..=check::STANDING {
+            need(self.reasons.contains_key(&reason), format!("reason {reason}"));
         }
         for rank in 0..limits::VALUES.most as u8 {
             need(self.ranks.contains_key(&rank), format!("rank {rank}"));

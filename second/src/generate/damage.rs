@@ -194,7 +194,8 @@ fn lines(random: &mut Random, text: &mut Vec<u8>) {
 
 /// A record of a draft in which something is wrong, or seems to be.
 pub fn record(random: &mut Random, mut draft: Draft) -> Vec<u8> {
-    match random.below(16) {
+    match random.below(17) {
+        16 => name_policy(random, &mut draft),
         0 => repeat_value(random, &mut draft),
         1 => repeat_name(random, &mut draft),
         2 => put_byte(random, &mut draft),
@@ -242,6 +243,18 @@ fn repeat_name(random: &mut Random, draft: &mut Draft) {
     draft.attributes.push((b"twice".to_vec(), Vec::new()));
     let place = random.below(draft.attributes.len() + 1);
     draft.attributes.insert(place, (b"twice".to_vec(), b"v".to_vec()));
+}
+
+/// A requester named POLICY, or nearly; sometimes with a byte that isn't permitted in it or in another.
+fn name_policy(random: &mut Random, draft: &mut Draft) {
+    const NAMES: [&[u8]; 8] =
+        [b"POLICY", b"POLICY", b"POLICY", b"POLICY", b"policy", b"POLICY:", b"POLIC", b"POLICY\0"];
+    let place = random.below(draft.requesters.len());
+    draft.requesters[place] = random.pick(&NAMES).to_vec();
+    if random.once_in(4) {
+        let other = random.below(draft.requesters.len());
+        draft.requesters[other].push(0);
+    }
 }
 
 fn put_byte(random: &mut Random, draft: &mut Draft) {

@@ -2,6 +2,7 @@
 
 use super::expression::{self, literal, test};
 use super::scene::{values, Scene};
+use crate::check::POLICY;
 use crate::draft::Draft;
 use crate::limits;
 use crate::random::Random;
@@ -24,6 +25,8 @@ pub fn draft(random: &mut Random) -> Draft {
             // Far ends make long ways.
             _ => identifier(count - 1 - random.below(count).min(random.below(3))),
         })
+        // Nobody asks as POLICY; `damage` has requesters that do.
+        .map(|requester| if requester == POLICY { b"stranger".to_vec() } else { requester })
         .collect();
     for edge in edges {
         let text = assertion(random, &scene, &edge);

@@ -11,7 +11,8 @@ fn unhex(digits: &str) -> Vec<u8> {
 fn every_example() {
     let mut wrong = Vec::new();
     let mut count = 0;
-    for line in include_str!("../../data/open-points.tsv").lines() {
+    let pages = [include_str!("../../data/open-points.tsv"), include_str!("../../data/open-points-02.tsv")];
+    for line in pages.iter().flat_map(|page| page.lines()) {
         let columns: Vec<&str> = line.split('\t').collect();
         let [name, record, expected] = columns[..] else { panic!("three columns: {line}") };
         let printed = print(&unhex(record)).replace('\n', "|");

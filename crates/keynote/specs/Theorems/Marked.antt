@@ -142,6 +142,6 @@ module _ (requesters : List Principal) (top : ℕ) where
   all-staged s lie[] {seen} ok done names h t = rw (append-nil done) t
   all-staged s (lie∷ {v = v} {vs = vs} {a = p} {l = l} at lie) (each∷ k ks) done names h (staged x pool places direct st) =
       let a : length (done ++ (p ∷ [])) ≡ length done + 1 = length-append done (p ∷ []) in
-      let g : Staged requesters top (done ++ (p ∷ [])) (enter names p) (askIn pool places direct x p) = ask-staged done names x pool places direct st p (omega (arith, h)) (k .0 .1) in
+      let g : Staged requesters top (done ++ (p ∷ [])) (enter names p) (askIn pool places direct x p) = ask-staged done names x pool places direct st p (omega (arith, h)) (k .0 .0 .1) in
       let w = all-staged s lie ks (done ++ (p ∷ [])) (enter names p) (omega (arith, h, a)) g in
       rw at (rw (append-assoc done (p ∷ []) l) at w)

@@ -1,7 +1,8 @@
--- "Numbers are given only as tabled": a record is refused with 1 to 8, so that number 0 is an answer and 9 a page that is too small.
+-- "Numbers are given only as tabled": a record is refused with 1 to 8 or 10, so that number 0 is an answer and 9 a page that is too small.
 -- Assumes nothing.
 use mathlib.Core.Path.{_≡_, refl, sym, ap, _∙_, subst}
 use mathlib.Core.Bool.{Bool, true, false}
+use mathlib.Core.Logic.{_⊎_, inl, inr}
 use mathlib.Core.List.{List, [], _∷_, _++_}
 use Prim.Native.Nat.{ℕ, zero, suc, _+_, _≤_, _<_}
 use native.Mathlib.Omega.{arith}
@@ -9,25 +10,31 @@ use lib.Dec.{eqb, ltb, leb}
 use lib.ListN.{length, getD}
 use borrow.Author.Tests.{ltb-true, ltb-false}
 use Rattle.text.specs.Choice.{pick, split}
+use Rattle.text.specs.Equal.{equal}
 use Rattle.text.specs.Scan.{run}
 use Rattle.text.specs.Class.{inClass, plain}
 use Rattle.text.specs.Counted.{pairAt}
 use Rattle.limits.specs.Limits.{mostRecord}
+use Rattle.principal.specs.Principal.{policy}
 use Rattle.record.specs.Query.{Query, Attribute, Supplied}
 use Rattle.record.specs.Read.{Read, got, bad, andThen, Verdict, accepted, refused}
-use Rattle.record.specs.Field.{within, countAt, lengthAt, contentAt, fieldAt, nameFront, permitted, among, distinct}
+use Rattle.record.specs.Field.{within, countAt, lengthAt, contentAt, fieldAt, nameFront, permitted, askable, among, distinct}
 use Rattle.record.specs.Item.{plainAt, valueAt, requesterAt, nameAt, attributeAt, assertionAt, itemsAt, groupAt}
 use Rattle.record.specs.Record.{queryAt, ended, readRecord}
 use Rattle.keynote.specs.Outcome.{refusal, answer, needed, judged, outcome}
 use Rattle.keynote.specs.declared.Outcome.{Outcome}
 
--- a reader that refuses does so with 3 to 8
+-- the numbers of a record that is refused: up to 8, and 10
+abbrev pub RecordNumber : ℕ → Type 0
+RecordNumber n = (n ≤ 8) ⊎ (n ≡ 10)
+
+-- a reader that refuses does so with 3 to 8, or 10
 data Fine {A : Type 0} : Read A → Type 0 where
   f-got : (a : A) (p : ℕ) → Fine (got a p)
-  f-bad : (n p : ℕ) → 3 ≤ n → n ≤ 8 → Fine (bad n p)
+  f-bad : (n p : ℕ) → 3 ≤ n → RecordNumber n → Fine (bad n p)
 
 no : {A : Type 0} (n p : ℕ) → 3 ≤ n → n ≤ 8 → Fine {A = A} (bad n p)
-no n p h k = f-bad n p h k
+no n p h k = f-bad n p h (inl k)
 
 pick-fine : {A : Type 0} (b : Bool) {x y : Read A} → Fine x → Fine y → Fine (pick b x y)
 pick-fine true f g = f
@@ -42,6 +49,9 @@ within-fine least most n next number at h k = pick-fine (ltb n least) (no number
 
 permitted-fine : {A : Type 0} (front : ℕ) (b : List ℕ) (at : ℕ) {r : Read A} → Fine r → Fine (permitted front b at r)
 permitted-fine front b at f = pick-fine (ltb front (length b)) (no 6 (at + front) (omega arith) (omega arith)) f
+
+askable-fine : {A : Type 0} (b : List ℕ) (at : ℕ) {r : Read A} → Fine r → Fine (askable b at r)
+askable-fine b at f = pick-fine (equal b policy) (f-bad 10 at (omega arith) (inr refl)) f
 
 distinct-fine : {A : Type 0} (b : List ℕ) (seen : List (List ℕ)) (at : ℕ) {r : Read A} → Fine r → Fine (distinct b seen at r)
 distinct-fine b seen at f = pick-fine (among b seen) (no 7 at (omega arith) (omega arith)) f
@@ -73,7 +83,7 @@ module _ (s : List ℕ) where
 
   requester-fine : (seen : List (List ℕ)) (at : ℕ) → Fine (requesterAt s seen at)
   unfolding requesterAt
-  requester-fine seen at = plain-fine _ _ at
+  requester-fine seen at = then-fine _ (plain-fine _ _ at) (λ b p. askable-fine b (at + 2) (f-got b p))
 
   name-fine : (seen : List (List ℕ)) (at : ℕ) → Fine (nameAt s seen at)
   unfolding nameAt
@@ -109,26 +119,26 @@ module _ (s : List ℕ) where
 -- a verdict's numbers are those of the table
 pub data Tabled : Verdict → Type 0 where
   t-accepted : (q : Query) → Tabled (accepted q)
-  t-refused : (n p : ℕ) → 1 ≤ n → n ≤ 8 → Tabled (refused n p)
+  t-refused : (n p : ℕ) → 1 ≤ n → RecordNumber n → Tabled (refused n p)
 
 pick-tabled : (b : Bool) {x y : Verdict} → Tabled x → Tabled y → Tabled (pick b x y)
 pick-tabled true f g = f
 pick-tabled false f g = g
 
 ended-tabled : (s : List ℕ) {r : Read Query} → Fine r → Tabled (ended s r)
-ended-tabled s (f-got q p) = pick-tabled (ltb p (length s)) (t-refused 3 p (omega arith) (omega arith)) (t-accepted q)
+ended-tabled s (f-got q p) = pick-tabled (ltb p (length s)) (t-refused 3 p (omega arith) (inl (omega arith))) (t-accepted q)
 ended-tabled s (f-bad n p h k) = t-refused n p (omega arith) k
 
 pub record-tabled : (s : List ℕ) → Tabled (readRecord s)
 unfolding readRecord
 record-tabled s =
-    pick-tabled (ltb mostRecord (length s)) (t-refused 1 0 (omega arith) (omega arith))
-    (pick-tabled (eqb (length s) 0) (t-refused 2 0 (omega arith) (omega arith))
-    (pick-tabled (eqb (getD s 0 0) 1) (ended-tabled s (query-fine s 1)) (t-refused 2 0 (omega arith) (omega arith))))
+    pick-tabled (ltb mostRecord (length s)) (t-refused 1 0 (omega arith) (inl (omega arith)))
+    (pick-tabled (eqb (length s) 0) (t-refused 2 0 (omega arith) (inl (omega arith)))
+    (pick-tabled (eqb (getD s 0 0) 1) (ended-tabled s (query-fine s 1)) (t-refused 2 0 (omega arith) (inl (omega arith)))))
 
 -- the three cases of a record and a page
 pub data Case (s : List ℕ) (room : ℕ) : Type 0 where
-  is-refused : (n p : ℕ) → 1 ≤ n → n ≤ 8 → readRecord s ≡ refused n p → outcome s room ≡ refusal n p → Case s room
+  is-refused : (n p : ℕ) → 1 ≤ n → RecordNumber n → readRecord s ≡ refused n p → outcome s room ≡ refusal n p → Case s room
   is-small : (q : Query) → readRecord s ≡ accepted q → room < needed q → outcome s room ≡ refusal 9 0 → Case s room
   is-answered : (q : Query) → readRecord s ≡ accepted q → needed q ≤ room → outcome s room ≡ answer q → Case s room
 

@@ -43,7 +43,7 @@ values-few (each∷ k t) = short∷ (k .0 .0 .1) (values-few t)
 
 requesters-few : {seen l : List (List ℕ)} → Each RequesterOk seen l → Short 256 l
 requesters-few each[] = short[]
-requesters-few (each∷ k t) = short∷ (k .0 .1) (requesters-few t)
+requesters-few (each∷ k t) = short∷ (k .0 .0 .1) (requesters-few t)
 
 -- each value with its comma, and each requester with its own
 followed-64 : {l : List (List ℕ)} → Short 64 l → length (followed l) ≤ 65 * length l

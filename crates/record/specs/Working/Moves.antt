@@ -17,6 +17,7 @@ use Rattle.text.specs.Class.{isLetter, inClass, word, plain}
 use Rattle.text.specs.Equal.{equal}
 use Rattle.text.specs.Counted.{part, pairAt, counted}
 use Rattle.limits.specs.Limits.{leastValue, mostValue, leastRequester, mostRequester, leastName, mostName, leastSetting, mostSetting, leastText, mostText, mostStanding}
+use Rattle.principal.specs.Principal.{policy}
 use Rattle.record.specs.Field.{nameFront, among}
 use Rattle.record.specs.declared.Cursor.{Cursor}
 use Rattle.record.specs.declared.Moved.{Moved}
@@ -51,6 +52,9 @@ fieldMove s least most at = onTo (lengthMove s least most at) (λ n p. contentMo
 abbrev pub permittedMove : ℕ → List ℕ → ℕ → Moved → Moved
 permittedMove front b at m = pick (ltb front (length b)) (Refused 6 (at + front)) m
 
+abbrev pub askableMove : List ℕ → ℕ → Moved → Moved
+askableMove b at m = pick (equal b policy) (Refused 10 at) m
+
 abbrev pub distinctMove : List ℕ → List (List ℕ) → ℕ → Moved → Moved
 distinctMove b seen at m = pick (among b seen) (Refused 7 at) m
 
@@ -59,6 +63,9 @@ plainMove s least most at = onTo (fieldMove s least most at) (λ v p. permittedM
 
 unfoldable pub valueMove : List ℕ → List (List ℕ) → ℕ → Moved
 valueMove s seen at = onTo (plainMove s leastValue mostValue at) (λ v p. distinctMove (counted s v) seen v (To v (cursor p)))
+
+unfoldable pub requesterMove : List ℕ → ℕ → Moved
+requesterMove s at = onTo (plainMove s leastRequester mostRequester at) (λ v p. askableMove (counted s v) v (To v (cursor p)))
 
 unfoldable pub nameMove : List ℕ → List (List ℕ) → ℕ → Moved
 nameMove s seen at =
@@ -76,5 +83,5 @@ assertionMove s at =
 unfoldable pub itemMove : ℕ → List ℕ → List (List ℕ) → ℕ → Moved
 itemMove group s seen at =
     pick (eqb group 0) (valueMove s seen at)
-    (pick (eqb group 1) (plainMove s leastRequester mostRequester at)
+    (pick (eqb group 1) (requesterMove s at)
     (pick (eqb group 2) (attributeMove s seen at) (assertionMove s at)))

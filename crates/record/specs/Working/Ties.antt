@@ -15,11 +15,13 @@ use Rattle.text.specs.Counted.{part, pairAt, counted}
 use Rattle.limits.specs.Limits.{leastValue, mostValue, leastRequester, mostRequester, leastName, mostName, leastSetting, mostSetting, leastText, mostText, mostStanding}
 use Rattle.record.specs.Query.{Attribute, Supplied}
 use Rattle.record.specs.Read.{Read, got, bad, andThen}
-use Rattle.record.specs.Field.{countAt, lengthAt, contentAt, fieldAt, nameFront, permitted, among, distinct}
+use Rattle.text.specs.Equal.{equal}
+use Rattle.principal.specs.Principal.{policy}
+use Rattle.record.specs.Field.{countAt, lengthAt, contentAt, fieldAt, nameFront, permitted, askable, among, distinct}
 use Rattle.record.specs.Item.{plainAt, valueAt, requesterAt, nameAt, attributeAt, assertionAt}
 use Rattle.record.specs.Places.{stringSize, attributeSize, assertionSize}
 use Rattle.record.specs.Lies.{StringAt, AttributeAt, AssertionAt}
-use Rattle.record.specs.Working.Moves.{cursor, onTo, countMove, lengthMove, contentMove, fieldMove, permittedMove, distinctMove, plainMove, valueMove, nameMove, attributeMove, assertionMove}
+use Rattle.record.specs.Working.Moves.{cursor, onTo, countMove, lengthMove, contentMove, fieldMove, permittedMove, askableMove, distinctMove, plainMove, valueMove, requesterMove, nameMove, attributeMove, assertionMove}
 use Rattle.record.specs.declared.Cursor.{Cursor}
 use Rattle.record.specs.declared.Moved.{Moved}
 use Rattle.record.specs.declared.Moved.the-variants.{To, Refused}
@@ -104,6 +106,9 @@ module _ {A : Type 0} {S : ℕ → ℕ → A → Type 0} (s : List ℕ) (at v : 
       → Ties S (permitted (front b) b (at + 2) r) (permittedMove (front (counted s v)) (counted s v) v m)
   permitted-tie front {r} {m} t = rw (string, start) (tie-pick {S = S} (ltb (front b) (length b)) {x = bad 6 (at + 2 + front b)} {y = r} (λ e. tie-no) (λ e. t))
 
+  askable-tie : {r : Read A} {m : Moved} → Ties S r m → Ties S (askable b (at + 2) r) (askableMove (counted s v) v m)
+  askable-tie {r} {m} t = rw (string, start) (tie-pick {S = S} (equal b policy) {x = bad 10 (at + 2)} {y = r} (λ e. tie-no) (λ e. t))
+
   distinct-tie : (seen : List (List ℕ)) {r : Read A} {m : Moved} → Ties S r m → Ties S (distinct b seen (at + 2) r) (distinctMove (counted s v) seen v m)
   distinct-tie seen {r} {m} t = rw (string, start) (tie-pick {S = S} (among b seen) {x = bad 7 (at + 2)} {y = r} (λ e. tie-no) (λ e. t))
 
@@ -122,9 +127,11 @@ module _ (s : List ℕ) (seen : List (List ℕ)) (at : ℕ) where
       tie-then (λ b p. distinct b seen (at + 2) (got b p)) (λ v p. distinctMove (counted s v) seen v (To v (cursor p)))
       (plain-tie s leastValue mostValue at) (λ v p b spot. distinct-tie s at v b (spot .start) (spot .string) seen (tie-to spot))
 
-  pub requester-tie : Ties (Spot s itself (StringAt s) stringSize 2 at) (requesterAt s seen at) (plainMove s leastRequester mostRequester at)
-  unfolding requesterAt
-  requester-tie = plain-tie s leastRequester mostRequester at
+  pub requester-tie : Ties (Spot s itself (StringAt s) stringSize 2 at) (requesterAt s seen at) (requesterMove s at)
+  unfolding requesterAt requesterMove
+  requester-tie =
+      tie-then (λ b p. askable b (at + 2) (got b p)) (λ v p. askableMove (counted s v) v (To v (cursor p)))
+      (plain-tie s leastRequester mostRequester at) (λ v p b spot. askable-tie s at v b (spot .start) (spot .string) (tie-to spot))
 
   name-tie : Ties (Spot s itself (StringAt s) stringSize 2 at) (nameAt s seen at) (nameMove s seen at)
   unfolding nameAt nameMove

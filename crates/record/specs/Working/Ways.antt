@@ -15,8 +15,9 @@ use Rattle.text.specs.Class.{isLetter, inClass}
 use Rattle.text.specs.Equal.{equal}
 use Rattle.text.specs.Counted.{part, pairAt, counted}
 use Rattle.limits.specs.Limits.{leastValue, mostValue, leastRequester, mostRequester, leastName, mostName, leastSetting, mostSetting, leastText, mostText, mostStanding}
+use Rattle.principal.specs.Principal.{policy}
 use Rattle.record.specs.Field.{nameFront, among}
-use Rattle.record.specs.Working.Moves.{cursor, onTo, seenOf, countMove, lengthMove, contentMove, fieldMove, plainMove, valueMove, nameMove, attributeMove, assertionMove, itemMove}
+use Rattle.record.specs.Working.Moves.{cursor, onTo, seenOf, countMove, lengthMove, contentMove, fieldMove, plainMove, valueMove, requesterMove, nameMove, attributeMove, assertionMove, itemMove}
 use Rattle.record.specs.declared.Cursor.{Cursor}
 use Rattle.record.specs.declared.Moved.{Moved}
 use Rattle.record.specs.declared.Moved.the-variants.{To, Refused}
@@ -181,6 +182,21 @@ module _ (s : List ℕ) (seen : List (List ℕ)) (at : ℕ) (m : Moved) (me : m 
     unfolding valueMove
     value-to t = simp (sym me, e, sym fe, t)
 
+-- `requester`
+module _ (s : List ℕ) (at : ℕ) (m : Moved) (me : m ≡ plainMove s leastRequester mostRequester at) where
+  pub requester-refused : (n p : ℕ) → m ≡ Refused n p → Refused n p ≡ requesterMove s at
+  unfolding requesterMove
+  requester-refused n p e = simp (sym me, e)
+
+  module _ (v : ℕ) (c : Cursor) (e : m ≡ To v c) (b : List ℕ) (be : b ≡ counted s v) (f : Bool) (fe : f ≡ equal b policy) where
+    pub requester-policy : f ≡ true → Refused 10 v ≡ requesterMove s at
+    unfolding requesterMove
+    requester-policy t = simp (sym me, e, sym be, sym fe, t)
+
+    pub requester-to : f ≡ false → To v c ≡ requesterMove s at
+    unfolding requesterMove
+    requester-to t = simp (sym me, e, sym be, sym fe, t)
+
 -- `name`
 module _ (s : List ℕ) (seen : List (List ℕ)) (at : ℕ) (m : Moved) (me : m ≡ fieldMove s leastName mostName at) where
   pub name-refused : (n p : ℕ) → m ≡ Refused n p → Refused n p ≡ nameMove s seen at
@@ -238,7 +254,7 @@ module _ (g : ℕ) (s : List ℕ) (seen : List (List ℕ)) (at : ℕ) (r : Moved
   item-value h e = simp (eq-eqb _ _ h) e
 
   module _ (n : g ≡ 0 → ⊥) where
-    pub item-requester : g ≡ 1 → r ≡ plainMove s leastRequester mostRequester at → r ≡ itemMove g s seen at
+    pub item-requester : g ≡ 1 → r ≡ requesterMove s at → r ≡ itemMove g s seen at
     unfolding itemMove
     item-requester h e = simp (ne-eqb _ _ n, eq-eqb _ _ h) e
 
