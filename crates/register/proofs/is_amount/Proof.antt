@@ -1,0 +1,17 @@
+use Rattle.register.specs.Working.Ways.{amount-none, amount-rest}
+use borrow.Author.Needs.{needs}
+use Rattle.register.proofs.is_amount.Statement.{statement}
+use Rattle.register.proofs.is_amount.Tie as tie
+use Rattle.register.proofs.is_amount.Reads as reads
+use Rattle.register.proofs.is_amount.Lts as lts
+
+-- src/lib.rt:139:9
+returns : tie.Need-returns
+returns c = search amount-none
+
+-- src/lib.rt:135:1
+returns-2 : tie.Need-returns-2
+returns-2 c = search amount-rest
+
+pub is-amount-spec : {M : Type 1} → statement M
+is-amount-spec = tie.close (tie.spec returns returns-2)

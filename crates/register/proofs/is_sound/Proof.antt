@@ -1,0 +1,32 @@
+use Rattle.register.specs.Working.Ways.{sound-rest, sound-over, sound-many}
+use borrow.Author.Needs.{needs}
+use Rattle.register.proofs.is_sound.Statement.{statement}
+use Rattle.register.proofs.is_sound.Tie as tie
+use Rattle.register.proofs.is_sound.Reads as reads
+use Rattle.register.proofs.is_sound.Lts as lts
+use Rattle.register.proofs.all_distinct.Reads as all-distinct-reads
+use Rattle.register.proofs.covered.Reads as covered-reads
+
+-- src/lib.rt:126:12
+covered-requires : tie.Need-covered-requires
+covered-requires c κs = search needs
+
+-- src/lib.rt:127:13
+all-distinct-requires : tie.Need-all-distinct-requires
+all-distinct-requires c κs = search needs
+
+-- src/lib.rt:127:13
+returns : tie.Need-returns
+returns c = search sound-rest
+
+-- src/lib.rt:129:9
+returns-2 : tie.Need-returns-2
+returns-2 c = search sound-over
+
+-- src/lib.rt:122:1
+returns-3 : tie.Need-returns-3
+returns-3 c = search sound-many
+
+pub is-sound-spec : {M : Type 1} → statement M
+is-sound-spec =
+    tie.close (tie.spec covered-requires all-distinct-requires returns returns-2 returns-3)

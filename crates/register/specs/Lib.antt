@@ -1,0 +1,7 @@
+pub mod Limits
+pub mod Entries
+pub mod Calls
+pub mod Find
+pub mod Told
+pub mod Theorems
+pub mod Working
