@@ -9,7 +9,7 @@ use lib.ListN.{length, getD, take}
 use borrow.Author.Tests.{eqb-true, eqb-false}
 use Rattle.text.specs.Choice.{pick, split, clash}
 use Rattle.register.specs.Limits.{mostPrincipals}
-use Rattle.register.specs.Entries.{Entry, free, held, known, movesOf, principals}
+use Rattle.register.specs.Entries.{Entry, free, held, known, movesOf, principals, replaced}
 use Rattle.register.specs.Find.{walk, find}
 use Rattle.register.specs.Theorems.Entries.{principals-most}
 use Rattle.register.specs.declared.Found.{Found}
@@ -100,3 +100,16 @@ find-missing es x w h = missing-nowhere (subst (λ (f : Found). Walked es x 0 0 
   where
     missing-nowhere : Walked es x 0 0 (Missing w) → (known x es ≡ false) × (w ≡ principals es)
     missing-nowhere (nowhere a b) = (b, omega arith)
+
+-- other moves for somebody change nothing of what is found
+walk-replaced : (x k : ℕ) (es : List Entry) (y i w : ℕ) → walk i w (replaced x (held x k) es) y ≡ walk i w es y
+unfolding walk replaced
+walk-replaced x k [] y i w = refl
+walk-replaced x k (free ∷ es) y i w = walk-replaced x k es y (i + 1) w
+walk-replaced x k (held z m ∷ es) y i w =
+    split (eqb z x) (λ t. let s : z ≡ x = eqb-true z x t in rw t (rw s refl))
+    (λ t. rw t (ap (λ (f : Found). pick (eqb z y) (At i (w + 1)) f) (walk-replaced x k es y (i + 1) (w + 1))))
+
+pub find-replaced : (x k : ℕ) (es : List Entry) (y : ℕ) → find (replaced x (held x k) es) y ≡ find es y
+unfolding find
+find-replaced x k es y = walk-replaced x k es y 0 0
