@@ -1,23 +1,55 @@
-// A register of moves held by at most 64 principals.
-ghost use mathlib.Core.Path.{_≡_};
-ghost use Prim.Native.Nat.{_+_, _-_, _≤_};
-ghost use lib.ListN.{length, getD};
-ghost use lib.Dec.{leb};
-ghost use Rattle.register.specs.Working.Places.{findFrom, found, freeFrom, sumFrom, sum, distinctFrom, sound, amount, movesAt, withMoves, withNew, withIssued, issueOf, spendOf, passAt, passOf, removeOf};
+// A register of priority moves, held by at most 64 principals. It is a value that goes in and comes back.
+mod places;
 
-// A place of the register: free, or a principal and its moves.
+use places::free;
+use places::is_amount;
+use places::is_sound;
+use places::moves_at;
+use places::place_of;
+use places::with_issued;
+use places::with_moves;
+use places::with_new;
+ghost use Prim.Native.Nat.{_≤_};
+ghost use mathlib.Core.Path.{_≡_};
+ghost use Rattle.register.specs.Calls.{issues, passes, spends, removes, called};
+ghost use Rattle.register.specs.Entries as entries;
+ghost use Rattle.register.specs.Find as finding;
+ghost use Rattle.register.specs.Told.{contents, Tells};
+ghost use Rattle.register.specs.Working.Places.{movesAt, passAt};
+
+pub const MOST_PRINCIPALS: usize = 64;
+
+pub const MOST_MOVES: u64 = 1000000;
+
+// The numbers of refusals.
+pub const AMOUNT_OUTSIDE: u8 = 14;
+
+pub const UNKNOWN_PRINCIPAL: u8 = 15;
+
+pub const MORE_THAN_HELD: u8 = 16;
+
+pub const ISSUE_LIMIT: u8 = 17;
+
+pub const NO_PLACE: u8 = 18;
+
+pub const MOVES_LEFT: u8 = 19;
+
+pub const DAMAGED_REGISTER: u8 = 20;
+
+// A place: a principal and its moves, or free. Numbers left at a free place count for nothing.
 pub struct Place {
     pub held: bool,
     pub principal: u32,
     pub moves: u64,
 }
 
+// The places, and the number of all moves ever issued.
 pub struct Register {
-    pub places: [Place; 64],
+    pub places: [Place; MOST_PRINCIPALS],
     pub issued: u64,
 }
 
-// A principal's place, and the held entries compared.
+// A principal's place, and how many held entries were compared.
 pub enum Found {
     At { place: usize, work: usize },
     Missing { work: usize },
@@ -28,346 +60,208 @@ pub enum Answer {
     Refused { number: u8, place: usize },
 }
 
+// What a call gives: its answer, and the register after it, which is the one handed in where it was refused.
 pub struct After {
     pub answer: Answer,
     pub register: Register,
 }
 
-// Finds a principal from a place on.
-fn find_from(r: Register, principal: u32, from: usize) -> Found
-    ensures { λ f. ⌜ f ≡ findFrom (r .places) principal from 0 ⌝ }
+// The register that holds nobody.
+pub fn empty() -> Register
+    ensures { λ q. ⌜ contents q ≡ entries.empty ⌝ }
 {
-    let mut i = from;
-    let mut work: usize = 0;
-    while i < 64 {
-        let p = r.places[i];
-        if p.held {
-            if p.principal == principal {
-                return Found::At {
-                    place: i,
-                    work: work + 1,
-                };
-            }
-            work += 1;
-            i += 1;
-        } else {
-            i += 1;
-        }
+    Register {
+        places: [Place {
+            held: false,
+            principal: 0,
+            moves: 0,
+        }; MOST_PRINCIPALS],
+        issued: 0,
     }
-    Found::Missing { work }
 }
 
 // Finds a principal, with the work of it.
-pub fn find(r: Register, principal: u32) -> Found
-    ensures { λ f. ⌜ f ≡ found (r .places) principal ⌝ }
+pub fn find(register: Register, principal: u32) -> Found
+    ensures { λ f. ⌜ f ≡ finding.find ((contents register) .entries) principal ⌝ }
 {
-    find_from(r, principal, 0)
+    place_of(register, principal)
 }
 
-// The first free place, or 64.
-fn free(r: Register) -> usize
-    ensures { λ i. ⌜ i ≡ freeFrom (r .places) 0 ⌝ }
+// Issues moves to a principal, which is added where it isn't held.
+pub fn issue(register: Register, principal: u32, amount: u64) -> After
+    ensures { λ a. ⌜ Tells register a (called (contents register) (issues principal amount)) ⌝ }
 {
-    let mut i: usize = 0;
-    while i < 64 {
-        let p = r.places[i];
-        if p.held {
-            i += 1;
-        } else {
-            return i;
-        }
-    }
-    i
-}
-
-// Whether the moves held are at most those issued.
-fn covered(r: Register) -> bool
-    ensures { λ t. ⌜ t ≡ leb (sum (r .places)) (r .issued) ⌝ }
-{
-    let issued = r.issued;
-    let mut i: usize = 0;
-    let mut total: u64 = 0;
-    while i < 64 {
-        let p = r.places[i];
-        if p.held {
-            if issued - total < p.moves {
-                return false;
-            }
-            total += p.moves;
-            i += 1;
-        } else {
-            i += 1;
-        }
-    }
-    true
-}
-
-// Whether no principal stands twice.
-fn all_distinct(r: Register) -> bool
-    ensures { λ t. ⌜ t ≡ distinctFrom (r .places) 0 ⌝ }
-{
-    let mut i: usize = 0;
-    while i < 64 {
-        let p = r.places[i];
-        if p.held {
-            match find_from(r, p.principal, i + 1) {
-                Found::At { place, work } => return false,
-                Found::Missing { work } => i += 1,
-            }
-        } else {
-            i += 1;
-        }
-    }
-    true
-}
-
-// Whether a register may be used: number 20 is given for one that may not.
-fn is_sound(r: Register) -> bool
-    ensures { λ t. ⌜ t ≡ sound r ⌝ }
-{
-    if r.issued <= 1000000 {
-        if covered(r) {
-            return all_distinct(r);
-        }
-        return false;
-    }
-    false
-}
-
-// Whether an amount is from 1 to 1,000,000.
-fn is_amount(n: u64) -> bool
-    ensures { λ t. ⌜ t ≡ amount n ⌝ }
-{
-    if n < 1 {
-        return false;
-    }
-    n <= 1000000
-}
-
-// The moves at a place.
-fn moves_at(r: Register, i: usize) -> u64
-    ensures { λ m. ⌜ m ≡ movesAt r i ⌝ }
-{
-    if i < 64 {
-        let p = r.places[i];
-        return p.moves;
-    }
-    0
-}
-
-// The register with other moves at a place.
-fn with_moves(r: Register, i: usize, moves: u64) -> Register
-    ensures { λ q. ⌜ q ≡ withMoves r i moves ⌝ }
-{
-    if i < 64 {
-        let p = r.places[i];
-        let mut next = r;
-        next.places[i] = Place {
-            held: p.held,
-            principal: p.principal,
-            moves,
-        };
-        return next;
-    }
-    r
-}
-
-// The register with another place in place of one.
-fn with_new(r: Register, i: usize, p: Place) -> Register
-    ensures { λ q. ⌜ q ≡ withNew r i p ⌝ }
-{
-    if i < 64 {
-        let mut next = r;
-        next.places[i] = p;
-        return next;
-    }
-    r
-}
-
-// The register with another number of moves issued.
-fn with_issued(r: Register, issued: u64) -> Register
-    ensures { λ q. ⌜ q ≡ withIssued r issued ⌝ }
-{
-    let mut next = r;
-    next.issued = issued;
-    next
-}
-
-// Issues moves to a principal, which is added where it is not held.
-pub fn issue(r: Register, principal: u32, n: u64) -> After
-    ensures { λ a. ⌜ a ≡ issueOf r principal n ⌝ }
-{
-    if is_sound(r) {
-        if is_amount(n) {
-            let all = r.issued + n;
-            if 1000000 < all {
+    if is_sound(register) {
+        if is_amount(amount) {
+            let all = register.issued + amount;
+            if MOST_MOVES < all {
                 return After {
                     answer: Answer::Refused {
-                        number: 17,
+                        number: ISSUE_LIMIT,
                         place: 0,
                     },
-                    register: r,
+                    register,
                 };
             }
-            match find(r, principal) {
-                Found::At { place: i, work } => {
-                    let m = moves_at(r, i);
-                    let q = with_moves(r, i, m + n);
-                    let s = with_issued(q, all);
+            match place_of(register, principal) {
+                Found::At { place, work } => {
+                    let moves = moves_at(register, place);
+                    let more = with_moves(register, place, moves + amount);
+                    let counted = with_issued(more, all);
                     return After {
                         answer: Answer::Granted,
-                        register: s,
+                        register: counted,
                     };
                 }
                 Found::Missing { work } => {
-                    let i = free(r);
-                    if i < 64 {
-                        let q = with_new(
-                            r,
-                            i,
+                    let place = free(register);
+                    if place < MOST_PRINCIPALS {
+                        let more = with_new(
+                            register,
+                            place,
                             Place {
                                 held: true,
                                 principal,
-                                moves: n,
+                                moves: amount,
                             },
                         );
-                        let s = with_issued(q, all);
+                        let counted = with_issued(more, all);
                         return After {
                             answer: Answer::Granted,
-                            register: s,
+                            register: counted,
                         };
                     }
                     return After {
                         answer: Answer::Refused {
-                            number: 18,
+                            number: NO_PLACE,
                             place: 0,
                         },
-                        register: r,
+                        register,
                     };
                 }
             }
         }
         return After {
             answer: Answer::Refused {
-                number: 14,
+                number: AMOUNT_OUTSIDE,
                 place: 0,
             },
-            register: r,
+            register,
         };
     }
     After {
         answer: Answer::Refused {
-            number: 20,
+            number: DAMAGED_REGISTER,
             place: 0,
         },
-        register: r,
+        register,
     }
 }
 
 // Spends moves of a principal.
-pub fn spend(r: Register, payer: u32, n: u64) -> After
-    ensures { λ a. ⌜ a ≡ spendOf r payer n ⌝ }
+pub fn spend(register: Register, payer: u32, amount: u64) -> After
+    ensures { λ a. ⌜ Tells register a (called (contents register) (spends payer amount)) ⌝ }
 {
-    if is_sound(r) {
-        if is_amount(n) {
-            match find(r, payer) {
-                Found::At { place: i, work } => {
-                    let m = moves_at(r, i);
-                    if m < n {
+    if is_sound(register) {
+        if is_amount(amount) {
+            match place_of(register, payer) {
+                Found::At { place, work } => {
+                    let moves = moves_at(register, place);
+                    if moves < amount {
                         return After {
                             answer: Answer::Refused {
-                                number: 16,
+                                number: MORE_THAN_HELD,
                                 place: 0,
                             },
-                            register: r,
+                            register,
                         };
                     }
-                    let q = with_moves(r, i, m - n);
+                    let fewer = with_moves(register, place, moves - amount);
                     return After {
                         answer: Answer::Granted,
-                        register: q,
+                        register: fewer,
                     };
                 }
                 Found::Missing { work } => {
                     return After {
                         answer: Answer::Refused {
-                            number: 15,
+                            number: UNKNOWN_PRINCIPAL,
                             place: 0,
                         },
-                        register: r,
+                        register,
                     };
                 }
             }
         }
         return After {
             answer: Answer::Refused {
-                number: 14,
+                number: AMOUNT_OUTSIDE,
                 place: 0,
             },
-            register: r,
+            register,
         };
     }
     After {
         answer: Answer::Refused {
-            number: 20,
+            number: DAMAGED_REGISTER,
             place: 0,
         },
-        register: r,
+        register,
     }
 }
 
-// Passes moves on between two places.
-fn pass_between(r: Register, i: usize, j: usize, n: u64) -> After
-    requires { ⌜ (movesAt r j ≤ 1000000) × (n ≤ 1000000) ⌝ }
-    ensures { λ a. ⌜ a ≡ passAt r i j n ⌝ }
+// Passes moves on from place i to place j.
+fn pass_between(register: Register, i: usize, j: usize, amount: u64) -> After
+    requires { ⌜ (movesAt register j ≤ 1000000) × (amount ≤ 1000000) ⌝ }
+    ensures { λ a. ⌜ a ≡ passAt register i j amount ⌝ }
 {
-    let m = moves_at(r, i);
-    if m < n {
+    let moves = moves_at(register, i);
+    if moves < amount {
         return After {
             answer: Answer::Refused {
-                number: 16,
+                number: MORE_THAN_HELD,
                 place: 0,
             },
-            register: r,
+            register,
         };
     }
     if i == j {
         return After {
             answer: Answer::Granted,
-            register: r,
+            register,
         };
     }
-    let k = moves_at(r, j);
-    let q = with_moves(r, i, m - n);
-    let s = with_moves(q, j, k + n);
+    let others = moves_at(register, j);
+    let fewer = with_moves(register, i, moves - amount);
+    let passed = with_moves(fewer, j, others + amount);
     After {
         answer: Answer::Granted,
-        register: s,
+        register: passed,
     }
 }
 
 // Passes moves on from one principal to another.
-pub fn pass(r: Register, payer: u32, receiver: u32, n: u64) -> After
-    ensures { λ a. ⌜ a ≡ passOf r payer receiver n ⌝ }
+pub fn pass(register: Register, payer: u32, receiver: u32, amount: u64) -> After
+    ensures { λ a. ⌜ Tells register a (called (contents register) (passes payer receiver amount)) ⌝ }
 {
-    if is_sound(r) {
-        if is_amount(n) {
-            match find(r, payer) {
+    if is_sound(register) {
+        if is_amount(amount) {
+            match place_of(register, payer) {
                 Found::At { place: i, work } => {
-                    match find(r, receiver) {
+                    match place_of(register, receiver) {
                         Found::At {
                             place: j,
                             work: other,
                         } => {
-                            return pass_between(r, i, j, n);
+                            return pass_between(register, i, j, amount);
                         }
                         Found::Missing { work: other } => {
                             return After {
                                 answer: Answer::Refused {
-                                    number: 15,
+                                    number: UNKNOWN_PRINCIPAL,
                                     place: 0,
                                 },
-                                register: r,
+                                register,
                             };
                         }
                     }
@@ -375,51 +269,51 @@ pub fn pass(r: Register, payer: u32, receiver: u32, n: u64) -> After
                 Found::Missing { work } => {
                     return After {
                         answer: Answer::Refused {
-                            number: 15,
+                            number: UNKNOWN_PRINCIPAL,
                             place: 0,
                         },
-                        register: r,
+                        register,
                     };
                 }
             }
         }
         return After {
             answer: Answer::Refused {
-                number: 14,
+                number: AMOUNT_OUTSIDE,
                 place: 0,
             },
-            register: r,
+            register,
         };
     }
     After {
         answer: Answer::Refused {
-            number: 20,
+            number: DAMAGED_REGISTER,
             place: 0,
         },
-        register: r,
+        register,
     }
 }
 
 // Removes a principal that holds no moves.
-pub fn remove(r: Register, principal: u32) -> After
-    ensures { λ a. ⌜ a ≡ removeOf r principal ⌝ }
+pub fn remove(register: Register, principal: u32) -> After
+    ensures { λ a. ⌜ Tells register a (called (contents register) (removes principal)) ⌝ }
 {
-    if is_sound(r) {
-        match find(r, principal) {
-            Found::At { place: i, work } => {
-                let m = moves_at(r, i);
-                if 0 < m {
+    if is_sound(register) {
+        match place_of(register, principal) {
+            Found::At { place, work } => {
+                let moves = moves_at(register, place);
+                if 0 < moves {
                     return After {
                         answer: Answer::Refused {
-                            number: 19,
+                            number: MOVES_LEFT,
                             place: 0,
                         },
-                        register: r,
+                        register,
                     };
                 }
-                let q = with_new(
-                    r,
-                    i,
+                let freed = with_new(
+                    register,
+                    place,
                     Place {
                         held: false,
                         principal: 0,
@@ -428,25 +322,25 @@ pub fn remove(r: Register, principal: u32) -> After
                 );
                 return After {
                     answer: Answer::Granted,
-                    register: q,
+                    register: freed,
                 };
             }
             Found::Missing { work } => {
                 return After {
                     answer: Answer::Refused {
-                        number: 15,
+                        number: UNKNOWN_PRINCIPAL,
                         place: 0,
                     },
-                    register: r,
+                    register,
                 };
             }
         }
     }
     After {
         answer: Answer::Refused {
-            number: 20,
+            number: DAMAGED_REGISTER,
             place: 0,
         },
-        register: r,
+        register,
     }
 }

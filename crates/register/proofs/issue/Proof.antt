@@ -1,17 +1,18 @@
+use Rattle.register.specs.Working.Operations.{issue-tells}
 use Rattle.register.specs.Working.Ways.{issued-fits, moves-fit, issue-over, issue-more, issue-new, issue-full, issue-amount, issue-unsound}
 use borrow.Author.Needs.{needs}
 use Rattle.register.proofs.issue.Statement.{statement}
 use Rattle.register.proofs.issue.Tie as tie
 use Rattle.register.proofs.issue.Reads as reads
 use Rattle.register.proofs.issue.Lts as lts
-use Rattle.register.proofs.find.Reads as find-reads
-use Rattle.register.proofs.free.Reads as free-reads
-use Rattle.register.proofs.is_amount.Reads as is-amount-reads
-use Rattle.register.proofs.is_sound.Reads as is-sound-reads
-use Rattle.register.proofs.moves_at.Reads as moves-at-reads
-use Rattle.register.proofs.with_issued.Reads as with-issued-reads
-use Rattle.register.proofs.with_moves.Reads as with-moves-reads
-use Rattle.register.proofs.with_new.Reads as with-new-reads
+use Rattle.register.proofs.places.place_of.Reads as place-of-reads
+use Rattle.register.proofs.places.free.Reads as free-reads
+use Rattle.register.proofs.places.is_amount.Reads as is-amount-reads
+use Rattle.register.proofs.places.is_sound.Reads as is-sound-reads
+use Rattle.register.proofs.places.moves_at.Reads as moves-at-reads
+use Rattle.register.proofs.places.with_issued.Reads as with-issued-reads
+use Rattle.register.proofs.places.with_moves.Reads as with-moves-reads
+use Rattle.register.proofs.places.with_new.Reads as with-new-reads
 
 -- src/lib.rt:193:8
 is-sound-requires : tie.Need-is-sound-requires
@@ -27,15 +28,15 @@ add-all c = search issued-fits
 
 -- src/lib.rt:197:17
 returns : tie.Need-returns
-returns c = search issue-over
+returns c = search (issue-tells, issue-over)
 
 -- src/lib.rt:199:19
-find-requires : tie.Need-find-requires
-find-requires c κs = search needs
+place-of-requires : tie.Need-place-of-requires
+place-of-requires c κs = search needs
 
 -- src/lib.rt:200:36
-enum-known-i : tie.Need-enum-known-i
-enum-known-i c = search needs
+enum-known-place : tie.Need-enum-known-place
+enum-known-place c = search needs
 
 -- src/lib.rt:201:25
 moves-at-requires : tie.Need-moves-at-requires
@@ -55,7 +56,7 @@ with-issued-requires c κs = search needs
 
 -- src/lib.rt:204:21
 returns-2 : tie.Need-returns-2
-returns-2 c = search issue-more
+returns-2 c = search (issue-tells, issue-more)
 
 -- src/lib.rt:206:34
 enum-known-work : tie.Need-enum-known-work
@@ -75,19 +76,19 @@ with-issued-requires-2 c κs = search needs
 
 -- src/lib.rt:211:25
 returns-3 : tie.Need-returns-3
-returns-3 c = search issue-new
+returns-3 c = search (issue-tells, issue-new)
 
 -- src/lib.rt:213:21
 returns-4 : tie.Need-returns-4
-returns-4 c = search issue-full
+returns-4 c = search (issue-tells, issue-full)
 
 -- src/lib.rt:217:9
 returns-5 : tie.Need-returns-5
-returns-5 c = search issue-amount
+returns-5 c = search (issue-tells, issue-amount)
 
 -- src/lib.rt:190:1
 returns-6 : tie.Need-returns-6
-returns-6 c = search issue-unsound
+returns-6 c = search (issue-tells, issue-unsound)
 
 pub issue-spec : {M : Type 1} → statement M
 issue-spec =
@@ -97,8 +98,8 @@ issue-spec =
     is-amount-requires
     add-all
     returns
-    find-requires
-    enum-known-i
+    place-of-requires
+    enum-known-place
     moves-at-requires
     add-with-moves
     with-moves-requires

@@ -1,12 +1,13 @@
+use Rattle.register.specs.Working.Operations.{pass-tells}
 use Rattle.register.specs.Working.Ways.{place-few, amount-few, pass-found, pass-unknown-2, pass-unknown, pass-amount, pass-unsound}
 use borrow.Author.Needs.{needs}
 use Rattle.register.proofs.pass.Statement.{statement}
 use Rattle.register.proofs.pass.Tie as tie
 use Rattle.register.proofs.pass.Reads as reads
 use Rattle.register.proofs.pass.Lts as lts
-use Rattle.register.proofs.find.Reads as find-reads
-use Rattle.register.proofs.is_amount.Reads as is-amount-reads
-use Rattle.register.proofs.is_sound.Reads as is-sound-reads
+use Rattle.register.proofs.places.place_of.Reads as place-of-reads
+use Rattle.register.proofs.places.is_amount.Reads as is-amount-reads
+use Rattle.register.proofs.places.is_sound.Reads as is-sound-reads
 use Rattle.register.proofs.pass_between.Reads as pass-between-reads
 
 -- src/lib.rt:269:8
@@ -18,16 +19,16 @@ is-amount-requires : tie.Need-is-amount-requires
 is-amount-requires c κs = search needs
 
 -- src/lib.rt:271:19
-find-requires : tie.Need-find-requires
-find-requires c κs = search needs
+place-of-requires : tie.Need-place-of-requires
+place-of-requires c κs = search needs
 
 -- src/lib.rt:272:36
 enum-known-i : tie.Need-enum-known-i
 enum-known-i c = search needs
 
 -- src/lib.rt:273:27
-find-requires-2 : tie.Need-find-requires-2
-find-requires-2 c κs = search needs
+place-of-requires-2 : tie.Need-place-of-requires-2
+place-of-requires-2 c κs = search needs
 
 -- src/lib.rt:274:44
 enum-known-j : tie.Need-enum-known-j
@@ -39,7 +40,7 @@ pass-between-requires c κs = (search place-few, search amount-few)
 
 -- src/lib.rt:275:29
 returns : tie.Need-returns
-returns c = search pass-found
+returns c = search (pass-tells, pass-found)
 
 -- src/lib.rt:277:48
 enum-known-other : tie.Need-enum-known-other
@@ -47,7 +48,7 @@ enum-known-other c = search needs
 
 -- src/lib.rt:278:29
 returns-2 : tie.Need-returns-2
-returns-2 c = search pass-unknown-2
+returns-2 c = search (pass-tells, pass-unknown-2)
 
 -- src/lib.rt:282:34
 enum-known-work : tie.Need-enum-known-work
@@ -55,15 +56,15 @@ enum-known-work c = search needs
 
 -- src/lib.rt:283:21
 returns-3 : tie.Need-returns-3
-returns-3 c = search pass-unknown
+returns-3 c = search (pass-tells, pass-unknown)
 
 -- src/lib.rt:287:9
 returns-4 : tie.Need-returns-4
-returns-4 c = search pass-amount
+returns-4 c = search (pass-tells, pass-amount)
 
 -- src/lib.rt:266:1
 returns-5 : tie.Need-returns-5
-returns-5 c = search pass-unsound
+returns-5 c = search (pass-tells, pass-unsound)
 
 pub pass-spec : {M : Type 1} → statement M
 pass-spec =
@@ -71,9 +72,9 @@ pass-spec =
     (tie.spec
     is-sound-requires
     is-amount-requires
-    find-requires
+    place-of-requires
     enum-known-i
-    find-requires-2
+    place-of-requires-2
     enum-known-j
     pass-between-requires
     returns

@@ -4,8 +4,8 @@ use Rattle.register.proofs.pass_between.Statement.{statement}
 use Rattle.register.proofs.pass_between.Tie as tie
 use Rattle.register.proofs.pass_between.Reads as reads
 use Rattle.register.proofs.pass_between.Lts as lts
-use Rattle.register.proofs.moves_at.Reads as moves-at-reads
-use Rattle.register.proofs.with_moves.Reads as with-moves-reads
+use Rattle.register.proofs.places.moves_at.Reads as moves-at-reads
+use Rattle.register.proofs.places.with_moves.Reads as with-moves-reads
 
 -- src/lib.rt:252:9
 moves-at-requires : tie.Need-moves-at-requires

@@ -1,25 +1,26 @@
+use Rattle.register.specs.Working.Operations.{remove-tells}
 use Rattle.register.specs.Working.Ways.{remove-holds, remove-done, remove-unknown, remove-unsound}
 use borrow.Author.Needs.{needs}
 use Rattle.register.proofs.remove.Statement.{statement}
 use Rattle.register.proofs.remove.Tie as tie
 use Rattle.register.proofs.remove.Reads as reads
 use Rattle.register.proofs.remove.Lts as lts
-use Rattle.register.proofs.find.Reads as find-reads
-use Rattle.register.proofs.is_sound.Reads as is-sound-reads
-use Rattle.register.proofs.moves_at.Reads as moves-at-reads
-use Rattle.register.proofs.with_new.Reads as with-new-reads
+use Rattle.register.proofs.places.place_of.Reads as place-of-reads
+use Rattle.register.proofs.places.is_sound.Reads as is-sound-reads
+use Rattle.register.proofs.places.moves_at.Reads as moves-at-reads
+use Rattle.register.proofs.places.with_new.Reads as with-new-reads
 
 -- src/lib.rt:288:8
 is-sound-requires : tie.Need-is-sound-requires
 is-sound-requires c κs = search needs
 
 -- src/lib.rt:289:15
-find-requires : tie.Need-find-requires
-find-requires c κs = search needs
+place-of-requires : tie.Need-place-of-requires
+place-of-requires c κs = search needs
 
 -- src/lib.rt:290:32
-enum-known-i : tie.Need-enum-known-i
-enum-known-i c = search needs
+enum-known-place : tie.Need-enum-known-place
+enum-known-place c = search needs
 
 -- src/lib.rt:291:21
 moves-at-requires : tie.Need-moves-at-requires
@@ -27,7 +28,7 @@ moves-at-requires c κs = search needs
 
 -- src/lib.rt:293:21
 returns : tie.Need-returns
-returns c = search remove-holds
+returns c = search (remove-tells, remove-holds)
 
 -- src/lib.rt:295:21
 with-new-requires : tie.Need-with-new-requires
@@ -35,7 +36,7 @@ with-new-requires c κs = search needs
 
 -- src/lib.rt:296:17
 returns-2 : tie.Need-returns-2
-returns-2 c = search remove-done
+returns-2 c = search (remove-tells, remove-done)
 
 -- src/lib.rt:298:30
 enum-known-work : tie.Need-enum-known-work
@@ -43,19 +44,19 @@ enum-known-work c = search needs
 
 -- src/lib.rt:299:17
 returns-3 : tie.Need-returns-3
-returns-3 c = search remove-unknown
+returns-3 c = search (remove-tells, remove-unknown)
 
 -- src/lib.rt:285:1
 returns-4 : tie.Need-returns-4
-returns-4 c = search remove-unsound
+returns-4 c = search (remove-tells, remove-unsound)
 
 pub remove-spec : {M : Type 1} → statement M
 remove-spec =
     tie.close
     (tie.spec
     is-sound-requires
-    find-requires
-    enum-known-i
+    place-of-requires
+    enum-known-place
     moves-at-requires
     returns
     with-new-requires

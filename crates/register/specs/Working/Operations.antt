@@ -73,6 +73,7 @@ module _ (r : Register) (e : length (r .places) ≡ 64) where
     where
       moves-of : {x y m n : ℕ} → held x m ≡ held y n → m ≡ n
       moves-of h = cc
+
       getD-map : (f : Place → Entry) (l : List Place) (n : ℕ) (d : Place) → getD (map f l) n (f d) ≡ f (getD l n d)
       getD-map f [] n d = refl
       getD-map f (y ∷ l) zero d = refl

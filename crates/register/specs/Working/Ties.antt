@@ -20,6 +20,18 @@ use Rattle.register.specs.declared.Register.{Register}
 use Rattle.register.specs.declared.Found.{Found}
 use Rattle.register.specs.declared.Found.the-variants.{At, Missing}
 
+-- a place as its fields
+abbrev pub fields : Place → Bool × (ℕ × (ℕ × Unit {0}))
+fields p = (p .held, (p .principal, (p .moves, tt)))
+
+-- how many places a register has, as owning the struct tells it
+pub places-length : (l : List Place) → length (map fields l) ≡ 64 → length l ≡ 64
+places-length l h = sym (length-map l) ∙ h
+  where
+    length-map : (l : List Place) → length (map fields l) ≡ length l
+    length-map [] = refl
+    length-map (x ∷ l) = ap suc (length-map l)
+
 -- the entries at n places from a number on
 abbrev pub entriesIn : ℕ → List Place → ℕ → List Entry
 entriesIn zero l i = []

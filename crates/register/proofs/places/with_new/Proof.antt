@@ -1,9 +1,9 @@
 use Rattle.register.specs.Working.Ways.{new-set, new-kept}
 use borrow.Author.Needs.{needs}
-use Rattle.register.proofs.with_new.Statement.{statement}
-use Rattle.register.proofs.with_new.Tie as tie
-use Rattle.register.proofs.with_new.Reads as reads
-use Rattle.register.proofs.with_new.Lts as lts
+use Rattle.register.proofs.places.with_new.Statement.{statement}
+use Rattle.register.proofs.places.with_new.Tie as tie
+use Rattle.register.proofs.places.with_new.Reads as reads
+use Rattle.register.proofs.places.with_new.Lts as lts
 
 -- src/lib.rt:174:9
 mul-p : tie.Need-mul-p

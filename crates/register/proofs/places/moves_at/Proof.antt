@@ -1,9 +1,9 @@
 use Rattle.register.specs.Working.Ways.{moves-in, moves-out}
 use borrow.Author.Needs.{needs}
-use Rattle.register.proofs.moves_at.Statement.{statement}
-use Rattle.register.proofs.moves_at.Tie as tie
-use Rattle.register.proofs.moves_at.Reads as reads
-use Rattle.register.proofs.moves_at.Lts as lts
+use Rattle.register.proofs.places.moves_at.Statement.{statement}
+use Rattle.register.proofs.places.moves_at.Tie as tie
+use Rattle.register.proofs.places.moves_at.Reads as reads
+use Rattle.register.proofs.places.moves_at.Lts as lts
 
 -- src/lib.rt:149:17
 mul-p : tie.Need-mul-p

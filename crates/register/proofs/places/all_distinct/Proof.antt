@@ -3,11 +3,11 @@ use Prim.Native.Nat.{_-_}
 use Rattle.register.specs.Working.Places.{distinctFrom}
 use Rattle.register.specs.Working.Ways.{distinct-twice, distinct-more, distinct-free, distinct-end}
 use borrow.Author.Needs.{needs}
-use Rattle.register.proofs.all_distinct.Statement.{statement}
-use Rattle.register.proofs.all_distinct.Tie as tie
-use Rattle.register.proofs.all_distinct.Reads as reads
-use Rattle.register.proofs.all_distinct.Lts as lts
-use Rattle.register.proofs.find_from.Reads as find-from-reads
+use Rattle.register.proofs.places.all_distinct.Statement.{statement}
+use Rattle.register.proofs.places.all_distinct.Tie as tie
+use Rattle.register.proofs.places.all_distinct.Reads as reads
+use Rattle.register.proofs.places.all_distinct.Lts as lts
+use Rattle.register.proofs.places.find_from.Reads as find-from-reads
 
 abbrev Inv-loop : tie.InvT-loop
 Inv-loop r i₀ i = distinctFrom (r .places) i ≡ distinctFrom (r .places) 0

@@ -1,9 +1,9 @@
 use Rattle.register.specs.Working.Places.{withIssued}
 use borrow.Author.Needs.{needs}
-use Rattle.register.proofs.with_issued.Statement.{statement}
-use Rattle.register.proofs.with_issued.Tie as tie
-use Rattle.register.proofs.with_issued.Reads as reads
-use Rattle.register.proofs.with_issued.Lts as lts
+use Rattle.register.proofs.places.with_issued.Statement.{statement}
+use Rattle.register.proofs.places.with_issued.Tie as tie
+use Rattle.register.proofs.places.with_issued.Reads as reads
+use Rattle.register.proofs.places.with_issued.Lts as lts
 
 -- src/lib.rt:181:1
 returns : tie.Need-returns

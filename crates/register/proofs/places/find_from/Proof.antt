@@ -3,10 +3,10 @@ use Prim.Native.Nat.{_-_, _≤_}
 use Rattle.register.specs.Working.Places.{findFrom}
 use Rattle.register.specs.Working.Ways.{find-here, find-other, find-free, find-end}
 use borrow.Author.Needs.{needs}
-use Rattle.register.proofs.find_from.Statement.{statement}
-use Rattle.register.proofs.find_from.Tie as tie
-use Rattle.register.proofs.find_from.Reads as reads
-use Rattle.register.proofs.find_from.Lts as lts
+use Rattle.register.proofs.places.find_from.Statement.{statement}
+use Rattle.register.proofs.places.find_from.Tie as tie
+use Rattle.register.proofs.places.find_from.Reads as reads
+use Rattle.register.proofs.places.find_from.Lts as lts
 
 abbrev Inv-loop : tie.InvT-loop
 Inv-loop principal from r i₀ work₀ i work = (work ≤ i) × (findFrom (r .places) principal i work ≡ findFrom (r .places) principal from 0)

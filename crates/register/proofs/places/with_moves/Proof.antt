@@ -1,9 +1,9 @@
 use Rattle.register.specs.Working.Ways.{moves-set, moves-kept}
 use borrow.Author.Needs.{needs}
-use Rattle.register.proofs.with_moves.Statement.{statement}
-use Rattle.register.proofs.with_moves.Tie as tie
-use Rattle.register.proofs.with_moves.Reads as reads
-use Rattle.register.proofs.with_moves.Lts as lts
+use Rattle.register.proofs.places.with_moves.Statement.{statement}
+use Rattle.register.proofs.places.with_moves.Tie as tie
+use Rattle.register.proofs.places.with_moves.Reads as reads
+use Rattle.register.proofs.places.with_moves.Lts as lts
 
 -- src/lib.rt:160:17
 mul-p : tie.Need-mul-p

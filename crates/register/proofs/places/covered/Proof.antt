@@ -3,10 +3,10 @@ use Prim.Native.Nat.{_+_, _-_, _≤_}
 use Rattle.register.specs.Working.Places.{sumFrom, sum}
 use Rattle.register.specs.Working.Ways.{sum-start, sum-over, sum-more, sum-free, sum-end}
 use borrow.Author.Needs.{needs}
-use Rattle.register.proofs.covered.Statement.{statement}
-use Rattle.register.proofs.covered.Tie as tie
-use Rattle.register.proofs.covered.Reads as reads
-use Rattle.register.proofs.covered.Lts as lts
+use Rattle.register.proofs.places.covered.Statement.{statement}
+use Rattle.register.proofs.places.covered.Tie as tie
+use Rattle.register.proofs.places.covered.Reads as reads
+use Rattle.register.proofs.places.covered.Lts as lts
 
 abbrev Inv-loop : tie.InvT-loop
 Inv-loop r issued i₀ total₀ i total = (total ≤ issued) × (total + sumFrom (r .places) i ≡ sum (r .places))

@@ -3,10 +3,10 @@ use Prim.Native.Nat.{_-_}
 use Rattle.register.specs.Working.Places.{freeFrom}
 use Rattle.register.specs.Working.Ways.{free-here, free-more, free-end}
 use borrow.Author.Needs.{needs}
-use Rattle.register.proofs.free.Statement.{statement}
-use Rattle.register.proofs.free.Tie as tie
-use Rattle.register.proofs.free.Reads as reads
-use Rattle.register.proofs.free.Lts as lts
+use Rattle.register.proofs.places.free.Statement.{statement}
+use Rattle.register.proofs.places.free.Tie as tie
+use Rattle.register.proofs.places.free.Reads as reads
+use Rattle.register.proofs.places.free.Lts as lts
 
 abbrev Inv-loop : tie.InvT-loop
 Inv-loop r i₀ i = freeFrom (r .places) i ≡ freeFrom (r .places) 0
