@@ -3,5 +3,6 @@ pub mod Entries
 pub mod Calls
 pub mod Find
 pub mod Told
+pub mod Layout
 pub mod Theorems
 pub mod Working

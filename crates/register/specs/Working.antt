@@ -2,3 +2,4 @@ pub mod Places
 pub mod Ways
 pub mod Ties
 pub mod Operations
+pub mod Bytes

@@ -1,4 +1,5 @@
 // A register of priority moves, held by at most 64 principals. It is a value that goes in and comes back.
+pub mod layout;
 mod places;
 
 use places::free;

@@ -122,7 +122,7 @@ stored-before (suc n) l i j p h =
     apart : (i j : ℕ) → j < i → i ≡ j → ⊥
     apart i j h e = omega arith
 
-stored-here : (n : ℕ) (l : List Place) (i : ℕ) (p : Place) → i < length l → entriesIn (suc n) (set l i p) i ≡ entryOf p ∷ entriesIn n l (i + 1)
+pub stored-here : (n : ℕ) (l : List Place) (i : ℕ) (p : Place) → i < length l → entriesIn (suc n) (set l i p) i ≡ entryOf p ∷ entriesIn n l (i + 1)
 stored-here n l i p h =
     let e : getD (set l i p) i nobody ≡ p = getD-set-same l i p nobody h in
     rw (e, stored-before n l (i + 1) i p (omega arith)) refl
