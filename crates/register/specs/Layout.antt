@@ -7,7 +7,6 @@ use Rattle.text.specs.Choice.{pick}
 use Rattle.text.specs.Counted.{pairAt}
 use Rattle.register.specs.Limits.{mostPrincipals, version, headBytes, placeBytes, registerBytes}
 use Rattle.register.specs.Entries.{Entry, free, held, Contents}
-use Rattle.register.specs.Calls.{Call, Outcome, granted, refused, called}
 
 -- numbers of four and eight bytes, big-endian
 abbrev pub fourBytes : ℕ → List ℕ
@@ -64,18 +63,3 @@ decode s =
     (marked mostPrincipals s headBytes (register (record { entries = entriesAt mostPrincipals s headBytes; issued = eightAt s 1 })))
     (unreadable 2 0))
     (unreadable 5 0)
-
--- what a call on bytes gives: a number, which is 0 where it is granted, a place, and the bytes after it
-pub data Written : Type 0 where
-  written : ℕ → ℕ → List ℕ → Written
-
-abbrev pub settled : List ℕ → Outcome → Written
-settled s (granted q) = written 0 0 (encode q)
-settled s (refused n p) = written n p s
-
-abbrev pub onRegister : List ℕ → Call → Decoded → Written
-onRegister s c (register r) = settled s (called r c)
-onRegister s c (unreadable n p) = written n p s
-
-unfoldable pub onBytes : List ℕ → Call → Written
-onBytes s c = onRegister s c (decode s)

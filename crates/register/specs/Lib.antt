@@ -4,5 +4,6 @@ pub mod Calls
 pub mod Find
 pub mod Told
 pub mod Layout
+pub mod OnBytes
 pub mod Theorems
 pub mod Working

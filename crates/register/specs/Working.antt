@@ -3,3 +3,4 @@ pub mod Ways
 pub mod Ties
 pub mod Operations
 pub mod Bytes
+pub mod Boundary

@@ -1,7 +1,12 @@
 // A register of priority moves, held by at most 64 principals. It is a value that goes in and comes back.
-pub mod layout;
+mod layout;
 mod places;
 
+use layout::BAD_LENGTH;
+use layout::BYTES;
+use layout::check;
+use layout::read;
+use layout::write;
 use places::free;
 use places::is_amount;
 use places::is_sound;
@@ -11,11 +16,13 @@ use places::with_issued;
 use places::with_moves;
 use places::with_new;
 ghost use Prim.Native.Nat.{_≤_};
+ghost use lib.ListN.{length};
 ghost use mathlib.Core.Path.{_≡_};
 ghost use Rattle.register.specs.Calls.{issues, passes, spends, removes, called};
 ghost use Rattle.register.specs.Entries as entries;
 ghost use Rattle.register.specs.Find as finding;
-ghost use Rattle.register.specs.Told.{contents, Tells};
+ghost use Rattle.register.specs.OnBytes.{written, settled, onBytes, emptied, findOn};
+ghost use Rattle.register.specs.Told.{contents, told, Tells};
 ghost use Rattle.register.specs.Working.Places.{movesAt, passAt};
 
 pub const MOST_PRINCIPALS: usize = 64;
@@ -343,5 +350,139 @@ pub fn remove(register: Register, principal: u32) -> After
             place: 0,
         },
         register,
+    }
+}
+
+// What a call on bytes answers. The number is 0 where it is granted.
+#[repr(C)]
+pub struct Reply {
+    pub number: u8,
+    pub place: usize,
+}
+
+// What finding on bytes answers: a refusal's number and place, or whether the principal is held, at which place, and the work.
+#[repr(C)]
+pub struct Search {
+    pub number: u8,
+    pub place: usize,
+    pub held: bool,
+    pub at: usize,
+    pub work: usize,
+}
+
+// Writes the register of a granted call.
+fn finish(bytes: &mut [u8], after: After) -> Reply
+    requires { ⌜ length (now bytes) ≡ 841 ⌝ }
+    ensures { λ r. ⌜ written (r .number) (r .place) (now (bytes .exit)) ≡ settled (now (bytes .entry)) (told (after .answer) (contents (after .register))) ⌝ }
+{
+    let answer = after.answer;
+    match answer {
+        Answer::Granted => {
+            write(bytes, after.register);
+            Reply {
+                number: 0,
+                place: 0,
+            }
+        }
+        Answer::Refused { number, place } => Reply { number, place },
+    }
+}
+
+// Writes the empty register.
+#[no_mangle]
+pub extern "C" fn lampsickle_register_empty(bytes: &mut [u8]) -> Reply
+    ensures { λ r. ⌜ written (r .number) (r .place) (now (bytes .exit)) ≡ emptied (now (bytes .entry)) ⌝ }
+{
+    if bytes.len() != BYTES {
+        return Reply {
+            number: BAD_LENGTH,
+            place: 0,
+        };
+    }
+    write(bytes, empty());
+    Reply {
+        number: 0,
+        place: 0,
+    }
+}
+
+// Issues moves to a principal, in the bytes of a register.
+#[no_mangle]
+pub extern "C" fn lampsickle_register_issue(bytes: &mut [u8], principal: u32, amount: u64) -> Reply
+    ensures { λ r. ⌜ written (r .number) (r .place) (now (bytes .exit)) ≡ onBytes (now (bytes .entry)) (issues principal amount) ⌝ }
+{
+    match check(bytes) {
+        Answer::Refused { number, place } => Reply { number, place },
+        Answer::Granted => finish(bytes, issue(read(bytes), principal, amount)),
+    }
+}
+
+// Passes moves on, in the bytes of a register.
+#[no_mangle]
+pub extern "C" fn lampsickle_register_pass(
+    bytes: &mut [u8],
+    payer: u32,
+    receiver: u32,
+    amount: u64,
+) -> Reply
+    ensures { λ r. ⌜ written (r .number) (r .place) (now (bytes .exit)) ≡ onBytes (now (bytes .entry)) (passes payer receiver amount) ⌝ }
+{
+    match check(bytes) {
+        Answer::Refused { number, place } => Reply { number, place },
+        Answer::Granted => finish(bytes, pass(read(bytes), payer, receiver, amount)),
+    }
+}
+
+// Spends moves of a principal, in the bytes of a register.
+#[no_mangle]
+pub extern "C" fn lampsickle_register_spend(bytes: &mut [u8], payer: u32, amount: u64) -> Reply
+    ensures { λ r. ⌜ written (r .number) (r .place) (now (bytes .exit)) ≡ onBytes (now (bytes .entry)) (spends payer amount) ⌝ }
+{
+    match check(bytes) {
+        Answer::Refused { number, place } => Reply { number, place },
+        Answer::Granted => finish(bytes, spend(read(bytes), payer, amount)),
+    }
+}
+
+// Removes a principal that holds no moves, in the bytes of a register.
+#[no_mangle]
+pub extern "C" fn lampsickle_register_remove(bytes: &mut [u8], principal: u32) -> Reply
+    ensures { λ r. ⌜ written (r .number) (r .place) (now (bytes .exit)) ≡ onBytes (now (bytes .entry)) (removes principal) ⌝ }
+{
+    match check(bytes) {
+        Answer::Refused { number, place } => Reply { number, place },
+        Answer::Granted => finish(bytes, remove(read(bytes), principal)),
+    }
+}
+
+// Finds a principal in the bytes of a register.
+#[no_mangle]
+pub extern "C" fn lampsickle_register_find(bytes: &[u8], principal: u32) -> Search
+    ensures { λ r. ⌜ r ≡ findOn (now (bytes .entry)) principal ⌝ }
+{
+    match check(bytes) {
+        Answer::Refused { number, place } => Search {
+            number,
+            place,
+            held: false,
+            at: 0,
+            work: 0,
+        },
+        Answer::Granted => match find(read(bytes), principal) {
+            Found::At { place, work } => Search {
+                number: 0,
+                place: 0,
+                held: true,
+                at: place,
+                work,
+            },
+            Found::Missing { work } => Search {
+                number: 0,
+                place: 0,
+                held: false,
+                at: 0,
+                work,
+            },
+        },
     }
 }
