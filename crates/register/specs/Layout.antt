@@ -8,9 +8,12 @@ use Rattle.text.specs.Counted.{pairAt}
 use Rattle.register.specs.Limits.{mostPrincipals, version, headBytes, placeBytes, registerBytes}
 use Rattle.register.specs.Entries.{Entry, free, held, Contents}
 
--- numbers of four and eight bytes, big-endian
+-- numbers of two, four and eight bytes, big-endian
+abbrev pub twoBytes : ℕ → List ℕ
+twoBytes n = n / 256 % 256 ∷ n % 256 ∷ []
+
 abbrev pub fourBytes : ℕ → List ℕ
-fourBytes n = n / 16777216 % 256 ∷ n / 65536 % 256 ∷ n / 256 % 256 ∷ n % 256 ∷ []
+fourBytes n = twoBytes (n / 65536) ++ twoBytes (n % 65536)
 
 abbrev pub eightBytes : ℕ → List ℕ
 eightBytes n = fourBytes (n / 4294967296) ++ fourBytes (n % 4294967296)

@@ -4,3 +4,5 @@ pub mod Refusals
 pub mod Oneself
 pub mod Places
 pub mod Find
+pub mod Layout
+pub mod OnBytes

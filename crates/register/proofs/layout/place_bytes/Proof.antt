@@ -6,52 +6,52 @@ use Rattle.register.proofs.layout.place_bytes.Reads as reads
 use Rattle.register.proofs.layout.place_bytes.Lts as lts
 
 -- src/layout.rt:147:13
-cast-t8 : tie.Need-cast-t8
-cast-t8 c = search needs
+cast-t9 : tie.Need-cast-t9
+cast-t9 c = search needs
 
 -- src/layout.rt:148:13
-cast-t11 : tie.Need-cast-t11
-cast-t11 c = search needs
+cast-t12 : tie.Need-cast-t12
+cast-t12 c = search needs
 
 -- src/layout.rt:149:13
-cast-t14 : tie.Need-cast-t14
-cast-t14 c = search needs
-
--- src/layout.rt:150:13
 cast-t16 : tie.Need-cast-t16
 cast-t16 c = search needs
 
--- src/layout.rt:151:13
+-- src/layout.rt:150:13
 cast-t19 : tie.Need-cast-t19
 cast-t19 c = search needs
 
+-- src/layout.rt:151:13
+cast-t23 : tie.Need-cast-t23
+cast-t23 c = search needs
+
 -- src/layout.rt:152:13
-cast-t22 : tie.Need-cast-t22
-cast-t22 c = search needs
+cast-t26 : tie.Need-cast-t26
+cast-t26 c = search needs
 
 -- src/layout.rt:153:13
-cast-t25 : tie.Need-cast-t25
-cast-t25 c = search needs
-
--- src/layout.rt:154:13
-cast-t27 : tie.Need-cast-t27
-cast-t27 c = search needs
-
--- src/layout.rt:155:13
 cast-t30 : tie.Need-cast-t30
 cast-t30 c = search needs
 
--- src/layout.rt:156:13
+-- src/layout.rt:154:13
 cast-t33 : tie.Need-cast-t33
 cast-t33 c = search needs
 
+-- src/layout.rt:155:13
+cast-t37 : tie.Need-cast-t37
+cast-t37 c = search needs
+
+-- src/layout.rt:156:13
+cast-t40 : tie.Need-cast-t40
+cast-t40 c = search needs
+
 -- src/layout.rt:157:13
-cast-t36 : tie.Need-cast-t36
-cast-t36 c = search needs
+cast-t44 : tie.Need-cast-t44
+cast-t44 c = search needs
 
 -- src/layout.rt:158:13
-cast-t38 : tie.Need-cast-t38
-cast-t38 c = search needs
+cast-t47 : tie.Need-cast-t47
+cast-t47 c = search needs
 
 -- src/layout.rt:145:9
 returns : tie.Need-returns
@@ -65,17 +65,17 @@ pub place-bytes-spec : {M : Type 1} → statement M
 place-bytes-spec =
     tie.close
     (tie.spec
-    cast-t8
-    cast-t11
-    cast-t14
+    cast-t9
+    cast-t12
     cast-t16
     cast-t19
-    cast-t22
-    cast-t25
-    cast-t27
+    cast-t23
+    cast-t26
     cast-t30
     cast-t33
-    cast-t36
-    cast-t38
+    cast-t37
+    cast-t40
+    cast-t44
+    cast-t47
     returns
     returns-2)
