@@ -5,5 +5,6 @@ pub mod Find
 pub mod Told
 pub mod Layout
 pub mod OnBytes
+pub mod Examples
 pub mod Theorems
 pub mod Working

@@ -45,16 +45,16 @@ pub fn place_of(r: Register, principal: u32) -> Found
 pub fn free(r: Register) -> usize
     ensures { λ i. ⌜ i ≡ freeFrom (r .places) 0 ⌝ }
 {
-    let mut i: usize = 0;
-    while i < MOST_PRINCIPALS {
-        let p = r.places[i];
+    let mut first: usize = 0;
+    while first < MOST_PRINCIPALS {
+        let p = r.places[first];
         if p.held {
-            i += 1;
+            first += 1;
         } else {
-            return i;
+            return first;
         }
     }
-    i
+    first
 }
 
 // Whether the moves held are at most those issued.

@@ -6,7 +6,6 @@ use Rattle.register.proofs.empty.Tie as tie
 use Rattle.register.proofs.empty.Reads as reads
 use Rattle.register.proofs.empty.Lts as lts
 
--- src/lib.rt:70:1
 returns : tie.Need-returns
 unfolding contents empty
 returns c = refl

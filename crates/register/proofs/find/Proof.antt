@@ -7,11 +7,9 @@ use Rattle.register.proofs.find.Reads as reads
 use Rattle.register.proofs.find.Lts as lts
 use Rattle.register.proofs.places.place_of.Reads as place-of-reads
 
--- src/lib.rt:87:5
 place-of-requires : tie.Need-place-of-requires
 place-of-requires c κs = search needs
 
--- src/lib.rt:84:1
 returns : tie.Need-returns
 returns c =
     let e = places-length (c .before .args .register .places) (c .before .good .0 .1 .1 .0 .1 .0 .1) in

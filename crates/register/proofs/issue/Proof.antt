@@ -14,79 +14,60 @@ use Rattle.register.proofs.places.with_issued.Reads as with-issued-read
 use Rattle.register.proofs.places.with_moves.Reads as with-moves-reads
 use Rattle.register.proofs.places.with_new.Reads as with-new-reads
 
--- src/lib.rt:193:8
 is-sound-requires : tie.Need-is-sound-requires
 is-sound-requires c κs = search needs
 
--- src/lib.rt:194:12
 is-amount-requires : tie.Need-is-amount-requires
 is-amount-requires c κs = search needs
 
--- src/lib.rt:195:23
 add-all : tie.Need-add-all
 add-all c = search issued-fits
 
--- src/lib.rt:197:17
 returns : tie.Need-returns
 returns c = search (issue-tells, issue-over)
 
--- src/lib.rt:199:19
 place-of-requires : tie.Need-place-of-requires
 place-of-requires c κs = search needs
 
--- src/lib.rt:200:36
 enum-known-place : tie.Need-enum-known-place
 enum-known-place c = search needs
 
--- src/lib.rt:201:25
 moves-at-requires : tie.Need-moves-at-requires
 moves-at-requires c κs = search needs
 
--- src/lib.rt:202:46
 add-with-moves : tie.Need-add-with-moves
 add-with-moves c = search moves-fit
 
--- src/lib.rt:202:25
 with-moves-requires : tie.Need-with-moves-requires
 with-moves-requires c κs = search needs
 
--- src/lib.rt:203:25
 with-issued-requires : tie.Need-with-issued-requires
 with-issued-requires c κs = search needs
 
--- src/lib.rt:204:21
 returns-2 : tie.Need-returns-2
 returns-2 c = search (issue-tells, issue-more)
 
--- src/lib.rt:206:34
 enum-known-work : tie.Need-enum-known-work
 enum-known-work c = search needs
 
--- src/lib.rt:207:25
 free-requires : tie.Need-free-requires
 free-requires c κs = search needs
 
--- src/lib.rt:209:29
 with-new-requires : tie.Need-with-new-requires
 with-new-requires c κs = search needs
 
--- src/lib.rt:210:29
 with-issued-requires-2 : tie.Need-with-issued-requires-2
 with-issued-requires-2 c κs = search needs
 
--- src/lib.rt:211:25
 returns-3 : tie.Need-returns-3
 returns-3 c = search (issue-tells, issue-new)
 
--- src/lib.rt:213:21
 returns-4 : tie.Need-returns-4
 returns-4 c = search (issue-tells, issue-full)
 
--- src/lib.rt:217:9
 returns-5 : tie.Need-returns-5
 returns-5 c = search (issue-tells, issue-amount)
 
--- src/lib.rt:190:1
 returns-6 : tie.Need-returns-6
 returns-6 c = search (issue-tells, issue-unsound)
 

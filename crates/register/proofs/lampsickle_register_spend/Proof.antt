@@ -9,43 +9,33 @@ use Rattle.register.proofs.layout.check.Reads as check-reads
 use Rattle.register.proofs.layout.read.Reads as read-reads
 use Rattle.register.proofs.spend.Reads as spend-reads
 
--- src/lib.rt:441:11
 check-requires : tie.Need-check-requires
 check-requires c κs = search needs
 
--- src/lib.rt:442:27
 enum-known-number : tie.Need-enum-known-number
 enum-known-number c = search needs
 
--- src/lib.rt:443:35
 enum-told : tie.Need-enum-told
 enum-told c = search needs
 
--- src/lib.rt:443:48
 read-requires : tie.Need-read-requires
 read-requires c κs = search checked-long
 
--- src/lib.rt:443:42
 spend-requires : tie.Need-spend-requires
 spend-requires c κs = search needs
 
--- src/lib.rt:443:28
 finish-requires : tie.Need-finish-requires
 finish-requires c κs = search checked-long
 
--- src/lib.rt:437:1
 same-length : tie.Need-same-length
 same-length c = search needs
 
--- src/lib.rt:437:1
 returns : tie.Need-returns
 returns c = search unread
 
--- src/lib.rt:437:1
 same-length-2 : tie.Need-same-length-2
 same-length-2 c = search needs
 
--- src/lib.rt:437:1
 returns-2 : tie.Need-returns-2
 returns-2 c = search call-done
 

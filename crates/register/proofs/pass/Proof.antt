@@ -10,59 +10,45 @@ use Rattle.register.proofs.places.is_amount.Reads as is-amount-reads
 use Rattle.register.proofs.places.is_sound.Reads as is-sound-reads
 use Rattle.register.proofs.pass_between.Reads as pass-between-reads
 
--- src/lib.rt:269:8
 is-sound-requires : tie.Need-is-sound-requires
 is-sound-requires c κs = search needs
 
--- src/lib.rt:270:12
 is-amount-requires : tie.Need-is-amount-requires
 is-amount-requires c κs = search needs
 
--- src/lib.rt:271:19
 place-of-requires : tie.Need-place-of-requires
 place-of-requires c κs = search needs
 
--- src/lib.rt:272:36
 enum-known-i : tie.Need-enum-known-i
 enum-known-i c = search needs
 
--- src/lib.rt:273:27
 place-of-requires-2 : tie.Need-place-of-requires-2
 place-of-requires-2 c κs = search needs
 
--- src/lib.rt:274:44
 enum-known-j : tie.Need-enum-known-j
 enum-known-j c = search needs
 
--- src/lib.rt:275:29
 pass-between-requires : tie.Need-pass-between-requires
 pass-between-requires c κs = (search place-few, search amount-few)
 
--- src/lib.rt:275:29
 returns : tie.Need-returns
 returns c = search (pass-tells, pass-found)
 
--- src/lib.rt:277:48
 enum-known-other : tie.Need-enum-known-other
 enum-known-other c = search needs
 
--- src/lib.rt:278:29
 returns-2 : tie.Need-returns-2
 returns-2 c = search (pass-tells, pass-unknown-2)
 
--- src/lib.rt:282:34
 enum-known-work : tie.Need-enum-known-work
 enum-known-work c = search needs
 
--- src/lib.rt:283:21
 returns-3 : tie.Need-returns-3
 returns-3 c = search (pass-tells, pass-unknown)
 
--- src/lib.rt:287:9
 returns-4 : tie.Need-returns-4
 returns-4 c = search (pass-tells, pass-amount)
 
--- src/lib.rt:266:1
 returns-5 : tie.Need-returns-5
 returns-5 c = search (pass-tells, pass-unsound)
 

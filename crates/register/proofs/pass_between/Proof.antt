@@ -7,35 +7,27 @@ use Rattle.register.proofs.pass_between.Lts as lts
 use Rattle.register.proofs.places.moves_at.Reads as moves-at-reads
 use Rattle.register.proofs.places.with_moves.Reads as with-moves-reads
 
--- src/lib.rt:252:9
 moves-at-requires : tie.Need-moves-at-requires
 moves-at-requires c κs = search needs
 
--- src/lib.rt:254:9
 returns : tie.Need-returns
 returns c = search pass-over
 
--- src/lib.rt:257:9
 returns-2 : tie.Need-returns-2
 returns-2 c = search pass-self
 
--- src/lib.rt:259:9
 moves-at-requires-2 : tie.Need-moves-at-requires-2
 moves-at-requires-2 c κs = search needs
 
--- src/lib.rt:260:9
 with-moves-requires : tie.Need-with-moves-requires
 with-moves-requires c κs = search needs
 
--- src/lib.rt:261:30
 add-with-moves : tie.Need-add-with-moves
 add-with-moves c = search needs
 
--- src/lib.rt:261:9
 with-moves-requires-2 : tie.Need-with-moves-requires-2
 with-moves-requires-2 c κs = search needs
 
--- src/lib.rt:248:1
 returns-3 : tie.Need-returns-3
 returns-3 c = search pass-done
 

@@ -10,43 +10,33 @@ use Rattle.register.proofs.places.is_sound.Reads as is-sound-reads
 use Rattle.register.proofs.places.moves_at.Reads as moves-at-reads
 use Rattle.register.proofs.places.with_new.Reads as with-new-reads
 
--- src/lib.rt:288:8
 is-sound-requires : tie.Need-is-sound-requires
 is-sound-requires c κs = search needs
 
--- src/lib.rt:289:15
 place-of-requires : tie.Need-place-of-requires
 place-of-requires c κs = search needs
 
--- src/lib.rt:290:32
 enum-known-place : tie.Need-enum-known-place
 enum-known-place c = search needs
 
--- src/lib.rt:291:21
 moves-at-requires : tie.Need-moves-at-requires
 moves-at-requires c κs = search needs
 
--- src/lib.rt:293:21
 returns : tie.Need-returns
 returns c = search (remove-tells, remove-holds)
 
--- src/lib.rt:295:21
 with-new-requires : tie.Need-with-new-requires
 with-new-requires c κs = search needs
 
--- src/lib.rt:296:17
 returns-2 : tie.Need-returns-2
 returns-2 c = search (remove-tells, remove-done)
 
--- src/lib.rt:298:30
 enum-known-work : tie.Need-enum-known-work
 enum-known-work c = search needs
 
--- src/lib.rt:299:17
 returns-3 : tie.Need-returns-3
 returns-3 c = search (remove-tells, remove-unknown)
 
--- src/lib.rt:285:1
 returns-4 : tie.Need-returns-4
 returns-4 c = search (remove-tells, remove-unsound)
 

@@ -13,51 +13,39 @@ Inv-loop s i₀ i = readableAt s i ≡ readable s
 abbrev μ-loop : tie.MeasureT-loop
 μ-loop s i₀ i = 64 - i
 
--- src/layout.rt:112:9
 returns : tie.Need-returns Inv-loop μ-loop
 returns c = search check-length
 
--- src/layout.rt:117:8
 shared-slice-read-if2 : tie.Need-shared-slice-read-if2 Inv-loop μ-loop
 shared-slice-read-if2 c = search needs
 
--- src/layout.rt:118:9
 returns-2 : tie.Need-returns-2 Inv-loop μ-loop
 returns-2 c = search check-version
 
--- src/layout.rt:124:5
 loop-holds : tie.Need-loop-holds Inv-loop μ-loop
 loop-holds c = search check-start
 
--- src/layout.rt:125:25
 mul-at : tie.Need-mul-at Inv-loop μ-loop
 mul-at c = search needs
 
--- src/layout.rt:125:18
 add-at : tie.Need-add-at Inv-loop μ-loop
 add-at c = search needs
 
--- src/layout.rt:126:16
 shared-slice-read-if3 : tie.Need-shared-slice-read-if3 Inv-loop μ-loop
 shared-slice-read-if3 c = search needs
 
--- src/layout.rt:127:13
 returns-3 : tie.Need-returns-3 Inv-loop μ-loop
 returns-3 c = search check-bad
 
--- src/layout.rt:132:9
 add-i : tie.Need-add-i Inv-loop μ-loop
 add-i c = search needs
 
--- src/layout.rt:124:5
 loop-less : tie.Need-loop-less Inv-loop μ-loop
 loop-less c = search needs
 
--- src/layout.rt:124:5
 loop-again : tie.Need-loop-again Inv-loop μ-loop
 loop-again c = search check-more
 
--- src/layout.rt:108:1
 returns-4 : tie.Need-returns-4 Inv-loop μ-loop
 returns-4 c = search check-end
 

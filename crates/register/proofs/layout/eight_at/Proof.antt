@@ -6,27 +6,21 @@ use Rattle.register.proofs.layout.eight_at.Reads as reads
 use Rattle.register.proofs.layout.eight_at.Lts as lts
 use Rattle.register.proofs.layout.four_at.Reads as four-at-reads
 
--- src/layout.rt:62:9
 four-at-requires : tie.Need-four-at-requires
 four-at-requires c κs = search needs
 
--- src/layout.rt:63:24
 add-four-at : tie.Need-add-four-at
 add-four-at c = search needs
 
--- src/layout.rt:63:9
 four-at-requires-2 : tie.Need-four-at-requires-2
 four-at-requires-2 c κs = search needs
 
--- src/layout.rt:64:5
 mul-result : tie.Need-mul-result
 mul-result c = search needs
 
--- src/layout.rt:64:5
 add-result : tie.Need-add-result
 add-result c = search needs
 
--- src/layout.rt:58:1
 returns : tie.Need-returns
 returns c = search eight-read
 

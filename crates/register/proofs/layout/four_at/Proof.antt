@@ -6,27 +6,21 @@ use Rattle.register.proofs.layout.four_at.Reads as reads
 use Rattle.register.proofs.layout.four_at.Lts as lts
 use Rattle.register.proofs.layout.two_at.Reads as two-at-reads
 
--- src/layout.rt:53:9
 two-at-requires : tie.Need-two-at-requires
 two-at-requires c κs = search needs
 
--- src/layout.rt:54:23
 add-two-at : tie.Need-add-two-at
 add-two-at c = search needs
 
--- src/layout.rt:54:9
 two-at-requires-2 : tie.Need-two-at-requires-2
 two-at-requires-2 c κs = search needs
 
--- src/layout.rt:55:5
 mul-result : tie.Need-mul-result
 mul-result c = search needs
 
--- src/layout.rt:55:5
 add-result : tie.Need-add-result
 add-result c = search needs
 
--- src/layout.rt:49:1
 returns : tie.Need-returns
 returns c = (search four-read, search four-few)
 

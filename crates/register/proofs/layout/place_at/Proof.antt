@@ -7,35 +7,27 @@ use Rattle.register.proofs.layout.place_at.Lts as lts
 use Rattle.register.proofs.layout.eight_at.Reads as eight-at-reads
 use Rattle.register.proofs.layout.four_at.Reads as four-at-reads
 
--- src/layout.rt:72:8
 shared-slice-read-if1 : tie.Need-shared-slice-read-if1
 shared-slice-read-if1 c = search needs
 
--- src/layout.rt:73:36
 add-four-at : tie.Need-add-four-at
 add-four-at c = search needs
 
--- src/layout.rt:73:25
 four-at-requires : tie.Need-four-at-requires
 four-at-requires c κs = search needs
 
--- src/layout.rt:73:25
 cast-principal : tie.Need-cast-principal
 cast-principal c = search needs
 
--- src/layout.rt:74:33
 add-eight-at : tie.Need-add-eight-at
 add-eight-at c = search needs
 
--- src/layout.rt:74:13
 eight-at-requires : tie.Need-eight-at-requires
 eight-at-requires c κs = search needs
 
--- src/layout.rt:75:9
 returns : tie.Need-returns
 returns c = search entry-held
 
--- src/layout.rt:68:1
 returns-2 : tie.Need-returns-2
 returns-2 c = search entry-free
 

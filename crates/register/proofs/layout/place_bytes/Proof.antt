@@ -5,59 +5,45 @@ use Rattle.register.proofs.layout.place_bytes.Tie as tie
 use Rattle.register.proofs.layout.place_bytes.Reads as reads
 use Rattle.register.proofs.layout.place_bytes.Lts as lts
 
--- src/layout.rt:147:13
 cast-t9 : tie.Need-cast-t9
 cast-t9 c = search needs
 
--- src/layout.rt:148:13
 cast-t12 : tie.Need-cast-t12
 cast-t12 c = search needs
 
--- src/layout.rt:149:13
 cast-t16 : tie.Need-cast-t16
 cast-t16 c = search needs
 
--- src/layout.rt:150:13
 cast-t19 : tie.Need-cast-t19
 cast-t19 c = search needs
 
--- src/layout.rt:151:13
 cast-t23 : tie.Need-cast-t23
 cast-t23 c = search needs
 
--- src/layout.rt:152:13
 cast-t26 : tie.Need-cast-t26
 cast-t26 c = search needs
 
--- src/layout.rt:153:13
 cast-t30 : tie.Need-cast-t30
 cast-t30 c = search needs
 
--- src/layout.rt:154:13
 cast-t33 : tie.Need-cast-t33
 cast-t33 c = search needs
 
--- src/layout.rt:155:13
 cast-t37 : tie.Need-cast-t37
 cast-t37 c = search needs
 
--- src/layout.rt:156:13
 cast-t40 : tie.Need-cast-t40
 cast-t40 c = search needs
 
--- src/layout.rt:157:13
 cast-t44 : tie.Need-cast-t44
 cast-t44 c = search needs
 
--- src/layout.rt:158:13
 cast-t47 : tie.Need-cast-t47
 cast-t47 c = search needs
 
--- src/layout.rt:145:9
 returns : tie.Need-returns
 returns c = search held-bytes
 
--- src/layout.rt:138:1
 returns-2 : tie.Need-returns-2
 returns-2 c = search free-bytes
 

@@ -7,23 +7,18 @@ use Rattle.register.proofs.layout.put_place.Lts as lts
 use Rattle.register.proofs.layout.place_bytes.Reads as place-bytes-reads
 use Rattle.text.proofs.copy_at.Reads as copy-at-reads
 
--- src/layout.rt:187:13
 place-bytes-requires : tie.Need-place-bytes-requires
 place-bytes-requires c κs = search needs
 
--- src/layout.rt:188:24
 slice-aggregate-copy-at : tie.Need-slice-aggregate-copy-at
 slice-aggregate-copy-at c = search needs
 
--- src/layout.rt:188:5
 copy-at-requires : tie.Need-copy-at-requires
 copy-at-requires c κs = search needs
 
--- src/layout.rt:183:1
 same-length : tie.Need-same-length
 same-length c = search needs
 
--- src/layout.rt:183:1
 returns : tie.Need-returns
 returns c = search place-put
 

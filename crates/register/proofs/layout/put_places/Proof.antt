@@ -18,47 +18,36 @@ Inv-loop bytes₀ register i₀ bytes i = (i ≤ 64) × (length bytes ≡ 841) �
 abbrev μ-loop : tie.MeasureT-loop
 μ-loop bytes₀ register i₀ bytes i = i
 
--- src/layout.rt:197:5
 loop-holds : tie.Need-loop-holds Inv-loop μ-loop
 loop-holds c = (search needs, search needs, search put-start)
 
--- src/layout.rt:198:9
 sub-i : tie.Need-sub-i Inv-loop μ-loop
 sub-i c = search needs
 
--- src/layout.rt:199:17
 mul-p : tie.Need-mul-p Inv-loop μ-loop
 mul-p c = search needs
 
--- src/layout.rt:199:17
 element-copy-out-p : tie.Need-element-copy-out-p Inv-loop μ-loop
 element-copy-out-p c = search needs
 
--- src/layout.rt:200:33
 mul-put-place : tie.Need-mul-put-place Inv-loop μ-loop
 mul-put-place c = search needs
 
--- src/layout.rt:200:26
 add-put-place : tie.Need-add-put-place Inv-loop μ-loop
 add-put-place c = search needs
 
--- src/layout.rt:200:9
 put-place-requires : tie.Need-put-place-requires Inv-loop μ-loop
 put-place-requires c κs = search needs
 
--- src/layout.rt:197:5
 loop-less : tie.Need-loop-less Inv-loop μ-loop
 loop-less c = search needs
 
--- src/layout.rt:197:5
 loop-again : tie.Need-loop-again Inv-loop μ-loop
 loop-again c = (search needs, search put-same-length, search put-more)
 
--- src/layout.rt:192:1
 same-length : tie.Need-same-length Inv-loop μ-loop
 same-length c = search needs
 
--- src/layout.rt:192:1
 returns : tie.Need-returns Inv-loop μ-loop
 returns c =
     let e = places-length (c .before .before .before .args .t2 .places) (c .before .before .before .good .1 .0 .1 .1 .0 .1 .0 .1) in

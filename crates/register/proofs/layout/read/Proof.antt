@@ -18,47 +18,36 @@ Inv-loop s issued places₀ i₀ places i = (i ≤ 64) × (length places ≡ 64)
 abbrev μ-loop : tie.MeasureT-loop
 μ-loop s issued places₀ i₀ places i = i
 
--- src/layout.rt:93:9
 eight-at-requires : tie.Need-eight-at-requires Inv-loop μ-loop
 eight-at-requires c κs = search needs
 
--- src/layout.rt:100:5
 loop-holds : tie.Need-loop-holds Inv-loop μ-loop
 loop-holds c = (search needs, search needs, search read-start)
 
--- src/layout.rt:101:9
 sub-i : tie.Need-sub-i Inv-loop μ-loop
 sub-i c = search needs
 
--- src/layout.rt:102:40
 mul-place-at : tie.Need-mul-place-at Inv-loop μ-loop
 mul-place-at c = search needs
 
--- src/layout.rt:102:33
 add-place-at : tie.Need-add-place-at Inv-loop μ-loop
 add-place-at c = search needs
 
--- src/layout.rt:102:21
 place-at-requires : tie.Need-place-at-requires Inv-loop μ-loop
 place-at-requires c κs = search needs
 
--- src/layout.rt:102:9
 mul-places : tie.Need-mul-places Inv-loop μ-loop
 mul-places c = search needs
 
--- src/layout.rt:102:9
 array-set-from-places : tie.Need-array-set-from-places Inv-loop μ-loop
 array-set-from-places c = search needs
 
--- src/layout.rt:100:5
 loop-less : tie.Need-loop-less Inv-loop μ-loop
 loop-less c = search needs
 
--- src/layout.rt:100:5
 loop-again : tie.Need-loop-again Inv-loop μ-loop
 loop-again c = (search needs, search needs, search read-more)
 
--- src/layout.rt:89:1
 returns : tie.Need-returns Inv-loop μ-loop
 returns c = search read-done
 

@@ -6,35 +6,27 @@ use Rattle.register.proofs.layout.two_at.Reads as reads
 use Rattle.register.proofs.layout.two_at.Lts as lts
 use Rattle.register.proofs.layout.wide.Reads as wide-reads
 
--- src/layout.rt:44:18
 shared-slice-read-wide : tie.Need-shared-slice-read-wide
 shared-slice-read-wide c = search needs
 
--- src/layout.rt:44:9
 wide-requires : tie.Need-wide-requires
 wide-requires c κs = search needs
 
--- src/layout.rt:45:20
 add-wide : tie.Need-add-wide
 add-wide c = search needs
 
--- src/layout.rt:45:18
 shared-slice-read-wide-2 : tie.Need-shared-slice-read-wide-2
 shared-slice-read-wide-2 c = search needs
 
--- src/layout.rt:45:9
 wide-requires-2 : tie.Need-wide-requires-2
 wide-requires-2 c κs = search needs
 
--- src/layout.rt:46:5
 mul-result : tie.Need-mul-result
 mul-result c = search needs
 
--- src/layout.rt:46:5
 add-result : tie.Need-add-result
 add-result c = search needs
 
--- src/layout.rt:40:1
 returns : tie.Need-returns
 returns c = (search two-read, search two-few)
 

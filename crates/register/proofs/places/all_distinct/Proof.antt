@@ -15,63 +15,48 @@ Inv-loop r i₀ i = distinctFrom (r .places) i ≡ distinctFrom (r .places) 0
 abbrev μ-loop : tie.MeasureT-loop
 μ-loop r i₀ i = 64 - i
 
--- src/lib.rt:107:5
 loop-holds : tie.Need-loop-holds Inv-loop μ-loop
 loop-holds c = search needs
 
--- src/lib.rt:108:17
 mul-p : tie.Need-mul-p Inv-loop μ-loop
 mul-p c = search needs
 
--- src/lib.rt:108:17
 element-copy-out-p : tie.Need-element-copy-out-p Inv-loop μ-loop
 element-copy-out-p c = search needs
 
--- src/lib.rt:110:45
 add-find-from : tie.Need-add-find-from Inv-loop μ-loop
 add-find-from c = search needs
 
--- src/lib.rt:110:19
 find-from-requires : tie.Need-find-from-requires Inv-loop μ-loop
 find-from-requires c κs = search needs
 
--- src/lib.rt:111:29
 enum-known-place : tie.Need-enum-known-place Inv-loop μ-loop
 enum-known-place c = search needs
 
--- src/lib.rt:111:46
 returns : tie.Need-returns Inv-loop μ-loop
 returns c = search distinct-twice
 
--- src/lib.rt:112:34
 enum-known-work : tie.Need-enum-known-work Inv-loop μ-loop
 enum-known-work c = search needs
 
--- src/lib.rt:112:44
 add-i : tie.Need-add-i Inv-loop μ-loop
 add-i c = search needs
 
--- src/lib.rt:107:5
 loop-less : tie.Need-loop-less Inv-loop μ-loop
 loop-less c = search needs
 
--- src/lib.rt:107:5
 loop-again : tie.Need-loop-again Inv-loop μ-loop
 loop-again c = search distinct-more
 
--- src/lib.rt:115:13
 add-i-2 : tie.Need-add-i-2 Inv-loop μ-loop
 add-i-2 c = search needs
 
--- src/lib.rt:107:5
 loop-less-2 : tie.Need-loop-less-2 Inv-loop μ-loop
 loop-less-2 c = search needs
 
--- src/lib.rt:107:5
 loop-again-2 : tie.Need-loop-again-2 Inv-loop μ-loop
 loop-again-2 c = search distinct-free
 
--- src/lib.rt:103:1
 returns-2 : tie.Need-returns-2 Inv-loop μ-loop
 returns-2 c = search distinct-end
 

@@ -5,11 +5,9 @@ use Rattle.register.proofs.places.is_amount.Tie as tie
 use Rattle.register.proofs.places.is_amount.Reads as reads
 use Rattle.register.proofs.places.is_amount.Lts as lts
 
--- src/lib.rt:139:9
 returns : tie.Need-returns
 returns c = search amount-none
 
--- src/lib.rt:135:1
 returns-2 : tie.Need-returns-2
 returns-2 c = search amount-rest
 

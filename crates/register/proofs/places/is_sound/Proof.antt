@@ -8,23 +8,18 @@ use Rattle.register.proofs.places.is_sound.Lts as lts
 use Rattle.register.proofs.places.all_distinct.Reads as all-distinct-reads
 use Rattle.register.proofs.places.covered.Reads as covered-reads
 
--- src/lib.rt:126:12
 covered-requires : tie.Need-covered-requires
 covered-requires c κs = search needs
 
--- src/lib.rt:127:13
 all-distinct-requires : tie.Need-all-distinct-requires
 all-distinct-requires c κs = search needs
 
--- src/lib.rt:127:13
 returns : tie.Need-returns
 returns c = (search sound-rest, places-length (c .before .before .before .before .before .args .r .places) (c .before .before .before .before .before .good .0 .1 .1 .0 .1 .0 .1))
 
--- src/lib.rt:129:9
 returns-2 : tie.Need-returns-2
 returns-2 c = (search sound-over, places-length (c .before .before .before .before .args .r .places) (c .before .before .before .before .good .0 .1 .1 .0 .1 .0 .1))
 
--- src/lib.rt:122:1
 returns-3 : tie.Need-returns-3
 returns-3 c = (search sound-many, places-length (c .before .before .args .r .places) (c .before .before .good .0 .1 .1 .0 .1 .0 .1))
 

@@ -6,11 +6,9 @@ use Rattle.register.proofs.places.place_of.Reads as reads
 use Rattle.register.proofs.places.place_of.Lts as lts
 use Rattle.register.proofs.places.find_from.Reads as find-from-reads
 
--- src/lib.rt:61:5
 find-from-requires : tie.Need-find-from-requires
 find-from-requires c κs = search needs
 
--- src/lib.rt:58:1
 returns : tie.Need-returns
 returns c = search find-whole
 

@@ -5,7 +5,6 @@ use Rattle.register.proofs.places.with_issued.Tie as tie
 use Rattle.register.proofs.places.with_issued.Reads as reads
 use Rattle.register.proofs.places.with_issued.Lts as lts
 
--- src/lib.rt:181:1
 returns : tie.Need-returns
 unfolding withIssued
 returns c = search needs

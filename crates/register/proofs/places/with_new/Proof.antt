@@ -5,19 +5,15 @@ use Rattle.register.proofs.places.with_new.Tie as tie
 use Rattle.register.proofs.places.with_new.Reads as reads
 use Rattle.register.proofs.places.with_new.Lts as lts
 
--- src/lib.rt:174:9
 mul-p : tie.Need-mul-p
 mul-p c = search needs
 
--- src/lib.rt:174:9
 element-set-from-p : tie.Need-element-set-from-p
 element-set-from-p c = search needs
 
--- src/lib.rt:175:9
 returns : tie.Need-returns
 returns c = search new-set
 
--- src/lib.rt:169:1
 returns-2 : tie.Need-returns-2
 returns-2 c = search new-kept
 
