@@ -15,6 +15,7 @@ use places::place_of;
 use places::with_issued;
 use places::with_moves;
 use places::with_new;
+use places::with_principal;
 ghost use Prim.Native.Nat.{_≤_};
 ghost use lib.ListN.{length};
 ghost use mathlib.Core.Path.{_≡_};
@@ -23,7 +24,7 @@ ghost use Rattle.register.specs.Entries as entries;
 ghost use Rattle.register.specs.Find as finding;
 ghost use Rattle.register.specs.OnBytes.{written, settled, onBytes, emptied, findOn};
 ghost use Rattle.register.specs.Told.{contents, told, Tells};
-ghost use Rattle.register.specs.Working.Places.{movesAt, passAt};
+ghost use Rattle.register.specs.Working.Places.{movesAt, passAt, refused};
 
 pub const MOST_PRINCIPALS: usize = 64;
 
@@ -95,6 +96,16 @@ pub fn find(register: Register, principal: u32) -> Found
     place_of(register, principal)
 }
 
+// A call refused with a number.
+fn refuse(register: Register, number: u8) -> After
+    ensures { λ a. ⌜ a ≡ refused number register ⌝ }
+{
+    After {
+        answer: Answer::Refused { number, place: 0 },
+        register,
+    }
+}
+
 // Issues moves to a principal, which is added where it isn't held.
 pub fn issue(register: Register, principal: u32, amount: u64) -> After
     ensures { λ a. ⌜ Tells register a (called (contents register) (issues principal amount)) ⌝ }
@@ -103,13 +114,7 @@ pub fn issue(register: Register, principal: u32, amount: u64) -> After
         if is_amount(amount) {
             let all = register.issued + amount;
             if MOST_MOVES < all {
-                return After {
-                    answer: Answer::Refused {
-                        number: ISSUE_LIMIT,
-                        place: 0,
-                    },
-                    register,
-                };
+                return refuse(register, ISSUE_LIMIT);
             }
             match place_of(register, principal) {
                 Found::At { place, work } => {
@@ -124,46 +129,20 @@ pub fn issue(register: Register, principal: u32, amount: u64) -> After
                 Found::Missing { work } => {
                     let place = free(register);
                     if place < MOST_PRINCIPALS {
-                        let more = with_new(
-                            register,
-                            place,
-                            Place {
-                                held: true,
-                                principal,
-                                moves: amount,
-                            },
-                        );
+                        let more = with_principal(register, place, principal, amount);
                         let counted = with_issued(more, all);
                         return After {
                             answer: Answer::Granted,
                             register: counted,
                         };
                     }
-                    return After {
-                        answer: Answer::Refused {
-                            number: NO_PLACE,
-                            place: 0,
-                        },
-                        register,
-                    };
+                    return refuse(register, NO_PLACE);
                 }
             }
         }
-        return After {
-            answer: Answer::Refused {
-                number: AMOUNT_OUTSIDE,
-                place: 0,
-            },
-            register,
-        };
+        return refuse(register, AMOUNT_OUTSIDE);
     }
-    After {
-        answer: Answer::Refused {
-            number: DAMAGED_REGISTER,
-            place: 0,
-        },
-        register,
-    }
+    refuse(register, DAMAGED_REGISTER)
 }
 
 // Spends moves of a principal.
@@ -176,13 +155,7 @@ pub fn spend(register: Register, payer: u32, amount: u64) -> After
                 Found::At { place, work } => {
                     let moves = moves_at(register, place);
                     if moves < amount {
-                        return After {
-                            answer: Answer::Refused {
-                                number: MORE_THAN_HELD,
-                                place: 0,
-                            },
-                            register,
-                        };
+                        return refuse(register, MORE_THAN_HELD);
                     }
                     let fewer = with_moves(register, place, moves - amount);
                     return After {
@@ -191,31 +164,13 @@ pub fn spend(register: Register, payer: u32, amount: u64) -> After
                     };
                 }
                 Found::Missing { work } => {
-                    return After {
-                        answer: Answer::Refused {
-                            number: UNKNOWN_PRINCIPAL,
-                            place: 0,
-                        },
-                        register,
-                    };
+                    return refuse(register, UNKNOWN_PRINCIPAL);
                 }
             }
         }
-        return After {
-            answer: Answer::Refused {
-                number: AMOUNT_OUTSIDE,
-                place: 0,
-            },
-            register,
-        };
+        return refuse(register, AMOUNT_OUTSIDE);
     }
-    After {
-        answer: Answer::Refused {
-            number: DAMAGED_REGISTER,
-            place: 0,
-        },
-        register,
-    }
+    refuse(register, DAMAGED_REGISTER)
 }
 
 // Passes moves on from place i to place j.
@@ -225,13 +180,7 @@ fn pass_between(register: Register, i: usize, j: usize, amount: u64) -> After
 {
     let moves = moves_at(register, i);
     if moves < amount {
-        return After {
-            answer: Answer::Refused {
-                number: MORE_THAN_HELD,
-                place: 0,
-            },
-            register,
-        };
+        return refuse(register, MORE_THAN_HELD);
     }
     if i == j {
         return After {
@@ -264,42 +213,18 @@ pub fn pass(register: Register, payer: u32, receiver: u32, amount: u64) -> After
                             return pass_between(register, i, j, amount);
                         }
                         Found::Missing { work: other } => {
-                            return After {
-                                answer: Answer::Refused {
-                                    number: UNKNOWN_PRINCIPAL,
-                                    place: 0,
-                                },
-                                register,
-                            };
+                            return refuse(register, UNKNOWN_PRINCIPAL);
                         }
                     }
                 }
                 Found::Missing { work } => {
-                    return After {
-                        answer: Answer::Refused {
-                            number: UNKNOWN_PRINCIPAL,
-                            place: 0,
-                        },
-                        register,
-                    };
+                    return refuse(register, UNKNOWN_PRINCIPAL);
                 }
             }
         }
-        return After {
-            answer: Answer::Refused {
-                number: AMOUNT_OUTSIDE,
-                place: 0,
-            },
-            register,
-        };
+        return refuse(register, AMOUNT_OUTSIDE);
     }
-    After {
-        answer: Answer::Refused {
-            number: DAMAGED_REGISTER,
-            place: 0,
-        },
-        register,
-    }
+    refuse(register, DAMAGED_REGISTER)
 }
 
 // Removes a principal that holds no moves.
@@ -311,13 +236,7 @@ pub fn remove(register: Register, principal: u32) -> After
             Found::At { place, work } => {
                 let moves = moves_at(register, place);
                 if 0 < moves {
-                    return After {
-                        answer: Answer::Refused {
-                            number: MOVES_LEFT,
-                            place: 0,
-                        },
-                        register,
-                    };
+                    return refuse(register, MOVES_LEFT);
                 }
                 let freed = with_new(
                     register,
@@ -334,23 +253,11 @@ pub fn remove(register: Register, principal: u32) -> After
                 };
             }
             Found::Missing { work } => {
-                return After {
-                    answer: Answer::Refused {
-                        number: UNKNOWN_PRINCIPAL,
-                        place: 0,
-                    },
-                    register,
-                };
+                return refuse(register, UNKNOWN_PRINCIPAL);
             }
         }
     }
-    After {
-        answer: Answer::Refused {
-            number: DAMAGED_REGISTER,
-            place: 0,
-        },
-        register,
-    }
+    refuse(register, DAMAGED_REGISTER)
 }
 
 // What a call on bytes answers. The number is 0 where it is granted.

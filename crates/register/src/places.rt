@@ -4,6 +4,7 @@ use crate::MOST_MOVES;
 use crate::MOST_PRINCIPALS;
 use crate::Place;
 use crate::Register;
+ghost use mathlib.Core.Bool.{true};
 ghost use mathlib.Core.Path.{_≡_};
 ghost use Prim.Native.Nat.{_+_, _-_, _≤_};
 ghost use lib.ListN.{length, getD};
@@ -159,6 +160,21 @@ pub fn with_new(r: Register, i: usize, p: Place) -> Register
         return next;
     }
     r
+}
+
+// The register with a principal at a place.
+pub fn with_principal(r: Register, i: usize, principal: u32, moves: u64) -> Register
+    ensures { λ q. ⌜ q ≡ withNew r i (record { held = true; principal = principal; moves = moves }) ⌝ }
+{
+    with_new(
+        r,
+        i,
+        Place {
+            held: true,
+            principal,
+            moves,
+        },
+    )
 }
 
 // The register with another number of moves issued.

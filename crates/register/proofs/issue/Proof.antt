@@ -5,14 +5,15 @@ use Rattle.register.proofs.issue.Statement.{statement}
 use Rattle.register.proofs.issue.Tie as tie
 use Rattle.register.proofs.issue.Reads as reads
 use Rattle.register.proofs.issue.Lts as lts
-use Rattle.register.proofs.places.place_of.Reads as place-of-reads
 use Rattle.register.proofs.places.free.Reads as free-reads
 use Rattle.register.proofs.places.is_amount.Reads as is-amount-reads
 use Rattle.register.proofs.places.is_sound.Reads as is-sound-reads
 use Rattle.register.proofs.places.moves_at.Reads as moves-at-reads
+use Rattle.register.proofs.places.place_of.Reads as place-of-reads
 use Rattle.register.proofs.places.with_issued.Reads as with-issued-reads
 use Rattle.register.proofs.places.with_moves.Reads as with-moves-reads
-use Rattle.register.proofs.places.with_new.Reads as with-new-reads
+use Rattle.register.proofs.places.with_principal.Reads as with-principal-reads
+use Rattle.register.proofs.refuse.Reads as refuse-reads
 
 is-sound-requires : tie.Need-is-sound-requires
 is-sound-requires c κs = search needs
@@ -22,6 +23,9 @@ is-amount-requires c κs = search needs
 
 add-all : tie.Need-add-all
 add-all c = search issued-fits
+
+refuse-requires : tie.Need-refuse-requires
+refuse-requires c κs = search needs
 
 returns : tie.Need-returns
 returns c = search (issue-tells, issue-over)
@@ -53,8 +57,8 @@ enum-known-work c = search needs
 free-requires : tie.Need-free-requires
 free-requires c κs = search needs
 
-with-new-requires : tie.Need-with-new-requires
-with-new-requires c κs = search needs
+with-principal-requires : tie.Need-with-principal-requires
+with-principal-requires c κs = search needs
 
 with-issued-requires-2 : tie.Need-with-issued-requires-2
 with-issued-requires-2 c κs = search needs
@@ -62,11 +66,20 @@ with-issued-requires-2 c κs = search needs
 returns-3 : tie.Need-returns-3
 returns-3 c = search (issue-tells, issue-new)
 
+refuse-requires-2 : tie.Need-refuse-requires-2
+refuse-requires-2 c κs = search needs
+
 returns-4 : tie.Need-returns-4
 returns-4 c = search (issue-tells, issue-full)
 
+refuse-requires-3 : tie.Need-refuse-requires-3
+refuse-requires-3 c κs = search needs
+
 returns-5 : tie.Need-returns-5
 returns-5 c = search (issue-tells, issue-amount)
+
+refuse-requires-4 : tie.Need-refuse-requires-4
+refuse-requires-4 c κs = search needs
 
 returns-6 : tie.Need-returns-6
 returns-6 c = search (issue-tells, issue-unsound)
@@ -78,6 +91,7 @@ issue-spec =
     is-sound-requires
     is-amount-requires
     add-all
+    refuse-requires
     returns
     place-of-requires
     enum-known-place
@@ -88,9 +102,12 @@ issue-spec =
     returns-2
     enum-known-work
     free-requires
-    with-new-requires
+    with-principal-requires
     with-issued-requires-2
     returns-3
+    refuse-requires-2
     returns-4
+    refuse-requires-3
     returns-5
+    refuse-requires-4
     returns-6)

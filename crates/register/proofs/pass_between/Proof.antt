@@ -6,9 +6,13 @@ use Rattle.register.proofs.pass_between.Reads as reads
 use Rattle.register.proofs.pass_between.Lts as lts
 use Rattle.register.proofs.places.moves_at.Reads as moves-at-reads
 use Rattle.register.proofs.places.with_moves.Reads as with-moves-reads
+use Rattle.register.proofs.refuse.Reads as refuse-reads
 
 moves-at-requires : tie.Need-moves-at-requires
 moves-at-requires c κs = search needs
+
+refuse-requires : tie.Need-refuse-requires
+refuse-requires c κs = search needs
 
 returns : tie.Need-returns
 returns c = search pass-over
@@ -36,6 +40,7 @@ pass-between-spec =
     tie.close
     (tie.spec
     moves-at-requires
+    refuse-requires
     returns
     returns-2
     moves-at-requires-2

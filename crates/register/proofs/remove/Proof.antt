@@ -5,10 +5,11 @@ use Rattle.register.proofs.remove.Statement.{statement}
 use Rattle.register.proofs.remove.Tie as tie
 use Rattle.register.proofs.remove.Reads as reads
 use Rattle.register.proofs.remove.Lts as lts
-use Rattle.register.proofs.places.place_of.Reads as place-of-reads
 use Rattle.register.proofs.places.is_sound.Reads as is-sound-reads
 use Rattle.register.proofs.places.moves_at.Reads as moves-at-reads
+use Rattle.register.proofs.places.place_of.Reads as place-of-reads
 use Rattle.register.proofs.places.with_new.Reads as with-new-reads
+use Rattle.register.proofs.refuse.Reads as refuse-reads
 
 is-sound-requires : tie.Need-is-sound-requires
 is-sound-requires c κs = search needs
@@ -22,6 +23,9 @@ enum-known-place c = search needs
 moves-at-requires : tie.Need-moves-at-requires
 moves-at-requires c κs = search needs
 
+refuse-requires : tie.Need-refuse-requires
+refuse-requires c κs = search needs
+
 returns : tie.Need-returns
 returns c = search (remove-tells, remove-holds)
 
@@ -34,8 +38,14 @@ returns-2 c = search (remove-tells, remove-done)
 enum-known-work : tie.Need-enum-known-work
 enum-known-work c = search needs
 
+refuse-requires-2 : tie.Need-refuse-requires-2
+refuse-requires-2 c κs = search needs
+
 returns-3 : tie.Need-returns-3
 returns-3 c = search (remove-tells, remove-unknown)
+
+refuse-requires-3 : tie.Need-refuse-requires-3
+refuse-requires-3 c κs = search needs
 
 returns-4 : tie.Need-returns-4
 returns-4 c = search (remove-tells, remove-unsound)
@@ -48,9 +58,12 @@ remove-spec =
     place-of-requires
     enum-known-place
     moves-at-requires
+    refuse-requires
     returns
     with-new-requires
     returns-2
     enum-known-work
+    refuse-requires-2
     returns-3
+    refuse-requires-3
     returns-4)

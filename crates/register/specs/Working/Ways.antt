@@ -221,62 +221,62 @@ pass-fits r j n k a b e = small (k + n) (omega arith)
 
 -- the ways out of the four operations
 module _ (r : Register) (t : Bool) (te : t ≡ sound r) where
-  pub issue-unsound : (x n : ℕ) → t ≡ false → refused 20 r ≡ issueOf r x n
+  pub issue-unsound : (x n : ℕ) → t ≡ false → (a : After) → a ≡ refused 20 r → a ≡ issueOf r x n
   unfolding issueOf
-  issue-unsound x n h = simp (sym te, h)
+  issue-unsound x n h a ae = ae ∙ (simp (sym te, h))
 
-  pub spend-unsound : (x n : ℕ) → t ≡ false → refused 20 r ≡ spendOf r x n
+  pub spend-unsound : (x n : ℕ) → t ≡ false → (a : After) → a ≡ refused 20 r → a ≡ spendOf r x n
   unfolding spendOf
-  spend-unsound x n h = simp (sym te, h)
+  spend-unsound x n h a ae = ae ∙ (simp (sym te, h))
 
-  pub pass-unsound : (x y n : ℕ) → t ≡ false → refused 20 r ≡ passOf r x y n
+  pub pass-unsound : (x y n : ℕ) → t ≡ false → (a : After) → a ≡ refused 20 r → a ≡ passOf r x y n
   unfolding passOf
-  pass-unsound x y n h = simp (sym te, h)
+  pass-unsound x y n h a ae = ae ∙ (simp (sym te, h))
 
-  pub remove-unsound : (x : ℕ) → t ≡ false → refused 20 r ≡ removeOf r x
+  pub remove-unsound : (x : ℕ) → t ≡ false → (a : After) → a ≡ refused 20 r → a ≡ removeOf r x
   unfolding removeOf
-  remove-unsound x h = simp (sym te, h)
+  remove-unsound x h a ae = ae ∙ (simp (sym te, h))
 
   module _ (th : t ≡ true) (x : ℕ) (f : Found) (fe : f ≡ found (r .places) x) where
-    pub remove-unknown : (w : ℕ) → f ≡ Missing w → refused 15 r ≡ removeOf r x
+    pub remove-unknown : (w : ℕ) → f ≡ Missing w → (a : After) → a ≡ refused 15 r → a ≡ removeOf r x
     unfolding removeOf
-    remove-unknown w h = simp (sym te, th, sym fe, h)
+    remove-unknown w h a ae = ae ∙ (simp (sym te, th, sym fe, h))
 
     module _ (i w : ℕ) (fa : f ≡ At i w) (m : ℕ) (me : m ≡ movesAt r i) where
-      pub remove-holds : 0 < m → refused 19 r ≡ removeOf r x
+      pub remove-holds : 0 < m → (a : After) → a ≡ refused 19 r → a ≡ removeOf r x
       unfolding removeOf
-      remove-holds h = simp (sym te, th, sym fe, fa, sym me, lt-ltb _ _ h)
+      remove-holds h a ae = ae ∙ (simp (sym te, th, sym fe, fa, sym me, lt-ltb _ _ h))
 
       pub remove-done : m ≤ 0 → (q : Register) → q ≡ withNew r i nobody → granted q ≡ removeOf r x
       unfolding removeOf
       remove-done h q qe = simp (sym te, th, sym fe, fa, sym me, le-ltb _ _ h, qe)
 
   module _ (th : t ≡ true) (n : ℕ) (u : Bool) (ue : u ≡ amount n) where
-    pub issue-amount : (x : ℕ) → u ≡ false → refused 14 r ≡ issueOf r x n
+    pub issue-amount : (x : ℕ) → u ≡ false → (a : After) → a ≡ refused 14 r → a ≡ issueOf r x n
     unfolding issueOf
-    issue-amount x h = simp (sym te, th, sym ue, h)
+    issue-amount x h a ae = ae ∙ (simp (sym te, th, sym ue, h))
 
-    pub spend-amount : (x : ℕ) → u ≡ false → refused 14 r ≡ spendOf r x n
+    pub spend-amount : (x : ℕ) → u ≡ false → (a : After) → a ≡ refused 14 r → a ≡ spendOf r x n
     unfolding spendOf
-    spend-amount x h = simp (sym te, th, sym ue, h)
+    spend-amount x h a ae = ae ∙ (simp (sym te, th, sym ue, h))
 
-    pub pass-amount : (x y : ℕ) → u ≡ false → refused 14 r ≡ passOf r x y n
+    pub pass-amount : (x y : ℕ) → u ≡ false → (a : After) → a ≡ refused 14 r → a ≡ passOf r x y n
     unfolding passOf
-    pass-amount x y h = simp (sym te, th, sym ue, h)
+    pass-amount x y h a ae = ae ∙ (simp (sym te, th, sym ue, h))
 
     module _ (uh : u ≡ true) where
-      pub issue-over : (x : ℕ) → 1000000 < r .issued + n → refused 17 r ≡ issueOf r x n
+      pub issue-over : (x : ℕ) → 1000000 < r .issued + n → (a : After) → a ≡ refused 17 r → a ≡ issueOf r x n
       unfolding issueOf
-      issue-over x h = simp (sym te, th, sym ue, uh, lt-ltb _ _ h)
+      issue-over x h a ae = ae ∙ (simp (sym te, th, sym ue, uh, lt-ltb _ _ h))
 
       module _ (x : ℕ) (f : Found) (fe : f ≡ found (r .places) x) where
-        pub spend-unknown : (w : ℕ) → f ≡ Missing w → refused 15 r ≡ spendOf r x n
+        pub spend-unknown : (w : ℕ) → f ≡ Missing w → (a : After) → a ≡ refused 15 r → a ≡ spendOf r x n
         unfolding spendOf
-        spend-unknown w h = simp (sym te, th, sym ue, uh, sym fe, h)
+        spend-unknown w h a ae = ae ∙ (simp (sym te, th, sym ue, uh, sym fe, h))
 
-        pub pass-unknown : (y w : ℕ) → f ≡ Missing w → refused 15 r ≡ passOf r x y n
+        pub pass-unknown : (y w : ℕ) → f ≡ Missing w → (a : After) → a ≡ refused 15 r → a ≡ passOf r x y n
         unfolding passOf
-        pass-unknown y w h = simp (sym te, th, sym ue, uh, sym fe, h)
+        pass-unknown y w h a ae = ae ∙ (simp (sym te, th, sym ue, uh, sym fe, h))
 
         module _ (o : r .issued + n ≤ 1000000) where
           pub issue-more : (i w : ℕ) → f ≡ At i w → (m : ℕ) → m ≡ movesAt r i → (q : Register) → q ≡ withMoves r i (m + n)
@@ -285,9 +285,9 @@ module _ (r : Register) (t : Bool) (te : t ≡ sound r) where
           issue-more i w fa m me q qe s se = simp (sym te, th, sym ue, uh, le-ltb _ _ o, sym fe, fa, sym me, sym qe, sym se)
 
           module _ (w : ℕ) (fm : f ≡ Missing w) (i : ℕ) (ie : i ≡ freeFrom (r .places) 0) where
-            pub issue-full : 64 ≤ i → refused 18 r ≡ issueOf r x n
+            pub issue-full : 64 ≤ i → (a : After) → a ≡ refused 18 r → a ≡ issueOf r x n
             unfolding issueOf
-            issue-full h = simp (sym te, th, sym ue, uh, le-ltb _ _ o, sym fe, fm, sym ie, le-ltb _ _ h)
+            issue-full h a ae = ae ∙ (simp (sym te, th, sym ue, uh, le-ltb _ _ o, sym fe, fm, sym ie, le-ltb _ _ h))
 
             pub issue-new : i < 64 → (q : Register) → q ≡ withNew r i (record { held = true; principal = x; moves = n })
                 → (s : Register) → s ≡ withIssued q (r .issued + n) → granted s ≡ issueOf r x n
@@ -296,27 +296,27 @@ module _ (r : Register) (t : Bool) (te : t ≡ sound r) where
 
         module _ (i w : ℕ) (fa : f ≡ At i w) where
           module _ (m : ℕ) (me : m ≡ movesAt r i) where
-            pub spend-over : m < n → refused 16 r ≡ spendOf r x n
+            pub spend-over : m < n → (a : After) → a ≡ refused 16 r → a ≡ spendOf r x n
             unfolding spendOf
-            spend-over h = simp (sym te, th, sym ue, uh, sym fe, fa, sym me, lt-ltb _ _ h)
+            spend-over h a ae = ae ∙ (simp (sym te, th, sym ue, uh, sym fe, fa, sym me, lt-ltb _ _ h))
 
             pub spend-done : n ≤ m → (q : Register) → q ≡ withMoves r i (m - n) → granted q ≡ spendOf r x n
             unfolding spendOf
             spend-done h q qe = simp (sym te, th, sym ue, uh, sym fe, fa, sym me, le-ltb _ _ h, sym qe)
 
           module _ (y : ℕ) (g : Found) (ge : g ≡ found (r .places) y) where
-            pub pass-unknown-2 : (v : ℕ) → g ≡ Missing v → refused 15 r ≡ passOf r x y n
+            pub pass-unknown-2 : (v : ℕ) → g ≡ Missing v → (a : After) → a ≡ refused 15 r → a ≡ passOf r x y n
             unfolding passOf
-            pass-unknown-2 v h = simp (sym te, th, sym ue, uh, sym fe, fa, sym ge, h)
+            pass-unknown-2 v h a ae = ae ∙ (simp (sym te, th, sym ue, uh, sym fe, fa, sym ge, h))
 
             pub pass-found : (j v : ℕ) → g ≡ At j v → (a : After) → a ≡ passAt r i j n → a ≡ passOf r x y n
             unfolding passOf
             pass-found j v ga a ae = simp (sym te, th, sym ue, uh, sym fe, fa, sym ge, ga) ae
 
 module _ (r : Register) (i j n m : ℕ) (me : m ≡ movesAt r i) where
-  pub pass-over : m < n → refused 16 r ≡ passAt r i j n
+  pub pass-over : m < n → (a : After) → a ≡ refused 16 r → a ≡ passAt r i j n
   unfolding passAt
-  pass-over h = simp (sym me, lt-ltb _ _ h)
+  pass-over h a ae = ae ∙ (simp (sym me, lt-ltb _ _ h))
 
   module _ (h : n ≤ m) where
     pub pass-self : i ≡ j → granted r ≡ passAt r i j n
