@@ -1,24 +1,31 @@
-//! Links the proved static library from the repository's `target/staticlib`, or
+//! Links the proved static libraries from the repository's `target/staticlib`, or
 //! from the directory that `LAMPSICKLE_LIB` names.
 
 use std::os::unix::process::parent_id;
 use std::path::{Path, PathBuf};
 use std::process::exit;
 
-const ARCHIVE: &str = "libkeynote.a";
+const LIBRARIES: [&str; 2] = ["keynote", "register"];
 
 fn main() {
     let directory = directory();
-    let archive = directory.join(ARCHIVE);
     println!("cargo:rerun-if-env-changed=LAMPSICKLE_LIB");
+    println!("cargo:rustc-link-search=native={}", directory.display());
+    for library in LIBRARIES {
+        link(&directory.join(format!("lib{library}.a")), library);
+    }
+}
+
+fn link(archive: &Path, library: &str) {
     println!("cargo:rerun-if-changed={}", archive.display());
     if !archive.is_file() {
         eprintln!("{} is missing.", archive.display());
-        eprintln!("Run `rt staticlib keynote` at the root of the repository, or set LAMPSICKLE_LIB to the directory of {ARCHIVE}.");
+        eprintln!(
+            "Run `rt staticlib {library}` at the root of the repository, or set LAMPSICKLE_LIB to its directory."
+        );
         exit(1);
     }
-    println!("cargo:rustc-link-search=native={}", directory.display());
-    println!("cargo:rustc-link-lib=static=keynote");
+    println!("cargo:rustc-link-lib=static={library}");
 }
 
 fn directory() -> PathBuf {

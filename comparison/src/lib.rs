@@ -3,6 +3,7 @@
 pub mod fence;
 pub mod long;
 pub mod measure;
+pub mod register;
 pub mod rulings;
 
 use std::fmt::Write;

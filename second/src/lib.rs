@@ -23,6 +23,7 @@ pub mod principal;
 pub mod print;
 pub mod random;
 pub mod record;
+pub mod register;
 pub mod store;
 pub mod token;
 pub mod unread;

@@ -17,6 +17,7 @@
 
 pub mod limits;
 mod query;
+pub mod register;
 
 pub use query::{Fault, Item, Query, Standing, What};
 
@@ -69,7 +70,7 @@ pub struct Entry {
     pub place: usize,
 }
 
-/// A refused query: why, and where in the record.
+/// A refusal: why, and where in the record or the register's bytes.
 #[derive(Clone, Copy, Debug, PartialEq, Eq)]
 pub struct Refusal {
     pub number: u8,

@@ -6,6 +6,7 @@ mod open_points;
 mod oracle;
 mod places;
 mod records;
+mod register;
 mod rfc;
 mod rounds;
 mod rulings;
