@@ -15,6 +15,7 @@ mod json;
 mod limit;
 mod output;
 mod place;
+mod register;
 mod report;
 mod terminal;
 mod text;
@@ -28,7 +29,8 @@ use end::{End, Trouble};
 /// A command: what is behind its name on the command line is its own to read.
 type Command = fn(Words) -> Result<End, Trouble>;
 
-const COMMANDS: [(&str, Command); 3] = [("ask", ask::run), ("explain", explain::run), ("batch", batch::run)];
+const COMMANDS: [(&str, Command); 4] =
+    [("ask", ask::run), ("explain", explain::run), ("batch", batch::run), ("register", register::run)];
 
 fn main() -> ExitCode {
     let status = match run(Words::given()) {
