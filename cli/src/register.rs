@@ -88,10 +88,9 @@ fn granted(paths: &Paths, text: &str) -> Result<End, Trouble> {
 fn find(paths: &Paths, principal: u32) -> Result<End, Trouble> {
     let register = file::read(paths, Access::Read)?.register;
     let Found { place, work } = register.find(principal);
-    let held = place.and_then(|place| register.places().find(|held| held.place == place));
-    let text = match held {
-        Some(held) => format!("held yes\nplace {}\nmoves {}\nwork {work}\n", held.place, held.moves),
-        None => format!("held no\nwork {work}\n"),
+    let text = match (place, change::held(&register, principal)) {
+        (Some(place), Some(moves)) => format!("held yes\nplace {place}\nmoves {moves}\nwork {work}\n"),
+        _ => format!("held no\nwork {work}\n"),
     };
     answered(text.as_bytes())?;
     if refused::is_damaged(&register) {
