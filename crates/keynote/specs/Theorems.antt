@@ -20,5 +20,6 @@ pub mod Grown
 pub mod Filled
 pub mod Solved
 pub mod Answers
+pub mod More
 pub mod Hearing
 pub mod Instances
