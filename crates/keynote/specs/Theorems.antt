@@ -23,3 +23,4 @@ pub mod Answers
 pub mod More
 pub mod Hearing
 pub mod Instances
+pub mod PaperInstances
