@@ -401,7 +401,7 @@ fn installed_under_two_names() {
 #[test]
 fn nobody_asks_as_policy() {
     let words = mistake(2, &["ask", "--values", "hold,immediate", "-r", "a", "-r", "POLICY"], b"");
-    assert!(words.contains("--requester POLICY: nobody asks as POLICY"), "{words}");
+    assert!(words.contains("--requester \"POLICY\": nobody asks as POLICY"), "{words}");
     // A record made elsewhere is refused by the library, with the place.
     let record = b"\x01\x02\x00\x01h\x00\x01i\x01\x00\x06POLICY\x00\x00";
     let output = run(&["batch", "-"], &[&[0, 0, 0, record.len() as u8], &record[..]].concat());
