@@ -253,7 +253,6 @@ pub record Rulings : Type 0 where
   pub one-told : told one ≡ (0 ∷ 0 ∷ 0 ∷ [], 1 ∷ 3 ∷ 3 ∷ [])
   pub other-told : told other ≡ (0 ∷ 0 ∷ 0 ∷ [], 1 ∷ 3 ∷ 3 ∷ [])
   pub seen-told : told seen ≡ (0 ∷ 0 ∷ 0 ∷ [], 0 ∷ 1 ∷ 3 ∷ [])
-
   -- W-211: an assertion that raises the class, and one that changes nothing
   pub paper-less : told (desk ("r" ∷ []) (byPolicy ∷ [])) ≡ (0 ∷ [], 0 ∷ 0 ∷ 2 ∷ [])
   pub paper-raises : told (desk ("r" ∷ []) (byPolicy ∷ byA ∷ [])) ≡ (0 ∷ 0 ∷ [], 1 ∷ 3 ∷ 3 ∷ [])
