@@ -1,1 +1,3 @@
 pub mod Content
+pub mod Determined
+pub mod PowerCut

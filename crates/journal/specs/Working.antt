@@ -4,3 +4,6 @@ pub mod Placing
 pub mod Rooms
 pub mod Ways
 pub mod Requests
+pub mod Agreeing
+pub mod Kept
+pub mod Written
