@@ -1,3 +1,4 @@
 pub mod Content
 pub mod Determined
 pub mod PowerCut
+pub mod RoundTrip

@@ -21,7 +21,7 @@ use Rattle.journal.specs.Working.Requests.{appends, appending-is}
 use Rattle.journal.specs.Working.Ways.{end-within}
 use Rattle.journal.specs.Working.Agreeing.{front}
 use Rattle.journal.specs.Working.Kept.{kept, keptCut, cut-long, cut-low, kept-cut, kept-long, kept-low, kept-high, recover-again, recover-entries, recover-twice, recover-end}
-use Rattle.journal.specs.Working.Written.{Granted, granted-at, writtenCut, write-long, write-low, write-is, write-kept, append-undone}
+use Rattle.journal.specs.Working.Written.{Granted, granted-at, writtenCut, write-long, write-low, write-is, write-kept, append-undone, written-whole}
 use Rattle.journal.specs.Theorems.Content.{content-walk, content-only, content-is}
 use Rattle.journal.specs.Theorems.Determined.{recover-only, appended-page, Went, went-on, went-not, recovered-page}
 use Rattle.journal.specs.declared.Outcome.{Outcome}
@@ -38,7 +38,7 @@ end-after p = omega (arith, walk-le (front p))
 one : (p : List ℕ) → Fine p → 1 ≤ length p
 one p f = omega (arith, f .least)
 
-kept-fine : (p : List ℕ) → Fine p → Fine (kept p)
+pub kept-fine : (p : List ℕ) → Fine p → Fine (kept p)
 kept-fine p f = fine-too p (kept p) f (kept-long p) (kept-low p (one p f) 0 (end-after p))
 
 cut-fine : (k : ℕ) (p : List ℕ) → Fine p → Fine (keptCut k p)
@@ -48,12 +48,12 @@ cut-fine k p f =
     (λ b. let h : k ≤ length p - endAt p 1 = ltb-false _ k b in
     fine-too p (keptCut k p) f (cut-long p (one p f) k h) (cut-low p (one p f) k h 0 (omega (arith, end-after p, end-within p 1 (one p f)))))
 
-written-fine : (k : ℕ) (p a : List ℕ) (e : ℕ) → Fine p → Granted p a e → Fine (writtenCut k p e a)
+pub written-fine : (k : ℕ) (p a : List ℕ) (e : ℕ) → Fine p → Granted p a e → Fine (writtenCut k p e a)
 written-fine k p a e f g =
     fine-too p (writtenCut k p e a) f (write-long p a e g k) (write-low p a e g k 0 (omega (arith, g .ends, end-after p)))
 
 -- recovery of a page that is fine leaves what is kept
-fine-recovered : (p : List ℕ) {r : Outcome} {x : List ℕ} → Fine p → Recovered p r x → (r ≡ outcome 0) × (x ≡ kept p)
+pub fine-recovered : (p : List ℕ) {r : Outcome} {x : List ℕ} → Fine p → Recovered p r x → (r ≡ outcome 0) × (x ≡ kept p)
 unfolding kept
 fine-recovered p {r} {x} f c = of (recovered-page (λ ss. ss) p r x c)
   where
@@ -88,14 +88,14 @@ recovery-again {p} {q} {x} {r} {s} c d = of (recovered-page (λ ss. ss) p r q c)
         let u = fine-recovered (kept p) (kept-fine p f) t in
         (u .0 ∙ sym z, u .1 ∙ recover-twice p (one p f) ∙ sym same)
 
-recovered-fine : (made : List Store → List Store) (p q : List ℕ) → Recovers made p (outcome 0) q → Fine p
+pub recovered-fine : (made : List Store → List Store) (p q : List ℕ) → Recovers made p (outcome 0) q → Fine p
 recovered-fine made p q c = of (recovered-page made p (outcome 0) q c)
   where
     of : Went made p (outcome 0) q → Fine p
     of (went-on f z same) = f
     of (went-not n v z same) = not-granted (done-granted (refused n) z)
 
-zeros-all : (s : List ℕ) → ((i : ℕ) → getD s i 0 ≡ 0) → zeros s ≡ true
+pub zeros-all : (s : List ℕ) → ((i : ℕ) → getD s i 0 ≡ 0) → zeros s ≡ true
 unfolding zeros all
 zeros-all [] h = refl
 zeros-all (b ∷ s) h = rw (eq-eqb b 0 (h 0)) (zeros-all s (λ i. h (suc i)))
@@ -160,9 +160,7 @@ pub append-adds : {p a w s t : List ℕ} {l m : List (List ℕ)} → Appended p 
 unfolding writtenCut
 append-adds {p} {a} {w} whole c d =
     let u = appended-page (λ ss. ss) p a w whole in
-    let n : length (placed (endAt p 1) (entry a)) ≡ length a + 3 = placed-length (endAt p 1) (entry a) ∙ entry-length a in
-    let e : writtenCut (length a + 3) p (endAt p 1) a ≡ w
-    = ap (λ (ss : List Store). stored p ss) (take-all (length a + 3) (placed (endAt p 1) (entry a)) (omega arith)) ∙ sym (u .1) in
+    let e : writtenCut (length a + 3) p (endAt p 1) a ≡ w = sym (u .1 ∙ written-whole p a) in
     (content-is w d) .0 ∙ ap entries (sym e) ∙ (write-is p a (endAt p 1) (granted-at p a (u .0)) (length a + 3) (omega arith)) .0
     ∙ ap (λ (z : List (List ℕ)). z ++ (a ∷ [])) (sym ((content-is p c) .0))
 

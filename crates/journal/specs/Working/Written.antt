@@ -6,15 +6,15 @@ use Prim.Native.Nat.{ℕ, zero, suc, _+_, _-_, _*_, _/_, _%_, _<_, _≤_, min}
 use native.Mathlib.Omega.{arith}
 use lib.Dec.{ltb}
 use lib.ListN.{length, getD, take, drop, length-take, length-drop, List·getD-append}
-use lib.Seq.{ext-getD, getD-take, getD-drop, getD-append-seam}
+use lib.Seq.{take-all, ext-getD, getD-take, getD-drop, getD-append-seam}
 use borrow.Author.Tests.{ltb-true, ltb-false}
 use Rattle.text.specs.Choice.{split}
 use Rattle.text.specs.Counted.{part, pairAt}
 use Rattle.journal.specs.Page.{leastPage, mostPage, version, closing, entry}
-use Rattle.journal.specs.Stores.{stored, placed}
+use Rattle.journal.specs.Stores.{Store, stored, placed}
 use Rattle.journal.specs.Working.Walk.{finishedAt, entries, endAt, restOf}
 use Rattle.journal.specs.Working.Walks.{Finished, unfinished, Walk, w[], w∷, walk-append}
-use Rattle.journal.specs.Working.Placing.{stored-length, placed-take, placed-low, placed-in, placed-high}
+use Rattle.journal.specs.Working.Placing.{stored-length, placed-length, placed-take, placed-low, placed-in, placed-high}
 use Rattle.journal.specs.Working.Rooms.{entry-length, Fine, Roomy}
 use Rattle.journal.specs.Working.Requests.{rest-long}
 use Rattle.journal.specs.Working.Agreeing.{Agree, walk-agree, front, front-is, zeros-from, zeros-unfinished}
@@ -40,22 +40,22 @@ granted-at p a g =
 
 -- an entry's bytes
 module _ (a : List ℕ) where
-  entry-first : getD (entry a) 0 0 ≡ length a / 256
+  pub entry-first : getD (entry a) 0 0 ≡ length a / 256
   unfolding entry
   entry-first = refl
 
-  entry-second : getD (entry a) 1 0 ≡ length a % 256
+  pub entry-second : getD (entry a) 1 0 ≡ length a % 256
   unfolding entry
   entry-second = refl
 
   two-on : (i : ℕ) → i + 2 ≡ suc (suc i)
   two-on i = omega arith
 
-  entry-answer : (i : ℕ) → i < length a → getD (entry a) (i + 2) 0 ≡ getD a i 0
+  pub entry-answer : (i : ℕ) → i < length a → getD (entry a) (i + 2) 0 ≡ getD a i 0
   unfolding entry
   entry-answer i h = rw (two-on i) (List·getD-append a (closing ∷ []) 0 i h)
 
-  entry-close : getD (entry a) (length a + 2) 0 ≡ closing
+  pub entry-close : getD (entry a) (length a + 2) 0 ≡ closing
   unfolding entry
   entry-close = rw (two-on (length a)) (getD-append-seam a closing [] 0)
 
@@ -154,3 +154,10 @@ module _ (p a : List ℕ) (e : ℕ) (g : Granted p a e) (k : ℕ) where
       let i = front-is (walk-agree (front p) write-agree) s in
       kept-same p one (writtenCut k p e a) write-agree (i .1)
       ∙ clean-kept p one (λ i l. g .clear i (omega (arith, g .ends)))
+
+-- as many stores as the entry has bytes are all of them
+pub written-whole : (p a : List ℕ) → stored p (placed (endAt p 1) (entry a)) ≡ writtenCut (length a + 3) p (endAt p 1) a
+unfolding writtenCut
+written-whole p a =
+    let n : length (placed (endAt p 1) (entry a)) ≡ length a + 3 = placed-length (endAt p 1) (entry a) ∙ entry-length a in
+    ap (λ (ss : List Store). stored p ss) (sym (take-all (length a + 3) (placed (endAt p 1) (entry a)) (omega arith)))
