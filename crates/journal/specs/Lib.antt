@@ -1,5 +1,6 @@
 pub mod Page
 pub mod Stores
 pub mod Journal
-pub mod Working
+pub mod Rulings
 pub mod Theorems
+pub mod Working
