@@ -1,11 +1,11 @@
 -- Appending and recovery: what they refuse, the stores they make, and the page that some of these leave. Assumes nothing.
 use mathlib.Core.Path.{_≡_}
-use mathlib.Core.List.{List}
-use Prim.Native.Nat.{ℕ, _-_}
+use mathlib.Core.List.{List, [], _∷_, _++_}
+use Prim.Native.Nat.{ℕ, _+_, _-_}
 use lib.Dec.{eqb, ltb}
 use lib.ListN.{length, getD, take}
 use Rattle.text.specs.Choice.{pick}
-use Rattle.journal.specs.Page.{leastPage, mostPage, version, Content, zeros, entry}
+use Rattle.journal.specs.Page.{leastPage, mostPage, version, closing, Content, zeros, sizeBytes, entry}
 use Rattle.journal.specs.Stores.{Store, stored, placed, cleared}
 use Rattle.journal.specs.declared.Outcome.{Outcome}
 
@@ -55,9 +55,13 @@ abbrev pub allowed : Verdict → List Store → List ℕ → List ℕ
 allowed granted ss p = stored p ss
 allowed (refused r) ss p = p
 
--- the stores of appending: length, answer, closing byte, at the front of the rest
+-- the stores of an entry at a place: its length, its answer, and the closing byte "stored last"
+unfoldable pub entryStores : ℕ → List ℕ → List Store
+entryStores at a = placed at (sizeBytes a) ++ (placed (at + 2) a ++ placed (at + 2 + length a) (closing ∷ []))
+
+-- the stores of appending, at the front of the rest
 unfoldable pub appending : List ℕ → List ℕ → List ℕ → List Store
-appending p rest a = placed (length p - length rest) (entry a)
+appending p rest a = entryStores (length p - length rest) a
 
 -- the stores of recovery: "clears the rest to zeros", from the page's end towards the front
 unfoldable pub clearing : List ℕ → List ℕ → List Store

@@ -53,9 +53,12 @@ isZero b = eqb b 0
 unfoldable pub zeros : List ℕ → Bool
 zeros s = all isZero s
 
--- the entry that is written for an answer
+-- the entry that is written for an answer: "two-byte length", big-endian, "answer, and a closing byte"
+abbrev pub sizeBytes : List ℕ → List ℕ
+sizeBytes a = length a / 256 ∷ length a % 256 ∷ []
+
 unfoldable pub entry : List ℕ → List ℕ
-entry a = length a / 256 ∷ length a % 256 ∷ (a ++ (closing ∷ []))
+entry a = sizeBytes a ++ (a ++ (closing ∷ []))
 
 unfoldable pub written : List (List ℕ) → List ℕ
 written [] = []

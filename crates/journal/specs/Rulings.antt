@@ -7,7 +7,7 @@ use Rattle.text.specs.All as TextAll
 use Rattle.text.specs.Counted as TextCounted
 use Rattle.journal.specs.Page.{zeros, entry, written, holding}
 use Rattle.journal.specs.Stores.{Store, stored, placed, cleared}
-use Rattle.journal.specs.Journal.{Verdict, granted, refused, outcome, outcomeOf, recoverVerdict, appendVerdict, allowed, appending, clearing, Appends, Recovers}
+use Rattle.journal.specs.Journal.{Verdict, granted, refused, outcome, outcomeOf, recoverVerdict, appendVerdict, allowed, entryStores, appending, clearing, Appends, Recovers}
 use Rattle.journal.specs.Working.Walk.{behind, finishedAt, entriesIn, entries, endIn, endAt, restOf}
 use Rattle.journal.specs.Working.Requests.{appends, recovers}
 
@@ -79,7 +79,7 @@ pub appending-rulings : appending-table ≡
     ∷ (0, (1 ∷ 0 ∷ 12 ∷ 1 ∷ 1 ∷ 1 ∷ 1 ∷ 1 ∷ 1 ∷ 1 ∷ 1 ∷ 1 ∷ 1 ∷ 1 ∷ 1 ∷ 1 ∷ []))
     ∷ (9, (1 ∷ replicate 15 0))
     ∷ []
-unfolding appendOf recoverOf restOf endAt endIn entries entriesIn behind finishedAt zeros entry appendVerdict recoverVerdict appending clearing stored placed cleared TextAll.all TextCounted.pairAt TextCounted.part
+unfolding appendOf recoverOf restOf endAt endIn entries entriesIn behind finishedAt zeros entry appendVerdict recoverVerdict appending clearing stored placed cleared entryStores TextAll.all TextCounted.pairAt TextCounted.part
 appending-rulings = refl
 
 -- recovery: J03-10, J03-11, J04-01, J04-02, J04-03, J04-04, J04-05
@@ -103,7 +103,7 @@ pub recovery-rulings : recovery-table ≡
     ∷ (0, (1 ∷ 0 ∷ 1 ∷ 255 ∷ 1 ∷ replicate 11 0))
     ∷ (0, (1 ∷ 0 ∷ 9 ∷ 7 ∷ 7 ∷ 7 ∷ 7 ∷ 7 ∷ 7 ∷ 7 ∷ 7 ∷ 7 ∷ 1 ∷ 0 ∷ 0 ∷ 0 ∷ []))
     ∷ []
-unfolding appendOf recoverOf restOf endAt endIn entries entriesIn behind finishedAt zeros entry appendVerdict recoverVerdict appending clearing stored placed cleared TextAll.all TextCounted.pairAt TextCounted.part
+unfolding appendOf recoverOf restOf endAt endIn entries entriesIn behind finishedAt zeros entry appendVerdict recoverVerdict appending clearing stored placed cleared entryStores TextAll.all TextCounted.pairAt TextCounted.part
 recovery-rulings = refl
 
 -- a cut behind each of the five stores of an answer of two bytes, behind an entry; J05: the first stores no other byte than was there
@@ -124,7 +124,7 @@ abbrev held : List (List ℕ)
 held = (255 ∷ []) ∷ []
 
 pub cut-appending : cuts ≡ held ∷ held ∷ held ∷ held ∷ held ∷ ((255 ∷ []) ∷ (1 ∷ 1 ∷ []) ∷ []) ∷ []
-unfolding appendOf recoverOf restOf endAt endIn entries entriesIn behind finishedAt zeros entry appendVerdict recoverVerdict appending clearing stored placed cleared TextAll.all TextCounted.pairAt TextCounted.part
+unfolding appendOf recoverOf restOf endAt endIn entries entriesIn behind finishedAt zeros entry appendVerdict recoverVerdict appending clearing stored placed cleared entryStores TextAll.all TextCounted.pairAt TextCounted.part
 cut-appending = refl
 
 -- a cut within recovery, and recovery again
@@ -132,12 +132,12 @@ abbrev torn : List ℕ
 torn = 1 ∷ 1 ∷ 1 ∷ 255 ∷ 1 ∷ replicate 11 7
 
 pub cut-recovering : recoverOf 99 (recoverOf 5 torn .1) ≡ recoverOf 99 torn
-unfolding appendOf recoverOf restOf endAt endIn entries entriesIn behind finishedAt zeros entry appendVerdict recoverVerdict appending clearing stored placed cleared TextAll.all TextCounted.pairAt TextCounted.part
+unfolding appendOf recoverOf restOf endAt endIn entries entriesIn behind finishedAt zeros entry appendVerdict recoverVerdict appending clearing stored placed cleared entryStores TextAll.all TextCounted.pairAt TextCounted.part
 cut-recovering = refl
 
 -- J01 (c): recovery from the front instead would make a finished entry of what was none, here with its first store
 pub from-the-front : entries torn ≡ [] × (entries (stored torn (take 1 (placed 1 (replicate 15 0)))) ≡ (255 ∷ []) ∷ [])
-unfolding appendOf recoverOf restOf endAt endIn entries entriesIn behind finishedAt zeros entry appendVerdict recoverVerdict appending clearing stored placed cleared TextAll.all TextCounted.pairAt TextCounted.part
+unfolding appendOf recoverOf restOf endAt endIn entries entriesIn behind finishedAt zeros entry appendVerdict recoverVerdict appending clearing stored placed cleared entryStores TextAll.all TextCounted.pairAt TextCounted.part
 from-the-front = (refl, refl)
 
 -- J01 (b): the answer before the length would leave an entry of a wrong length, here behind the answer and the first byte of its length, 257
@@ -145,10 +145,10 @@ abbrev long : List ℕ
 long = replicate 256 7 ++ (1 ∷ [])
 
 pub answer-first : entries (stored (1 ∷ replicate 263 0) (placed 3 long ++ placed 1 (1 ∷ []))) ≡ replicate 256 7 ∷ []
-unfolding appendOf recoverOf restOf endAt endIn entries entriesIn behind finishedAt zeros entry appendVerdict recoverVerdict appending clearing stored placed cleared TextAll.all TextCounted.pairAt TextCounted.part
+unfolding appendOf recoverOf restOf endAt endIn entries entriesIn behind finishedAt zeros entry appendVerdict recoverVerdict appending clearing stored placed cleared entryStores TextAll.all TextCounted.pairAt TextCounted.part
 answer-first = refl
 
 -- an empty answer isn't read again: an entry's length is never 0
 pub empty-answer : entries (holding 16 ([] ∷ [])) ≡ []
-unfolding holding written appendOf recoverOf restOf endAt endIn entries entriesIn behind finishedAt zeros entry appendVerdict recoverVerdict appending clearing stored placed cleared TextAll.all TextCounted.pairAt TextCounted.part
+unfolding holding written appendOf recoverOf restOf endAt endIn entries entriesIn behind finishedAt zeros entry appendVerdict recoverVerdict appending clearing stored placed cleared entryStores TextAll.all TextCounted.pairAt TextCounted.part
 empty-answer = refl

@@ -31,16 +31,18 @@ recover-some made p = record { result = outcomeOf (recoverVerdict p); page = all
 module _ (made : List Store → List Store) {p a q x : List ℕ} {o r : Outcome} where
   pub append-only : Appends made p a o q → Appends made p a r x → (o ≡ r) × (q ≡ x)
   append-only c d =
-      let e : c .rest ≡ d .rest = (content-only (c .content) (d .content)) .1 in
-      (c .result ∙ ap (λ (s : List ℕ). outcomeOf (appendVerdict p s a)) e ∙ sym (d .result)
-      , c .page ∙ ap (λ (s : List ℕ). allowed (appendVerdict p s a) (made (appending p s a)) p) e ∙ sym (d .page))
+      let e : c .rest ≡ d .rest = (content-only (c .content) (d .content)) .1 in (
+        c .result ∙ ap (λ (s : List ℕ). outcomeOf (appendVerdict p s a)) e ∙ sym (d .result),
+        c .page ∙ ap (λ (s : List ℕ). allowed (appendVerdict p s a) (made (appending p s a)) p) e ∙ sym (d .page),
+      )
 
 module _ (made : List Store → List Store) {p q x : List ℕ} {o r : Outcome} where
   pub recover-only : Recovers made p o q → Recovers made p r x → (o ≡ r) × (q ≡ x)
   recover-only c d =
-      let e : c .rest ≡ d .rest = (content-only (c .content) (d .content)) .1 in
-      (c .result ∙ sym (d .result)
-      , c .page ∙ ap (λ (s : List ℕ). allowed (recoverVerdict p) (made (clearing p s)) p) e ∙ sym (d .page))
+      let e : c .rest ≡ d .rest = (content-only (c .content) (d .content)) .1 in (
+        c .result ∙ sym (d .result),
+        c .page ∙ ap (λ (s : List ℕ). allowed (recoverVerdict p) (made (clearing p s)) p) e ∙ sym (d .page),
+      )
 
 -- ---- which is, in places
 

@@ -136,14 +136,19 @@ module _ (k : ℕ) (p a w q x : List ℕ) (r : Outcome) (y : Roomy p a) (we : w 
       let n : length (placed (endAt p 1) (entry a)) ≡ length a + 3 = placed-length (endAt p 1) (entry a) ∙ entry-length a in
       ap (λ (ss : List Store). stored p ss) (take-all k (placed (endAt p 1) (entry a)) (omega arith)) ∙ sym we
 
-  undone : x ≡ pick (ltb k (length (entry a))) p w
-  undone =
-      split (ltb k (length (entry a)))
-      (λ t. let h : k < length (entry a) = ltb-true _ _ t in
-      rw t (found .1 ∙ append-undone p a (endAt p 1) g k (omega (arith, entry-length a))))
-      (λ t. let h : length (entry a) ≤ k = ltb-false _ _ t in
+  -- before the last store recovery gives the page before
+  undone : k < length (entry a) → x ≡ p
+  undone h = found .1 ∙ append-undone p a (endAt p 1) g k (omega (arith, entry-length a))
+
+  -- from it on recovery gives the page with the entry
+  finished : length (entry a) ≤ k → x ≡ w
+  finished h =
       let n : length a + 3 ≤ k = omega (arith, entry-length a) in
-      rw t (found .1 ∙ write-kept p a (endAt p 1) g k n ∙ complete n))
+      found .1 ∙ write-kept p a (endAt p 1) g k n ∙ complete n
+
+  either : x ≡ pick (ltb k (length (entry a))) p w
+  either =
+      split (ltb k (length (entry a))) (λ t. rw t (undone (ltb-true k (length (entry a)) t))) (λ t. rw t (finished (ltb-false k (length (entry a)) t)))
 
 -- "after a cut behind any single byte store these are all that were finished, and the interrupted one exactly if its closing byte was stored":
 -- for every number of stores made, recovery gives the page before as long as the last store, the closing byte's, isn't among them, and else the page
@@ -153,7 +158,7 @@ pub cut-append : (k : ℕ) {p a w q x : List ℕ} {r : Outcome} → Appended p a
 cut-append k {p} {a} {w} {q} {x} {r} whole c d =
     let u = appended-page (λ ss. ss) p a w whole in
     let v = appended-page (take k) p a q c in
-    ((found k p a w q x r (u .0) (u .1) (v .1) d) .0, undone k p a w q x r (u .0) (u .1) (v .1) d)
+    ((found k p a w q x r (u .0) (u .1) (v .1) d) .0, either k p a w q x r (u .0) (u .1) (v .1) d)
 
 -- appending adds the answer behind the finished entries
 pub append-adds : {p a w s t : List ℕ} {l m : List (List ℕ)} → Appended p a (outcome 0) w → Content p l s → Content w m t → m ≡ l ++ (a ∷ [])

@@ -131,7 +131,6 @@ clean-kept p one z =
     (λ t. kept-low p one i (ltb-true i (endAt p 1) t))
     (λ t. kept-high p one i (ltb-false i (endAt p 1) t) ∙ sym (z i (ltb-false i (endAt p 1) t))))
 
-
 -- where they end stays too
 pub recover-end : (p : List ℕ) → 1 ≤ length p → endAt (kept p) 1 ≡ endAt p 1
 recover-end p one =

@@ -50,6 +50,13 @@ shift at j = omega arith
 plus-zero : (at : ℕ) → at ≡ at + zero
 plus-zero at = omega arith
 
+pub placed-append : (at : ℕ) (bs cs : List ℕ) → placed at (bs ++ cs) ≡ placed at bs ++ placed (at + length bs) cs
+unfolding placed
+placed-append at [] cs = ap (λ (i : ℕ). placed i cs) (plus-zero at)
+placed-append at (b ∷ bs) cs =
+    let s : at + 1 + length bs ≡ at + suc (length bs) = shift at (length bs) in
+    ap {B = List Store} (λ r. (at, b) ∷ r) (placed-append (at + 1) bs cs ∙ ap (λ (i : ℕ). placed (at + 1) bs ++ placed i cs) s)
+
 pub placed-at : (at : ℕ) (bs : List ℕ) (j : ℕ) → j < length bs → getD (placed at bs) j (0, 0) ≡ (at + j, getD bs j 0)
 unfolding placed
 placed-at at [] j h = absurd (not-suc-le-zero h)
@@ -86,7 +93,7 @@ placed-high p at (b ∷ bs) i h =
 pub cleared-length : (n at : ℕ) → length (cleared n at) ≡ n
 unfolding cleared
 cleared-length zero at = refl
-cleared-length (suc n) at = ap suc (cleared-length n at)
+cleared-length (suc n) at = ap suc (cleared-length n _)
 
 pub cleared-at : (n at j : ℕ) → j < n → getD (cleared n at) j (0, 0) ≡ (at + n - 1 - j, 0)
 unfolding cleared

@@ -1,6 +1,6 @@
 -- The ways out of the functions that are called from outside. Assumes nothing.
 use mathlib.Core.Path.{_≡_, refl, sym, ap, _∙_}
-use mathlib.Core.List.{List, [], _∷_}
+use mathlib.Core.List.{List, [], _∷_, _++_}
 use Prim.Native.Nat.{ℕ, _+_, _-_, _<_, _≤_, min}
 use native.Mathlib.Omega.{arith}
 use lib.Dec.{ltb}
@@ -8,11 +8,11 @@ use lib.ListN.{length, take, length-drop}
 use lib.Seq.{take-all}
 use borrow.Author.Tests.{ltb-true, ltb-false}
 use Rattle.text.specs.Choice.{split}
-use Rattle.journal.specs.Page.{leastPage, mostPage, entry}
+use Rattle.journal.specs.Page.{leastPage, closing, sizeBytes, entry}
 use Rattle.journal.specs.Stores.{Store, stored, placed, cleared}
-use Rattle.journal.specs.Journal.{Verdict, granted, refused, number, recoverVerdict, appendVerdict, outcome, outcomeOf, allowed, appending, clearing, Appends, Recovers, AppendCut, Appended, RecoverCut, Recovered}
+use Rattle.journal.specs.Journal.{Verdict, granted, refused, number, recoverVerdict, appendVerdict, outcome, outcomeOf, allowed, entryStores, appending, clearing, Appends, Recovers, AppendCut, Appended, RecoverCut, Recovered}
 use Rattle.journal.specs.Working.Walk.{entries, endAt, restOf}
-use Rattle.journal.specs.Working.Placing.{placed-length, cleared-length}
+use Rattle.journal.specs.Working.Placing.{placed-length, placed-append, cleared-length}
 use Rattle.journal.specs.Working.Rooms.{roomOf, opened, room, entry-length, Fine, fine-facts, Roomy, roomy-facts}
 use Rattle.journal.specs.Working.Ways.{at-not, at-same, end-within}
 use Rattle.journal.specs.Theorems.Content.{content-walk, content-is}
@@ -52,9 +52,16 @@ verdict-not : (v : Verdict) (n d : ℕ) → roomOf v d ≡ Not n → (outcome n 
 verdict-not granted n d h = not-at h
 verdict-not (refused r) n d h = (ap outcome (not-same h), λ ss p. refl)
 
+-- the stores of an entry are its bytes from the first to the last
+stores-are : (at : ℕ) (a : List ℕ) → entryStores at a ≡ placed at (entry a)
+unfolding entryStores entry
+stores-are at a =
+    sym (placed-append at (sizeBytes a) (a ++ (closing ∷ []))
+    ∙ ap (λ (ss : List Store). placed at (sizeBytes a) ++ ss) (placed-append (at + 2) a (closing ∷ [])))
+
 pub appending-is : (p a : List ℕ) → leastPage ≤ length p → appending p (restOf p) a ≡ placed (endAt p 1) (entry a)
 unfolding appending
-appending-is p a h = rw (rest-at p h) refl
+appending-is p a h = rw (rest-at p h) (stores-are (endAt p 1) a)
 
 pub clearing-is : (p : List ℕ) → leastPage ≤ length p → clearing p (restOf p) ≡ cleared (length p - endAt p 1) (endAt p 1)
 unfolding clearing
@@ -116,7 +123,9 @@ unfolding appending
 appending-few p a rest e h =
     let g : Roomy p a = roomy-facts p a (rw e at h) in
     let n : length rest ≡ length (restOf p) = ap length e in
-    omega (arith, placed-length (length p - length rest) (entry a), entry-length a, g .fits, n, rest-long p)
+    let m : length (entryStores (length p - length rest) a) ≡ length (entry a)
+    = ap length (stores-are (length p - length rest) a) ∙ placed-length (length p - length rest) (entry a) in
+    omega (arith, m, entry-length a, g .fits, n, rest-long p)
 
 pub append-whole : (p a : List ℕ) (o : Outcome) (q : List ℕ) → AppendCut (length p) p a o q → Appended p a o q
 append-whole p a o q c =

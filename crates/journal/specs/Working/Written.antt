@@ -31,12 +31,13 @@ pub record Granted (p a : List ℕ) (e : ℕ) : Type 0 where
 pub granted-at : (p a : List ℕ) → Roomy p a → Granted p a (endAt p 1)
 unfolding restOf
 granted-at p a g =
-    record
-    { least = (g .fine) .least
-    ; some = g .some
-    ; ends = refl
-    ; clear = zeros-from p (endAt p 1) (g .clear)
-    ; fits = omega (arith, g .fits, rest-long p) }
+    record {
+      least = (g .fine) .least;
+      some = g .some;
+      ends = refl;
+      clear = zeros-from p (endAt p 1) (g .clear);
+      fits = omega (arith, g .fits, rest-long p);
+    }
 
 -- an entry's bytes
 module _ (a : List ℕ) where
