@@ -1,6 +1,8 @@
 //! The proved journal beside the second one: every cut of appending and of
 //! recovery, on generated pages and answers.
 
+use std::hint::black_box;
+
 use lampsickle::journal;
 use lampsickle::Refusal;
 use second::journal::{make, page as holding, Plan};
@@ -8,6 +10,7 @@ use second::limits::{JOURNAL_BYTES, JOURNAL_VERSION};
 use second::random::Random;
 
 use crate::fence::between_fences;
+use crate::measure::{in_turns, Medians};
 
 /// The first stores of an operation on a page: the number of a refusal, or 0.
 #[derive(Clone, Copy)]
@@ -223,4 +226,76 @@ fn damage(random: &mut Random, page: &mut [u8], answer: &[u8]) {
             carry_out(second::journal::append(page, answer), page, stores);
         }
     }
+}
+
+/// A piece of work to be measured: an operation on a page that is the same each
+/// time, or appending to it until it is full.
+pub struct Work {
+    pub name: String,
+    page: Vec<u8>,
+    answer: Vec<u8>,
+    kind: Kind,
+}
+
+enum Kind {
+    Fill,
+    Append,
+    Recover,
+}
+
+/// The library without fences.
+const BARE: Implementation = Implementation {
+    append: |page, answer, _| number(journal::append(page, answer)),
+    recover: |page, _| number(journal::recover(page)),
+};
+
+impl Work {
+    pub fn measure(&self) -> Medians {
+        let (mut one, mut other) = (self.page.clone(), self.page.clone());
+        assert_eq!(self.run(BARE, &mut one), self.run(SECOND, &mut other));
+        assert_eq!(one, other);
+        in_turns(|| self.run(BARE, &mut one), || self.run(SECOND, &mut other))
+    }
+
+    /// Does the work on a copy of the page, and says how many operations it was.
+    fn run(&self, by: Implementation, page: &mut [u8]) -> u32 {
+        page.copy_from_slice(&self.page);
+        let (page, answer) = (black_box(page), black_box(&self.answer));
+        match self.kind {
+            Kind::Fill => (0..).find(|_| (by.append)(page, answer, ALL) != 0).expect("a page is full at last"),
+            Kind::Append => 1 + u32::from((by.append)(page, answer, ALL)),
+            Kind::Recover => 1 + u32::from((by.recover)(page, ALL)),
+        }
+    }
+}
+
+/// What is measured, on pages of 4 KiB and of the greatest size.
+pub fn works() -> Vec<Work> {
+    let sizes = [("4 KiB", 4_096), ("65,535 bytes", JOURNAL_BYTES.most)];
+    sizes.into_iter().flat_map(|(name, size)| works_on(name, size)).collect()
+}
+
+fn works_on(size_name: &str, size: usize) -> Vec<Work> {
+    let answer = vec![7; 32];
+    let empty = journal::empty(size).expect("a page's size");
+    let mut full = empty.clone();
+    while journal::append(&mut full, &answer).is_ok() {}
+    let last = full.iter().rposition(|byte| *byte != 0).expect("an entry");
+    let mut almost = full.clone();
+    almost[last + 1 - 35..].fill(0);
+    let mut torn = empty.clone();
+    torn[1..].fill(7);
+    let work = |name: &str, page: &[u8], kind| Work {
+        name: format!("journal of {size_name}: {name}"),
+        page: page.to_vec(),
+        answer: answer.clone(),
+        kind,
+    };
+    vec![
+        work("appends of 32 bytes until full", &empty, Kind::Fill),
+        work("append to an empty page", &empty, Kind::Append),
+        work("append to an almost full page", &almost, Kind::Append),
+        work("recovery of a full page", &full, Kind::Recover),
+        work("recovery of a page without entries", &torn, Kind::Recover),
+    ]
 }
