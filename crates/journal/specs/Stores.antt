@@ -21,3 +21,10 @@ placed at (b ∷ bs) = (at, b) ∷ placed (at + 1) bs
 unfoldable pub cleared : ℕ → ℕ → List Store
 cleared zero at = []
 cleared (suc n) at = (at + n, 0) ∷ cleared n at
+
+-- the page after some of these stores, whichever: what may have reached a medium that promises no order. The stores of an operation go to places
+-- of their own, so that their order makes no difference to the page
+pub data SomeOf : List ℕ → List Store → List ℕ → Type 0 where
+  s[] : {p : List ℕ} → SomeOf p [] p
+  made : {p q : List ℕ} {s : Store} {ss : List Store} → SomeOf (set p (s .0) (s .1)) ss q → SomeOf p (s ∷ ss) q
+  lost : {p q : List ℕ} {s : Store} {ss : List Store} → SomeOf p ss q → SomeOf p (s ∷ ss) q

@@ -29,10 +29,10 @@ use Rattle.journal.specs.declared.Outcome.{Outcome}
 -- ---- pages that are fine
 
 -- a page with the length and the first byte of one that is fine
-fine-too : (p q : List ℕ) → Fine p → length q ≡ length p → getD q 0 0 ≡ getD p 0 0 → Fine q
+pub fine-too : (p q : List ℕ) → Fine p → length q ≡ length p → getD q 0 0 ≡ getD p 0 0 → Fine q
 fine-too p q f l v = record { least = omega (arith, l, f .least); most = omega (arith, l, f .most); versioned = v ∙ f .versioned }
 
-end-after : (p : List ℕ) → 0 < endAt p 1
+pub end-after : (p : List ℕ) → 0 < endAt p 1
 end-after p = omega (arith, walk-le (front p))
 
 one : (p : List ℕ) → Fine p → 1 ≤ length p

@@ -91,7 +91,7 @@ module _ (p a : List ℕ) (e : ℕ) (g : Granted p a e) (k : ℕ) where
       rw (placed-take k e (entry a))
       (placed-high p e (take k (entry a)) i (omega (arith, length-take k (entry a), entry-length a)) ∙ g .clear i (omega arith))
 
-  write-pair : 2 ≤ k → pairAt (writtenCut k p e a) e ≡ length a
+  pub write-pair : 2 ≤ k → pairAt (writtenCut k p e a) e ≡ length a
   unfolding pairAt
   write-pair h =
       let s : e ≡ e + 0 = omega arith in
