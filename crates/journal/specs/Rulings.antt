@@ -135,7 +135,7 @@ pub cut-recovering : recoverOf 99 (recoverOf 5 torn .1) ≡ recoverOf 99 torn
 unfolding appendOf recoverOf restOf endAt endIn entries entriesIn behind finishedAt zeros entry appendVerdict recoverVerdict appending clearing stored placed cleared entryStores TextAll.all TextCounted.pairAt TextCounted.part
 cut-recovering = refl
 
--- J01 (c): recovery from the front instead would make a finished entry of what was none, here with its first store
+-- J01 (c): recovery from the front would make a finished entry of what was none, here with its first store
 pub from-the-front : entries torn ≡ [] × (entries (stored torn (take 1 (placed 1 (replicate 15 0)))) ≡ (255 ∷ []) ∷ [])
 unfolding appendOf recoverOf restOf endAt endIn entries entriesIn behind finishedAt zeros entry appendVerdict recoverVerdict appending clearing stored placed cleared entryStores TextAll.all TextCounted.pairAt TextCounted.part
 from-the-front = (refl, refl)

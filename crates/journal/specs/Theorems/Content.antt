@@ -73,7 +73,8 @@ walk-fronted {p} {at} {e} (w∷ {x = x} {l = l} f xe w) =
       bytes = entry-drop p at f ∙ ap (λ (s : List ℕ). bytesAt p at ++ s) (i .bytes) ∙ sym (append-assoc (bytesAt p at) (i .front) (drop e p));
     }
   where
-    subst-entry : (p : List ℕ) (at : ℕ) (x : List ℕ) → part p (at + 2) (pairAt p at) ≡ x → Entry (bytesAt p at) (part p (at + 2) (pairAt p at)) → Entry (bytesAt p at) x
+    subst-entry : (p : List ℕ) (at : ℕ) (x : List ℕ) → part p (at + 2) (pairAt p at) ≡ x → Entry (bytesAt p at) (part p (at + 2) (pairAt p at))
+        → Entry (bytesAt p at) x
     subst-entry p at x e y = rw (sym e) y
 
 -- an entry at the front of what lies from a place on is a finished one at the place
@@ -97,7 +98,11 @@ pub content-walk : (p : List ℕ) → Content p (entries p) (restOf p)
 unfolding entries endAt restOf
 content-walk p =
     let i = walk-fronted (walk-in (length p - 1) p 1) in
-    record { front = i .front; entries = i .finished; bytes = i .bytes; ends = λ e a t y h. clash (facts-finished p _ (drop-finished p _ e a t y h)) (stops-in (length p - 1) p 1 (omega arith)) }
+    record
+    { front = i .front
+    ; entries = i .finished
+    ; bytes = i .bytes
+    ; ends = λ e a t y h. clash (facts-finished p _ (drop-finished p _ e a t y h)) (stops-in (length p - 1) p 1 (omega arith)) }
 
 -- ---- it holds nothing else
 
@@ -122,7 +127,8 @@ entry-same e d a b x y f g h =
     let i = append-same (a ++ (closing ∷ [])) (b ++ (closing ∷ [])) x y k t in
     ((append-same a b (closing ∷ []) (closing ∷ []) l (i .0)) .0, i .1)
 
-entries-only : {s t u v : List ℕ} {l m : List (List ℕ)} → Entries s l → Entries t m → Unfinished u → Unfinished v → s ++ u ≡ t ++ v → (l ≡ m) × (u ≡ v)
+entries-only : {s t u v : List ℕ} {l m : List (List ℕ)} → Entries s l → Entries t m → Unfinished u → Unfinished v → s ++ u ≡ t ++ v
+    → (l ≡ m) × (u ≡ v)
 entries-only e[] e[] p q h = (refl, h)
 entries-only {u = u} {v = v} e[] (e∷ {e = e} {a = a} {s = s} y w) p q h = absurd (p e a (s ++ v) y (h ∙ append-assoc e s v))
 entries-only {u = u} {v = v} (e∷ {e = e} {a = a} {s = s} y w) e[] p q h = absurd (q e a (s ++ u) y (sym h ∙ append-assoc e s u))

@@ -1,7 +1,7 @@
 -- Appending and recovery have one outcome and leave one page, for every page and every answer. Assumes nothing.
 use mathlib.Core.Path.{_≡_, refl, sym, ap, _∙_}
 use mathlib.Core.List.{List}
-use Prim.Native.Nat.{ℕ}
+use Prim.Native.Nat.{ℕ, _-_}
 use lib.ListN.{length}
 use Rattle.journal.specs.Page.{Content, entry}
 use Rattle.journal.specs.Stores.{Store, stored, placed, cleared}
@@ -11,7 +11,6 @@ use Rattle.journal.specs.Working.Rooms.{Fine, Judged, is-fine, is-not, j
 use Rattle.journal.specs.Working.Requests.{appends, recovers, appending-is, clearing-is}
 use Rattle.journal.specs.Theorems.Content.{content-only, content-is}
 use Rattle.journal.specs.declared.Outcome.{Outcome}
-use Prim.Native.Nat.{_-_}
 
 -- ---- there is one
 
@@ -21,10 +20,18 @@ pub record Some (P : Outcome → List ℕ → Type 0) : Type 0 where
   pub holds : P result page
 
 pub append-some : (made : List Store → List Store) (p a : List ℕ) → Some (Appends made p a)
-append-some made p a = record { result = outcomeOf (appendVerdict p (restOf p) a); page = allowed (appendVerdict p (restOf p) a) (made (appending p (restOf p) a)) p; holds = appends made p a _ _ refl refl }
+append-some made p a =
+    record
+    { result = outcomeOf (appendVerdict p (restOf p) a)
+    ; page = allowed (appendVerdict p (restOf p) a) (made (appending p (restOf p) a)) p
+    ; holds = appends made p a _ _ refl refl }
 
 pub recover-some : (made : List Store → List Store) (p : List ℕ) → Some (Recovers made p)
-recover-some made p = record { result = outcomeOf (recoverVerdict p); page = allowed (recoverVerdict p) (made (clearing p (restOf p))) p; holds = recovers made p _ _ refl refl }
+recover-some made p =
+    record
+    { result = outcomeOf (recoverVerdict p)
+    ; page = allowed (recoverVerdict p) (made (clearing p (restOf p))) p
+    ; holds = recovers made p _ _ refl refl }
 
 -- ---- and only one
 

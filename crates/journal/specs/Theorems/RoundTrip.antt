@@ -169,7 +169,8 @@ module _ (p a : List ℕ) (y : Roomy p a) where
       (omega (arith, (write-is p a (endAt p 1) g (length a + 3) (omega arith)) .1)))
 
 -- appending leaves the page that holds the answers, the new one last
-pub append-holds : {p a w s : List ℕ} {l : List (List ℕ)} → Bytes p → Bytes a → Appended p a (outcome 0) w → Content p l s → w ≡ holding (length p) (l ++ (a ∷ []))
+pub append-holds : {p a w s : List ℕ} {l : List (List ℕ)} → Bytes p → Bytes a → Appended p a (outcome 0) w → Content p l s
+    → w ≡ holding (length p) (l ++ (a ∷ []))
 append-holds {p} {a} {w} {s} {l} b c d k =
     let u = appended-page (λ ss. ss) p a w d in
     let y : Roomy p a = u .0 in

@@ -245,7 +245,8 @@ module _ (p : List ℕ) (f : Fine p) (n : ℕ) (ne : n ≡ length p - endAt p 1)
         ∙ cut-high p one (n - 2) few (endAt p 1 + pairAt q (endAt p 1) + 2) (omega (arith, end-within p 1 one)) in
         omega (arith, z, g .closed))
 
-rest-clears : (p s : List ℕ) → s ≡ restOf p → leastPage ≤ length p → (length s ≡ length p - endAt p 1) × (clearing p s ≡ cleared (length s) (endAt p 1))
+rest-clears : (p s : List ℕ) → s ≡ restOf p → leastPage ≤ length p
+    → (length s ≡ length p - endAt p 1) × (clearing p s ≡ cleared (length s) (endAt p 1))
 rest-clears p s e h =
     let n : length s ≡ length p - endAt p 1 = ap length e ∙ rest-long p in
     (n, rw (sym n) at (ap (clearing p) e ∙ clearing-is p h))

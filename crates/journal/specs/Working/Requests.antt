@@ -147,8 +147,8 @@ module _ (budget : ℕ) (p : List ℕ) (r : Room) (re : r ≡ opened p) where
       recovers (take budget) p o p (oe ∙ v .0) (v .1 _ p)
 
   module _ (e : ℕ) (rv : r ≡ At e) where
-    pub recover-done : (count : ℕ) → count ≡ min budget (length p - e) → (m : List ℕ) → m ≡ stored p (take count (cleared (length p - e) e)) → (o : Outcome) → o ≡ outcome 0
-        → RecoverCut budget p o m
+    pub recover-done : (count : ℕ) → count ≡ min budget (length p - e) → (m : List ℕ) → m ≡ stored p (take count (cleared (length p - e) e))
+        → (o : Outcome) → o ≡ outcome 0 → RecoverCut budget p o m
     unfolding opened
     recover-done count ce m me o oe =
         let f = verdict-at (recoverVerdict p) e (endAt p 1) (sym re ∙ rv) in

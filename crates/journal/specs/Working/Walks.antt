@@ -39,7 +39,8 @@ unfinished p at n = split (finishedAt p at) (λ e. absurd (n (finished-facts p a
 -- a walk from a place past finished entries to another
 pub data Walk (p : List ℕ) : ℕ → List (List ℕ) → ℕ → Type 0 where
   w[] : {at : ℕ} → Walk p at [] at
-  w∷ : {at e : ℕ} {x : List ℕ} {l : List (List ℕ)} → Finished p at → part p (at + 2) (pairAt p at) ≡ x → Walk p (at + pairAt p at + 3) l e → Walk p at (x ∷ l) e
+  w∷ : {at e : ℕ} {x : List ℕ} {l : List (List ℕ)} → Finished p at → part p (at + 2) (pairAt p at) ≡ x → Walk p (at + pairAt p at + 3) l e
+      → Walk p at (x ∷ l) e
 
 pub walk-le : {p : List ℕ} {at e : ℕ} {l : List (List ℕ)} → Walk p at l e → at ≤ e
 walk-le w[] = omega arith
