@@ -29,12 +29,8 @@ extern "C" {
         answer_length: usize,
         stores: usize,
     ) -> Outcome;
-    fn lampsickle_journal_append(
-        page: *mut u8,
-        page_length: usize,
-        answer: *const u8,
-        answer_length: usize,
-    ) -> Outcome;
+    fn lampsickle_journal_append(page: *mut u8, page_length: usize, answer: *const u8, answer_length: usize)
+        -> Outcome;
     fn lampsickle_journal_recover_cut(page: *mut u8, page_length: usize, stores: usize) -> Outcome;
     fn lampsickle_journal_recover(page: *mut u8, page_length: usize) -> Outcome;
 }
