@@ -152,7 +152,7 @@ fn lesser(a: usize, b: usize) -> usize
     a
 }
 
-// Makes the stores of an entry up to the answer's end, of these the first `count`, from the third on.
+// Makes the first `count` stores of an answer from a place on.
 fn write_answer(page: &mut [u8], at: usize, answer: &[u8], count: usize)
     requires { ⌜ (at + count ≤ length (now page)) × (count ≤ length (now answer)) ⌝ }
     ensures { λ _. ⌜ now (page .exit) ≡ stored (now (page .entry)) (take count (placed at (now (answer .entry)))) ⌝ }
