@@ -98,11 +98,12 @@ pub content-walk : (p : List ℕ) → Content p (entries p) (restOf p)
 unfolding entries endAt restOf
 content-walk p =
     let i = walk-fronted (walk-in (length p - 1) p 1) in
-    record
-    { front = i .front
-    ; entries = i .finished
-    ; bytes = i .bytes
-    ; ends = λ e a t y h. clash (facts-finished p _ (drop-finished p _ e a t y h)) (stops-in (length p - 1) p 1 (omega arith)) }
+    record {
+      front = i .front;
+      entries = i .finished;
+      bytes = i .bytes;
+      ends = λ e a t y h. clash (facts-finished p _ (drop-finished p _ e a t y h)) (stops-in (length p - 1) p 1 (omega arith));
+    }
 
 -- ---- it holds nothing else
 

@@ -21,17 +21,19 @@ pub record Some (P : Outcome → List ℕ → Type 0) : Type 0 where
 
 pub append-some : (made : List Store → List Store) (p a : List ℕ) → Some (Appends made p a)
 append-some made p a =
-    record
-    { result = outcomeOf (appendVerdict p (restOf p) a)
-    ; page = allowed (appendVerdict p (restOf p) a) (made (appending p (restOf p) a)) p
-    ; holds = appends made p a _ _ refl refl }
+    record {
+      result = outcomeOf (appendVerdict p (restOf p) a);
+      page = allowed (appendVerdict p (restOf p) a) (made (appending p (restOf p) a)) p;
+      holds = appends made p a _ _ refl refl;
+    }
 
 pub recover-some : (made : List Store → List Store) (p : List ℕ) → Some (Recovers made p)
 recover-some made p =
-    record
-    { result = outcomeOf (recoverVerdict p)
-    ; page = allowed (recoverVerdict p) (made (clearing p (restOf p))) p
-    ; holds = recovers made p _ _ refl refl }
+    record {
+      result = outcomeOf (recoverVerdict p);
+      page = allowed (recoverVerdict p) (made (clearing p (restOf p))) p;
+      holds = recovers made p _ _ refl refl;
+    }
 
 -- ---- and only one
 
