@@ -135,12 +135,14 @@ pub cut-recovering : recoverOf 99 (recoverOf 5 torn .1) ≡ recoverOf 99 torn
 unfolding appendOf recoverOf restOf endAt endIn entries entriesIn behind finishedAt zeros entry appendVerdict recoverVerdict appending clearing stored placed cleared entryStores TextAll.all TextCounted.pairAt TextCounted.part
 cut-recovering = refl
 
--- J01 (c): recovery from the front would make a finished entry of what was none, here with its first store
+-- J01 (c): recovery from the front would make a finished entry of what was none, here with its first store. So may an order that isn't kept:
+-- Theorems/Torn asks for a barrier before the last two stores
 pub from-the-front : entries torn ≡ [] × (entries (stored torn (take 1 (placed 1 (replicate 15 0)))) ≡ (255 ∷ []) ∷ [])
 unfolding appendOf recoverOf restOf endAt endIn entries entriesIn behind finishedAt zeros entry appendVerdict recoverVerdict appending clearing stored placed cleared entryStores TextAll.all TextCounted.pairAt TextCounted.part
 from-the-front = (refl, refl)
 
--- J01 (b): the answer before the length would leave an entry of a wrong length, here behind the answer and the first byte of its length, 257
+-- J01 (b): the answer before the length would leave an entry of a wrong length, here behind the answer and the first byte of its length, 257. So may an
+-- order that isn't kept: Theorems/Torn asks for a barrier behind the length
 abbrev long : List ℕ
 long = replicate 256 7 ++ (1 ∷ [])
 
