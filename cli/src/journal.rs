@@ -29,17 +29,20 @@ type Part = fn(Words) -> Result<End, Trouble>;
 const PARTS: [(&str, Part); 4] = [("create", create), ("append", append), ("list", list), ("recover", recover)];
 
 pub fn run(mut words: Words) -> Result<End, Trouble> {
-    let name = words.next().unwrap_or_default();
-    if matches!(name.as_slice(), b"--help" | b"-h" | b"help") {
-        return help::print();
+    let name = words.next();
+    match name.as_deref() {
+        Some(b"--help" | b"-h" | b"help") => help::print(),
+        name => match PARTS.iter().find(|(part, _)| Some(part.as_bytes()) == name) {
+            Some((_, part)) => part(words),
+            None => Err(no_part(name)),
+        },
     }
-    match PARTS.iter().find(|(part, _)| part.as_bytes() == name) {
-        Some((_, part)) => part(words),
-        None => {
-            let all: Vec<&str> = PARTS.iter().map(|(part, _)| *part).collect();
-            Err(Trouble::usage(format!("journal {}: what it does is {}", quoted(&name), all.join(", "))))
-        }
-    }
+}
+
+fn no_part(name: Option<&[u8]>) -> Trouble {
+    let all: Vec<&str> = PARTS.iter().map(|(part, _)| *part).collect();
+    let name = name.map_or(String::new(), |name| format!(", and not {}", quoted(name)));
+    Trouble::usage(format!("journal takes one of {}{name}", all.join(", ")))
 }
 
 /// Appends an answer and returns when it is on the medium. Where that isn't so,

@@ -97,8 +97,7 @@ fn an_append_that_is_cut() {
         assert_eq!(replayed(&page, writes.iter().flatten()), with);
         for cut in cuts(&page, &writes) {
             let found = Page::of(&cut).expect("a journal");
-            let expected = if cut[closing.0] == 1 && cut == with { &with } else { &page };
-            assert!(expected == &with || writes[2].iter().all(|(place, _)| cut[*place] != 1), "{cut:?}");
+            let expected = if cut[closing.0] == 1 { &with } else { &page };
             assert_eq!(recovered(&cut), *expected, "{cut:?}");
             let ending = if cut == with || cut == page { Ending::Zeros } else { Ending::Cut };
             assert_eq!(found.ending(), ending, "{cut:?}");
