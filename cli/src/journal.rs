@@ -164,8 +164,7 @@ const RECOVER: &str = "run `lampsickle journal recover` on it";
 fn damaged(what: &str, page: &Page) -> String {
     let (end, rest) = (page.end(), quoted(page.behind()));
     format!(
-        "{what}: damaged at {end}: {rest}, as no power cut leaves it, so finished entries may stand behind; \
-         keep a copy; `lampsickle journal recover --damaged` clears all from there on"
+        "{what}: damaged at {end}: {rest}: no power cut leaves this; `recover --damaged` clears it, entries and all"
     )
 }
 
