@@ -295,7 +295,8 @@ fn many_processes_at_once() {
     let page = bytes(&name);
     let mut kept: Vec<&[u8]> = journal::answers(&page).collect();
     let mut expected: Vec<&[u8]> = texts.iter().map(|text| text.as_bytes()).collect();
-    (kept.sort_unstable(), expected.sort_unstable());
+    kept.sort_unstable();
+    expected.sort_unstable();
     assert_eq!(kept, expected);
 }
 
