@@ -81,6 +81,9 @@ pub fn compare(
         if size == need || found.0.number == ROOM {
             coverage.count(&found.0, &found.1);
         }
+        if size == need {
+            coverage.count_spellings(record, &found.0);
+        }
     }
     Ok(())
 }

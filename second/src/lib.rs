@@ -23,6 +23,7 @@ pub mod parse;
 pub mod principal;
 pub mod print;
 pub mod random;
+pub mod reach;
 pub mod record;
 pub mod store;
 pub mod token;
@@ -30,6 +31,7 @@ pub mod unread;
 pub mod workload;
 
 use bounded::Bounded;
+use compliance::Solution;
 use environment::Environment;
 use line::{Fault, Listing};
 use record::Query;
@@ -64,8 +66,16 @@ pub fn answer(record: &[u8], page: &mut [u8]) -> Outcome {
     let reading = read_assertions(&query);
     write_report(&reading.faults, report);
     let environment = Environment::new(&query, &reading.store);
-    let solution = compliance::solve(&environment, &reading.kept);
+    let solution = compliance::solve(&environment, &reading.kept, principal::canonical);
     Outcome { number: 0, place: 0, rank: solution.rank, rounds: solution.rounds, reached: solution.reached }
+}
+
+/// The solution if identifiers were equal by their bytes; none for a refusal.
+pub fn solution_by_bytes(record: &[u8]) -> Option<Solution> {
+    let query = record::read(record).ok()?;
+    let reading = read_assertions(&query);
+    let environment = Environment::new(&query, &reading.store);
+    Some(compliance::solve(&environment, &reading.kept, principal::spelled))
 }
 
 /// The assertions of a query: those kept, and each one's fault or none.

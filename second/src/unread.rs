@@ -4,18 +4,19 @@
 use crate::draft::Draft;
 use crate::limits;
 use crate::random::Random;
+use crate::reach;
+use crate::read_assertions;
 use crate::record::{self, Query};
 use crate::store::{Assertion, Node, Store};
-use crate::{read_assertions, Reading};
 
 /// For each attribute of a query whether an assertion made within the reach
 /// dereferences it. A "$" may read any.
 pub fn read_attributes(query: &Query) -> Vec<bool> {
     let reading = read_assertions(query);
-    let reach = reach(query, &reading);
+    let reach = reach::of(query, &reading);
     let mut read = vec![false; query.attributes.len()];
     for assertion in reading.kept.iter() {
-        if reach.contains(&reading.store.show(query, assertion.authorizer)) {
+        if reach.holds(reading.store.show(query, assertion.authorizer)) {
             mark_read(query, &reading.store, assertion, &mut read);
         }
     }
@@ -39,28 +40,6 @@ fn mark_read(query: &Query, store: &Store, assertion: &Assertion, read: &mut [bo
             _ => {}
         }
     }
-}
-
-/// POLICY and, repeatedly, the licensees of assertions made within.
-fn reach<'a>(query: &Query<'a>, reading: &'a Reading) -> Vec<&'a [u8]> {
-    let mut reach = vec![crate::check::POLICY];
-    let mut at = 0;
-    while at < reach.len() {
-        for assertion in reading.kept.iter() {
-            if reading.store.show(query, assertion.authorizer) != reach[at] {
-                continue;
-            }
-            let pieces = assertion.licensees.map_or(&[][..], |fields| fields.principals.of(&reading.store.principals));
-            for piece in pieces {
-                let licensee = reading.store.show(query, *piece);
-                if !reach.contains(&licensee) {
-                    reach.push(licensee);
-                }
-            }
-        }
-        at += 1;
-    }
-    reach
 }
 
 /// A record alike but for the values of some attributes that aren't read; none

@@ -58,6 +58,7 @@ use Rattle.compliance.specs.Licensees as ComplianceLicensees
 use Rattle.compliance.specs.Reach as ComplianceReach
 use Rattle.compliance.specs.Rounds as ComplianceRounds
 use Rattle.compliance.specs.System as ComplianceSystem
+use Rattle.principal.specs.Canonical as PrincipalCanonical
 use Rattle.principal.specs.Members as PrincipalMembers
 use Rattle.principal.specs.Principal as PrincipalPrincipal
 use Rattle.expression.specs.Conditions as ExpressionConditions
@@ -210,6 +211,9 @@ pub record Rulings : Type 0 where
   pub asked-as-policy : outcome (encode (desk ("POLICY" ∷ []) [])) 8 ≡ refusal 10 22
   pub asked-as-policy-last : outcome (encode (desk ("a" ∷ "POLICY" ∷ []) [])) 8 ≡ refusal 10 25
   pub asked-in-small : told (desk ("policy" ∷ []) ("Authorizer: \"POLICY\"\nLicensees: \"a\"" ∷ [])) ≡ (0 ∷ [], 0 ∷ 0 ∷ 2 ∷ [])
+  -- W-205: one key in two spellings, as requester, authorizer and licensee; two keys
+  pub one-key : told (desk ("DSA:ab" ∷ []) ("Authorizer: \"POLICY\"\nLicensees: \"dsa:ab\" || \"Dsa:ab\"" ∷ [])) ≡ (0 ∷ [], 1 ∷ 2 ∷ 2 ∷ [])
+  pub two-keys : told (desk ("DSA:ab" ∷ []) ("Authorizer: \"POLICY\"\nLicensees: \"dsa:AB\"" ∷ [])) ≡ (0 ∷ [], 0 ∷ 0 ∷ 2 ∷ [])
   -- instances of demand 3: read only outside the reach, hidden by a constant, or unread; and read within the reach, though not by POLICY
   pub idle-unread : isRead one "idle" ≡ false
   pub hidden-unread : isRead one "hidden" ≡ false
@@ -231,7 +235,7 @@ pub record Rulings : Type 0 where
   pub seen-told : told seen ≡ (0 ∷ 0 ∷ 0 ∷ [], 0 ∷ 1 ∷ 3 ∷ [])
 
 pub rulings : Rulings
-unfolding refusal SyntaxCode.nameAt TextClass.isLetter TextClass.isWord FieldsConstants.isSet FieldsConstants.reserved FieldsConstants.constantValue FieldsConstants.assigned FieldsConstants.nameFault FieldsConstants.constant FieldsConstants.constantsFrom FieldsParsed.wordOf FieldsIdentifier.nameFault TextOrder.order ExpressionNames.settingOr ExpressionNames.fromQuery ExpressionNames.lookup ExpressionOperations.textual set secretTexts secretQuery isRead stands standing computed dereferences suchIn heardSuch ExpressionReads.reads ExpressionReads.programReads ExpressionReads.clauseReads ExpressionReads.isSet ExpressionStanding.names ExpressionStanding.programNames ExpressionStanding.clauseNames ExpressionStanding.computes ExpressionStanding.programComputes ExpressionStanding.clauseComputes bytes supplied query reasons told class tested worth ranked reading readings keptOf system classOf roundsOf reachedOf reasonOf highest TextClass.isDigit TextClass.inClass TextDecimal.inRange TextDecimal.roundedDown TextDecimal.withFraction TextDecimal.unsigned TextDecimal.decimal TextDigits.valueFrom TextDigits.value TextEqual.equal TextLoop.turns TextLoop.loop TextScan.past LexicalClass.classOf LexicalKind.opened LexicalLabel.labelKind LexicalLine.visible LexicalLine.inLine LexicalLine.blankTo LexicalLine.lineAt LexicalLine.linesFrom LexicalLine.tokenAt LexicalLiteral.units LexicalLiteral.unitsAt LexicalLiteral.literalEnd LexicalLiteral.decodedAt LexicalNumber.decimal LexicalNumber.held LexicalNumber.numberAt LexicalOperator.equalPair LexicalOperator.pairOf LexicalOperator.markKind LexicalOperator.isOf LexicalOperator.operatorKind LexicalRun.hasClass LexicalRun.inRun LexicalToken.widthOf LexicalToken.operatorAt LexicalToken.operatorToken LexicalToken.literalToken LexicalToken.floatEnd LexicalToken.numberToken LexicalToken.tokenFrom LexicalUnit.barred LexicalUnit.unitAt LexicalWord.lower LexicalWord.stands LexicalWord.spells FieldsAuthorizer.authorized FieldsAuthorizer.authorizer FieldsIdentifier.sizeFault FieldsIdentifier.identifierFault FieldsIdentifier.identified FieldsIdentifier.identifier FieldsLicensees.licensee FieldsLicensees.listed FieldsLicensees.listFrom FieldsLicensees.listOpened FieldsLicensees.ofRead FieldsLicensees.threshold FieldsLicensees.primary FieldsLicensees.expression FieldsLicensees.licensees FieldsParsed.ending AssertionDraft.without AssertionDraft.total AssertionRead.finished AssertionRead.field AssertionRead.fieldsFrom AssertionRead.readAssertion ConditionsExpression.readExpression ConditionsOperand.readLiteral ConditionsOperand.readName ConditionsOperand.readDigits ConditionsOperand.readLeaf ConditionsOperand.settledTree ConditionsOperand.applied ConditionsProgram.ending ConditionsProgram.valuing ConditionsProgram.stopping ConditionsProgram.readProgram ConditionsProgram.readBlock ConditionsTable.beginsString ConditionsTable.beginsNumber ConditionsTable.beginsFloat ConditionsTable.allows ConditionsTable.comparison ConditionsTable.numberOperator ConditionsTable.textOperator ConditionsTable.testOperator ConditionsTable.operator ConditionsTable.prefixOperator ConditionsTable.levelOf ConditionsTable.operandOf ConditionsTable.resultOf ConditionsTable.operandLevel ConditionsTable.operandWant ConditionsTable.rightWant ConditionsTable.rightLevel ConditionsTable.binds ConditionsTable.insideLevel ConditionsTable.fits ConditionsTable.stops ConditionsWord.wordSort SyntaxCode.numberAt ComplianceLicensees.value ComplianceLicensees.licensed ComplianceLicensees.named ComplianceLicensees.licensees ComplianceReach.licenseesOf ComplianceReach.reachFrom ComplianceReach.namings ComplianceReach.reach ComplianceRounds.equalOn ComplianceRounds.settled ComplianceRounds.reached ComplianceRounds.firstSettled ComplianceRounds.rounds ComplianceRounds.mentioned ComplianceRounds.rank ComplianceSystem.direct ComplianceSystem.asserted ComplianceSystem.delegated ComplianceSystem.equations ComplianceSystem.round PrincipalMembers.member PrincipalPrincipal.same PrincipalPrincipal.policy ExpressionConditions.evaluate ExpressionConditions.indexFrom ExpressionConditions.rankOf ExpressionConditions.top ExpressionConditions.clause ExpressionIntegers.ranged ExpressionIntegers.negated ExpressionIntegers.differ ExpressionIntegers.over ExpressionIntegers.raisedTo ExpressionIntegers.odd ExpressionIntegers.signOfPower ExpressionIntegers.power ExpressionIntegers.sizes ExpressionIntegers.compared ExpressionOperations.held ExpressionOperations.relates ExpressionOperations.arithmetic ExpressionOperations.logical ExpressionOperations.ofTexts ExpressionOperations.ofIntegers ExpressionOperations.ofTests ExpressionOperations.isTextual ExpressionOperations.binaryOf ExpressionOperations.converted ExpressionOperations.negative ExpressionOperations.opposite ExpressionOperations.unaryOf ExpressionNames.environment stringBytes assertionBytes itemsBytes groupBytes encode placeOf pairBytes entryBytes entriesBytes report reportSize answer needed judged outcome written pageAfter TextCounted.part TextCounted.pairAt SyntaxParsed.refusal LexicalReason.reasonOf TextClass.isPlain RecordField.countAt RecordField.lengthAt RecordField.contentAt RecordField.fieldAt RecordField.nameFront RecordField.among RecordItem.plainAt RecordItem.valueAt RecordItem.requesterAt RecordItem.nameAt RecordItem.attributeAt RecordItem.assertionAt RecordItem.itemsAt RecordItem.groupAt RecordRecord.queryAt RecordRecord.readRecord
+unfolding refusal SyntaxCode.nameAt TextClass.isLetter TextClass.isWord FieldsConstants.isSet FieldsConstants.reserved FieldsConstants.constantValue FieldsConstants.assigned FieldsConstants.nameFault FieldsConstants.constant FieldsConstants.constantsFrom FieldsParsed.wordOf FieldsIdentifier.nameFault TextOrder.order ExpressionNames.settingOr ExpressionNames.fromQuery ExpressionNames.lookup ExpressionOperations.textual set secretTexts secretQuery isRead stands standing computed dereferences suchIn heardSuch ExpressionReads.reads ExpressionReads.programReads ExpressionReads.clauseReads ExpressionReads.isSet ExpressionStanding.names ExpressionStanding.programNames ExpressionStanding.clauseNames ExpressionStanding.computes ExpressionStanding.programComputes ExpressionStanding.clauseComputes bytes supplied query reasons told class tested worth ranked reading readings keptOf system classOf roundsOf reachedOf reasonOf highest TextClass.isDigit TextClass.inClass TextDecimal.inRange TextDecimal.roundedDown TextDecimal.withFraction TextDecimal.unsigned TextDecimal.decimal TextDigits.valueFrom TextDigits.value TextEqual.equal TextLoop.turns TextLoop.loop TextScan.past LexicalClass.classOf LexicalKind.opened LexicalLabel.labelKind LexicalLine.visible LexicalLine.inLine LexicalLine.blankTo LexicalLine.lineAt LexicalLine.linesFrom LexicalLine.tokenAt LexicalLiteral.units LexicalLiteral.unitsAt LexicalLiteral.literalEnd LexicalLiteral.decodedAt LexicalNumber.decimal LexicalNumber.held LexicalNumber.numberAt LexicalOperator.equalPair LexicalOperator.pairOf LexicalOperator.markKind LexicalOperator.isOf LexicalOperator.operatorKind LexicalRun.hasClass LexicalRun.inRun LexicalToken.widthOf LexicalToken.operatorAt LexicalToken.operatorToken LexicalToken.literalToken LexicalToken.floatEnd LexicalToken.numberToken LexicalToken.tokenFrom LexicalUnit.barred LexicalUnit.unitAt LexicalWord.lower LexicalWord.stands LexicalWord.spells FieldsAuthorizer.authorized FieldsAuthorizer.authorizer FieldsIdentifier.sizeFault FieldsIdentifier.identifierFault FieldsIdentifier.identified FieldsIdentifier.identifier FieldsLicensees.licensee FieldsLicensees.listed FieldsLicensees.listFrom FieldsLicensees.listOpened FieldsLicensees.ofRead FieldsLicensees.threshold FieldsLicensees.primary FieldsLicensees.expression FieldsLicensees.licensees FieldsParsed.ending AssertionDraft.without AssertionDraft.total AssertionRead.finished AssertionRead.field AssertionRead.fieldsFrom AssertionRead.readAssertion ConditionsExpression.readExpression ConditionsOperand.readLiteral ConditionsOperand.readName ConditionsOperand.readDigits ConditionsOperand.readLeaf ConditionsOperand.settledTree ConditionsOperand.applied ConditionsProgram.ending ConditionsProgram.valuing ConditionsProgram.stopping ConditionsProgram.readProgram ConditionsProgram.readBlock ConditionsTable.beginsString ConditionsTable.beginsNumber ConditionsTable.beginsFloat ConditionsTable.allows ConditionsTable.comparison ConditionsTable.numberOperator ConditionsTable.textOperator ConditionsTable.testOperator ConditionsTable.operator ConditionsTable.prefixOperator ConditionsTable.levelOf ConditionsTable.operandOf ConditionsTable.resultOf ConditionsTable.operandLevel ConditionsTable.operandWant ConditionsTable.rightWant ConditionsTable.rightLevel ConditionsTable.binds ConditionsTable.insideLevel ConditionsTable.fits ConditionsTable.stops ConditionsWord.wordSort SyntaxCode.numberAt ComplianceLicensees.value ComplianceLicensees.licensed ComplianceLicensees.named ComplianceLicensees.licensees ComplianceReach.licenseesOf ComplianceReach.reachFrom ComplianceReach.namings ComplianceReach.reach ComplianceRounds.equalOn ComplianceRounds.settled ComplianceRounds.reached ComplianceRounds.firstSettled ComplianceRounds.rounds ComplianceRounds.mentioned ComplianceRounds.rank ComplianceSystem.direct ComplianceSystem.asserted ComplianceSystem.delegated ComplianceSystem.equations ComplianceSystem.round PrincipalMembers.member PrincipalCanonical.fold PrincipalCanonical.folded PrincipalCanonical.front PrincipalCanonical.behind PrincipalCanonical.isHex PrincipalCanonical.canonicalWith PrincipalCanonical.canonical PrincipalPrincipal.same PrincipalPrincipal.policy ExpressionConditions.evaluate ExpressionConditions.indexFrom ExpressionConditions.rankOf ExpressionConditions.top ExpressionConditions.clause ExpressionIntegers.ranged ExpressionIntegers.negated ExpressionIntegers.differ ExpressionIntegers.over ExpressionIntegers.raisedTo ExpressionIntegers.odd ExpressionIntegers.signOfPower ExpressionIntegers.power ExpressionIntegers.sizes ExpressionIntegers.compared ExpressionOperations.held ExpressionOperations.relates ExpressionOperations.arithmetic ExpressionOperations.logical ExpressionOperations.ofTexts ExpressionOperations.ofIntegers ExpressionOperations.ofTests ExpressionOperations.isTextual ExpressionOperations.binaryOf ExpressionOperations.converted ExpressionOperations.negative ExpressionOperations.opposite ExpressionOperations.unaryOf ExpressionNames.environment stringBytes assertionBytes itemsBytes groupBytes encode placeOf pairBytes entryBytes entriesBytes report reportSize answer needed judged outcome written pageAfter TextCounted.part TextCounted.pairAt SyntaxParsed.refusal LexicalReason.reasonOf TextClass.isPlain RecordField.countAt RecordField.lengthAt RecordField.contentAt RecordField.fieldAt RecordField.nameFront RecordField.among RecordItem.plainAt RecordItem.valueAt RecordItem.requesterAt RecordItem.nameAt RecordItem.attributeAt RecordItem.assertionAt RecordItem.itemsAt RecordItem.groupAt RecordRecord.queryAt RecordRecord.readRecord
 rulings = record {
   licence = refl;
   ring-c = refl;
@@ -259,6 +263,8 @@ rulings = record {
   asked-as-policy = refl;
   asked-as-policy-last = refl;
   asked-in-small = refl;
+  one-key = refl;
+  two-keys = refl;
   idle-unread = refl;
   hidden-unread = refl;
   unread-unread = refl;
