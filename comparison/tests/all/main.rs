@@ -3,3 +3,4 @@
 mod examples;
 mod fences;
 mod generated;
+mod journal;
