@@ -15,6 +15,7 @@ pub mod eval;
 pub mod generate;
 pub mod grammar;
 pub mod integer;
+pub mod journal;
 pub mod limits;
 pub mod line;
 pub mod literal;

@@ -49,3 +49,8 @@ pub const INTEGER_LITERAL: u32 = 2_147_483_647;
 
 // Evaluation.
 pub const STRING_BYTES: usize = 4_096;
+
+// The journal.
+pub const JOURNAL_BYTES: Range = Range::new(16, 65_535);
+pub const JOURNAL_VERSION: u8 = 1;
+pub const CLOSING: u8 = 1;

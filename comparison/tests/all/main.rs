@@ -3,4 +3,5 @@
 mod examples;
 mod fences;
 mod generated;
+mod journal;
 mod paper;
