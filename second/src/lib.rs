@@ -19,6 +19,7 @@ pub mod journal;
 pub mod limits;
 pub mod line;
 pub mod literal;
+pub mod paper;
 pub mod parse;
 pub mod principal;
 pub mod print;
@@ -83,6 +84,14 @@ pub struct Reading {
     pub store: Store,
     pub kept: Bounded<Assertion, { limits::ASSERTIONS.most }>,
     pub faults: Bounded<Option<Fault>, { limits::ASSERTIONS.most }>,
+}
+
+impl Reading {
+    /// Every assertion in order, if it is kept.
+    pub fn assertions(&self) -> impl Iterator<Item = Option<&Assertion>> {
+        let mut kept = self.kept.iter();
+        self.faults.iter().map(move |fault| if fault.is_none() { kept.next() } else { None })
+    }
 }
 
 pub fn read_assertions(query: &Query) -> Reading {

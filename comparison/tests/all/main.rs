@@ -4,3 +4,4 @@ mod examples;
 mod fences;
 mod generated;
 mod journal;
+mod paper;
