@@ -2,9 +2,10 @@
 """Wrong evaluators that the comparison must find.
 
 Each edit makes the second evaluator wrong in one place; it is then compared with
-the right one on generated records. Prints what became of each, and fails where
-one isn't found. Takes a few minutes; `tools/mutants.py [WORD...]` tries those
-whose names hold one of the words.
+the right one on generated records, or its own answers to pairs of queries are
+held together. Prints what became of each, and fails where one isn't found. Takes
+a few minutes; `tools/mutants.py [WORD...]` tries those whose names hold one of
+the words.
 """
 
 import os
@@ -16,6 +17,8 @@ import tempfile
 SECOND = os.path.join(os.path.dirname(os.path.abspath(__file__)), "..", "second")
 SEED = 2704
 COUNT = 24_000
+# Records of which pairs with more paper are made.
+PAPER_COUNT = 4_000
 
 # Name, file of second/src, what stands there, what takes its place.
 EDITS = [
@@ -344,10 +347,100 @@ EDITS = [
         'if rounds >= 12 || next == ranks {',
     ),
     (
-        'POLICY as requester',
+        'POLICY may ask',
+        'record.rs',
+        'if requester == POLICY {',
+        'if false {',
+    ),
+    (
+        'policy may not ask',
+        'record.rs',
+        'if requester == POLICY {',
+        'if requester.eq_ignore_ascii_case(POLICY) {',
+    ),
+    (
+        'keys by bytes',
+        'principal.rs',
+        'forms[start..][..folded(identifier)].make_ascii_lowercase();',
+        '',
+    ),
+    (
+        'keys by the front only',
+        'principal.rs',
+        'true => identifier.len(),',
+        'true => front,',
+    ),
+    (
+        'every key without case',
+        'principal.rs',
+        'false => front,',
+        'false => identifier.len(),',
+    ),
+    (
+        'identifiers without a colon fold',
+        'principal.rs',
+        "if !identifier.contains(&b':') {\n        return 0;",
+        "if !identifier.contains(&b':') {\n        return identifier.len();",
+    ),
+    (
+        'up to the last colon',
+        'principal.rs',
+        "identifier.iter().take_while(|&&byte| byte != b':').count();",
+        "identifier.iter().rposition(|&byte| byte == b':').unwrap_or(0);",
+    ),
+    (
+        'rsa-hex in small letters only',
+        'principal.rs',
+        'algorithm.eq_ignore_ascii_case(name)',
+        'algorithm == *name',
+    ),
+    (
+        'any algorithm that begins with rsa-hex',
+        'principal.rs',
+        'algorithm.eq_ignore_ascii_case(name)',
+        'algorithm.to_ascii_lowercase().starts_with(name)',
+    ),
+    (
+        'any algorithm that ends with rsa-hex',
+        'principal.rs',
+        'algorithm.eq_ignore_ascii_case(name)',
+        'algorithm.to_ascii_lowercase().ends_with(name)',
+    ),
+    (
+        'bytes above 127 and brackets fold',
+        'principal.rs',
+        '.make_ascii_lowercase();',
+        '.iter_mut().for_each(|byte| *byte |= if *byte >= 0x40 { 0x20 } else { 0 });',
+    ),
+    (
+        'bytes above 127 fold as Latin letters',
+        'principal.rs',
+        '.make_ascii_lowercase();',
+        '.iter_mut().for_each(|byte| *byte |= if byte.is_ascii_uppercase() || (0xc0..0xdf).contains(byte) { 0x20 } else { 0 });',
+    ),
+    (
+        '_ACTION_AUTHORIZERS in canonical form',
+        'environment.rs',
+        "self.query.requesters.join(&b',')",
+        "self.query.requesters.iter().map(|key| crate::principal::form_of(key)).collect::<Vec<_>>().join(&b',')",
+    ),
+    (
+        'values by canonical form',
+        'environment.rs',
+        '|known| *known == value',
+        '|known| crate::principal::form_of(known) == crate::principal::form_of(value)',
+    ),
+    (
+        'strings by canonical form',
+        'eval.rs',
+        'Comparison::Equal => first == second,',
+        'Comparison::Equal => crate::principal::form_of(first) == crate::principal::form_of(second),',
+    ),
+    (
+        'requesters by bytes',
         'compliance.rs',
         'Some(number) if reach.holds(number)',
-        'Some(number) if number != policy && reach.holds(number)',
+        'Some(number) if reach.holds(number) && store.principals.iter().any(|piece| store.show(query, *piece) == *requester)',
     ),
     (
         'requesters in round 1 only',
@@ -375,6 +468,40 @@ EDITS = [
     ),
 ]
 
+# Found by pairs with more paper alone, without the right evaluator.
+PAPER = [
+    (
+        'paper: the last assertion counts',
+        'compliance.rs',
+        'next[assertion.authorizer] = next[assertion.authorizer].max(rank);',
+        'next[assertion.authorizer] = rank;',
+    ),
+    (
+        'paper: ranks within a round',
+        'compliance.rs',
+        'licensees_rank(licences, &licensees[first..], &ranks)',
+        'licensees_rank(licences, &licensees[first..], &next)',
+    ),
+    (
+        'paper: reach in one pass',
+        'compliance.rs',
+        'find(|&index| !used[index] && reach.holds(authorizers[index]));',
+        'find(|&index| !std::mem::replace(&mut used[index], true) && reach.holds(authorizers[index]));',
+    ),
+    (
+        'paper: rounds over unreached',
+        'compliance.rs',
+        'if reach.holds(authorizer) {',
+        'if true {',
+    ),
+    (
+        'paper: entries of kept assertions first',
+        'lib.rs',
+        'write_report(&reading.faults, report);',
+        'let mut faults = reading.faults.to_vec();\n    faults.sort();\n    write_report(&faults, report);',
+    ),
+]
+
 HARNESS = """
 fn wrong(record: &[u8], page: &mut [u8]) -> second::Outcome {
     let o = mutant::answer(record, page);
@@ -382,7 +509,10 @@ fn wrong(record: &[u8], page: &mut [u8]) -> second::Outcome {
 }
 
 fn main() {
-    let found = second::compare::run(second::answer, wrong, SEED, COUNT).is_err();
+    let found = match std::env::args().nth(1) {
+        Some(_) => second::paper::run(wrong, SEED, PAPER_COUNT).is_err(),
+        None => second::compare::run(second::answer, wrong, SEED, COUNT).is_err(),
+    };
     std::process::exit(if found { 0 } else { 3 });
 }
 """
@@ -408,11 +538,11 @@ def prepare(folder):
     write(os.path.join(folder, "mutant", "Cargo.toml"), manifest("mutant", []))
     crates = [("second", os.path.abspath(SECOND)), ("mutant", "../mutant")]
     write(os.path.join(folder, "harness", "Cargo.toml"), manifest("harness", crates))
-    harness = HARNESS.replace("SEED", str(SEED)).replace("COUNT", str(COUNT))
+    harness = HARNESS.replace("SEED", str(SEED)).replace("PAPER_COUNT", str(PAPER_COUNT)).replace("COUNT", str(COUNT))
     write(os.path.join(folder, "harness", "src", "main.rs"), harness)
 
 
-def tried(folder, file, old, new):
+def tried(folder, arguments, file, old, new):
     """What became of an edit; the file is put back."""
     path = os.path.join(folder, "mutant", "src", file)
     with open(path, encoding="utf-8") as source:
@@ -423,7 +553,7 @@ def tried(folder, file, old, new):
     command = ["cargo", "run", "--offline", "--release", "--quiet"]
     folder = os.path.join(folder, "harness")
     built = subprocess.run(command[:1] + ["build"] + command[2:], cwd=folder, capture_output=True, text=True)
-    done = built if built.returncode else subprocess.run(command, cwd=folder, capture_output=True, text=True)
+    done = built if built.returncode else subprocess.run(command + arguments, cwd=folder, capture_output=True, text=True)
     write(path, text)
     if built.returncode:
         return "doesn't compile"
@@ -436,10 +566,11 @@ def main():
     failed = 0
     with tempfile.TemporaryDirectory() as folder:
         prepare(folder)
-        for name, file, old, new in EDITS:
+        edits = [([], *edit) for edit in EDITS] + [(["paper"], *edit) for edit in PAPER]
+        for arguments, name, file, old, new in edits:
             if words and not any(word in name for word in words):
                 continue
-            outcome = tried(folder, file, old, new)
+            outcome = tried(folder, arguments, file, old, new)
             failed += outcome != "found"
             print(f"{outcome}: {name}", flush=True)
     sys.exit(1 if failed else 0)

@@ -92,7 +92,7 @@ local('licensees-empty', [POLICY + b'Licensees:'], answered(0, 2, 0, 1, KEPT))
 local('licensees-missing', [POLICY], answered(1, 2, 1, 1, KEPT))
 local('rounds-unreached', [POLICY, licence(b'x', b'"y"'), licence(b'y', b'"a"')], answered(1, 2, 1, 1, KEPT, KEPT, KEPT))
 
-# The examples of RFC 2704, section 6, with the answers that it gives. Their keys are written alike here, since principals compare by bytes.
+# The examples of RFC 2704, section 6, with the answers that it gives.
 A = b'Authorizer: "POLICY"\nLicensees: "RSA:abc123"\n'
 B = rb'''KeyNote-Version: 2
 Local-Constants: Alice="DSA:4401ff92"  # Alice's key
@@ -193,7 +193,7 @@ email('email-other-address', plain, b'DSA:12340987', [(b'address', b'angelos@dsl
 email('email-other-key', plain, b'DSA:abc991', [(b'address', MAB), blaze], 0, 1, 8)
 email('email-other-name', plain, b'DSA:12340987', [(b'address', MAB), feigenbaum], 0, 1, 8)
 email('email-jf', plain, b'DSA:abc991', [(b'address', JF)], 1, 4, 8)
-email('email-small-letters', plain, b'dsa:12340987', [(b'address', MAB)], 0, 0, 8)
+email('email-small-letters', plain, b'dsa:12340987', [(b'address', MAB)], 1, 4, 8)
 
 
 def spend(name, h, requesters, dollars, rank, rounds, fault=KEPT):

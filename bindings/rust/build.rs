@@ -1,28 +1,28 @@
-//! Links the proved static libraries from the repository's `target/staticlib`, or
-//! from the directory that `LAMPSICKLE_LIB` names.
+//! Links the proved static libraries from the repository's `target/staticlib`,
+//! or from the directory that `LAMPSICKLE_LIB` names.
 
 use std::os::unix::process::parent_id;
 use std::path::{Path, PathBuf};
 use std::process::exit;
 
-const LIBRARIES: [&str; 2] = ["keynote", "register"];
+/// Each is made by `rt staticlib NAME`, as libNAME.a.
+const LIBRARIES: [&str; 3] = ["keynote", "journal", "register"];
 
 fn main() {
     let directory = directory();
     println!("cargo:rerun-if-env-changed=LAMPSICKLE_LIB");
     println!("cargo:rustc-link-search=native={}", directory.display());
     for library in LIBRARIES {
-        link(&directory.join(format!("lib{library}.a")), library);
+        link(&directory, library);
     }
 }
 
-fn link(archive: &Path, library: &str) {
+fn link(directory: &Path, library: &str) {
+    let archive = directory.join(format!("lib{library}.a"));
     println!("cargo:rerun-if-changed={}", archive.display());
     if !archive.is_file() {
         eprintln!("{} is missing.", archive.display());
-        eprintln!(
-            "Run `rt staticlib {library}` at the root of the repository, or set LAMPSICKLE_LIB to its directory."
-        );
+        eprintln!("Run `rt staticlib {library}` at the root of the repository, or set LAMPSICKLE_LIB to the archives' directory.");
         exit(1);
     }
     println!("cargo:rustc-link-lib=static={library}");

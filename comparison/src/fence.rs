@@ -14,7 +14,7 @@ pub fn fenced(record: &[u8], page: &mut [u8]) -> Outcome {
     between_fences(library, record, page)
 }
 
-pub fn between_fences(asked: fn(&[u8], &mut [u8]) -> Outcome, record: &[u8], page: &mut [u8]) -> Outcome {
+pub fn between_fences<T>(asked: impl FnOnce(&[u8], &mut [u8]) -> T, record: &[u8], page: &mut [u8]) -> T {
     let own: Box<[u8]> = record.into();
     let outcome = between_posts(page, |lent| asked(&own, lent));
     assert!(*own == *record, "the record is written");

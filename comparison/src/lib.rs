@@ -1,6 +1,7 @@
 //! The proved library beside the second evaluator.
 
 pub mod fence;
+pub mod journal;
 pub mod long;
 pub mod measure;
 pub mod register;

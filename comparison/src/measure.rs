@@ -12,7 +12,7 @@ use crate::register;
 const RUNS: usize = 25;
 const RUN_TIME: Duration = Duration::from_millis(20);
 
-/// Nanoseconds for one call: the medians of two implementations. The ratio is
+/// Nanoseconds for one operation: the medians of two implementations. The ratio is
 /// how many times as fast as the second evaluator the library is: the median
 /// over the turns, since a machine may change its pace between them.
 #[derive(Clone, Copy, Debug)]
@@ -22,16 +22,17 @@ pub struct Medians {
     pub ratio: f64,
 }
 
-/// Measures both in turns. Panics where they don't answer alike. The page isn't
-/// cleared between queries.
+/// Measures both in turns. Panics where they don't answer alike. The pages
+/// aren't cleared between queries.
 pub fn measure(library: Implementation, second: Implementation, record: &[u8]) -> Medians {
     let (mut one, mut other) = ([0; PAGE], [0; PAGE]);
     assert_eq!(library(record, &mut one), second(record, &mut other));
     assert_eq!(one, other);
-    let by = |implementation: Implementation, page: &mut [u8]| {
+    let query = |implementation: Implementation, page: &mut [u8]| {
         black_box(implementation(black_box(record), black_box(page)));
+        1
     };
-    in_turns(|| by(library, &mut one), || by(second, &mut other))
+    in_turns(|| query(library, &mut one), || query(second, &mut other))
 }
 
 /// Measures both in turns on the bytes of a register, which are copied for each
@@ -44,11 +45,13 @@ pub fn measure_register(workload: &register::Workload) -> Medians {
     assert_eq!(call(register::library), call(second::register::answer));
     let by = |implementation| {
         black_box(call(implementation));
+        1
     };
     in_turns(|| by(register::library), || by(second::register::answer))
 }
 
-fn in_turns(mut library: impl FnMut(), mut second: impl FnMut()) -> Medians {
+/// Measures two pieces of work in turns. Each says how many operations it was.
+pub fn in_turns(mut library: impl FnMut() -> u32, mut second: impl FnMut() -> u32) -> Medians {
     let mut times = (Vec::with_capacity(RUNS), Vec::with_capacity(RUNS));
     for _ in 0..RUNS {
         times.0.push(time(&mut library));
@@ -63,13 +66,12 @@ fn median(mut times: Vec<f64>) -> f64 {
     times[times.len() / 2]
 }
 
-/// Nanoseconds for one call, averaged over a run.
-fn time(call: &mut impl FnMut()) -> f64 {
-    let mut calls = 0;
+/// Nanoseconds for one operation, averaged over a run.
+fn time(work: &mut impl FnMut() -> u32) -> f64 {
+    let mut operations = 0;
     let start = Instant::now();
     while start.elapsed() < RUN_TIME {
-        call();
-        calls += 1;
+        operations += work();
     }
-    start.elapsed().as_nanos() as f64 / f64::from(calls)
+    start.elapsed().as_nanos() as f64 / f64::from(operations)
 }

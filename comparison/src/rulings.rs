@@ -148,15 +148,20 @@ Conditions: ((app_domain == \"RFC822-EMAIL\") &&\n (name == \"M. Blaze\" || name
 Licensees: Alice || Bob\nConditions: (app_domain == \"RFC822-EMAIL\") && ({test});\n"
         )
     };
-    let draft = |test: &str, address: &str| {
-        let asked = Draft::default().value("no").value("yes").requester("DSA:12340987");
+    let asked_by = |requester: &str, test: &str, address: &str| {
+        let asked = Draft::default().value("no").value("yes").requester(requester);
         let asked = asked.attribute("app_domain", "RFC822-EMAIL").attribute("address", address);
         asked.assertion(2, b(test)).local(a).assertion(2, c)
     };
+    let draft = |test: &str, address: &str| asked_by("DSA:12340987", test, address);
+    // The RFC asks with keys in small letters.
+    let small = |key: &str| asked_by(key, "address > \"m\"", "mab@keynote.research.att.com");
     let pattern = "address ~= \"^.*@keynote$\"";
     let place = b(pattern).find("~=").expect("it stands there");
     vec![
         ruling("e-mail", &draft("address > \"m\"", "mab@keynote.research.att.com"), Ruled::Solved(1, 4, 5)),
+        ruling("e-mail, small letters", &small("dsa:12340987"), Ruled::Solved(1, 4, 5)),
+        ruling("e-mail, another key", &small("dsa:12340988"), Ruled::Rank(0)),
         ruling("e-mail of another", &draft("address > \"m\"", "angelos@dsl.cis.upenn.edu"), Ruled::Rank(0)),
         ruling("e-mail by pattern", &draft(pattern, "mab@keynote.research.att.com"), Ruled::Entry(8, place)),
     ]

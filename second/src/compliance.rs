@@ -5,7 +5,7 @@ use crate::check::POLICY;
 use crate::environment::Environment;
 use crate::eval::Evaluator;
 use crate::limits;
-use crate::principal::Principals;
+use crate::principal::{Form, Principals};
 use crate::store::{Assertion, Licence};
 
 /// What an answered query is given.
@@ -25,10 +25,11 @@ struct Made<'a> {
     licensees: Option<(&'a [Licence], usize)>,
 }
 
-/// Solves the equations of the kept assertions in a query.
-pub fn solve(environment: &Environment, kept: &[Assertion]) -> Solution {
+/// Solves the equations of the kept assertions in a query. Identifiers of one
+/// form are one principal.
+pub fn solve(environment: &Environment, kept: &[Assertion], form: Form) -> Solution {
     let (query, store) = (environment.query, environment.store);
-    let mut principals = Principals::new(1 + kept.len() + store.principals.len());
+    let mut principals = Principals::new(form, 1 + kept.len() + store.principals.len());
     let policy = principals.number(POLICY);
     let mut authorizers: Bounded<usize, { limits::ASSERTIONS.most }> = Bounded::new(0);
     for assertion in kept {

@@ -7,6 +7,7 @@ pub mod coverage;
 pub mod damage;
 pub mod edge;
 pub mod expression;
+pub mod keys;
 pub mod scene;
 pub mod sketch;
 pub mod tally;
@@ -32,9 +33,11 @@ pub enum Sort {
     DamagedRecord,
     /// Many tests, and how many of them hold.
     Tally,
+    /// A web whose keys are spelled in several ways.
+    Keys,
 }
 
-const SORTS: [Sort; 9] = [
+const SORTS: [Sort; 10] = [
     Sort::Web,
     Sort::DamagedText,
     Sort::Rich,
@@ -44,6 +47,7 @@ const SORTS: [Sort; 9] = [
     Sort::DamagedRecord,
     Sort::DamagedText,
     Sort::Tally,
+    Sort::Keys,
 ];
 
 /// The record of a number in the row that a seed begins.
@@ -64,6 +68,7 @@ pub fn of_sort(random: &mut Random, sort: Sort) -> Vec<u8> {
         }
         Sort::Edge => edge::record(random),
         Sort::Tally => tally::record(random),
+        Sort::Keys => keys::draft(random).record(),
         Sort::DamagedRecord => {
             let draft = if random.once_in(2) { web::draft(random) } else { rich(random, 4) };
             damage::record(random, draft)

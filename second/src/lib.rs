@@ -15,13 +15,16 @@ pub mod eval;
 pub mod generate;
 pub mod grammar;
 pub mod integer;
+pub mod journal;
 pub mod limits;
 pub mod line;
 pub mod literal;
+pub mod paper;
 pub mod parse;
 pub mod principal;
 pub mod print;
 pub mod random;
+pub mod reach;
 pub mod record;
 pub mod register;
 pub mod store;
@@ -30,6 +33,7 @@ pub mod unread;
 pub mod workload;
 
 use bounded::Bounded;
+use compliance::Solution;
 use environment::Environment;
 use line::{Fault, Listing};
 use record::Query;
@@ -64,8 +68,16 @@ pub fn answer(record: &[u8], page: &mut [u8]) -> Outcome {
     let reading = read_assertions(&query);
     write_report(&reading.faults, report);
     let environment = Environment::new(&query, &reading.store);
-    let solution = compliance::solve(&environment, &reading.kept);
+    let solution = compliance::solve(&environment, &reading.kept, principal::canonical);
     Outcome { number: 0, place: 0, rank: solution.rank, rounds: solution.rounds, reached: solution.reached }
+}
+
+/// The solution if identifiers were equal by their bytes; none for a refusal.
+pub fn solution_by_bytes(record: &[u8]) -> Option<Solution> {
+    let query = record::read(record).ok()?;
+    let reading = read_assertions(&query);
+    let environment = Environment::new(&query, &reading.store);
+    Some(compliance::solve(&environment, &reading.kept, principal::spelled))
 }
 
 /// The assertions of a query: those kept, and each one's fault or none.
@@ -73,6 +85,14 @@ pub struct Reading {
     pub store: Store,
     pub kept: Bounded<Assertion, { limits::ASSERTIONS.most }>,
     pub faults: Bounded<Option<Fault>, { limits::ASSERTIONS.most }>,
+}
+
+impl Reading {
+    /// Every assertion in order, if it is kept.
+    pub fn assertions(&self) -> impl Iterator<Item = Option<&Assertion>> {
+        let mut kept = self.kept.iter();
+        self.faults.iter().map(move |fault| if fault.is_none() { kept.next() } else { None })
+    }
 }
 
 pub fn read_assertions(query: &Query) -> Reading {

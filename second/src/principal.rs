@@ -1,55 +1,111 @@
-//! Principals as numbers: identifiers are equal when their bytes are.
+//! Principals as numbers: identifiers are equal when their canonical forms are.
 
-/// Each different identifier once, with a table of hashes to find it.
-pub struct Principals<'a> {
-    identifiers: Vec<&'a [u8]>,
-    /// Numbers of identifiers plus one, by hash; 0 is free.
+/// Gives an identifier's form: adds it behind what the list holds.
+pub type Form = fn(&[u8], &mut Vec<u8>);
+
+/// Keys of these algorithms compare without case as a whole.
+const HEXADECIMAL: [&[u8]; 2] = [b"rsa-hex", b"dsa-hex"];
+
+/// How many bytes at an identifier's front compare without case: those before
+/// the first ":", all where they name hexadecimal digits, none without a ":".
+pub fn folded(identifier: &[u8]) -> usize {
+    // Without a ":" this is told sooner than by `position`.
+    if !identifier.contains(&b':') {
+        return 0;
+    }
+    let front = identifier.iter().take_while(|&&byte| byte != b':').count();
+    let algorithm = &identifier[..front];
+    match HEXADECIMAL.iter().any(|name| algorithm.eq_ignore_ascii_case(name)) {
+        true => identifier.len(),
+        false => front,
+    }
+}
+
+/// The canonical form: what compares without case in small letters.
+pub fn canonical(identifier: &[u8], forms: &mut Vec<u8>) {
+    let start = forms.len();
+    forms.extend_from_slice(identifier);
+    forms[start..][..folded(identifier)].make_ascii_lowercase();
+}
+
+/// An identifier as it is spelled: the equality of bytes, to compare with.
+pub fn spelled(identifier: &[u8], forms: &mut Vec<u8>) {
+    forms.extend_from_slice(identifier);
+}
+
+/// The canonical form by itself.
+pub fn form_of(identifier: &[u8]) -> Vec<u8> {
+    let mut form = Vec::with_capacity(identifier.len());
+    canonical(identifier, &mut form);
+    form
+}
+
+/// Each different form once, with a table of hashes to find it.
+pub struct Principals {
+    form: Form,
+    /// The forms, one behind the other, and where each ends.
+    forms: Vec<u8>,
+    ends: Vec<usize>,
+    /// Numbers of forms plus one, by hash; 0 is free.
     slots: Vec<u16>,
 }
 
-impl<'a> Principals<'a> {
-    /// Room for at most `most` identifiers.
-    pub fn new(most: usize) -> Self {
+impl Principals {
+    /// Room for at most `most` principals.
+    pub fn new(form: Form, most: usize) -> Self {
         let slots = (2 * most).next_power_of_two();
-        Self { identifiers: Vec::with_capacity(most), slots: vec![0; slots] }
+        // Most identifiers are short.
+        Self { form, forms: Vec::with_capacity(16 * most), ends: Vec::with_capacity(most), slots: vec![0; slots] }
     }
 
     pub fn len(&self) -> usize {
-        self.identifiers.len()
+        self.ends.len()
     }
 
     pub fn is_empty(&self) -> bool {
-        self.identifiers.is_empty()
+        self.ends.is_empty()
     }
 
-    /// The number of an identifier, which is added if it is new.
-    pub fn number(&mut self, identifier: &'a [u8]) -> usize {
-        let slot = self.slot(identifier);
+    /// The number of a principal, which is added if it is new.
+    pub fn number(&mut self, identifier: &[u8]) -> usize {
+        let start = self.forms.len();
+        (self.form)(identifier, &mut self.forms);
+        let slot = self.slot(&self.forms[start..]);
         match self.slots[slot] {
             0 => {
-                self.identifiers.push(identifier);
-                self.slots[slot] = self.identifiers.len() as u16;
-                self.identifiers.len() - 1
+                self.ends.push(self.forms.len());
+                self.slots[slot] = self.ends.len() as u16;
+                self.ends.len() - 1
             }
-            number => usize::from(number) - 1,
+            number => {
+                self.forms.truncate(start);
+                usize::from(number) - 1
+            }
         }
     }
 
-    /// The number of an identifier that was added.
+    /// The number of a principal that was added.
     pub fn find(&self, identifier: &[u8]) -> Option<usize> {
-        usize::from(self.slots[self.slot(identifier)]).checked_sub(1)
+        let mut form = Vec::with_capacity(identifier.len());
+        (self.form)(identifier, &mut form);
+        usize::from(self.slots[self.slot(&form)]).checked_sub(1)
     }
 
-    /// The slot that holds the identifier, or the free one where it belongs.
-    fn slot(&self, identifier: &[u8]) -> usize {
+    /// The slot that holds the form, or the free one where it belongs.
+    fn slot(&self, form: &[u8]) -> usize {
         let mask = self.slots.len() - 1;
-        let mut slot = hash(identifier) as usize & mask;
+        let mut slot = hash(form) as usize & mask;
         loop {
             match usize::from(self.slots[slot]).checked_sub(1) {
-                Some(number) if self.identifiers[number] != identifier => slot = (slot + 1) & mask,
+                Some(number) if self.of_number(number) != form => slot = (slot + 1) & mask,
                 _ => return slot,
             }
         }
+    }
+
+    fn of_number(&self, number: usize) -> &[u8] {
+        let start = if number == 0 { 0 } else { self.ends[number - 1] };
+        &self.forms[start..self.ends[number]]
     }
 }
 

@@ -4,18 +4,19 @@
 use crate::draft::Draft;
 use crate::limits;
 use crate::random::Random;
+use crate::reach;
+use crate::read_assertions;
 use crate::record::{self, Query};
 use crate::store::{Assertion, Node, Store};
-use crate::{read_assertions, Reading};
 
 /// For each attribute of a query whether an assertion made within the reach
 /// dereferences it. A "$" may read any.
 pub fn read_attributes(query: &Query) -> Vec<bool> {
     let reading = read_assertions(query);
-    let reach = reach(query, &reading);
+    let reach = reach::of(query, &reading);
     let mut read = vec![false; query.attributes.len()];
     for assertion in reading.kept.iter() {
-        if reach.contains(&reading.store.show(query, assertion.authorizer)) {
+        if reach.holds(reading.store.show(query, assertion.authorizer)) {
             mark_read(query, &reading.store, assertion, &mut read);
         }
     }
@@ -41,34 +42,12 @@ fn mark_read(query: &Query, store: &Store, assertion: &Assertion, read: &mut [bo
     }
 }
 
-/// POLICY and, repeatedly, the licensees of assertions made within.
-fn reach<'a>(query: &Query<'a>, reading: &'a Reading) -> Vec<&'a [u8]> {
-    let mut reach = vec![crate::check::POLICY];
-    let mut at = 0;
-    while at < reach.len() {
-        for assertion in reading.kept.iter() {
-            if reading.store.show(query, assertion.authorizer) != reach[at] {
-                continue;
-            }
-            let pieces = assertion.licensees.map_or(&[][..], |fields| fields.principals.of(&reading.store.principals));
-            for piece in pieces {
-                let licensee = reading.store.show(query, *piece);
-                if !reach.contains(&licensee) {
-                    reach.push(licensee);
-                }
-            }
-        }
-        at += 1;
-    }
-    reach
-}
-
 /// A record alike but for the values of some attributes that aren't read; none
 /// where the record is refused, or no such record fits.
 pub fn partner(random: &mut Random, record: &[u8]) -> Option<Vec<u8>> {
     let query = record::read(record).ok()?;
     let read = read_attributes(&query);
-    let mut draft = draft_of(&query);
+    let mut draft = Draft::of(&query);
     let all = random.once_in(2);
     for (attribute, read) in draft.attributes.iter_mut().zip(read) {
         if !read && (all || random.once_in(2)) {
@@ -85,14 +64,5 @@ fn value(random: &mut Random) -> Vec<u8> {
         0 => vec![b'v'; random.between(0, limits::ATTRIBUTE_BYTES.most)],
         1 => (0..random.below(20)).map(|_| random.between(1, 255) as u8).collect(),
         _ => random.pick(&VALUES).to_vec(),
-    }
-}
-
-fn draft_of(query: &Query) -> Draft {
-    Draft {
-        values: query.values.iter().map(|value| value.to_vec()).collect(),
-        requesters: query.requesters.iter().map(|requester| requester.to_vec()).collect(),
-        attributes: query.attributes.iter().map(|item| (item.name.to_vec(), item.value.to_vec())).collect(),
-        assertions: query.statements.iter().map(|item| (item.standing, item.text.to_vec())).collect(),
     }
 }

@@ -40,6 +40,11 @@ pub fn all() -> Vec<Workload> {
     for rounds in [2, 4, 8, 16, 32] {
         all.push(workload(format!("rounds {rounds}"), &rounds_of(rounds)));
     }
+    for bytes in [40, 256] {
+        all.push(workload(format!("keys of {bytes}, other case"), &keys(bytes, other_case)));
+        all.push(workload(format!("keys of {bytes}, other end"), &keys(bytes, other_end)));
+        all.push(workload(format!("keys of {bytes}, equal"), &keys(bytes, |key, _| key)));
+    }
     all
 }
 
@@ -218,4 +223,48 @@ pub fn rounds_of(rounds: usize) -> Draft {
         draft = draft.local(format!("Authorizer: \"POLICY\"\nLicensees: \"other {index}\"\n"));
     }
     draft
+}
+
+/// Long hexadecimal keys, sixteen to an assertion, as many assertions as fit.
+/// `spell` gives the key that is mentioned so many mentions later.
+pub fn keys(bytes: usize, spell: fn(String, usize) -> String) -> Draft {
+    let digits = "0123456789abcdef".chars().cycle();
+    let key: String = "dsa-hex:".chars().chain(digits).take(bytes).collect();
+    let mut draft = Draft::default().value("hold").value("immediate").requester(spell(key.clone(), 1));
+    for index in 0..limits::ASSERTIONS.most {
+        let first = index * (limits::LICENSEES + 1);
+        let authorizer = if index == 0 { "POLICY".into() } else { spell(key.clone(), first) };
+        let listed = (1..=limits::LICENSEES).map(|step| format!("\"{}\"", spell(key.clone(), first + step)));
+        let licensees = listed.collect::<Vec<_>>().join("||");
+        let next = draft.clone().local(format!("Authorizer: \"{authorizer}\"\nLicensees: {licensees}\n"));
+        if next.record().len() > limits::RECORD_BYTES {
+            break;
+        }
+        draft = next;
+    }
+    draft
+}
+
+/// A spelling for each number: its bits say which letters are capitals.
+fn other_case(key: String, number: usize) -> String {
+    let mut letters = 0;
+    let respell = |letter: char| {
+        letters += usize::from(letter.is_ascii_alphabetic());
+        let capital = number >> (letters % 10) & 1 == 1;
+        if capital {
+            letter.to_ascii_uppercase()
+        } else {
+            letter
+        }
+    };
+    key.chars().map(respell).collect()
+}
+
+/// Sixty-four different keys, alike but for the last byte.
+fn other_end(mut key: String, number: usize) -> String {
+    let fine = |end: &char| !end.is_ascii_uppercase() && !matches!(end, '"' | '\\');
+    let ends: Vec<char> = ('!'..='~').filter(fine).take(64).collect();
+    key.pop();
+    key.push(ends[number % ends.len()]);
+    key
 }

@@ -1,7 +1,8 @@
 //! Answers to KeyNote (RFC 2704) queries, by the proved static library.
 //!
 //! [`answer`] is the library's function with slices for pointers; [`ask`] brings
-//! the page and reads the report. [`Query`] builds records.
+//! the page and reads the report. [`Query`] builds records. [`journal`] keeps
+//! answers on a page.
 //!
 //! ```
 //! use lampsickle::{ask, Query};
@@ -15,6 +16,7 @@
 //! assert_eq!(answer.entries[0].reason, 0);
 //! ```
 
+pub mod journal;
 pub mod limits;
 mod query;
 pub mod register;

@@ -9,10 +9,8 @@ use second::generate::coverage::Coverage;
 use second::print::PAGE;
 use second::random::Random;
 
-const OPEN_POINTS: [&str; 2] = [
-    include_str!("../../../second/data/open-points.tsv"),
-    include_str!("../../../second/data/open-points-02.tsv"),
-];
+const OPEN_POINTS: [&str; 2] =
+    [include_str!("../../../second/data/open-points.tsv"), include_str!("../../../second/data/open-points-02.tsv")];
 const BOTH: [(&str, Implementation); 2] = [("library", fenced), ("second", answer)];
 
 fn unhex(digits: &str) -> Vec<u8> {

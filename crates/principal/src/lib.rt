@@ -1,16 +1,110 @@
 // Principals: the one function that compares two identifiers, and a number that tells most of them apart.
 ghost use mathlib.Core.Path.{_≡_};
 ghost use Prim.Native.Nat.{_+_, _*_, _%_, _<_};
-ghost use lib.ListN.{length};
-ghost use Rattle.text.specs.Equal.{equal};
+ghost use lib.ListN.{length, take, drop};
+ghost use Rattle.principal.specs.Canonical.{fold, folded, front, isHex};
 ghost use Rattle.principal.specs.Principal.{policy, same};
+ghost use Rattle.text.specs.Equal.{equal};
 ghost use Rattle.principal.specs.Tag.{back, tag};
 
-// Are these the same principal?
+// Where the first ":" stands, or the end.
+fn colon_at(id: &[u8]) -> usize
+    ensures { λ r. ⌜ r ≡ length (front (now (id .entry))) ⌝ }
+{
+    let mut i: usize = 0;
+    while i < id.len() {
+        if id[i] == 58 {
+            return i;
+        }
+        i += 1;
+    }
+    i
+}
+
+// A capital letter as the small one.
+fn fold_byte(b: u8) -> u8
+    ensures { λ r. ⌜ r ≡ fold b ⌝ }
+{
+    if 65 <= b {
+        if b <= 90 {
+            return b + 32;
+        }
+        return b;
+    }
+    b
+}
+
+// The same bytes but for the case of letters?
+fn same_folded(a: &[u8], b: &[u8]) -> bool
+    ensures { λ r. ⌜ r ≡ equal (folded (now (a .entry))) (folded (now (b .entry))) ⌝ }
+{
+    if a.len() != b.len() {
+        return false;
+    }
+    let mut i: usize = 0;
+    while i < a.len() {
+        if fold_byte(a[i]) != fold_byte(b[i]) {
+            return false;
+        }
+        i += 1;
+    }
+    true
+}
+
+// An algorithm whose keys are hexadecimal?
+fn is_hex(a: &[u8]) -> bool
+    ensures { λ r. ⌜ r ≡ isHex (folded (now (a .entry))) ⌝ }
+{
+    if same_folded(a, b"rsa-hex") {
+        return true;
+    }
+    same_folded(a, b"dsa-hex")
+}
+
+// The first k bytes.
+fn front_to(id: &[u8], k: usize) -> &[u8]
+    ensures { λ r. ⌜ now r ≡ take k (now (id .entry)) ⌝ }
+{
+    if id.len() <= k {
+        return id;
+    }
+    &id[..k]
+}
+
+// The bytes from k on.
+fn rest_from(id: &[u8], k: usize) -> &[u8]
+    ensures { λ r. ⌜ now r ≡ drop k (now (id .entry)) ⌝ }
+{
+    if id.len() <= k {
+        return &id[id.len()..];
+    }
+    &id[k..]
+}
+
+// Are these the same principal? Mostly their bytes are the same, or their lengths differ.
 pub fn same_principal(a: &[u8], b: &[u8]) -> bool
     ensures { λ r. ⌜ r ≡ same (now (a .entry)) (now (b .entry)) ⌝ }
 {
-    text::same_bytes(a, b)
+    if a.len() != b.len() {
+        return false;
+    }
+    if text::same_bytes(a, b) {
+        return true;
+    }
+    let k = colon_at(a);
+    if colon_at(b) != k {
+        return false;
+    }
+    if a.len() <= k {
+        return false;
+    }
+    if same_folded(front_to(a, k), front_to(b, k)) {
+        if is_hex(front_to(a, k)) {
+            return same_folded(rest_from(a, k), rest_from(b, k));
+        }
+        return text::same_bytes(rest_from(a, k), rest_from(b, k));
+    }
+    false
 }
 
 // Are these the bytes of POLICY?
@@ -26,13 +120,13 @@ fn wide(b: u8) -> usize
     b as usize
 }
 
-// The byte k before the last one.
+// The byte k before the last one, without case.
 fn back_at(id: &[u8], k: usize) -> usize
     requires { ⌜ k < length (now id) ⌝ }
     ensures { λ r. ⌜ r ≡ back (now (id .entry)) k ⌝ }
     ensures { λ r. ⌜ r < 256 ⌝ }
 {
-    let b = wide(id[id.len() - 1 - k]);
+    let b = wide(fold_byte(id[id.len() - 1 - k]));
     b % 256
 }
 

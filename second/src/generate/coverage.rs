@@ -3,7 +3,7 @@
 use std::collections::BTreeMap;
 use std::fmt;
 
-use crate::{check, limits, record, Outcome};
+use crate::{check, limits, record, solution_by_bytes, Outcome};
 
 #[derive(Clone, Debug, Default, PartialEq, Eq)]
 pub struct Coverage {
@@ -12,7 +12,13 @@ pub struct Coverage {
     pub ranks: BTreeMap<u8, u64>,
     pub rounds: BTreeMap<usize, u64>,
     pub reached: BTreeMap<usize, u64>,
+    /// Answers that would be other ones if spellings were principals, by what
+    /// would be another.
+    pub spellings: BTreeMap<&'static str, u64>,
 }
+
+/// What equality of bytes may change.
+const SPELLINGS: [&str; 3] = ["rank", "rounds", "reached"];
 
 /// So many different rounds must occur.
 const ROUNDS: usize = 20;
@@ -29,6 +35,15 @@ impl Coverage {
         *self.reached.entry(outcome.reached).or_default() += 1;
         for entry in report[limits::REPORT_HEAD..].chunks_exact(limits::REPORT_ENTRY) {
             *self.reasons.entry(entry[0]).or_default() += 1;
+        }
+    }
+
+    /// Counts an answer that rests on keys with several spellings.
+    pub fn count_spellings(&mut self, record: &[u8], outcome: &Outcome) {
+        let Some(other) = solution_by_bytes(record).filter(|_| outcome.number == 0) else { return };
+        let changed = [outcome.rank != other.rank, outcome.rounds != other.rounds, outcome.reached != other.reached];
+        for (what, _) in SPELLINGS.iter().zip(changed).filter(|(_, changed)| *changed) {
+            *self.spellings.entry(what).or_default() += 1;
         }
     }
 
@@ -50,6 +65,9 @@ impl Coverage {
             need(self.ranks.contains_key(&rank), format!("rank {rank}"));
         }
         need(self.rounds.len() >= ROUNDS, format!("{ROUNDS} different rounds"));
+        for what in SPELLINGS {
+            need(self.spellings.contains_key(what), format!("spellings of one key that change the {what}"));
+        }
         missing
     }
 }
@@ -60,6 +78,7 @@ impl fmt::Display for Coverage {
         writeln!(formatter, "reasons {:?}", self.reasons)?;
         writeln!(formatter, "ranks   {:?}", self.ranks)?;
         writeln!(formatter, "rounds  {:?}", self.rounds)?;
-        write!(formatter, "reached {:?}", self.reached)
+        writeln!(formatter, "reached {:?}", self.reached)?;
+        write!(formatter, "changed by spellings {:?}", self.spellings)
     }
 }

@@ -138,13 +138,17 @@ pub fn values(random: &mut Random) -> Vec<Vec<u8>> {
 }
 
 fn principals(random: &mut Random) -> Vec<Vec<u8>> {
-    const SPELLINGS: [&[u8]; 12] = [
+    const SPELLINGS: [&[u8]; 16] = [
         b"a",
         b"b",
         b"c",
         b"A",
         b"RSA:abc123",
         b"rsa:ABC123",
+        b"rsa:abc123",
+        b"dsa-hex:0aF",
+        b"DSA-Hex:0Af",
+        b"dsa-hex",
         b"DSA:feed1234",
         b"policy",
         b"two words",

@@ -13,23 +13,40 @@ struct Edge {
     to: Vec<usize>,
 }
 
+/// Spells a principal, given by its number, where it is mentioned.
+pub type Spell<'a> = &'a dyn Fn(&mut Random, usize) -> Vec<u8>;
+
+/// The most principals that a web has.
+pub const PRINCIPALS: usize = 48;
+
+/// A web whose principals are spelled alike wherever they stand.
 pub fn draft(random: &mut Random) -> Draft {
-    let scene = Scene { values: values(random), ..Scene::new(random) };
+    let values = values(random);
+    spelled(random, values, &|_, number| identifier(number))
+}
+
+pub fn spelled(random: &mut Random, values: Vec<Vec<u8>>, spell: Spell) -> Draft {
+    let scene = Scene { values, ..Scene::new(random) };
     let edges = edges(random);
     let count = edges.iter().flat_map(|edge| edge.to.iter().chain([&edge.from])).max().unwrap_or(&0) + 1;
     let mut draft = scene.draft(random);
     draft.requesters = (0..random.between(1, 3))
         .map(|_| match random.below(12) {
             0 => b"stranger".to_vec(),
-            1 => identifier(random.below(count)),
-            // Far ends make long ways.
-            _ => identifier(count - 1 - random.below(count).min(random.below(3))),
+            way => {
+                // Far ends make long ways.
+                let number = match way {
+                    1 => random.below(count),
+                    _ => count - 1 - random.below(count).min(random.below(3)),
+                };
+                spell(random, number)
+            }
         })
         // Nobody asks as POLICY; `damage` has requesters that do.
         .map(|requester| if requester == POLICY { b"stranger".to_vec() } else { requester })
         .collect();
     for edge in edges {
-        let text = assertion(random, &scene, &edge);
+        let text = assertion(random, &scene, &edge, spell);
         draft = draft.local(text);
     }
     for place in (1..draft.assertions.len()).rev() {
@@ -81,10 +98,11 @@ fn edges(random: &mut Random) -> Vec<Edge> {
     }
 }
 
-fn assertion(random: &mut Random, scene: &Scene, edge: &Edge) -> Vec<u8> {
+fn assertion(random: &mut Random, scene: &Scene, edge: &Edge, spell: Spell) -> Vec<u8> {
     let mut text = b"Authorizer: ".to_vec();
-    text.extend(literal(random, &identifier(edge.from)));
-    let licensees: Vec<Vec<u8>> = edge.to.iter().map(|&number| identifier(number)).collect();
+    let authorizer = spell(random, edge.from);
+    text.extend(literal(random, &authorizer));
+    let licensees: Vec<Vec<u8>> = edge.to.iter().map(|&number| spell(random, number)).collect();
     text.extend_from_slice(b"\nLicensees: ");
     let tokens = match random.below(3) {
         0 => expression::licensees(random, &licensees, 16),

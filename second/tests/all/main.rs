@@ -5,6 +5,7 @@ mod grammar;
 mod open_points;
 mod oracle;
 mod places;
+mod principals;
 mod records;
 mod register;
 mod rfc;

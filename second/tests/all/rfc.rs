@@ -1,8 +1,8 @@
 //! The examples of RFC 2704, section 6, with the answers the RFC gives.
 
-use second::answer;
 use second::draft::Draft;
 use second::print::PAGE;
+use second::{answer, Outcome};
 
 const A: &str = "Authorizer: \"POLICY\"\nLicensees: \"RSA:abc123\"\n";
 
@@ -109,23 +109,43 @@ fn email(b: &str, requester: &str, attributes: &[(&str, &str)]) -> (u8, Vec<u8>)
     asked(&draft.local(A).assertion(2, b).assertion(2, C).assertion(2, D))
 }
 
-/// The RFC asks with "dsa:" for "DSA:"; keys compare by their bytes here.
+/// B with a comparison in the place of its pattern.
+fn plain_b() -> String {
+    B.replace("address ~=", "address >=").replace("^.*@keynote\\\\.research\\\\.att\\\\.com$", "@")
+}
+
+/// The credentials name "DSA:" keys; the RFC asks with "dsa:", the same keys.
 #[test]
 fn email_with_a_plain_test() {
-    let b = B.replace("address ~=", "address >=").replace("^.*@keynote\\\\.research\\\\.att\\\\.com$", "@");
+    let b = plain_b();
     let rank = |requester, attributes: &[(&str, &str)]| {
         let (rank, entries) = email(&b, requester, attributes);
         assert_eq!(entries, [0; 12]);
         rank
     };
     let domain = ("app_domain", "RFC822-EMAIL");
-    assert_eq!(rank("DSA:12340987", &[domain, ("address", MAB)]), 1);
-    assert_eq!(rank("DSA:12340987", &[domain, ("address", MAB), ("name", "M. Blaze")]), 1);
-    assert_eq!(rank("DSA:12340987", &[domain, ("address", "angelos@dsl.cis.upenn.edu")]), 0);
-    assert_eq!(rank("DSA:abc991", &[domain, ("address", MAB), ("name", "M. Blaze")]), 0);
-    assert_eq!(rank("DSA:12340987", &[domain, ("address", MAB), ("name", "J. Feigenbaum")]), 0);
-    assert_eq!(rank("DSA:abc991", &[domain, ("address", "jf@keynote.research.att.com")]), 1);
-    assert_eq!(rank("dsa:12340987", &[domain, ("address", MAB)]), 0);
+    for (mab, jf) in [("dsa:12340987", "dsa:abc991"), ("DSA:12340987", "DSA:abc991"), ("dSa:12340987", "Dsa:abc991")] {
+        assert_eq!(rank(mab, &[domain, ("address", MAB)]), 1);
+        assert_eq!(rank(mab, &[domain, ("address", MAB), ("name", "M. Blaze")]), 1);
+        assert_eq!(rank(mab, &[domain, ("address", "angelos@dsl.cis.upenn.edu")]), 0);
+        assert_eq!(rank(jf, &[domain, ("address", MAB), ("name", "M. Blaze")]), 0);
+        assert_eq!(rank(mab, &[domain, ("address", MAB), ("name", "J. Feigenbaum")]), 0);
+        assert_eq!(rank(jf, &[domain, ("address", "jf@keynote.research.att.com")]), 1);
+    }
+    // The digits of a "DSA:" key compare by case.
+    assert_eq!(rank("DSA:ABC991", &[domain, ("address", "jf@keynote.research.att.com")]), 0);
+}
+
+/// POLICY, RSA:abc123, Alice, Bob, mab and jf's three keys are reached; the
+/// requester, Alice, RSA:abc123 and POLICY have a round each.
+#[test]
+fn email_in_small_letters() {
+    let b = plain_b();
+    let asked = Draft::default().value("_MIN").value("_MAX").requester("dsa:12340987");
+    let asked = asked.attribute("app_domain", "RFC822-EMAIL").attribute("address", MAB);
+    let draft = asked.local(A).assertion(2, b).assertion(2, C).assertion(2, D);
+    let expected = Outcome { rank: 1, rounds: 4, reached: 8, ..Outcome::default() };
+    assert_eq!(answer(&draft.record(), &mut [0; PAGE]), expected);
 }
 
 #[test]
