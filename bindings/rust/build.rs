@@ -6,7 +6,7 @@ use std::path::{Path, PathBuf};
 use std::process::exit;
 
 /// Each is made by `rt staticlib NAME`, as libNAME.a.
-const LIBRARIES: [&str; 2] = ["keynote", "journal"];
+const LIBRARIES: [&str; 3] = ["keynote", "journal", "register"];
 
 fn main() {
     let directory = directory();

@@ -19,6 +19,7 @@ SYNOPSIS
     lampsickle journal append FILE [--text TEXT]
     lampsickle journal list FILE
     lampsickle journal recover FILE [--damaged]
+    lampsickle register FILE CALL [NUMBER...]
     lampsickle --help
 
 DESCRIPTION
@@ -40,6 +41,9 @@ DESCRIPTION
     of it, or TEXT; list prints the finished entries, each on a line, in quotes
     and with escapes, and tells of an unfinished end; recover keeps the finished
     entries and clears the rest, which append asks for behind a power cut.
+
+    register makes a call on the register of priority moves that FILE holds, and
+    says what was done. A call that is refused changes nothing.
 
 OPTIONS OF ask
     -v, --value VALUE        a compliance value; the weakest is given first.
@@ -85,12 +89,26 @@ OPTIONS OF journal
         --damaged            (recover) clear also what no power cut leaves, behind
                              which finished entries may stand
 
+CALLS OF register
+    create                   an empty register, where nothing is yet
+    issue PRINCIPAL AMOUNT   moves to a principal, which is added if it isn't held
+    pass FROM TO AMOUNT      moves from one principal to another
+    spend PRINCIPAL AMOUNT   moves that are gone
+    remove PRINCIPAL         a principal that holds no moves
+    find PRINCIPAL           its place, its moves, and the work of finding it
+    list                     all that is held, issued and spent
+
+    A principal is a number from 0 to 4294967295, an amount 1 to 1000000, in digits
+    alone. FILE is replaced whole, under a lock, FILE.lock beside it, which stays: a
+    crash leaves the old register or the new one. FILE is no \"-\", no link, and has
+    one name.
+
 OUTPUT
     Answers go to standard output, and what explain explains; all else goes to
     standard error.
 
 EXIT STATUS
-    0   answered; for batch, every record was
+    0   answered; for batch, every record was; for register, granted
     1   answered, but a class is lower than --require
     2   the command line is wrong; nothing was asked
     3   refused, also by a journal; for batch, some record was

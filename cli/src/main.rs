@@ -16,6 +16,7 @@ mod json;
 mod limit;
 mod output;
 mod place;
+mod register;
 mod report;
 mod terminal;
 mod text;
@@ -29,8 +30,13 @@ use end::{End, Trouble};
 /// A command: what is behind its name on the command line is its own to read.
 type Command = fn(Words) -> Result<End, Trouble>;
 
-const COMMANDS: &[(&str, Command)] =
-    &[("ask", ask::run), ("explain", explain::run), ("batch", batch::run), ("journal", journal::run)];
+const COMMANDS: &[(&str, Command)] = &[
+    ("ask", ask::run),
+    ("explain", explain::run),
+    ("batch", batch::run),
+    ("journal", journal::run),
+    ("register", register::run),
+];
 
 fn main() -> ExitCode {
     let status = match run(Words::given()) {

@@ -1,10 +1,12 @@
-//! Times of two implementations on the same records, taken in turns.
+//! Times of two implementations on the same input, taken in turns.
 
 use std::hint::black_box;
 use std::time::{Duration, Instant};
 
 use second::compare::Implementation;
 use second::print::PAGE;
+
+use crate::register;
 
 /// How often each is measured; odd, so that there is a median.
 const RUNS: usize = 25;
@@ -31,6 +33,21 @@ pub fn measure(library: Implementation, second: Implementation, record: &[u8]) -
         1
     };
     in_turns(|| query(library, &mut one), || query(second, &mut other))
+}
+
+/// Measures both in turns on the bytes of a register, which are copied for each
+/// call. Panics where they don't answer alike.
+pub fn measure_register(workload: &register::Workload) -> Medians {
+    let call = |implementation: second::register::Implementation| {
+        let mut bytes = black_box(workload.bytes);
+        (implementation(&mut bytes, black_box(workload.call)), bytes)
+    };
+    assert_eq!(call(register::library), call(second::register::answer));
+    let by = |implementation| {
+        black_box(call(implementation));
+        1
+    };
+    in_turns(|| by(register::library), || by(second::register::answer))
 }
 
 /// Measures two pieces of work in turns. Each says how many operations it was.

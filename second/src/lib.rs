@@ -26,6 +26,7 @@ pub mod print;
 pub mod random;
 pub mod reach;
 pub mod record;
+pub mod register;
 pub mod store;
 pub mod token;
 pub mod unread;

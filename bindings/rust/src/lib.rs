@@ -19,6 +19,7 @@
 pub mod journal;
 pub mod limits;
 mod query;
+pub mod register;
 
 pub use query::{Fault, Item, Query, Standing, What};
 
@@ -71,7 +72,7 @@ pub struct Entry {
     pub place: usize,
 }
 
-/// A refused query: why, and where in the record.
+/// A refusal: why, and where in the record or the register's bytes.
 #[derive(Clone, Copy, Debug, PartialEq, Eq)]
 pub struct Refusal {
     pub number: u8,

@@ -9,7 +9,7 @@ fn folder(name: &str) -> PathBuf {
     let folder = Path::new(env!("CARGO_TARGET_TMPDIR")).join(name);
     let _ = fs::remove_dir_all(&folder);
     fs::create_dir_all(folder.join("lib")).expect("a folder");
-    for library in ["keynote", "journal"] {
+    for library in ["keynote", "journal", "register"] {
         fs::write(folder.join(format!("lib/lib{library}.a")), "!<arch>\n").expect("an archive");
     }
     fs::create_dir_all(folder.join("elsewhere")).expect("a folder");

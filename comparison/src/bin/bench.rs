@@ -1,10 +1,12 @@
 //! Times of the proved library and of the second evaluator, as the tables of
 //! docs/BENCHMARKS.md. `bench [NAME...]` measures the workloads whose names
-//! hold one of the words; those of the journal begin with "journal".
+//! hold one of the words; those of the journal begin with "journal", and
+//! `register` stands for the calls on a register.
 
 use comparison::journal::{self, Work};
 use comparison::library;
-use comparison::measure::{measure, Medians};
+use comparison::measure::{measure, measure_register, Medians};
+use comparison::register;
 use second::workload::{self, Workload};
 
 /// Workloads that differ in a size only, by the beginnings of their names.
@@ -40,6 +42,7 @@ fn main() {
         println!("\n| Journal | Library, µs | Second, µs | Library, times/s | Second, times/s | Ratio |\n|---|--:|--:|--:|--:|--:|");
         works.into_iter().for_each(journal_row);
     }
+    registers(&wanted);
 }
 
 fn journal_row(work: Work) {
@@ -87,6 +90,26 @@ fn row(workload: Workload) -> Row {
         row.medians.ratio,
     );
     row
+}
+
+/// Calls on a register that holds 64 principals.
+fn registers(wanted: &[String]) {
+    if !named("register", wanted) {
+        return;
+    }
+    println!("\n| Register of 64 held | Library, µs | Second, µs | Library, calls/s | Second, calls/s | Ratio |");
+    println!("|---|--:|--:|--:|--:|--:|");
+    for workload in register::workloads() {
+        let Medians { library, second, ratio } = measure_register(&workload);
+        println!(
+            "| {} | {:.2} | {:.2} | {:.0} | {:.0} | {ratio:.2} |",
+            workload.name,
+            library / 1e3,
+            second / 1e3,
+            1e9 / library,
+            1e9 / second
+        );
+    }
 }
 
 fn most_hostile(rows: &[Row]) {

@@ -5,3 +5,4 @@ mod fences;
 mod generated;
 mod journal;
 mod paper;
+mod register;
