@@ -2,9 +2,10 @@
 """Wrong evaluators that the comparison must find.
 
 Each edit makes the second evaluator wrong in one place; it is then compared with
-the right one on generated records. Prints what became of each, and fails where
-one isn't found. Takes a few minutes; `tools/mutants.py [WORD...]` tries those
-whose names hold one of the words.
+the right one on generated records, or its own answers to pairs of queries are
+held together. Prints what became of each, and fails where one isn't found. Takes
+a few minutes; `tools/mutants.py [WORD...]` tries those whose names hold one of
+the words.
 """
 
 import os
@@ -16,6 +17,8 @@ import tempfile
 SECOND = os.path.join(os.path.dirname(os.path.abspath(__file__)), "..", "second")
 SEED = 2704
 COUNT = 24_000
+# Records of which pairs with more paper are made.
+PAPER_COUNT = 4_000
 
 # Name, file of second/src, what stands there, what takes its place.
 EDITS = [
@@ -465,6 +468,40 @@ EDITS = [
     ),
 ]
 
+# Found by pairs with more paper alone, without the right evaluator.
+PAPER = [
+    (
+        'paper: the last assertion counts',
+        'compliance.rs',
+        'next[assertion.authorizer] = next[assertion.authorizer].max(rank);',
+        'next[assertion.authorizer] = rank;',
+    ),
+    (
+        'paper: ranks within a round',
+        'compliance.rs',
+        'licensees_rank(licences, &licensees[first..], &ranks)',
+        'licensees_rank(licences, &licensees[first..], &next)',
+    ),
+    (
+        'paper: reach in one pass',
+        'compliance.rs',
+        'find(|&index| !used[index] && reach.holds(authorizers[index]));',
+        'find(|&index| !std::mem::replace(&mut used[index], true) && reach.holds(authorizers[index]));',
+    ),
+    (
+        'paper: rounds over unreached',
+        'compliance.rs',
+        'if reach.holds(authorizer) {',
+        'if true {',
+    ),
+    (
+        'paper: entries of kept assertions first',
+        'lib.rs',
+        'write_report(&reading.faults, report);',
+        'let mut faults = reading.faults.to_vec();\n    faults.sort();\n    write_report(&faults, report);',
+    ),
+]
+
 HARNESS = """
 fn wrong(record: &[u8], page: &mut [u8]) -> second::Outcome {
     let o = mutant::answer(record, page);
@@ -472,7 +509,10 @@ fn wrong(record: &[u8], page: &mut [u8]) -> second::Outcome {
 }
 
 fn main() {
-    let found = second::compare::run(second::answer, wrong, SEED, COUNT).is_err();
+    let found = match std::env::args().nth(1) {
+        Some(_) => second::paper::run(wrong, SEED, PAPER_COUNT).is_err(),
+        None => second::compare::run(second::answer, wrong, SEED, COUNT).is_err(),
+    };
     std::process::exit(if found { 0 } else { 3 });
 }
 """
@@ -498,11 +538,11 @@ def prepare(folder):
     write(os.path.join(folder, "mutant", "Cargo.toml"), manifest("mutant", []))
     crates = [("second", os.path.abspath(SECOND)), ("mutant", "../mutant")]
     write(os.path.join(folder, "harness", "Cargo.toml"), manifest("harness", crates))
-    harness = HARNESS.replace("SEED", str(SEED)).replace("COUNT", str(COUNT))
+    harness = HARNESS.replace("SEED", str(SEED)).replace("PAPER_COUNT", str(PAPER_COUNT)).replace("COUNT", str(COUNT))
     write(os.path.join(folder, "harness", "src", "main.rs"), harness)
 
 
-def tried(folder, file, old, new):
+def tried(folder, arguments, file, old, new):
     """What became of an edit; the file is put back."""
     path = os.path.join(folder, "mutant", "src", file)
     with open(path, encoding="utf-8") as source:
@@ -513,7 +553,7 @@ def tried(folder, file, old, new):
     command = ["cargo", "run", "--offline", "--release", "--quiet"]
     folder = os.path.join(folder, "harness")
     built = subprocess.run(command[:1] + ["build"] + command[2:], cwd=folder, capture_output=True, text=True)
-    done = built if built.returncode else subprocess.run(command, cwd=folder, capture_output=True, text=True)
+    done = built if built.returncode else subprocess.run(command + arguments, cwd=folder, capture_output=True, text=True)
     write(path, text)
     if built.returncode:
         return "doesn't compile"
@@ -526,10 +566,11 @@ def main():
     failed = 0
     with tempfile.TemporaryDirectory() as folder:
         prepare(folder)
-        for name, file, old, new in EDITS:
+        edits = [([], *edit) for edit in EDITS] + [(["paper"], *edit) for edit in PAPER]
+        for arguments, name, file, old, new in edits:
             if words and not any(word in name for word in words):
                 continue
-            outcome = tried(folder, file, old, new)
+            outcome = tried(folder, arguments, file, old, new)
             failed += outcome != "found"
             print(f"{outcome}: {name}", flush=True)
     sys.exit(1 if failed else 0)

@@ -1,24 +1,31 @@
-//! Links the proved static library from the repository's `target/staticlib`, or
-//! from the directory that `LAMPSICKLE_LIB` names.
+//! Links the proved static libraries from the repository's `target/staticlib`,
+//! or from the directory that `LAMPSICKLE_LIB` names.
 
 use std::os::unix::process::parent_id;
 use std::path::{Path, PathBuf};
 use std::process::exit;
 
-const ARCHIVE: &str = "libkeynote.a";
+/// Each is made by `rt staticlib NAME`, as libNAME.a.
+const LIBRARIES: [&str; 3] = ["keynote", "journal", "register"];
 
 fn main() {
     let directory = directory();
-    let archive = directory.join(ARCHIVE);
     println!("cargo:rerun-if-env-changed=LAMPSICKLE_LIB");
+    println!("cargo:rustc-link-search=native={}", directory.display());
+    for library in LIBRARIES {
+        link(&directory, library);
+    }
+}
+
+fn link(directory: &Path, library: &str) {
+    let archive = directory.join(format!("lib{library}.a"));
     println!("cargo:rerun-if-changed={}", archive.display());
     if !archive.is_file() {
         eprintln!("{} is missing.", archive.display());
-        eprintln!("Run `rt staticlib keynote` at the root of the repository, or set LAMPSICKLE_LIB to the directory of {ARCHIVE}.");
+        eprintln!("Run `rt staticlib {library}` at the root of the repository, or set LAMPSICKLE_LIB to the archives' directory.");
         exit(1);
     }
-    println!("cargo:rustc-link-search=native={}", directory.display());
-    println!("cargo:rustc-link-lib=static=keynote");
+    println!("cargo:rustc-link-lib=static={library}");
 }
 
 fn directory() -> PathBuf {

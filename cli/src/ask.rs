@@ -14,10 +14,10 @@ use lampsickle::{Answer, Query};
 
 use crate::arguments::{Words, STANDARD};
 use crate::end::{End, Trouble};
-use crate::help;
 use crate::output::{answered, aside, told};
 use crate::report::{all_set_aside, class_json, class_text, entry_json, refusal_json, refusal_text, Source};
 use crate::text::shown;
+use crate::{help, journal};
 use attributes::Attribute;
 use faults::Origins;
 use request::{Attributes, Request, Trust};
@@ -56,13 +56,18 @@ pub fn run(words: Words) -> Result<End, Trouble> {
     }
 }
 
-/// The answer on standard output, then all there is to say about it on the other.
+/// The answer in the journal, then on standard output, then all there is to say about it
+/// on the other.
 fn tell(request: &Request, gathered: &Gathered, answer: &Answer) -> Result<End, Trouble> {
     let values = &gathered.query.values;
-    match request.json {
-        true => answered(answer_json(gathered, answer).as_bytes())?,
-        false => answered(class_text(values, answer).as_bytes())?,
+    let text = match request.json {
+        true => answer_json(gathered, answer),
+        false => class_text(values, answer),
     };
+    if let Some(file) = &request.journal {
+        journal::keep("--journal", file, text.as_bytes())?;
+    }
+    answered(text.as_bytes())?;
     if !request.json {
         aside(&all_set_aside(&gathered.sources, answer));
     }

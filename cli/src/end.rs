@@ -11,7 +11,7 @@ pub enum End {
     /// Under `--strict` an assertion was set aside.
     SetAside,
     Refused,
-    /// One file of several wasn't read.
+    /// One file of several wasn't read, or one not to its end.
     Unread,
 }
 
@@ -39,6 +39,8 @@ enum Cause {
     Usage,
     /// A file can't be read, or not as what it was given for.
     File,
+    /// The journal refuses what was to be kept.
+    Refused,
 }
 
 impl Cause {
@@ -46,6 +48,7 @@ impl Cause {
         match self {
             Self::Usage => 2,
             Self::File => 4,
+            Self::Refused => End::Refused.status(),
         }
     }
 }
@@ -57,6 +60,10 @@ impl Trouble {
 
     pub fn file(words: impl Into<String>) -> Self {
         Self { cause: Cause::File, words: words.into() }
+    }
+
+    pub fn refused(words: impl Into<String>) -> Self {
+        Self { cause: Cause::Refused, words: words.into() }
     }
 
     /// An error of the system's with a file or with an output.

@@ -15,6 +15,11 @@ SYNOPSIS
     lampsickle ask --value VALUE... --requester NAME... [OPTION...]
     lampsickle explain [--json] FILE
     lampsickle batch [--json] [--require CLASS] [--strict] [FILE...]
+    lampsickle journal create FILE --size N
+    lampsickle journal append FILE [--text TEXT]
+    lampsickle journal list FILE
+    lampsickle journal recover FILE [--damaged]
+    lampsickle register FILE CALL [NUMBER...]
     lampsickle --help
 
 DESCRIPTION
@@ -30,6 +35,15 @@ DESCRIPTION
     FILEs, or, for \"-\" or where none is named, those on standard input, each
     behind its length in four bytes, big-endian. A FILE that can't be read is
     told, and the others go on.
+
+    journal keeps answers in a FILE that survives a power cut: create makes one
+    of N bytes, 16 to 65,535; append adds what is on standard input, every byte
+    of it, or TEXT; list prints the finished entries, each on a line, in quotes
+    and with escapes, and tells of an unfinished end; recover keeps the finished
+    entries and clears the rest, which append asks for behind a power cut.
+
+    register makes a call on the register of priority moves that FILE holds, and
+    says what was done. A call that is refused changes nothing.
 
 OPTIONS OF ask
     -v, --value VALUE        a compliance value; the weakest is given first.
@@ -49,6 +63,8 @@ OPTIONS OF ask
     -u, --unverified FILE    credentials whose signatures you have not: they are
                              set aside, and told
         --record FILE        write the record to FILE and ask nothing
+        --journal FILE       append the answer to the journal in FILE, then print it;
+                             where it can't be kept, it isn't printed
         --json               print JSON
         --require CLASS      exit with 1 where the class is lower than CLASS
         --strict             exit with 5 where an assertion was set aside
@@ -67,15 +83,35 @@ OPTIONS OF explain AND batch
         --json               print JSON; batch prints an object on each line
         --require, --strict  (batch) as for ask, for every record
 
+OPTIONS OF journal
+        --size N             (create) the file's size; it stays as it is
+        --text TEXT          (append) the answer, in place of standard input
+        --damaged            (recover) clear also what no power cut leaves, behind
+                             which finished entries may stand
+
+CALLS OF register
+    create                   an empty register, where nothing is yet
+    issue PRINCIPAL AMOUNT   moves to a principal, which is added if it isn't held
+    pass FROM TO AMOUNT      moves from one principal to another
+    spend PRINCIPAL AMOUNT   moves that are gone
+    remove PRINCIPAL         a principal that holds no moves
+    find PRINCIPAL           its place, its moves, and the work of finding it
+    list                     all that is held, issued and spent
+
+    A principal is a number from 0 to 4294967295, an amount 1 to 1000000, in digits
+    alone. FILE is replaced whole, under a lock, FILE.lock beside it, which stays: a
+    crash leaves the old register or the new one. FILE is no \"-\", no link, and has
+    one name.
+
 OUTPUT
     Answers go to standard output, and what explain explains; all else goes to
     standard error.
 
 EXIT STATUS
-    0   answered; for batch, every record was
+    0   answered; for batch, every record was; for register, granted
     1   answered, but a class is lower than --require
     2   the command line is wrong; nothing was asked
-    3   refused; for batch, some record was
+    3   refused, also by a journal; for batch, some record was
     4   a file can't be read or written, or not as what it was given for
     5   answered, but under --strict an assertion was set aside
     Where several hold, the first of 2, 4, 3, 5, 1 counts.

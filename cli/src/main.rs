@@ -11,10 +11,12 @@ mod end;
 mod explain;
 mod help;
 mod input;
+mod journal;
 mod json;
 mod limit;
 mod output;
 mod place;
+mod register;
 mod report;
 mod terminal;
 mod text;
@@ -28,7 +30,13 @@ use end::{End, Trouble};
 /// A command: what is behind its name on the command line is its own to read.
 type Command = fn(Words) -> Result<End, Trouble>;
 
-const COMMANDS: [(&str, Command); 3] = [("ask", ask::run), ("explain", explain::run), ("batch", batch::run)];
+const COMMANDS: &[(&str, Command)] = &[
+    ("ask", ask::run),
+    ("explain", explain::run),
+    ("batch", batch::run),
+    ("journal", journal::run),
+    ("register", register::run),
+];
 
 fn main() -> ExitCode {
     let status = match run(Words::given()) {

@@ -7,7 +7,17 @@ const SHOWN: usize = 40;
 
 /// Bytes in quotes, cut where they are long, with escapes for what can't be shown.
 pub fn quoted(bytes: &[u8]) -> String {
-    format!("\"{}\"", cut(escaped(bytes, |character| matches!(character, '"' | '\\'))))
+    format!("\"{}\"", cut(escaped(bytes, is_marked)))
+}
+
+/// Bytes in quotes, all of them: other bytes never look the same.
+pub fn entire(bytes: &[u8]) -> String {
+    format!("\"{}\"", escaped(bytes, is_marked))
+}
+
+/// What is marked within quotes.
+fn is_marked(character: char) -> bool {
+    matches!(character, '"' | '\\')
 }
 
 /// Bytes cut where they are long, with escapes for what can't be shown.

@@ -108,6 +108,11 @@ fn spend() {
 }
 
 #[test]
+fn moves() {
+    check("examples/moves/README.md", "examples/moves");
+}
+
+#[test]
 fn email() {
     check("examples/email/README.md", "examples/email");
 }

@@ -14,15 +14,21 @@ pub fn fenced(record: &[u8], page: &mut [u8]) -> Outcome {
     between_fences(library, record, page)
 }
 
-pub fn between_fences(asked: fn(&[u8], &mut [u8]) -> Outcome, record: &[u8], page: &mut [u8]) -> Outcome {
+pub fn between_fences<T>(asked: impl FnOnce(&[u8], &mut [u8]) -> T, record: &[u8], page: &mut [u8]) -> T {
     let own: Box<[u8]> = record.into();
+    let outcome = between_posts(page, |lent| asked(&own, lent));
+    assert!(*own == *record, "the record is written");
+    outcome
+}
+
+/// Lends a copy of a page between fences. Panics where a byte beside it has changed.
+pub fn between_posts<A>(page: &mut [u8], asked: impl FnOnce(&mut [u8]) -> A) -> A {
     let mut field = vec![POST; page.len() + 2 * FENCE];
     let lent = FENCE..FENCE + page.len();
     field[lent.clone()].copy_from_slice(page);
-    let outcome = asked(&own, &mut field[lent.clone()]);
+    let answer = asked(&mut field[lent.clone()]);
     page.copy_from_slice(&field[lent.clone()]);
     let posts = field[..lent.start].iter().chain(&field[lent.end..]);
     assert!(posts.copied().all(|post| post == POST), "a byte beside the page is written");
-    assert!(*own == *record, "the record is written");
-    outcome
+    answer
 }

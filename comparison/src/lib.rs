@@ -1,8 +1,10 @@
 //! The proved library beside the second evaluator.
 
 pub mod fence;
+pub mod journal;
 pub mod long;
 pub mod measure;
+pub mod register;
 pub mod rulings;
 
 use std::fmt::Write;

@@ -160,7 +160,7 @@ fn noise(random: &mut Random, size: usize) -> Vec<u8> {
     noise
 }
 
-fn demand(record: &[u8], fine: bool, what: impl FnOnce() -> String) -> Result<(), Box<Difference>> {
+pub(crate) fn demand(record: &[u8], fine: bool, what: impl FnOnce() -> String) -> Result<(), Box<Difference>> {
     match fine {
         true => Ok(()),
         false => Err(Box::new(Difference { what: what(), record: record.to_vec() })),

@@ -1,5 +1,7 @@
 //! A query to be written as a record; nothing in it is tested.
 
+use crate::record::Query;
+
 /// The parts of a query record, in order.
 #[derive(Clone, Debug, Default, PartialEq, Eq)]
 pub struct Draft {
@@ -13,6 +15,16 @@ impl Draft {
     /// Two values, "hold" and "immediate", and the requester "a".
     pub fn plain() -> Self {
         Self::default().value("hold").value("immediate").requester("a")
+    }
+
+    /// A query that was read, to be written again.
+    pub fn of(query: &Query) -> Self {
+        Self {
+            values: query.values.iter().map(|value| value.to_vec()).collect(),
+            requesters: query.requesters.iter().map(|requester| requester.to_vec()).collect(),
+            attributes: query.attributes.iter().map(|item| (item.name.to_vec(), item.value.to_vec())).collect(),
+            assertions: query.statements.iter().map(|item| (item.standing, item.text.to_vec())).collect(),
+        }
     }
 
     pub fn value(mut self, value: impl AsRef<[u8]>) -> Self {

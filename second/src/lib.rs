@@ -15,15 +15,18 @@ pub mod eval;
 pub mod generate;
 pub mod grammar;
 pub mod integer;
+pub mod journal;
 pub mod limits;
 pub mod line;
 pub mod literal;
+pub mod paper;
 pub mod parse;
 pub mod principal;
 pub mod print;
 pub mod random;
 pub mod reach;
 pub mod record;
+pub mod register;
 pub mod store;
 pub mod token;
 pub mod unread;
@@ -82,6 +85,14 @@ pub struct Reading {
     pub store: Store,
     pub kept: Bounded<Assertion, { limits::ASSERTIONS.most }>,
     pub faults: Bounded<Option<Fault>, { limits::ASSERTIONS.most }>,
+}
+
+impl Reading {
+    /// Every assertion in order, if it is kept.
+    pub fn assertions(&self) -> impl Iterator<Item = Option<&Assertion>> {
+        let mut kept = self.kept.iter();
+        self.faults.iter().map(move |fault| if fault.is_none() { kept.next() } else { None })
+    }
 }
 
 pub fn read_assertions(query: &Query) -> Reading {

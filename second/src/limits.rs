@@ -49,3 +49,16 @@ pub const INTEGER_LITERAL: u32 = 2_147_483_647;
 
 // Evaluation.
 pub const STRING_BYTES: usize = 4_096;
+
+// The journal.
+pub const JOURNAL_BYTES: Range = Range::new(16, 65_535);
+pub const JOURNAL_VERSION: u8 = 1;
+pub const CLOSING: u8 = 1;
+
+// The register of priority moves.
+pub const REGISTER_PLACES: usize = 64;
+pub const REGISTER_MOVES: u64 = 1_000_000;
+pub const REGISTER_VERSION: u8 = 1;
+pub const REGISTER_HEAD: usize = 9;
+pub const REGISTER_PLACE: usize = 13;
+pub const REGISTER_BYTES: usize = REGISTER_HEAD + REGISTER_PLACES * REGISTER_PLACE;

@@ -3,6 +3,7 @@
 use crate::check::POLICY;
 use crate::principal::form_of;
 use crate::record::Query;
+use crate::store::Assertion;
 use crate::Reading;
 
 /// The canonical forms of the principals in a reach.
@@ -38,4 +39,23 @@ pub fn of(query: &Query, reading: &Reading) -> Reach {
         at += 1;
     }
     reach
+}
+
+/// Where an assertion stands to a reach.
+#[derive(Clone, Copy, Debug, PartialEq, Eq)]
+pub enum Place {
+    SetAside,
+    /// Kept, and its authorizer isn't in the reach.
+    Outside,
+    Within,
+}
+
+/// The place of every assertion of a query, by this query's reach or another's.
+pub fn places(query: &Query, reading: &Reading, reach: &Reach) -> Vec<Place> {
+    let place = |kept: Option<&Assertion>| match kept {
+        None => Place::SetAside,
+        Some(assertion) if reach.holds(reading.store.show(query, assertion.authorizer)) => Place::Within,
+        Some(_) => Place::Outside,
+    };
+    reading.assertions().map(place).collect()
 }

@@ -47,7 +47,7 @@ fn mark_read(query: &Query, store: &Store, assertion: &Assertion, read: &mut [bo
 pub fn partner(random: &mut Random, record: &[u8]) -> Option<Vec<u8>> {
     let query = record::read(record).ok()?;
     let read = read_attributes(&query);
-    let mut draft = draft_of(&query);
+    let mut draft = Draft::of(&query);
     let all = random.once_in(2);
     for (attribute, read) in draft.attributes.iter_mut().zip(read) {
         if !read && (all || random.once_in(2)) {
@@ -64,14 +64,5 @@ fn value(random: &mut Random) -> Vec<u8> {
         0 => vec![b'v'; random.between(0, limits::ATTRIBUTE_BYTES.most)],
         1 => (0..random.below(20)).map(|_| random.between(1, 255) as u8).collect(),
         _ => random.pick(&VALUES).to_vec(),
-    }
-}
-
-fn draft_of(query: &Query) -> Draft {
-    Draft {
-        values: query.values.iter().map(|value| value.to_vec()).collect(),
-        requesters: query.requesters.iter().map(|requester| requester.to_vec()).collect(),
-        attributes: query.attributes.iter().map(|item| (item.name.to_vec(), item.value.to_vec())).collect(),
-        assertions: query.statements.iter().map(|item| (item.standing, item.text.to_vec())).collect(),
     }
 }

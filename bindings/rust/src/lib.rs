@@ -1,7 +1,8 @@
 //! Answers to KeyNote (RFC 2704) queries, by the proved static library.
 //!
 //! [`answer`] is the library's function with slices for pointers; [`ask`] brings
-//! the page and reads the report. [`Query`] builds records.
+//! the page and reads the report. [`Query`] builds records. [`journal`] keeps
+//! answers on a page.
 //!
 //! ```
 //! use lampsickle::{ask, Query};
@@ -15,8 +16,10 @@
 //! assert_eq!(answer.entries[0].reason, 0);
 //! ```
 
+pub mod journal;
 pub mod limits;
 mod query;
+pub mod register;
 
 pub use query::{Fault, Item, Query, Standing, What};
 
@@ -69,7 +72,7 @@ pub struct Entry {
     pub place: usize,
 }
 
-/// A refused query: why, and where in the record.
+/// A refusal: why, and where in the record or the register's bytes.
 #[derive(Clone, Copy, Debug, PartialEq, Eq)]
 pub struct Refusal {
     pub number: u8,

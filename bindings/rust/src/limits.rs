@@ -34,3 +34,9 @@ pub const REPORT_ENTRY: usize = 3;
 
 /// A page that any report fits on.
 pub const PAGE: usize = REPORT_HEAD + REPORT_ENTRY * ASSERTIONS.most;
+
+/// A journal's page, in bytes.
+pub const JOURNAL: Range = Range::new(16, 65_535);
+pub const JOURNAL_VERSION: u8 = 1;
+/// The last byte of a finished entry of a journal.
+pub const CLOSING: u8 = 1;

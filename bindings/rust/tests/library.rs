@@ -4,12 +4,14 @@ use std::fs;
 use std::path::{Path, PathBuf};
 use std::process::{Command, Output};
 
-/// A folder of its own, with an archive of nothing in `lib`.
+/// A folder of its own, with archives of nothing in `lib`.
 fn folder(name: &str) -> PathBuf {
     let folder = Path::new(env!("CARGO_TARGET_TMPDIR")).join(name);
     let _ = fs::remove_dir_all(&folder);
     fs::create_dir_all(folder.join("lib")).expect("a folder");
-    fs::write(folder.join("lib/libkeynote.a"), "!<arch>\n").expect("an archive");
+    for library in ["keynote", "journal", "register"] {
+        fs::write(folder.join(format!("lib/lib{library}.a")), "!<arch>\n").expect("an archive");
+    }
     fs::create_dir_all(folder.join("elsewhere")).expect("a folder");
     folder
 }

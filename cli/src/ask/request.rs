@@ -6,6 +6,7 @@ use super::warnings::Kind;
 use crate::arguments::{Given, Word, Words, STANDARD};
 use crate::demand::Demand;
 use crate::end::Trouble;
+use crate::journal;
 use crate::text::quoted;
 
 /// What `ask` was given, each in the order given.
@@ -17,6 +18,8 @@ pub struct Request {
     pub files: Vec<(Trust, Word)>,
     /// Where to write the record instead of asking.
     pub record: Option<Word>,
+    /// The journal that is to hold the answer before it is printed.
+    pub journal: Option<Word>,
     pub json: bool,
     pub demand: Demand,
     /// Warnings that aren't wanted.
@@ -91,6 +94,8 @@ impl Request {
             b"--json" => self.json = option.flag()?,
             b"--record" if self.record.is_some() => return Err(Trouble::usage("--record is given twice")),
             b"--record" => self.record = Some(words.file(option, "--record")?),
+            b"--journal" if self.journal.is_some() => return Err(Trouble::usage("--journal is given twice")),
+            b"--journal" => self.journal = Some(words.file(option, "--journal")?),
             b"--value" | b"-v" => self.values.push(words.value(option, "--value")?),
             b"--values" => self.values.extend(listed(&words.value(option, "--values")?)),
             b"--requester" | b"-r" => self.requesters.push(words.value(option, "--requester")?),
@@ -119,6 +124,11 @@ impl Request {
             return Err(Trouble::usage(
                 "--record asks nothing, so --json, --strict and --require have no meaning with it",
             ));
+        }
+        match (&self.record, &self.journal) {
+            (Some(_), Some(_)) => return Err(Trouble::usage("--record asks nothing, so --journal keeps nothing")),
+            (None, Some(file)) => journal::named("--journal", file)?,
+            _ => {}
         }
         match &self.demand.require {
             Some(class) if !self.values.contains(class) => {
@@ -199,6 +209,9 @@ mod tests {
             &["--local", "-", "--attributes", "-"],
             &["--record", "x", "--record", "y"],
             &["--record", "x", "--strict"],
+            &["--record", "x", "--journal", "y"],
+            &["--journal", "x", "--journal", "y"],
+            &["--journal", "-"],
             &["--values", "a,b", "--require", "c"],
             &["--values", "a,b", "--require", "a", "--require", "b"],
             &["--no-warn", "unset,x"],

@@ -1,9 +1,12 @@
 //! Times of the proved library and of the second evaluator, as the tables of
 //! docs/BENCHMARKS.md. `bench [NAME...]` measures the workloads whose names
-//! hold one of the words.
+//! hold one of the words; those of the journal begin with "journal", and
+//! `register` stands for the calls on a register.
 
+use comparison::journal::{self, Work};
 use comparison::library;
-use comparison::measure::{measure, Medians};
+use comparison::measure::{measure, measure_register, Medians};
+use comparison::register;
 use second::workload::{self, Workload};
 
 /// Workloads that differ in a size only, by the beginnings of their names.
@@ -33,17 +36,44 @@ struct Row {
 
 fn main() {
     let wanted: Vec<String> = std::env::args().skip(1).collect();
+    queries(&wanted);
+    let works: Vec<Work> = journal::works().into_iter().filter(|work| named(&work.name, &wanted)).collect();
+    if !works.is_empty() {
+        println!("\n| Journal | Library, µs | Second, µs | Library, times/s | Second, times/s | Ratio |\n|---|--:|--:|--:|--:|--:|");
+        works.into_iter().for_each(journal_row);
+    }
+    registers(&wanted);
+}
+
+fn journal_row(work: Work) {
+    let medians = work.measure();
+    println!(
+        "| {} | {:.2} | {:.2} | {:.0} | {:.0} | {:.2} |",
+        work.name,
+        medians.library / 1e3,
+        medians.second / 1e3,
+        1e9 / medians.library,
+        1e9 / medians.second,
+        medians.ratio,
+    );
+}
+
+fn queries(wanted: &[String]) {
+    let workloads: Vec<Workload> = workload::all().into_iter().filter(|item| named(&item.name, wanted)).collect();
+    if workloads.is_empty() {
+        return;
+    }
     println!("Machine: {}. Medians of 25 runs in turns; the page is not cleared between queries.\n", machine());
     println!("| Query | Bytes | Library, µs | Second, µs | Library, answers/s | Second, answers/s | Ratio |");
     println!("|---|--:|--:|--:|--:|--:|--:|");
-    let rows: Vec<Row> = workload::all().into_iter().filter(|item| named(item, &wanted)).map(row).collect();
+    let rows: Vec<Row> = workloads.into_iter().map(row).collect();
     most_hostile(&rows);
     growth(&rows);
     slower(&rows);
 }
 
-fn named(workload: &Workload, wanted: &[String]) -> bool {
-    wanted.is_empty() || wanted.iter().any(|part| workload.name.contains(part.as_str()))
+fn named(name: &str, wanted: &[String]) -> bool {
+    wanted.is_empty() || wanted.iter().any(|part| name.contains(part.as_str()))
 }
 
 fn row(workload: Workload) -> Row {
@@ -60,6 +90,26 @@ fn row(workload: Workload) -> Row {
         row.medians.ratio,
     );
     row
+}
+
+/// Calls on a register that holds 64 principals.
+fn registers(wanted: &[String]) {
+    if !named("register", wanted) {
+        return;
+    }
+    println!("\n| Register of 64 held | Library, µs | Second, µs | Library, calls/s | Second, calls/s | Ratio |");
+    println!("|---|--:|--:|--:|--:|--:|");
+    for workload in register::workloads() {
+        let Medians { library, second, ratio } = measure_register(&workload);
+        println!(
+            "| {} | {:.2} | {:.2} | {:.0} | {:.0} | {ratio:.2} |",
+            workload.name,
+            library / 1e3,
+            second / 1e3,
+            1e9 / library,
+            1e9 / second
+        );
+    }
 }
 
 fn most_hostile(rows: &[Row]) {

@@ -3,3 +3,6 @@
 mod examples;
 mod fences;
 mod generated;
+mod journal;
+mod paper;
+mod register;

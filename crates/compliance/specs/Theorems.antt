@@ -4,6 +4,7 @@ pub mod Reach
 pub mod Settle
 pub mod Alike
 pub mod Grow
+pub mod Outside
 pub mod Index
 pub mod Compile
 pub mod Flags

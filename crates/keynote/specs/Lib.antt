@@ -3,6 +3,7 @@ pub mod Answer
 pub mod Report
 pub mod Outcome
 pub mod Secrets
+pub mod Paper
 pub mod Theorems
 pub mod Rulings
 pub mod Working

@@ -1,5 +1,5 @@
 -- The starred rulings of 01, and a few others, computed from the definitions as a single table: texts are read, answers given; then worked
--- instances of what demand 3 supposes. Assumes nothing.
+-- instances of what demand 3 and W-211 suppose. Assumes nothing.
 use mathlib.Core.Path.{_≡_, refl}
 use mathlib.Core.Bool.{Bool, true, false}
 use mathlib.Core.List.{List, [], _∷_, _++_, map}
@@ -22,6 +22,7 @@ use Rattle.keynote.specs.Outcome.{refusal, answer, needed, judged, outco
 use Rattle.keynote.specs.Secrets.{dereferences}
 use Rattle.keynote.specs.Mission.{standing, computed}
 use Rattle.keynote.specs.Working.Hearing.{suchIn, heardSuch}
+use Rattle.keynote.specs.Working.Outsiders.{isOutside}
 use Rattle.text.specs.Class as TextClass
 use Rattle.text.specs.Decimal as TextDecimal
 use Rattle.text.specs.Digits as TextDigits
@@ -164,6 +165,25 @@ seen = secretQuery "seen==\"y\"" (set "idle" "longer") (set "hidden" "") (set "u
 abbrev pub computing : Query
 computing = secretQuery "$\"seen\"==\"y\"" (set "idle" "x") (set "hidden" "x") (set "unread" "") (set "seen" "y")
 
+-- ---- assertions for W-211
+
+abbrev pub byPolicy : String
+byPolicy = "Authorizer: \"POLICY\"\nLicensees: \"a\""
+
+abbrev pub byA : String
+byA = "Authorizer: \"a\"\nLicensees: \"r\""
+
+-- b is not reached
+abbrev pub byB : String
+byB = "Authorizer: \"b\"\nLicensees: \"r\""
+
+-- a text that is set aside
+abbrev pub broken : String
+broken = "Licensees: \"a\""
+
+abbrev pub paperWeb : Query
+paperWeb = desk ("r" ∷ []) (byPolicy ∷ byA ∷ byB ∷ [])
+
 -- is the name dereferenced by an assertion heard?
 unfoldable pub isRead : Query → String → Bool
 isRead q n = heardSuch (λ c. dereferences c (bytes n)) q
@@ -233,9 +253,21 @@ pub record Rulings : Type 0 where
   pub one-told : told one ≡ (0 ∷ 0 ∷ 0 ∷ [], 1 ∷ 3 ∷ 3 ∷ [])
   pub other-told : told other ≡ (0 ∷ 0 ∷ 0 ∷ [], 1 ∷ 3 ∷ 3 ∷ [])
   pub seen-told : told seen ≡ (0 ∷ 0 ∷ 0 ∷ [], 0 ∷ 1 ∷ 3 ∷ [])
+  -- W-211: an assertion that raises the class, and one that changes nothing
+  pub paper-less : told (desk ("r" ∷ []) (byPolicy ∷ [])) ≡ (0 ∷ [], 0 ∷ 0 ∷ 2 ∷ [])
+  pub paper-raises : told (desk ("r" ∷ []) (byPolicy ∷ byA ∷ [])) ≡ (0 ∷ 0 ∷ [], 1 ∷ 3 ∷ 3 ∷ [])
+  pub paper-idle : told paperWeb ≡ (0 ∷ 0 ∷ 0 ∷ [], 1 ∷ 3 ∷ 3 ∷ [])
+  -- three assertions in two orders
+  pub paper-ordered : told (desk ("r" ∷ []) (broken ∷ byPolicy ∷ byA ∷ [])) ≡ (3 ∷ 0 ∷ 0 ∷ [], 1 ∷ 3 ∷ 3 ∷ [])
+  pub paper-reordered : told (desk ("r" ∷ []) (byA ∷ broken ∷ byPolicy ∷ [])) ≡ (0 ∷ 3 ∷ 0 ∷ [], 1 ∷ 3 ∷ 3 ∷ [])
+  -- one replaced outside the reach; it was outside, and what is in its place too
+  pub paper-replaced : told (desk ("r" ∷ []) (byPolicy ∷ byA ∷ broken ∷ [])) ≡ (0 ∷ 0 ∷ 3 ∷ [], 1 ∷ 3 ∷ 3 ∷ [])
+  pub outside-b : isOutside paperWeb (reading (supplied (bytes byB))) ≡ true
+  pub outside-broken : isOutside paperWeb (reading (supplied (bytes broken))) ≡ true
+  pub inside-a : isOutside paperWeb (reading (supplied (bytes byA))) ≡ false
 
 pub rulings : Rulings
-unfolding refusal SyntaxCode.nameAt TextClass.isLetter TextClass.isWord FieldsConstants.isSet FieldsConstants.reserved FieldsConstants.constantValue FieldsConstants.assigned FieldsConstants.nameFault FieldsConstants.constant FieldsConstants.constantsFrom FieldsParsed.wordOf FieldsIdentifier.nameFault TextOrder.order ExpressionNames.settingOr ExpressionNames.fromQuery ExpressionNames.lookup ExpressionOperations.textual set secretTexts secretQuery isRead stands standing computed dereferences suchIn heardSuch ExpressionReads.reads ExpressionReads.programReads ExpressionReads.clauseReads ExpressionReads.isSet ExpressionStanding.names ExpressionStanding.programNames ExpressionStanding.clauseNames ExpressionStanding.computes ExpressionStanding.programComputes ExpressionStanding.clauseComputes bytes supplied query reasons told class tested worth ranked reading readings keptOf system classOf roundsOf reachedOf reasonOf highest TextClass.isDigit TextClass.inClass TextDecimal.inRange TextDecimal.roundedDown TextDecimal.withFraction TextDecimal.unsigned TextDecimal.decimal TextDigits.valueFrom TextDigits.value TextEqual.equal TextLoop.turns TextLoop.loop TextScan.past LexicalClass.classOf LexicalKind.opened LexicalLabel.labelKind LexicalLine.visible LexicalLine.inLine LexicalLine.blankTo LexicalLine.lineAt LexicalLine.linesFrom LexicalLine.tokenAt LexicalLiteral.units LexicalLiteral.unitsAt LexicalLiteral.literalEnd LexicalLiteral.decodedAt LexicalNumber.decimal LexicalNumber.held LexicalNumber.numberAt LexicalOperator.equalPair LexicalOperator.pairOf LexicalOperator.markKind LexicalOperator.isOf LexicalOperator.operatorKind LexicalRun.hasClass LexicalRun.inRun LexicalToken.widthOf LexicalToken.operatorAt LexicalToken.operatorToken LexicalToken.literalToken LexicalToken.floatEnd LexicalToken.numberToken LexicalToken.tokenFrom LexicalUnit.barred LexicalUnit.unitAt LexicalWord.lower LexicalWord.stands LexicalWord.spells FieldsAuthorizer.authorized FieldsAuthorizer.authorizer FieldsIdentifier.sizeFault FieldsIdentifier.identifierFault FieldsIdentifier.identified FieldsIdentifier.identifier FieldsLicensees.licensee FieldsLicensees.listed FieldsLicensees.listFrom FieldsLicensees.listOpened FieldsLicensees.ofRead FieldsLicensees.threshold FieldsLicensees.primary FieldsLicensees.expression FieldsLicensees.licensees FieldsParsed.ending AssertionDraft.without AssertionDraft.total AssertionRead.finished AssertionRead.field AssertionRead.fieldsFrom AssertionRead.readAssertion ConditionsExpression.readExpression ConditionsOperand.readLiteral ConditionsOperand.readName ConditionsOperand.readDigits ConditionsOperand.readLeaf ConditionsOperand.settledTree ConditionsOperand.applied ConditionsProgram.ending ConditionsProgram.valuing ConditionsProgram.stopping ConditionsProgram.readProgram ConditionsProgram.readBlock ConditionsTable.beginsString ConditionsTable.beginsNumber ConditionsTable.beginsFloat ConditionsTable.allows ConditionsTable.comparison ConditionsTable.numberOperator ConditionsTable.textOperator ConditionsTable.testOperator ConditionsTable.operator ConditionsTable.prefixOperator ConditionsTable.levelOf ConditionsTable.operandOf ConditionsTable.resultOf ConditionsTable.operandLevel ConditionsTable.operandWant ConditionsTable.rightWant ConditionsTable.rightLevel ConditionsTable.binds ConditionsTable.insideLevel ConditionsTable.fits ConditionsTable.stops ConditionsWord.wordSort SyntaxCode.numberAt ComplianceLicensees.value ComplianceLicensees.licensed ComplianceLicensees.named ComplianceLicensees.licensees ComplianceReach.licenseesOf ComplianceReach.reachFrom ComplianceReach.namings ComplianceReach.reach ComplianceRounds.equalOn ComplianceRounds.settled ComplianceRounds.reached ComplianceRounds.firstSettled ComplianceRounds.rounds ComplianceRounds.mentioned ComplianceRounds.rank ComplianceSystem.direct ComplianceSystem.asserted ComplianceSystem.delegated ComplianceSystem.equations ComplianceSystem.round PrincipalMembers.member PrincipalCanonical.fold PrincipalCanonical.folded PrincipalCanonical.front PrincipalCanonical.behind PrincipalCanonical.isHex PrincipalCanonical.canonicalWith PrincipalCanonical.canonical PrincipalPrincipal.same PrincipalPrincipal.policy ExpressionConditions.evaluate ExpressionConditions.indexFrom ExpressionConditions.rankOf ExpressionConditions.top ExpressionConditions.clause ExpressionIntegers.ranged ExpressionIntegers.negated ExpressionIntegers.differ ExpressionIntegers.over ExpressionIntegers.raisedTo ExpressionIntegers.odd ExpressionIntegers.signOfPower ExpressionIntegers.power ExpressionIntegers.sizes ExpressionIntegers.compared ExpressionOperations.held ExpressionOperations.relates ExpressionOperations.arithmetic ExpressionOperations.logical ExpressionOperations.ofTexts ExpressionOperations.ofIntegers ExpressionOperations.ofTests ExpressionOperations.isTextual ExpressionOperations.binaryOf ExpressionOperations.converted ExpressionOperations.negative ExpressionOperations.opposite ExpressionOperations.unaryOf ExpressionNames.environment stringBytes assertionBytes itemsBytes groupBytes encode placeOf pairBytes entryBytes entriesBytes report reportSize answer needed judged outcome written pageAfter TextCounted.part TextCounted.pairAt SyntaxParsed.refusal LexicalReason.reasonOf TextClass.isPlain RecordField.countAt RecordField.lengthAt RecordField.contentAt RecordField.fieldAt RecordField.nameFront RecordField.among RecordItem.plainAt RecordItem.valueAt RecordItem.requesterAt RecordItem.nameAt RecordItem.attributeAt RecordItem.assertionAt RecordItem.itemsAt RecordItem.groupAt RecordRecord.queryAt RecordRecord.readRecord
+unfolding isOutside refusal SyntaxCode.nameAt TextClass.isLetter TextClass.isWord FieldsConstants.isSet FieldsConstants.reserved FieldsConstants.constantValue FieldsConstants.assigned FieldsConstants.nameFault FieldsConstants.constant FieldsConstants.constantsFrom FieldsParsed.wordOf FieldsIdentifier.nameFault TextOrder.order ExpressionNames.settingOr ExpressionNames.fromQuery ExpressionNames.lookup ExpressionOperations.textual set secretTexts secretQuery isRead stands standing computed dereferences suchIn heardSuch ExpressionReads.reads ExpressionReads.programReads ExpressionReads.clauseReads ExpressionReads.isSet ExpressionStanding.names ExpressionStanding.programNames ExpressionStanding.clauseNames ExpressionStanding.computes ExpressionStanding.programComputes ExpressionStanding.clauseComputes bytes supplied query reasons told class tested worth ranked reading readings keptOf system classOf roundsOf reachedOf reasonOf highest TextClass.isDigit TextClass.inClass TextDecimal.inRange TextDecimal.roundedDown TextDecimal.withFraction TextDecimal.unsigned TextDecimal.decimal TextDigits.valueFrom TextDigits.value TextEqual.equal TextLoop.turns TextLoop.loop TextScan.past LexicalClass.classOf LexicalKind.opened LexicalLabel.labelKind LexicalLine.visible LexicalLine.inLine LexicalLine.blankTo LexicalLine.lineAt LexicalLine.linesFrom LexicalLine.tokenAt LexicalLiteral.units LexicalLiteral.unitsAt LexicalLiteral.literalEnd LexicalLiteral.decodedAt LexicalNumber.decimal LexicalNumber.held LexicalNumber.numberAt LexicalOperator.equalPair LexicalOperator.pairOf LexicalOperator.markKind LexicalOperator.isOf LexicalOperator.operatorKind LexicalRun.hasClass LexicalRun.inRun LexicalToken.widthOf LexicalToken.operatorAt LexicalToken.operatorToken LexicalToken.literalToken LexicalToken.floatEnd LexicalToken.numberToken LexicalToken.tokenFrom LexicalUnit.barred LexicalUnit.unitAt LexicalWord.lower LexicalWord.stands LexicalWord.spells FieldsAuthorizer.authorized FieldsAuthorizer.authorizer FieldsIdentifier.sizeFault FieldsIdentifier.identifierFault FieldsIdentifier.identified FieldsIdentifier.identifier FieldsLicensees.licensee FieldsLicensees.listed FieldsLicensees.listFrom FieldsLicensees.listOpened FieldsLicensees.ofRead FieldsLicensees.threshold FieldsLicensees.primary FieldsLicensees.expression FieldsLicensees.licensees FieldsParsed.ending AssertionDraft.without AssertionDraft.total AssertionRead.finished AssertionRead.field AssertionRead.fieldsFrom AssertionRead.readAssertion ConditionsExpression.readExpression ConditionsOperand.readLiteral ConditionsOperand.readName ConditionsOperand.readDigits ConditionsOperand.readLeaf ConditionsOperand.settledTree ConditionsOperand.applied ConditionsProgram.ending ConditionsProgram.valuing ConditionsProgram.stopping ConditionsProgram.readProgram ConditionsProgram.readBlock ConditionsTable.beginsString ConditionsTable.beginsNumber ConditionsTable.beginsFloat ConditionsTable.allows ConditionsTable.comparison ConditionsTable.numberOperator ConditionsTable.textOperator ConditionsTable.testOperator ConditionsTable.operator ConditionsTable.prefixOperator ConditionsTable.levelOf ConditionsTable.operandOf ConditionsTable.resultOf ConditionsTable.operandLevel ConditionsTable.operandWant ConditionsTable.rightWant ConditionsTable.rightLevel ConditionsTable.binds ConditionsTable.insideLevel ConditionsTable.fits ConditionsTable.stops ConditionsWord.wordSort SyntaxCode.numberAt ComplianceLicensees.value ComplianceLicensees.licensed ComplianceLicensees.named ComplianceLicensees.licensees ComplianceReach.licenseesOf ComplianceReach.reachFrom ComplianceReach.namings ComplianceReach.reach ComplianceRounds.equalOn ComplianceRounds.settled ComplianceRounds.reached ComplianceRounds.firstSettled ComplianceRounds.rounds ComplianceRounds.mentioned ComplianceRounds.rank ComplianceSystem.direct ComplianceSystem.asserted ComplianceSystem.delegated ComplianceSystem.equations ComplianceSystem.round PrincipalMembers.member PrincipalCanonical.fold PrincipalCanonical.folded PrincipalCanonical.front PrincipalCanonical.behind PrincipalCanonical.isHex PrincipalCanonical.canonicalWith PrincipalCanonical.canonical PrincipalPrincipal.same PrincipalPrincipal.policy ExpressionConditions.evaluate ExpressionConditions.indexFrom ExpressionConditions.rankOf ExpressionConditions.top ExpressionConditions.clause ExpressionIntegers.ranged ExpressionIntegers.negated ExpressionIntegers.differ ExpressionIntegers.over ExpressionIntegers.raisedTo ExpressionIntegers.odd ExpressionIntegers.signOfPower ExpressionIntegers.power ExpressionIntegers.sizes ExpressionIntegers.compared ExpressionOperations.held ExpressionOperations.relates ExpressionOperations.arithmetic ExpressionOperations.logical ExpressionOperations.ofTexts ExpressionOperations.ofIntegers ExpressionOperations.ofTests ExpressionOperations.isTextual ExpressionOperations.binaryOf ExpressionOperations.converted ExpressionOperations.negative ExpressionOperations.opposite ExpressionOperations.unaryOf ExpressionNames.environment stringBytes assertionBytes itemsBytes groupBytes encode placeOf pairBytes entryBytes entriesBytes report reportSize answer needed judged outcome written pageAfter TextCounted.part TextCounted.pairAt SyntaxParsed.refusal LexicalReason.reasonOf TextClass.isPlain RecordField.countAt RecordField.lengthAt RecordField.contentAt RecordField.fieldAt RecordField.nameFront RecordField.among RecordItem.plainAt RecordItem.valueAt RecordItem.requesterAt RecordItem.nameAt RecordItem.attributeAt RecordItem.assertionAt RecordItem.itemsAt RecordItem.groupAt RecordRecord.queryAt RecordRecord.readRecord
 rulings = record {
   licence = refl;
   ring-c = refl;
@@ -263,6 +295,15 @@ rulings = record {
   asked-as-policy = refl;
   asked-as-policy-last = refl;
   asked-in-small = refl;
+  paper-less = refl;
+  paper-raises = refl;
+  paper-idle = refl;
+  paper-ordered = refl;
+  paper-reordered = refl;
+  paper-replaced = refl;
+  outside-b = refl;
+  outside-broken = refl;
+  inside-a = refl;
   one-key = refl;
   two-keys = refl;
   idle-unread = refl;

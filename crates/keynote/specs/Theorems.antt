@@ -20,5 +20,7 @@ pub mod Grown
 pub mod Filled
 pub mod Solved
 pub mod Answers
+pub mod More
 pub mod Hearing
 pub mod Instances
+pub mod PaperInstances

@@ -7,6 +7,7 @@ mod oracle;
 mod places;
 mod principals;
 mod records;
+mod register;
 mod rfc;
 mod rounds;
 mod rulings;

@@ -62,7 +62,7 @@ reach-keeps : (s : System) (P : List Principal → List Principal → Type 0)
 unfolding reach
 reach-keeps s P skip add h = turns-keep (s .assertions) P skip add _ _ _ (omega (arith, ahead-none (s .assertions))) h
 
-licensees-in : {l : List Assertion} (p : Principal) (a : Assertion) → Mem a l → same (a .authorizer) p ≡ true
+pub licensees-in : {l : List Assertion} (p : Principal) (a : Assertion) → Mem a l → same (a .authorizer) p ≡ true
     → (q : Principal) → member q (licensees (a .field)) ≡ true → member q (licenseesOf l p) ≡ true
 unfolding licenseesOf
 licensees-in p a (here {x = b} {xs = l} e) h q n = rw (← e, h) (member-left q (licensees (a .field)) (licenseesOf l p) n)

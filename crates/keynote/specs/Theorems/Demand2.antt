@@ -115,13 +115,13 @@ reached-only q n r =
 
 -- ---- kept and dropped assertions
 
-kept-in : (l : List Read) (a : Said) → Mem (kept a) l → Mem a (keptOf l)
+pub kept-in : (l : List Read) (a : Said) → Mem (kept a) l → Mem a (keptOf l)
 unfolding keptOf
 kept-in [] a m = elim m [ ]
 kept-in (kept b ∷ l) a m = ⊎-elim (λ (e : kept a ≡ kept b). here cc) (λ n. there (kept-in l a n)) (mem-∷ m)
 kept-in (dropped r p ∷ l) a m = ⊎-elim (λ (e : kept a ≡ dropped r p). let z : _≡_ {A = ℕ} 0 1 = cc in absurd (omega arith)) (λ n. kept-in l a n) (mem-∷ m)
 
-kept-from : (l : List Read) (a : Said) → Mem a (keptOf l) → Mem (kept a) l
+pub kept-from : (l : List Read) (a : Said) → Mem a (keptOf l) → Mem (kept a) l
 unfolding keptOf
 kept-from [] a m = elim m [ ]
 kept-from (kept b ∷ l) a m = ⊎-elim (λ e. here (ap kept e)) (λ n. there (kept-from l a n)) (mem-∷ m)
@@ -131,7 +131,7 @@ from-map : {A B : Type 0} (f : A → B) (l : List A) (b : B) → Mem b (map f l)
 from-map f [] b m = elim m [ ]
 from-map f (x ∷ l) b m = ⊎-elim (λ e. (x, (here refl, e))) (λ n. let (a, (k, e)) = from-map f l b n in (a, (there k, e))) (mem-∷ m)
 
-map-at : {A B : Type 0} (f : A → B) (l : List A) (i : ℕ) (a : A) → getElem? l i ≡ some a → getElem? (map f l) i ≡ some (f a)
+pub map-at : {A B : Type 0} (f : A → B) (l : List A) (i : ℕ) (a : A) → getElem? l i ≡ some a → getElem? (map f l) i ≡ some (f a)
 map-at f [] i a e = let z : _≡_ {A = ℕ} 0 1 = cc in absurd (omega arith)
 map-at f (x ∷ l) zero a e = let z : x ≡ a = cc in ap (λ y. some (f y)) z
 map-at f (x ∷ l) (suc i) a e = map-at f l i a e

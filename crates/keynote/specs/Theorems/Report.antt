@@ -12,7 +12,7 @@ use Rattle.keynote.specs.Answer.{reading, readings}
 use Rattle.keynote.specs.Outcome.{needed}
 use Rattle.keynote.specs.Report.{reasonOf, placeOf, pairBytes, entryBytes, entriesBytes, report, reportSize}
 
-entries-length : (l : List Read) → length (entriesBytes l) ≡ 3 * length l
+pub entries-length : (l : List Read) → length (entriesBytes l) ≡ 3 * length l
 unfolding entriesBytes entryBytes pairBytes
 entries-length [] = refl
 entries-length (r ∷ l) = omega (arith, entries-length l)

@@ -1,4 +1,5 @@
 use Rattle.secrecy.specs.Secret.{secret-is}
+use Rattle.secrecy.specs.PaperLaw.{paper-is}
 use borrow.Author.Needs.{needs}
 use Rattle.secrecy.proofs.ask_both.Statement.{statement}
 use Rattle.secrecy.proofs.ask_both.Tie as tie
@@ -19,7 +20,7 @@ same-length-2 : tie.Need-same-length-2
 same-length-2 c = search needs
 
 returns : tie.Need-returns
-returns c = (search needs, (search needs, (search needs, (search needs, search secret-is))))
+returns c = (search needs, (search needs, (search needs, (search needs, (search secret-is, search paper-is)))))
 
 pub ask-both-spec : {M : Type 1} → statement M
 ask-both-spec =

@@ -1,0 +1,23 @@
+use Rattle.journal.specs.Working.Requests.{recover-whole}
+use borrow.Author.Needs.{needs}
+use Rattle.journal.proofs.lampsickle_journal_recover.Statement.{statement}
+use Rattle.journal.proofs.lampsickle_journal_recover.Tie as tie
+use Rattle.journal.proofs.lampsickle_journal_recover.Reads as reads
+use Rattle.journal.proofs.lampsickle_journal_recover.Lts as lts
+use Rattle.journal.proofs.lampsickle_journal_recover_cut.Reads as lampsickle-journal-recover-cut-reads
+
+-- src/lib.rt:254:5
+lampsickle-journal-recover-cut-requires : tie.Need-lampsickle-journal-recover-cut-requires
+lampsickle-journal-recover-cut-requires c κs = search needs
+
+-- src/lib.rt:249:1
+same-length : tie.Need-same-length
+same-length c = search needs
+
+-- src/lib.rt:249:1
+returns : tie.Need-returns
+returns c = search recover-whole
+
+pub lampsickle-journal-recover-spec : {M : Type 1} → statement M
+lampsickle-journal-recover-spec =
+    tie.close (tie.spec lampsickle-journal-recover-cut-requires same-length returns)

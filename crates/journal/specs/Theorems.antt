@@ -1,0 +1,5 @@
+pub mod Content
+pub mod Determined
+pub mod PowerCut
+pub mod RoundTrip
+pub mod Torn

@@ -1,0 +1,9 @@
+pub mod Walk
+pub mod Walks
+pub mod Placing
+pub mod Rooms
+pub mod Ways
+pub mod Requests
+pub mod Agreeing
+pub mod Kept
+pub mod Written

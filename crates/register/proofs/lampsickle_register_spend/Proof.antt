@@ -1,0 +1,55 @@
+use Rattle.register.specs.Working.Boundary.{checked-long, unread, call-done}
+use borrow.Author.Needs.{needs}
+use Rattle.register.proofs.lampsickle_register_spend.Statement.{statement}
+use Rattle.register.proofs.lampsickle_register_spend.Tie as tie
+use Rattle.register.proofs.lampsickle_register_spend.Reads as reads
+use Rattle.register.proofs.lampsickle_register_spend.Lts as lts
+use Rattle.register.proofs.finish.Reads as finish-reads
+use Rattle.register.proofs.layout.check.Reads as check-reads
+use Rattle.register.proofs.layout.read.Reads as read-reads
+use Rattle.register.proofs.spend.Reads as spend-reads
+
+check-requires : tie.Need-check-requires
+check-requires c κs = search needs
+
+enum-known-number : tie.Need-enum-known-number
+enum-known-number c = search needs
+
+enum-told : tie.Need-enum-told
+enum-told c = search needs
+
+read-requires : tie.Need-read-requires
+read-requires c κs = search checked-long
+
+spend-requires : tie.Need-spend-requires
+spend-requires c κs = search needs
+
+finish-requires : tie.Need-finish-requires
+finish-requires c κs = search checked-long
+
+same-length : tie.Need-same-length
+same-length c = search needs
+
+returns : tie.Need-returns
+returns c = search unread
+
+same-length-2 : tie.Need-same-length-2
+same-length-2 c = search needs
+
+returns-2 : tie.Need-returns-2
+returns-2 c = search call-done
+
+pub lampsickle-register-spend-spec : {M : Type 1} → statement M
+lampsickle-register-spend-spec =
+    tie.close
+    (tie.spec
+    check-requires
+    enum-known-number
+    enum-told
+    read-requires
+    spend-requires
+    finish-requires
+    same-length
+    returns
+    same-length-2
+    returns-2)

@@ -1,0 +1,10 @@
+pub mod Limits
+pub mod Entries
+pub mod Calls
+pub mod Find
+pub mod Told
+pub mod Layout
+pub mod OnBytes
+pub mod Examples
+pub mod Theorems
+pub mod Working
