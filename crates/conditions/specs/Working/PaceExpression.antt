@@ -13,6 +13,7 @@ use Rattle.lexical.specs.Kind
 use Rattle.lexical.specs.Bounds.{chosen}
 use Rattle.lexical.specs.declared.token.Token.{Token}
 use Rattle.conditions.specs.Table
+use Rattle.conditions.specs.Working.Numbered
 use Rattle.conditions.specs.Word.{nextAt}
 use Rattle.conditions.specs.Working.Emit.{Ran, ran, onFound, refused, settledTop, settled, finishAt, closedAt}
 use Rattle.conditions.specs.Working.Expression
@@ -32,14 +33,14 @@ module _ (s : List ℕ) where
 
   module _ (d : ℕ) (inner : Expressions d) where
     prefixed-body : (m : List ℕ) (top op want row nest : ℕ) (t : Token) → t .start < t .end → t .end ≤ length s
-        → 3 * (119 * (16 - nest) + (6 - Table.operandLevel op) * 17 + (16 - row)) ≤ d
+        → 3 * (119 * (16 - nest) + (6 - Numbered.operandLevel op) * 17 + (16 - row)) ≤ d
         → Paced s top (t .start) (t .start) (Expression.prefixedBody (λ m top level want row nest t. Expression.exprAt d s m top level want row nest t) s m top op want row nest t)
     prefixed-body m top op want row nest t wide inside deep =
         chosen (Paced s top (t .start) (t .start)) (leb 16 row) _ _ (λ h. paced-aside 7 (t .start) m seven)
         (λ h. paced-on s top (t .start) (t .start) top (nextAt s (t .end) .start) (nextAt s (t .end) .start)
-        (Expression.exprAt d s m top (Table.operandLevel op) (Table.operandWant op want) (row + 1) nest (nextAt s (t .end))) (λ x p u n b. finishAt b u op x p n)
+        (Expression.exprAt d s m top (Numbered.operandLevel op) (Numbered.operandWant op want) (row + 1) nest (nextAt s (t .end))) (λ x p u n b. finishAt b u op x p n)
         (λ x p u n b k i j. finish-paced s top (t .start) (t .start) op x p u n b k (omega (arith, i, wide, next-after s (t .end) inside)) (omega (arith, j, wide, next-after s (t .end) inside)))
-        (inner m top (Table.operandLevel op) (Table.operandWant op want) (row + 1) nest (nextAt s (t .end)) (next-sound s (t .end)) (operand-level-most op) (operand-wanted op want)
+        (inner m top (Numbered.operandLevel op) (Numbered.operandWant op want) (row + 1) nest (nextAt s (t .end)) (next-sound s (t .end)) (operand-level-most op) (operand-wanted op want)
         (omega (arith, deep, leb-false 16 row h))))
 
     closed-paced : (top₀ at₀ x p u : ℕ) (n : Token) (b : List ℕ) → Sound s n → at₀ < n .start → u + debt x + at₀ ≤ top₀ + n .start → Paced s top₀ at₀ at₀ (ran (closedAt s x p u n) b)
@@ -60,17 +61,17 @@ module _ (s : List ℕ) where
         (inner m top (Table.insideLevel want) want 0 (nest + 1) (nextAt s (t .end)) (next-sound s (t .end)) (inside-most want) (inside-wanted want)
         (omega (arith, deep, leb-false 16 nest h))))
 
-    joined-body : (top₀ at₀ : ℕ) (m : List ℕ) (top op nest sort place at : ℕ) → Between op → (op ≡ 0 → ⊥) → (op ≡ Table.MATCH → ⊥) → at ≤ length s
-        → top + debt sort + at₀ + 1 ≤ top₀ + at → at₀ ≤ at → 3 * (119 * (16 - nest) + (6 - Table.levelOf op) * 17) ≤ d
+    joined-body : (top₀ at₀ : ℕ) (m : List ℕ) (top op nest sort place at : ℕ) → Between op → (op ≡ 0 → ⊥) → (op ≡ Numbered.MATCH → ⊥) → at ≤ length s
+        → top + debt sort + at₀ + 1 ≤ top₀ + at → at₀ ≤ at → 3 * (119 * (16 - nest) + (6 - Numbered.levelOf op) * 17) ≤ d
         → Paced s top₀ at₀ at (Expression.joinedBody (λ m top level want row nest t. Expression.exprAt d s m top level want row nest t) s m top op nest sort place at)
-    unfolding Table.rightLevel
+    unfolding Numbered.rightLevel
     joined-body top₀ at₀ m top op nest sort place at bt nz nm inside pace below deep =
         paced-on s top₀ at₀ at (settledTop m top sort) (nextAt s at .start) (nextAt s at .start)
-        (Expression.exprAt d s (settled m top (Table.operandOf op) sort place) (settledTop m top sort) (Table.rightLevel op) (Table.rightWant op) 0 nest (nextAt s at))
+        (Expression.exprAt d s (settled m top (Numbered.operandOf op) sort place) (settledTop m top sort) (Numbered.rightLevel op) (Numbered.rightWant op) 0 nest (nextAt s at))
         (λ x p u n b. finishAt b u op x p n)
         (λ x p u n b k i j. finish-paced s top₀ at₀ at op x p u n b k (omega (arith, i, next-after s at inside))
         (omega (arith, j, pace, settled-most m top sort, next-after s at inside)))
-        (inner (settled m top (Table.operandOf op) sort place) (settledTop m top sort) (Table.rightLevel op) (Table.rightWant op) 0 nest (nextAt s at) (next-sound s at)
+        (inner (settled m top (Numbered.operandOf op) sort place) (settledTop m top sort) (Numbered.rightLevel op) (Numbered.rightWant op) 0 nest (nextAt s at) (next-sound s at)
         (omega (arith, level-most op)) (right-wanted op bt nz nm) (omega (arith, deep, level-most op)))
 
   -- where a chain stands
@@ -90,20 +91,20 @@ module _ (s : List ℕ) where
         (λ h. goes-on (n, x, p, u, b) (state n x p u b k (omega (arith, i, l, after)) j) (omega (arith, short, l, i)))
 
     module _ (d level nest : ℕ) (deep : 1 + 3 * (119 * (16 - nest) + (6 - level) * 17) ≤ d)
-        (joined : (m : List ℕ) (top op sort place at : ℕ) → Between op → (op ≡ 0 → ⊥) → (op ≡ Table.MATCH → ⊥) → at ≤ length s → top + debt sort + at₀ + 1 ≤ top₀ + at → at₀ ≤ at
-        → 1 + 3 * (119 * (16 - nest) + (6 - Table.levelOf op) * 17) ≤ d → Paced s top₀ at₀ at (Expression.joinedAt d s m top op nest sort place at)) where
+        (joined : (m : List ℕ) (top op sort place at : ℕ) → Between op → (op ≡ 0 → ⊥) → (op ≡ Numbered.MATCH → ⊥) → at ≤ length s → top + debt sort + at₀ + 1 ≤ top₀ + at → at₀ ≤ at
+        → 1 + 3 * (119 * (16 - nest) + (6 - Numbered.levelOf op) * 17) ≤ d → Paced s top₀ at₀ at (Expression.joinedAt d s m top op nest sort place at)) where
       chain-turn : (x : Expression.State) → State top₀ at₀ x
           → Turns x (Expression.chainTurn (λ m top op nest sort place at. Expression.joinedAt d s m top op nest sort place at) s level nest x)
       chain-turn _ (state t sort place top m k i j) =
           chosen (Turns (t, sort, place, top, m)) (leb (length s) (t .start)) _ _
           (λ h. ends (ran (Found sort place top t) m) (paced-found sort place top t m k i j))
-          (λ h. chosen (Turns (t, sort, place, top, m)) (Table.binds level (Table.operator sort (t .kind))) _ _
-          (λ e. chosen (Turns (t, sort, place, top, m)) (eqb (Table.operator sort (t .kind)) Table.MATCH) _ _
+          (λ h. chosen (Turns (t, sort, place, top, m)) (Numbered.binds level (Numbered.operator sort (t .kind))) _ _
+          (λ e. chosen (Turns (t, sort, place, top, m)) (eqb (Numbered.operator sort (t .kind)) Numbered.MATCH) _ _
           (λ f. ends (ran (Aside 8 (t .start)) m) (paced-aside 8 (t .start) m eight))
-          (λ f. let b : (Table.operator sort (t .kind) ≡ 0 → ⊥) × (level ≤ Table.levelOf (Table.operator sort (t .kind))) = binds-level level (Table.operator sort (t .kind)) e in
+          (λ f. let b : (Numbered.operator sort (t .kind) ≡ 0 → ⊥) × (level ≤ Numbered.levelOf (Numbered.operator sort (t .kind))) = binds-level level (Numbered.operator sort (t .kind)) e in
           let w : (t .start < t .end) × (t .end ≤ length s) = real s t k (operator-token sort (t .kind) (b .0)) in
           joined-on t sort place top m (leb-false (length s) (t .start) h) i (t .end) (w .0) _
-          (joined m top (Table.operator sort (t .kind)) sort place (t .end) (operator-between sort (t .kind)) (b .0) (eqb-false (Table.operator sort (t .kind)) Table.MATCH f) (w .1)
+          (joined m top (Numbered.operator sort (t .kind)) sort place (t .end) (operator-between sort (t .kind)) (b .0) (eqb-false (Numbered.operator sort (t .kind)) Numbered.MATCH f) (w .1)
           (omega (arith, j, w .0)) (omega (arith, i, w .0)) (omega (arith, deep, b .1)))))
           (λ e. ends (ran (Found sort place top t) m) (paced-found sort place top t m k i j)))
 
@@ -132,14 +133,14 @@ module _ (s : List ℕ) where
     operand-paced (suc d) m top want row nest t k deep =
         chosen (Paced s top (t .start) (t .start)) (Table.allows want (t .kind)) _ _
         (λ h. let w : (t .start < t .end) × (t .end ≤ length s) = real s t k (allowed-real want (t .kind) h) in
-        chosen (Paced s top (t .start) (t .start)) (eqb (Table.prefixOperator (t .kind)) Table.NONE) _ _
+        chosen (Paced s top (t .start) (t .start)) (eqb (Numbered.prefixOperator (t .kind)) Numbered.NONE) _ _
         (λ e. chosen (Paced s top (t .start) (t .start)) (eqb (t .kind) Kind.OPEN) _ _
         (λ f. bracketed-paced d m top want nest t (w .0) (w .1) (omega (arith, deep))) (λ f. leaf-paced s m top t (w .0) (w .1) want row))
-        (λ e. prefixed-paced d m top (Table.prefixOperator (t .kind)) want row nest t (w .0) (w .1) (omega (arith, deep, prefix-level want (t .kind) h))))
+        (λ e. prefixed-paced d m top (Numbered.prefixOperator (t .kind)) want row nest t (w .0) (w .1) (omega (arith, deep, prefix-level want (t .kind) h))))
         (λ h. paced-refused s top (t .start) (t .start) t m)
 
     prefixed-paced : (d : ℕ) (m : List ℕ) (top op want row nest : ℕ) (t : Token) → t .start < t .end → t .end ≤ length s
-        → 1 + 3 * (119 * (16 - nest) + (6 - Table.operandLevel op) * 17 + (16 - row)) ≤ d
+        → 1 + 3 * (119 * (16 - nest) + (6 - Numbered.operandLevel op) * 17 + (16 - row)) ≤ d
         → Paced s top (t .start) (t .start) (Expression.prefixedAt d s m top op want row nest t)
     prefixed-paced zero m top op want row nest t wide inside deep = absurd (let no : ⊥ = omega (arith, deep) in no)
     prefixed-paced (suc d) m top op want row nest t wide inside deep =
@@ -158,8 +159,8 @@ module _ (s : List ℕ) where
         chain-body top₀ at₀ d level nest (omega (arith, deep))
         (λ m top op sort place at bt nz nm inside pace below deep. joined-paced d top₀ at₀ m top op nest sort place at bt nz nm inside pace below deep) t sort place top m k i j
 
-    joined-paced : (d top₀ at₀ : ℕ) (m : List ℕ) (top op nest sort place at : ℕ) → Between op → (op ≡ 0 → ⊥) → (op ≡ Table.MATCH → ⊥) → at ≤ length s
-        → top + debt sort + at₀ + 1 ≤ top₀ + at → at₀ ≤ at → 1 + 3 * (119 * (16 - nest) + (6 - Table.levelOf op) * 17) ≤ d
+    joined-paced : (d top₀ at₀ : ℕ) (m : List ℕ) (top op nest sort place at : ℕ) → Between op → (op ≡ 0 → ⊥) → (op ≡ Numbered.MATCH → ⊥) → at ≤ length s
+        → top + debt sort + at₀ + 1 ≤ top₀ + at → at₀ ≤ at → 1 + 3 * (119 * (16 - nest) + (6 - Numbered.levelOf op) * 17) ≤ d
         → Paced s top₀ at₀ at (Expression.joinedAt d s m top op nest sort place at)
     joined-paced zero top₀ at₀ m top op nest sort place at bt nz nm inside pace below deep = absurd (let no : ⊥ = omega (arith, deep) in no)
     joined-paced (suc d) top₀ at₀ m top op nest sort place at bt nz nm inside pace below deep =
