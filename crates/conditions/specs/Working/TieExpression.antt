@@ -6,8 +6,7 @@ use Prim.Native.Nat.{ℕ, zero, suc, _+_, _-_, _<_, _≤_}
 use native.Mathlib.Omega.{arith}
 use lib.Dec.{eqb, leb}
 use lib.ListN.{length}
-use borrow.Author.Tests.{ne-eqb}
-use Rattle.text.specs.Choice.{pick, clash}
+use Rattle.text.specs.Choice.{pick}
 use Rattle.text.specs.Loop.{Step, next, done, loop}
 use Rattle.lexical.specs.Kind
 use Rattle.lexical.specs.declared.token.Token.{Token}
@@ -18,8 +17,6 @@ use Rattle.syntax.specs.Theorems.Numbers.{number-fits}
 use Rattle.syntax.specs.Expr.{Expr, unary, binary}
 use Rattle.syntax.specs.Code.{Codes}
 use Rattle.conditions.specs.Table
-use Rattle.conditions.specs.Working.Numbered.{infixNumber}
-use Rattle.conditions.specs.Working.Numbered
 use Rattle.conditions.specs.Word.{nextAt}
 use Rattle.syntax.specs.Parsed.{Parsed, ok, aside, unexpected}
 use Rattle.conditions.specs.Parsed.{Part, part, onPart}
@@ -30,7 +27,7 @@ use Rattle.conditions.specs.Working.Leaf.{leafRead}
 use Rattle.conditions.specs.Working.Expression as Write
 use Rattle.conditions.specs.Working.Written.{Grown, keeps-self, kept, under}
 use Rattle.conditions.specs.Working.Same.{PartCodes, Same, same-aside, same-part, same-refused, same-on, both, start-within, Steps, both-next, both-done, loop-same}
-use Rattle.conditions.specs.Working.TieTable.{alike-prefix, operator-number, prefix-number, unary-row, unary-want, binary-row, right-want, right-level, binds-number}
+use Rattle.conditions.specs.Working.TieTable.{alike-prefix, alike-infix, operator-number, prefix-number, unary-row, unary-want, binary-row, right-want, right-level, binds-number}
 use Rattle.conditions.specs.Working.TieOperand.{leaf-same, settle-grown, unary-same, binary-same}
 use Rattle.conditions.specs.declared.emit.Out.{Out}
 use Rattle.conditions.specs.declared.emit.Out.the-variants.{Found, Aside}
@@ -112,16 +109,6 @@ module _ (s : List ℕ) (short : length s < 65536) where
 
     module _ (d level nest : ℕ) (joined : (m : List ℕ) (top : ℕ) (op : Binary) (sort place at : ℕ) (e : Expr) → place < 65536 → Grown m₀ top₀ m top (PartCodes s sort place e)
         → Same s m₀ top₀ (Read.readJoined d s op nest sort e at) (Write.joinedAt d s m top (binaryNumber op) nest sort place at)) where
-      operator-turn : (t : Token) (sort : ℕ) (e : Expr) (place top : ℕ) (m : List ℕ) → place < 65536 → t .start ≤ length s → Grown m₀ top₀ m top (PartCodes s sort place e)
-          → (i : Table.Infix) → Table.binds level i ≡ true
-          → Turns (Table.onInfix i (done (ok (part sort e) t)) (done (aside 8 (t .start))) (λ op. Read.onJoined t (Read.readJoined d s op nest sort e (t .end))))
-          (pick (eqb (infixNumber i) Numbered.MATCH) (done (ran (Aside 8 (t .start)) m)) (Write.onJoined t (Write.joinedAt d s m top (infixNumber i) nest sort place (t .end))))
-      unfolding Table.binds
-      operator-turn t sort e place top m near within g Table.no-infix h = clash h refl
-      operator-turn t sort e place top m near within g Table.matching h = both-done (aside 8 (t .start)) (ran (Aside 8 (t .start)) m) (same-aside 8 (t .start) m (kept g))
-      operator-turn t sort e place top m near within g (Table.between op) h =
-          rw (ne-eqb (binaryNumber op) Numbered.MATCH (λ z. omega (arith, z, number-fits (Operation.binary op)))) (joined-on t _ _ (joined m top op sort place (t .end) e near g))
-
       chain-turn : (x : Read.State) (y : Write.State) → States m₀ top₀ x y
           → Turns (Read.chainTurn (λ op nest sort e at. Read.readJoined d s op nest sort e at) s level nest x)
           (Write.chainTurn (λ m top op nest sort place at. Write.joinedAt d s m top op nest sort place at) s level nest y)
@@ -129,7 +116,9 @@ module _ (s : List ℕ) (short : length s < 65536) where
           rw (operator-number sort (t .kind), binds-number level (Table.operator sort (t .kind))) (both Turns (leb (length s) (t .start)) _ _ _ _
           (λ h. both-done (ok (part sort e) t) (ran (Found sort place top t) m) (same-part sort place top e t m near within g))
           (λ h. both Turns (Table.binds level (Table.operator sort (t .kind))) _ _ _ _
-          (λ k. operator-turn t sort e place top m near within g (Table.operator sort (t .kind)) k)
+          (λ k. alike-infix Turns level (Table.operator sort (t .kind)) _ _ _ _ (λ op. Write.onJoined t (Write.joinedAt d s m top op nest sort place (t .end))) k
+          (both-done (aside 8 (t .start)) (ran (Aside 8 (t .start)) m) (same-aside 8 (t .start) m (kept g)))
+          (λ op l. joined-on t _ _ (joined m top op sort place (t .end) e near g)))
           (λ k. both-done (ok (part sort e) t) (ran (Found sort place top t) m) (same-part sort place top e t m near within g))))
 
       measures : (x : Read.State) (y : Write.State) → States m₀ top₀ x y → length s - x .0 .start ≡ length s - y .0 .start
@@ -167,7 +156,7 @@ module _ (s : List ℕ) (short : length s < 65536) where
         (λ h. rw (prefix-number (t .kind)) (alike-prefix (Same s m top) (Table.prefixOperator (t .kind)) _ (λ op. Read.readPrefixed d s op want row nest t)
         _ (λ op. Write.prefixedAt d s m top op want row nest t)
         (both (Same s m top) (eqb (t .kind) Kind.OPEN) _ _ _ _ (λ l. bracketed-same d m top want nest t) (λ l. leaf-same s short m top t within want row))
-        (λ op. prefixed-same d m top op want row nest t)))
+        (λ op l. prefixed-same d m top op want row nest t)))
         (λ h. same-refused s m top t m (keeps-self m top))
 
     prefixed-same : (d : ℕ) (m : List ℕ) (top : ℕ) (op : Unary) (want row nest : ℕ) (t : Token)

@@ -48,18 +48,6 @@ sort-plain a-string = omega arith
 sort-plain an-integer = omega arith
 sort-plain a-test = omega arith
 
--- an operator before an operand: none, or "$" and those behind it, up to "!"
-abbrev Before : ℕ → Type 0
-Before n = (n ≡ Numbered.NONE → ⊥) → (Op.LOOKUP ≤ n) × (n ≤ Op.OPPOSITE)
-
-pub prefix-before : (k : ℕ) → Before (Numbered.prefixOperator k)
-unfolding Numbered.prefixOperator
-prefix-before k =
-    chosen Before (eqb k Kind.MINUS) _ _ (λ e n. (omega arith, omega arith))
-    (λ e. chosen Before (eqb k Kind.AT) _ _ (λ e n. (omega arith, omega arith))
-    (λ e. chosen Before (eqb k Kind.DOLLAR) _ _ (λ e n. (omega arith, omega arith))
-    (λ e. chosen Before (eqb k Kind.NOT) _ _ (λ e n. (omega arith, omega arith)) (λ e n. absurd (n refl)))))
-
 -- a name is a string or a bare word
 pub name-cases : (s : List ℕ) (want start end : ℕ) → (wordSort s want start end ≡ Table.TEXT → ⊥) → Table.TRUE ≤ wordSort s want start end
 unfolding wordSort

@@ -5,7 +5,7 @@ use Prim.Native.Nat.{ℕ, _+_, _<_, _≤_}
 use native.Mathlib.Omega.{arith}
 use lib.Dec.{eqb, ltb, leb}
 use borrow.Author.Tests.{ltb-true, ltb-false, lt-leb, le-leb, ne-eqb}
-use Rattle.text.specs.Choice.{pick, split}
+use Rattle.text.specs.Choice.{pick, split, clash}
 use Rattle.lexical.specs.Kind
 use Rattle.syntax.specs.Operator.{Unary, Binary, Sort, a-string, an-integer, a-test, unaryTakes, unaryGives, binaryTakes, binaryGives, lookup, convert, negate, opposite, join, power, times, over, remainder, plus, minus, comparison, both, either, strings, integers, equal, unequal, less, greater, at-most, at-least}
 use Rattle.syntax.specs.Operation.{unaryNumber, binaryNumber}
@@ -80,12 +80,6 @@ prefix-number k =
     (λ h. alike Writes (eqb k Kind.DOLLAR) _ _ _ _ (λ h. refl)
     (λ h. alike Writes (eqb k Kind.NOT) _ _ _ _ (λ h. refl) (λ h. refl))))
 
--- what holds of two choices by what a token writes before an operand
-pub alike-prefix : {A B : Type 0} (T : A → B → Type 0) (i : Prefix) (a : A) (f : Unary → A) (c : B) (g : ℕ → B) → T a c → ((op : Unary) → T (f op) (g (unaryNumber op)))
-    → T (Table.onPrefix i a f) (pick (eqb (prefixNumber i) Numbered.NONE) c (g (prefixNumber i)))
-alike-prefix T no-prefix a f c g h k = h
-alike-prefix T (before op) a f c g h k = rw (ne-eqb (unaryNumber op) 0 (λ z. omega (arith, z, unary-between op .0))) (k op)
-
 -- what an operator takes and gives, and where it binds
 pub unary-row : (op : Unary) → (Numbered.operandLevel (unaryNumber op) ≡ Table.operandLevel op)
     × (Numbered.operandOf (unaryNumber op) ≡ sortOf (unaryTakes op)) × (Numbered.resultOf (unaryNumber op) ≡ sortOf (unaryGives op))
@@ -127,7 +121,7 @@ binary-row (comparison integers at-least) = (refl, refl, refl)
 binary-row both = (refl, refl, refl)
 binary-row either = (refl, refl, refl)
 
-want-number : (x : Sort) → Numbered.wantOf (sortOf x) ≡ Table.wantOf x
+pub want-number : (x : Sort) → Numbered.wantOf (sortOf x) ≡ Table.wantOf x
 want-number a-string = refl
 want-number an-integer = refl
 want-number a-test = refl
@@ -152,3 +146,17 @@ binds-number level (between op) =
   where
     level-is : (op : Binary) → Numbered.levelOf (binaryNumber op) ≡ Table.levelOf op
     level-is op = binary-row op .0
+
+-- what holds of two choices by what a token writes, and by its number
+module _ {A B : Type 0} (T : A → B → Type 0) where
+  pub alike-prefix : (i : Prefix) (a : A) (f : Unary → A) (c : B) (g : ℕ → B) → T a c → ((op : Unary) → i ≡ before op → T (f op) (g (unaryNumber op)))
+      → T (Table.onPrefix i a f) (pick (eqb (prefixNumber i) Numbered.NONE) c (g (prefixNumber i)))
+  alike-prefix no-prefix a f c g h k = h
+  alike-prefix (before op) a f c g h k = rw (ne-eqb (unaryNumber op) 0 (λ z. omega (arith, z, unary-between op .0))) (k op refl)
+
+  pub alike-infix : (level : ℕ) (i : Infix) (a b : A) (f : Binary → A) (d : B) (g : ℕ → B) → Table.binds level i ≡ true → T b d → ((op : Binary) → i ≡ between op → T (f op) (g (binaryNumber op)))
+      → T (Table.onInfix i a b f) (pick (eqb (infixNumber i) Numbered.MATCH) d (g (infixNumber i)))
+  unfolding Table.binds
+  alike-infix level no-infix a b f d g h k l = clash h refl
+  alike-infix level matching a b f d g h k l = k
+  alike-infix level (between op) a b f d g h k l = rw (ne-eqb (binaryNumber op) Numbered.MATCH (λ z. omega (arith, z, binary-between op .1))) (l op refl)
