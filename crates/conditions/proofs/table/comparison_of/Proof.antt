@@ -1,4 +1,4 @@
-use Rattle.conditions.specs.Table.{comparison}
+use Rattle.conditions.specs.Working.Numbered.{comparison}
 use borrow.Author.Needs.{needs}
 use Rattle.text.specs.Choice.{tests}
 use Rattle.conditions.proofs.table.comparison_of.Statement.{statement}

@@ -1,5 +1,5 @@
 use Rattle.conditions.proofs.TableWays.{level-comparison, level-other, level-sum, level-product, level-known}
-use Rattle.conditions.specs.Table.{levelOf}
+use Rattle.conditions.specs.Working.Numbered.{levelOf}
 use borrow.Author.Needs.{needs}
 use Rattle.conditions.proofs.table.level_of.Statement.{statement}
 use Rattle.conditions.proofs.table.level_of.Tie as tie

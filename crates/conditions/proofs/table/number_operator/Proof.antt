@@ -1,5 +1,5 @@
 use Rattle.conditions.proofs.TableWays.{number-none, number-compared}
-use Rattle.conditions.specs.Table.{numberOperator}
+use Rattle.conditions.specs.Working.Numbered.{numberOperator}
 use Rattle.text.specs.Choice.{tests}
 use borrow.Author.Needs.{needs}
 use Rattle.conditions.proofs.table.number_operator.Statement.{statement}

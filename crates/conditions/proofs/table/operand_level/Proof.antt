@@ -1,4 +1,4 @@
-use Rattle.conditions.specs.Table.{operandLevel}
+use Rattle.conditions.specs.Working.Numbered.{operandLevel}
 use borrow.Author.Needs.{needs}
 use Rattle.text.specs.Choice.{tests}
 use Rattle.conditions.proofs.table.operand_level.Statement.{statement}

@@ -1,5 +1,5 @@
 use Rattle.conditions.proofs.TableWays.{operand-test, operand-compared, operand-matched, operand-sum, operand-plain, operand-known}
-use Rattle.conditions.specs.Table.{operandOf}
+use Rattle.conditions.specs.Working.Numbered.{operandOf}
 use borrow.Author.Needs.{needs}
 use Rattle.conditions.proofs.table.operand_of.Statement.{statement}
 use Rattle.conditions.proofs.table.operand_of.Tie as tie

@@ -1,4 +1,4 @@
-use Rattle.conditions.specs.Table.{operandWant}
+use Rattle.conditions.specs.Working.Numbered.{operandWant}
 use borrow.Author.Needs.{needs}
 use Rattle.text.specs.Choice.{tests}
 use Rattle.conditions.proofs.table.operand_want.Statement.{statement}

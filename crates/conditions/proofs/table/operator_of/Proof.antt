@@ -1,5 +1,5 @@
 use Rattle.conditions.proofs.TableWays.{operator-test, operator-none, operator-word}
-use Rattle.conditions.specs.Table.{operator}
+use Rattle.conditions.specs.Working.Numbered.{operator}
 use Rattle.text.specs.Choice.{tests}
 use borrow.Author.Needs.{needs}
 use Rattle.conditions.proofs.table.operator_of.Statement.{statement}

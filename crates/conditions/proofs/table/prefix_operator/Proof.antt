@@ -1,4 +1,4 @@
-use Rattle.conditions.specs.Table.{prefixOperator}
+use Rattle.conditions.specs.Working.Numbered.{prefixOperator}
 use borrow.Author.Needs.{needs}
 use Rattle.text.specs.Choice.{tests}
 use Rattle.conditions.proofs.table.prefix_operator.Statement.{statement}

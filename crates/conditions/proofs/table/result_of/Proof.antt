@@ -1,5 +1,5 @@
 use Rattle.conditions.proofs.TableWays.{result-sum, result-known}
-use Rattle.conditions.specs.Table.{resultOf}
+use Rattle.conditions.specs.Working.Numbered.{resultOf}
 use Rattle.text.specs.Choice.{tests}
 use borrow.Author.Needs.{needs}
 use Rattle.conditions.proofs.table.result_of.Statement.{statement}

@@ -1,5 +1,5 @@
 use Rattle.conditions.proofs.TableWays.{right-test, right-text, right-number}
-use Rattle.conditions.specs.Table.{rightWant}
+use Rattle.conditions.specs.Working.Numbered.{rightWant}
 use Rattle.text.specs.Choice.{tests}
 use borrow.Author.Needs.{needs}
 use Rattle.conditions.proofs.table.right_want.Statement.{statement}

@@ -1,4 +1,4 @@
-use Rattle.conditions.specs.Table.{testOperator}
+use Rattle.conditions.specs.Working.Numbered.{testOperator}
 use borrow.Author.Needs.{needs}
 use Rattle.text.specs.Choice.{tests}
 use Rattle.conditions.proofs.table.test_operator.Statement.{statement}

@@ -1,4 +1,4 @@
-use Rattle.conditions.specs.Table.{textOperator}
+use Rattle.conditions.specs.Working.Numbered.{textOperator}
 use Rattle.text.specs.Choice.{tests}
 use borrow.Author.Needs.{needs}
 use Rattle.conditions.proofs.table.text_operator.Statement.{statement}

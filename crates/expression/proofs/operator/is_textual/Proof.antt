@@ -1,5 +1,5 @@
 use Rattle.text.specs.Choice.{tests}
-use Rattle.expression.specs.Operations.{isTextual}
+use Rattle.expression.specs.Working.Numbered.{isTextual}
 use borrow.Author.Needs.{needs}
 use Rattle.expression.proofs.operator.is_textual.Statement.{statement}
 use Rattle.expression.proofs.operator.is_textual.Tie as tie
