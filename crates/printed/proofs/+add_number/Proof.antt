@@ -22,7 +22,6 @@ abbrev add-number-below : ℕ → In 1 add-number-kinds.ps
 add-number-below t =
     and 1 add-number-kinds.ps (falls 1 add-number-kinds.ps _<_ μ-add-number t) add-number.Pre
 
--- src/lib.rt:49:17
 add-number-digit-requires : (t : ℕ) → add-number-lts.Need-digit-requires (
   digit-reads.Asked,
   digit-reads.Learnt,
@@ -33,7 +32,6 @@ add-number-digit-requires : (t : ℕ) → add-number-lts.Need-digit-requires (
 ) (add-number-at t) add-number.Post
 add-number-digit-requires t c κs = search needs
 
--- src/lib.rt:51:29
 add-number-slice-aggregate-add : (t : ℕ) → add-number-lts.Need-slice-aggregate-add (
   digit-reads.Asked,
   digit-reads.Learnt,
@@ -44,7 +42,6 @@ add-number-slice-aggregate-add : (t : ℕ) → add-number-lts.Need-slice-aggrega
 ) (add-number-at t) add-number.Post
 add-number-slice-aggregate-add t c = search needs
 
--- src/lib.rt:51:9
 add-number-add-requires : (t : ℕ) → add-number-lts.Need-add-requires (
   digit-reads.Asked,
   digit-reads.Learnt,
@@ -55,7 +52,6 @@ add-number-add-requires : (t : ℕ) → add-number-lts.Need-add-requires (
 ) (add-number-at t) add-number.Post
 add-number-add-requires t c κs = search needs
 
--- src/lib.rt:51:9
 add-number-same-length : (t : ℕ) → add-number-lts.Need-same-length (
   digit-reads.Asked,
   digit-reads.Learnt,
@@ -66,7 +62,6 @@ add-number-same-length : (t : ℕ) → add-number-lts.Need-same-length (
 ) (add-number-at t) add-number.Post
 add-number-same-length t c = search needs
 
--- src/lib.rt:51:9
 add-number-returns : (t : ℕ) → add-number-lts.Need-returns (
   digit-reads.Asked,
   digit-reads.Learnt,
@@ -77,7 +72,6 @@ add-number-returns : (t : ℕ) → add-number-lts.Need-returns (
 ) (add-number-at t) add-number.Post
 add-number-returns t c = search number-low
 
--- src/lib.rt:53:9
 add-number-add-number-requires : (t : ℕ) → add-number-lts.Need-add-number-requires (
   digit-reads.Asked,
   digit-reads.Learnt,
@@ -88,7 +82,6 @@ add-number-add-number-requires : (t : ℕ) → add-number-lts.Need-add-number-re
 ) (add-number-at t) add-number.Post
 add-number-add-number-requires t c κs = search needs
 
--- src/lib.rt:54:20
 add-number-slice-aggregate-add-2 : (t : ℕ) → add-number-lts.Need-slice-aggregate-add-2 (
   digit-reads.Asked,
   digit-reads.Learnt,
@@ -99,7 +92,6 @@ add-number-slice-aggregate-add-2 : (t : ℕ) → add-number-lts.Need-slice-aggre
 ) (add-number-at t) add-number.Post
 add-number-slice-aggregate-add-2 t c = search needs
 
--- src/lib.rt:54:5
 add-number-add-requires-2 : (t : ℕ) → add-number-lts.Need-add-requires-2 (
   digit-reads.Asked,
   digit-reads.Learnt,
@@ -110,7 +102,6 @@ add-number-add-requires-2 : (t : ℕ) → add-number-lts.Need-add-requires-2 (
 ) (add-number-at t) add-number.Post
 add-number-add-requires-2 t c κs = search needs
 
--- src/lib.rt:46:1
 add-number-same-length-2 : (t : ℕ) → add-number-lts.Need-same-length-2 (
   digit-reads.Asked,
   digit-reads.Learnt,
@@ -121,7 +112,6 @@ add-number-same-length-2 : (t : ℕ) → add-number-lts.Need-same-length-2 (
 ) (add-number-at t) add-number.Post
 add-number-same-length-2 t c = search needs
 
--- src/lib.rt:46:1
 add-number-returns-2 : (t : ℕ) → add-number-lts.Need-returns-2 (
   digit-reads.Asked,
   digit-reads.Learnt,
