@@ -11,6 +11,7 @@ use Rattle.text.specs.Loop.{loop-next, loop-done}
 use Rattle.lexical.specs.Kind
 use Rattle.lexical.specs.declared.token.Token.{Token}
 use Rattle.conditions.specs.Table
+use Rattle.conditions.specs.Working.Numbered
 use Rattle.conditions.specs.Word.{nextAt}
 use Rattle.conditions.specs.Working.Emit.{Ran, ran, settledTop, settled, refused, finishAt, closedAt}
 use Rattle.conditions.specs.Working.Leaf.{leafRead}
@@ -101,11 +102,11 @@ module _ (d : ℕ) (s m : List ℕ) (top want row nest : ℕ) (t : Token) (nz : 
   pub operand-not : a ≡ false → (r : Out) → r ≡ refused t → ran r m ≡ operandAt d s m top want row nest t
   operand-not h r e = simp (operand-unfold s m top nest d nz, sym ae, h, e)
 
-  module _ (at : a ≡ true) (o : ℕ) (oe : o ≡ Table.prefixOperator (t .kind)) (y : Ran) where
-    pub operand-prefixed : (o ≡ Table.NONE → ⊥) → y ≡ prefixedAt (d - 1) s m top o want row nest t → y ≡ operandAt d s m top want row nest t
+  module _ (at : a ≡ true) (o : ℕ) (oe : o ≡ Numbered.prefixOperator (t .kind)) (y : Ran) where
+    pub operand-prefixed : (o ≡ Numbered.NONE → ⊥) → y ≡ prefixedAt (d - 1) s m top o want row nest t → y ≡ operandAt d s m top want row nest t
     operand-prefixed h ye = simp (operand-unfold s m top nest d nz, sym ae, at, sym oe, ne-eqb _ _ h) ye
 
-    module _ (on : o ≡ Table.NONE) where
+    module _ (on : o ≡ Numbered.NONE) where
       pub operand-bracketed : t .kind ≡ Kind.OPEN → y ≡ bracketedAt (d - 1) s m top want nest t → y ≡ operandAt d s m top want row nest t
       operand-bracketed h ye = simp (operand-unfold s m top nest d nz, sym ae, at, sym oe, eq-eqb _ _ on, eq-eqb _ _ h) ye
 
@@ -116,7 +117,7 @@ module _ (d : ℕ) (s m : List ℕ) (top op want row nest : ℕ) (t : Token) (nz
   pub prefixed-row : 16 ≤ row → ran (Aside 7 (t .start)) m ≡ prefixedAt d s m top op want row nest t
   prefixed-row h = simp (prefixed-unfold s m top nest d nz, le-leb _ _ h)
 
-  module _ (h : row < 16) (n : Token) (ne : n ≡ nextAt s (t .end)) (l w : ℕ) (le : l ≡ Table.operandLevel op) (we : w ≡ Table.operandWant op want)
+  module _ (h : row < 16) (n : Token) (ne : n ≡ nextAt s (t .end)) (l w : ℕ) (le : l ≡ Numbered.operandLevel op) (we : w ≡ Numbered.operandWant op want)
       (r : Out) (b : List ℕ) (re : ran r b ≡ exprAt (d - 1) s m top l w (row + 1) nest n) where
     pub prefixed-aside : (x p : ℕ) → r ≡ Aside x p → ran (Aside x p) b ≡ prefixedAt d s m top op want row nest t
     prefixed-aside x p e = simp (prefixed-unfold s m top nest d nz, lt-leb _ _ h, sym ne, sym le, sym we, sym re, e)
@@ -137,19 +138,19 @@ module _ (d : ℕ) (s m : List ℕ) (top want nest : ℕ) (t : Token) (nz : d �
     bracketed-found x p u k e o oe = simp (bracketed-unfold s m top nest d nz, lt-leb _ _ h, sym ne, sym le, sym re, e, oe)
 
 module _ (d : ℕ) (s m : List ℕ) (top op nest sort place at : ℕ) (nz : d ≡ 0 → ⊥)
-    (q : ℕ) (c : List ℕ) (qe : q ≡ settledTop m top sort) (ce : c ≡ settled m top (Table.operandOf op) sort place) (n : Token) (ne : n ≡ nextAt s at)
-    (l v : ℕ) (le : l ≡ Table.rightLevel op) (ve : v ≡ Table.rightWant op) (r : Out) (b : List ℕ) (re : ran r b ≡ exprAt (d - 1) s c q l v 0 nest n) where
+    (q : ℕ) (c : List ℕ) (qe : q ≡ settledTop m top sort) (ce : c ≡ settled m top (Numbered.operandOf op) sort place) (n : Token) (ne : n ≡ nextAt s at)
+    (l v : ℕ) (le : l ≡ Numbered.rightLevel op) (ve : v ≡ Numbered.rightWant op) (r : Out) (b : List ℕ) (re : ran r b ≡ exprAt (d - 1) s c q l v 0 nest n) where
   pub joined-aside : (x p : ℕ) → r ≡ Aside x p → ran (Aside x p) b ≡ joinedAt d s m top op nest sort place at
   joined-aside x p e = simp (joined-unfold s m top nest d nz, sym qe, sym ce, sym ne, sym le, sym ve, sym re, e)
 
   pub joined-found : (x p u : ℕ) (k : Token) → r ≡ Found x p u k → (y : Ran) → y ≡ finishAt b u op x p k → y ≡ joinedAt d s m top op nest sort place at
   joined-found x p u k e y ye = simp (joined-unfold s m top nest d nz, sym qe, sym ce, sym ne, sym le, sym ve, sym re, e) ye
 
-loose : (level o : ℕ) (f : Bool) → f ≡ pick (Table.binds level o) false true → f ≡ true → Table.binds level o ≡ false
-loose level o f e h = split (Table.binds level o) (λ k. clash h (e ∙ rw k)) (λ k. k)
+loose : (level o : ℕ) (f : Bool) → f ≡ pick (Numbered.binds level o) false true → f ≡ true → Numbered.binds level o ≡ false
+loose level o f e h = split (Numbered.binds level o) (λ k. clash h (e ∙ rw k)) (λ k. k)
 
-bound : (level o : ℕ) (f : Bool) → f ≡ pick (Table.binds level o) false true → f ≡ false → Table.binds level o ≡ true
-bound level o f e h = split (Table.binds level o) (λ k. k) (λ k. clash (e ∙ rw k) h)
+bound : (level o : ℕ) (f : Bool) → f ≡ pick (Numbered.binds level o) false true → f ≡ false → Numbered.binds level o ≡ true
+bound level o f e h = split (Numbered.binds level o) (λ k. k) (λ k. clash (e ∙ rw k) h)
 
 -- a turn of `chain`, with the invariant `chainRest .. ≡ a`
 module _ (k : ℕ) (s m : List ℕ) (top level nest sort place : ℕ) (t : Token) (a : Ran) (inv : chainRest k s m top level nest sort place t ≡ a) where
@@ -157,17 +158,17 @@ module _ (k : ℕ) (s m : List ℕ) (top level nest sort place : ℕ) (t : Token
   unfolding chainRest
   chain-end h = sym (loop-done _ _ _ (t, sort, place, top, m) _ (simp (le-leb _ _ h))) ∙ inv
 
-  module _ (in-s : t .start < length s) (o : ℕ) (oe : o ≡ Table.operator sort (t .kind)) (f : Bool) (fe : f ≡ pick (Table.binds level o) false true) where
+  module _ (in-s : t .start < length s) (o : ℕ) (oe : o ≡ Numbered.operator sort (t .kind)) (f : Bool) (fe : f ≡ pick (Numbered.binds level o) false true) where
     pub chain-other : f ≡ true → ran (Found sort place top t) m ≡ a
     unfolding chainRest
     chain-other h = sym (loop-done _ _ _ (t, sort, place, top, m) _ (simp (lt-leb _ _ in-s, sym oe, loose level o f fe h))) ∙ inv
 
     module _ (ff : f ≡ false) where
-      pub chain-match : o ≡ Table.MATCH → ran (Aside 8 (t .start)) m ≡ a
+      pub chain-match : o ≡ Numbered.MATCH → ran (Aside 8 (t .start)) m ≡ a
       unfolding chainRest
       chain-match h = sym (loop-done _ _ _ (t, sort, place, top, m) _ (simp (lt-leb _ _ in-s, sym oe, bound level o f fe ff, eq-eqb _ _ h))) ∙ inv
 
-      module _ (on : o ≡ Table.MATCH → ⊥) (r : Out) (b : List ℕ) (re : ran r b ≡ joinedAt k s m top o nest sort place (t .end)) where
+      module _ (on : o ≡ Numbered.MATCH → ⊥) (r : Out) (b : List ℕ) (re : ran r b ≡ joinedAt k s m top o nest sort place (t .end)) where
         pub chain-aside : (x p : ℕ) → r ≡ Aside x p → ran (Aside x p) b ≡ a
         unfolding chainRest
         chain-aside x p e =

@@ -15,7 +15,7 @@ use Rattle.lexical.specs.Operator.{equalPair, pairOf, markKind, isOf, operatorK
 use Rattle.lexical.specs.Word.{lower, stands, spells}
 use Rattle.lexical.specs.Token.{token, widthOf, operatorAt, operatorToken, floatEnd, numberToken, tokenFrom}
 use Rattle.lexical.specs.Line.{visible, inLine, tokenAt}
-use Rattle.syntax.specs.Op
+use Rattle.syntax.specs.Operator as Operator
 use Rattle.syntax.specs.Expr.{Expr, number, truth, unary, binary}
 use Rattle.syntax.specs.Code.{numberAt}
 use Rattle.conditions.specs.Table
@@ -30,8 +30,8 @@ abbrev powers : List ℕ
 powers = 32 ∷ 45 ∷ 50 ∷ 94 ∷ 51 ∷ 94 ∷ 50 ∷ 61 ∷ 61 ∷ 52 ∷ 59 ∷ []
 
 powers-group : readExpression 20 powers 0 Table.ANY 0 0 (nextAt powers 1)
-    ≡ ok (part Table.TEST (binary Op.EQUAL (binary Op.POWER (binary Op.POWER (unary Op.NEGATE (number 2)) (number 3)) (number 2)) (number 4))) (token Kind.SEMICOLON 10 11)
-unfolding readExpression readLeaf readDigits settledTree applied loop turns tokenAt inLine visible tokenFrom numberToken floatEnd operatorToken operatorAt operatorKind equalPair pairOf markKind isOf widthOf classOf hasClass inRun past Number.numberAt Number.held Number.decimal numberAt value valueFrom inClass isDigit Table.allows Table.beginsString Table.beginsNumber Table.beginsFloat Table.prefixOperator Table.operandLevel Table.operandWant Table.operandOf Table.resultOf Table.fits Table.operator Table.numberOperator Table.textOperator Table.testOperator Table.comparison Table.binds Table.levelOf Table.rightLevel Table.rightWant
+    ≡ ok (part Table.TEST (binary (Operator.comparison Operator.integers Operator.equal) (binary Operator.power (binary Operator.power (unary Operator.negate (number 2)) (number 3)) (number 2)) (number 4))) (token Kind.SEMICOLON 10 11)
+unfolding readExpression readLeaf readDigits settledTree applied loop turns tokenAt inLine visible tokenFrom numberToken floatEnd operatorToken operatorAt operatorKind equalPair pairOf markKind isOf widthOf classOf hasClass inRun past Number.numberAt Number.held Number.decimal numberAt value valueFrom inClass isDigit Table.allows Table.beginsString Table.beginsNumber Table.beginsFloat Table.prefixOperator Table.operandLevel Table.operandWant Table.fits Table.operator Table.numberOperator Table.textOperator Table.testOperator Table.comparison Table.binds Table.levelOf Table.rightLevel Table.rightWant
 powers-group = refl
 
 -- `!1==2-3-4*5&&true||false;` is ((!(1 == (2 - 3) - (4 * 5))) && true) || false
@@ -39,8 +39,8 @@ abbrev tests : List ℕ
 tests = 32 ∷ 33 ∷ 49 ∷ 61 ∷ 61 ∷ 50 ∷ 45 ∷ 51 ∷ 45 ∷ 52 ∷ 42 ∷ 53 ∷ 38 ∷ 38 ∷ 116 ∷ 114 ∷ 117 ∷ 101 ∷ 124 ∷ 124 ∷ 102 ∷ 97 ∷ 108 ∷ 115 ∷ 101 ∷ 59 ∷ []
 
 tests-group : readExpression 30 tests 0 Table.ANY 0 0 (nextAt tests 1)
-    ≡ ok (part Table.TEST (binary Op.EITHER
-    (binary Op.BOTH (unary Op.OPPOSITE (binary Op.EQUAL (number 1) (binary Op.MINUS (binary Op.MINUS (number 2) (number 3)) (binary Op.TIMES (number 4) (number 5))))) (truth true))
+    ≡ ok (part Table.TEST (binary Operator.either
+    (binary Operator.both (unary Operator.opposite (binary (Operator.comparison Operator.integers Operator.equal) (number 1) (binary Operator.minus (binary Operator.minus (number 2) (number 3)) (binary Operator.times (number 4) (number 5))))) (truth true))
     (truth false))) (token Kind.SEMICOLON 25 26)
-unfolding readExpression readLeaf readName readDigits wordSort spells stands lower settledTree applied loop turns tokenAt inLine visible tokenFrom numberToken floatEnd operatorToken operatorAt operatorKind equalPair pairOf markKind isOf widthOf classOf hasClass inRun past Number.numberAt Number.held Number.decimal numberAt value valueFrom inClass isDigit Table.allows Table.beginsString Table.beginsNumber Table.beginsFloat Table.prefixOperator Table.operandLevel Table.operandWant Table.operandOf Table.resultOf Table.fits Table.operator Table.numberOperator Table.textOperator Table.testOperator Table.comparison Table.binds Table.levelOf Table.rightLevel Table.rightWant
+unfolding readExpression readLeaf readName readDigits wordSort spells stands lower settledTree applied loop turns tokenAt inLine visible tokenFrom numberToken floatEnd operatorToken operatorAt operatorKind equalPair pairOf markKind isOf widthOf classOf hasClass inRun past Number.numberAt Number.held Number.decimal numberAt value valueFrom inClass isDigit Table.allows Table.beginsString Table.beginsNumber Table.beginsFloat Table.prefixOperator Table.operandLevel Table.operandWant Table.fits Table.operator Table.numberOperator Table.textOperator Table.testOperator Table.comparison Table.binds Table.levelOf Table.rightLevel Table.rightWant
 tests-group = refl

@@ -7,6 +7,7 @@ use Rattle.text.specs.Choice.{pick}
 use Rattle.text.specs.Loop.{Step, next, done, loop}
 use Rattle.lexical.specs.Kind
 use Rattle.lexical.specs.declared.token.Token.{Token}
+use Rattle.syntax.specs.Operator.{Unary, Binary, unaryTakes, unaryGives, binaryTakes, binaryGives}
 use Rattle.syntax.specs.Expr.{Expr, unary, binary}
 use Rattle.conditions.specs.Table
 use Rattle.conditions.specs.Word.{nextAt}
@@ -22,19 +23,20 @@ abbrev pub expressionOf : (ℕ → ℕ → ℕ → Token → Parsed Part) → (�
 expressionOf operand chain level want row nest t = onPart (operand want row nest t) (λ sort e n. chain level nest sort e n)
 
 -- the token must be allowed where it stands; then it is a prefix operator, a bracket or an operand of one token
-abbrev pub operandOf : (ℕ → ℕ → ℕ → ℕ → Token → Parsed Part) → (ℕ → ℕ → Token → Parsed Part) → List ℕ → ℕ → ℕ → ℕ → Token → Parsed Part
+abbrev pub operandOf : (Unary → ℕ → ℕ → ℕ → Token → Parsed Part) → (ℕ → ℕ → Token → Parsed Part) → List ℕ → ℕ → ℕ → ℕ → Token → Parsed Part
 operandOf prefixed bracketed s want row nest t =
     pick (Table.allows want (t .kind))
-    (pick (eqb (Table.prefixOperator (t .kind)) Table.NONE)
+    (Table.onPrefix (Table.prefixOperator (t .kind))
     (pick (eqb (t .kind) Kind.OPEN) (bracketed want nest t) (readLeaf s want row t))
-    (prefixed (Table.prefixOperator (t .kind)) want row nest t))
+    (λ op. prefixed op want row nest t))
     (unexpected t)
 
 -- reason 7: "16 prefix operators in a row"
-abbrev pub prefixedOf : Reader → List ℕ → ℕ → ℕ → ℕ → ℕ → Token → Parsed Part
+abbrev pub prefixedOf : Reader → List ℕ → Unary → ℕ → ℕ → ℕ → Token → Parsed Part
 prefixedOf expression s op want row nest t =
     pick (leb 16 row) (aside 7 (t .start))
-    (onPart (expression (Table.operandLevel op) (Table.operandWant op want) (row + 1) nest (nextAt s (t .end))) (λ sort e n. applied (unary op) op sort e n))
+    (onPart (expression (Table.operandLevel op) (Table.operandWant op want) (row + 1) nest (nextAt s (t .end)))
+    (λ sort e n. applied (unary op) (unaryTakes op) (unaryGives op) sort e n))
 
 abbrev pub closing : List ℕ → ℕ → Expr → Token → Parsed Part
 closing s sort e t = pick (eqb (t .kind) Kind.CLOSE) (ok (part sort e) (nextAt s (t .end))) (unexpected t)
@@ -46,10 +48,10 @@ bracketedOf expression s want nest t =
     (onPart (expression (Table.insideLevel want) want 0 (nest + 1) (nextAt s (t .end))) (λ sort e n. closing s sort e n))
 
 -- the operator's right operand, behind the place `at`
-abbrev pub joinedOf : Reader → List ℕ → ℕ → ℕ → ℕ → Expr → ℕ → Parsed Part
+abbrev pub joinedOf : Reader → List ℕ → Binary → ℕ → ℕ → Expr → ℕ → Parsed Part
 joinedOf expression s op nest sort e at =
     onPart (expression (Table.rightLevel op) (Table.rightWant op) 0 nest (nextAt s at))
-    (λ x f n. applied (binary op (settledTree (Table.operandOf op) sort e)) op x f n)
+    (λ x f n. applied (binary op (settledTree (Table.sortOf (binaryTakes op)) sort e)) (binaryTakes op) (binaryGives op) x f n)
 
 -- the token, and the sort and the tree of what was read
 abbrev pub State : Type 0
@@ -60,15 +62,15 @@ onJoined t (aside r p) = done (aside r p)
 onJoined t (ok (part x e) n) = pick (leb (n .start) (t .start)) (done (aside 0 (t .start))) (next (n, x, e))
 
 -- reason 8: "~=" where a comparison of strings may stand
-abbrev pub chainTurn : (ℕ → ℕ → ℕ → Expr → ℕ → Parsed Part) → List ℕ → ℕ → ℕ → State → Step State (Parsed Part)
+abbrev pub chainTurn : (Binary → ℕ → ℕ → Expr → ℕ → Parsed Part) → List ℕ → ℕ → ℕ → State → Step State (Parsed Part)
 chainTurn joined s level nest x =
     pick (leb (length s) (x .0 .start)) (done (ok (part (x .1) (x .2)) (x .0)))
     (pick (Table.binds level (Table.operator (x .1) (x .0 .kind)))
-    (pick (eqb (Table.operator (x .1) (x .0 .kind)) Table.MATCH) (done (aside 8 (x .0 .start)))
-    (onJoined (x .0) (joined (Table.operator (x .1) (x .0 .kind)) nest (x .1) (x .2) (x .0 .end))))
+    (Table.onInfix (Table.operator (x .1) (x .0 .kind)) (done (ok (part (x .1) (x .2)) (x .0))) (done (aside 8 (x .0 .start)))
+    (λ op. onJoined (x .0) (joined op nest (x .1) (x .2) (x .0 .end))))
     (done (ok (part (x .1) (x .2)) (x .0))))
 
-abbrev pub chainOf : (ℕ → ℕ → ℕ → Expr → ℕ → Parsed Part) → List ℕ → ℕ → ℕ → ℕ → Expr → Token → Parsed Part
+abbrev pub chainOf : (Binary → ℕ → ℕ → Expr → ℕ → Parsed Part) → List ℕ → ℕ → ℕ → ℕ → Expr → Token → Parsed Part
 chainOf joined s level nest sort e t = loop (λ x. length s - x .0 .start) (λ x. aside 0 (x .0 .start)) (chainTurn joined s level nest) (t, sort, e)
 
 unfoldable mutual
@@ -82,7 +84,7 @@ unfoldable mutual
   readOperand (suc d) s want row nest t =
       operandOf (λ op want row nest t. readPrefixed d s op want row nest t) (λ want nest t. readBracketed d s want nest t) s want row nest t
 
-  pub readPrefixed : ℕ → List ℕ → ℕ → ℕ → ℕ → ℕ → Token → Parsed Part
+  pub readPrefixed : ℕ → List ℕ → Unary → ℕ → ℕ → ℕ → Token → Parsed Part
   readPrefixed zero s op want row nest t = aside 0 (t .start)
   readPrefixed (suc d) s op want row nest t = prefixedOf (λ level want row nest t. readExpression d s level want row nest t) s op want row nest t
 
@@ -94,6 +96,6 @@ unfoldable mutual
   readChain zero s level nest sort e t = aside 0 (t .start)
   readChain (suc d) s level nest sort e t = chainOf (λ op nest sort e at. readJoined d s op nest sort e at) s level nest sort e t
 
-  pub readJoined : ℕ → List ℕ → ℕ → ℕ → ℕ → Expr → ℕ → Parsed Part
+  pub readJoined : ℕ → List ℕ → Binary → ℕ → ℕ → Expr → ℕ → Parsed Part
   readJoined zero s op nest sort e at = aside 0 at
   readJoined (suc d) s op nest sort e at = joinedOf (λ level want row nest t. readExpression d s level want row nest t) s op nest sort e at

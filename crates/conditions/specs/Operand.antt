@@ -8,9 +8,10 @@ use Rattle.lexical.specs.Kind
 use Rattle.lexical.specs.Literal.{decodedAt}
 use Rattle.lexical.specs.Number as Number
 use Rattle.lexical.specs.declared.token.Token.{Token}
+use Rattle.syntax.specs.Operator.{Sort}
 use Rattle.syntax.specs.Expr.{Expr, literal, name, number, truth}
 use Rattle.syntax.specs.Code.{nameAt, numberAt}
-use Rattle.conditions.specs.Table.{TEXT, NUMBER, TRUE, fits, operandOf, resultOf}
+use Rattle.conditions.specs.Table.{TEXT, NUMBER, TRUE, sortOf, fits}
 use Rattle.conditions.specs.Word.{nextAt, wordSort}
 use Rattle.syntax.specs.Parsed.{Parsed, ok, aside, unexpected}
 use Rattle.conditions.specs.Parsed.{Part, part}
@@ -45,6 +46,6 @@ unfoldable pub settledTree : ℕ → ℕ → Expr → Expr
 settledTree wanted sort e = pick (ltb sort TRUE) e (pick (eqb wanted TEXT) e (truth (eqb sort TRUE)))
 
 -- an operator takes its last operand, if that is of its sort
-unfoldable pub applied : (Expr → Expr) → ℕ → ℕ → Expr → Token → Parsed Part
-applied f op sort e t =
-    pick (fits (operandOf op) sort) (ok (part (resultOf op) (f (settledTree (operandOf op) sort e))) t) (unexpected t)
+unfoldable pub applied : (Expr → Expr) → Sort → Sort → ℕ → Expr → Token → Parsed Part
+applied f takes gives sort e t =
+    pick (fits (sortOf takes) sort) (ok (part (sortOf gives) (f (settledTree (sortOf takes) sort e))) t) (unexpected t)

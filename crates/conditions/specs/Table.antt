@@ -4,7 +4,8 @@ use Prim.Native.Nat.{ℕ, _+_}
 use lib.Dec.{eqb, ltb, leb}
 use Rattle.text.specs.Choice.{pick}
 use Rattle.lexical.specs.Kind
-use Rattle.syntax.specs.Op
+use Rattle.syntax.specs.Operator.{Unary, Binary, Side, Relation, Sort, a-string, an-integer, a-test, unaryTakes, unaryGives, binaryTakes, binaryGives}
+use Rattle.syntax.specs.Operator as Operator
 
 -- what is wanted: a test, a string or an integer
 abbrev pub ANY : ℕ
@@ -34,14 +35,6 @@ TRUE = 3
 abbrev pub FALSE : ℕ
 FALSE = 4
 
--- no operator
-abbrev pub NONE : ℕ
-NONE = 0
-
--- "~=", which has reason 8
-abbrev pub MATCH : ℕ
-MATCH = 34
-
 -- "Strings: literals, names, "." and "$""
 unfoldable pub beginsString : ℕ → Bool
 beginsString k = pick (eqb k Kind.LITERAL) true (pick (eqb k Kind.NAME) true (eqb k Kind.DOLLAR))
@@ -65,101 +58,121 @@ allows want k =
     (pick (beginsFloat k) true
     (pick (eqb want NUMBER) false (beginsString k)))))))
 
--- the comparison of strings that a token writes, or NONE
-unfoldable pub comparison : ℕ → ℕ
-comparison k =
-    pick (eqb k Kind.EQUAL) Op.TEXT-EQUAL
-    (pick (eqb k Kind.UNEQUAL) Op.TEXT-UNEQUAL
-    (pick (eqb k Kind.LESS) Op.TEXT-LESS
-    (pick (eqb k Kind.GREATER) Op.TEXT-GREATER
-    (pick (eqb k Kind.AT-MOST) Op.TEXT-AT-MOST
-    (pick (eqb k Kind.AT-LEAST) Op.TEXT-AT-LEAST NONE)))))
+-- what a token writes behind an operand: no operator; "~=", which has reason 8; or an operator
+pub data Infix : Type 0 where
+  no-infix : Infix
+  matching : Infix
+  between : Binary → Infix
 
--- the operator behind an integer; a comparison of integers stands six behind that of strings
-unfoldable pub numberOperator : ℕ → ℕ
+-- and before an operand
+pub data Prefix : Type 0 where
+  no-prefix : Prefix
+  before : Unary → Prefix
+
+-- go on by what it is
+abbrev pub onInfix : {A : Type 0} → Infix → A → A → (Binary → A) → A
+onInfix no-infix none match some = none
+onInfix matching none match some = match
+onInfix (between op) none match some = some op
+
+abbrev pub onPrefix : {A : Type 0} → Prefix → A → (Unary → A) → A
+onPrefix no-prefix none some = none
+onPrefix (before op) none some = some op
+
+-- the comparison that a token writes
+unfoldable pub comparison : Side → ℕ → Infix
+comparison side k =
+    pick (eqb k Kind.EQUAL) (between (Operator.comparison side Operator.equal))
+    (pick (eqb k Kind.UNEQUAL) (between (Operator.comparison side Operator.unequal))
+    (pick (eqb k Kind.LESS) (between (Operator.comparison side Operator.less))
+    (pick (eqb k Kind.GREATER) (between (Operator.comparison side Operator.greater))
+    (pick (eqb k Kind.AT-MOST) (between (Operator.comparison side Operator.at-most))
+    (pick (eqb k Kind.AT-LEAST) (between (Operator.comparison side Operator.at-least)) no-infix)))))
+
+-- the operator behind an integer
+unfoldable pub numberOperator : ℕ → Infix
 numberOperator k =
-    pick (eqb k Kind.POWER) Op.POWER
-    (pick (eqb k Kind.TIMES) Op.TIMES
-    (pick (eqb k Kind.DIVIDE) Op.OVER
-    (pick (eqb k Kind.REMAINDER) Op.REMAINDER
-    (pick (eqb k Kind.PLUS) Op.PLUS
-    (pick (eqb k Kind.MINUS) Op.MINUS
-    (pick (eqb (comparison k) NONE) NONE (comparison k + 6)))))))
+    pick (eqb k Kind.POWER) (between Operator.power)
+    (pick (eqb k Kind.TIMES) (between Operator.times)
+    (pick (eqb k Kind.DIVIDE) (between Operator.over)
+    (pick (eqb k Kind.REMAINDER) (between Operator.remainder)
+    (pick (eqb k Kind.PLUS) (between Operator.plus)
+    (pick (eqb k Kind.MINUS) (between Operator.minus) (comparison Operator.integers k))))))
 
 -- the operator behind a string
-unfoldable pub textOperator : ℕ → ℕ
-textOperator k = pick (eqb k Kind.DOT) Op.JOIN (pick (eqb k Kind.MATCHES) MATCH (comparison k))
+unfoldable pub textOperator : ℕ → Infix
+textOperator k = pick (eqb k Kind.DOT) (between Operator.join) (pick (eqb k Kind.MATCHES) matching (comparison Operator.strings k))
 
--- the operator behind a test
-unfoldable pub testOperator : ℕ → ℕ
-testOperator k = pick (eqb k Kind.AND) Op.BOTH (pick (eqb k Kind.OR) Op.EITHER NONE)
+-- the operator behind a test; another token has the other operator
+unfoldable pub testOperator : ℕ → Infix → Infix
+testOperator k other = pick (eqb k Kind.AND) (between Operator.both) (pick (eqb k Kind.OR) (between Operator.either) other)
 
 -- "Both sides of a comparison have one type": the operator behind what was read; a bare word is a test or a string
-unfoldable pub operator : ℕ → ℕ → ℕ
+unfoldable pub operator : ℕ → ℕ → Infix
 operator sort k =
     pick (eqb sort NUMBER) (numberOperator k)
-    (pick (eqb sort TEXT) (textOperator k)
-    (pick (eqb (testOperator k) NONE) (pick (eqb sort TEST) NONE (textOperator k)) (testOperator k)))
+    (pick (eqb sort TEXT) (textOperator k) (testOperator k (pick (eqb sort TEST) no-infix (textOperator k))))
 
 -- the operator before an operand
-unfoldable pub prefixOperator : ℕ → ℕ
+unfoldable pub prefixOperator : ℕ → Prefix
 prefixOperator k =
-    pick (eqb k Kind.MINUS) Op.NEGATE
-    (pick (eqb k Kind.AT) Op.CONVERT
-    (pick (eqb k Kind.DOLLAR) Op.LOOKUP
-    (pick (eqb k Kind.NOT) Op.OPPOSITE NONE)))
+    pick (eqb k Kind.MINUS) (before Operator.negate)
+    (pick (eqb k Kind.AT) (before Operator.convert)
+    (pick (eqb k Kind.DOLLAR) (before Operator.lookup)
+    (pick (eqb k Kind.NOT) (before Operator.opposite) no-prefix)))
 
 -- "! above && above || (house), a comparison inside", "then ^, then * / %, then + -": 0 || 1 && 2 comparisons 3 + - . 4 * / % 5 ^
-unfoldable pub levelOf : ℕ → ℕ
-levelOf op =
-    pick (eqb op Op.EITHER) 0
-    (pick (eqb op Op.BOTH) 1
-    (pick (ltb Op.MINUS op) 2
-    (pick (eqb op Op.POWER) 5
-    (pick (eqb op Op.JOIN) 3
-    (pick (ltb op Op.PLUS) 4 3)))))
+unfoldable pub levelOf : Binary → ℕ
+levelOf Operator.either = 0
+levelOf Operator.both = 1
+levelOf (Operator.comparison side relation) = 2
+levelOf Operator.join = 3
+levelOf Operator.plus = 3
+levelOf Operator.minus = 3
+levelOf Operator.times = 4
+levelOf Operator.over = 4
+levelOf Operator.remainder = 4
+levelOf Operator.power = 5
 
--- the sort of an operator's operands
-unfoldable pub operandOf : ℕ → ℕ
-operandOf op =
-    pick (eqb op Op.OPPOSITE) TEST
-    (pick (ltb Op.AT-LEAST op) TEST
-    (pick (ltb Op.TEXT-AT-LEAST op) NUMBER
-    (pick (ltb Op.MINUS op) TEXT
-    (pick (eqb op Op.NEGATE) NUMBER
-    (pick (ltb Op.JOIN op) NUMBER TEXT)))))
-
--- the sort of what it gives
-unfoldable pub resultOf : ℕ → ℕ
-resultOf op =
-    pick (ltb Op.MINUS op) TEST
-    (pick (eqb op Op.OPPOSITE) TEST
-    (pick (eqb op Op.LOOKUP) TEXT
-    (pick (eqb op Op.JOIN) TEXT NUMBER)))
+-- the sort of what was read
+abbrev pub sortOf : Sort → ℕ
+sortOf a-test = TEST
+sortOf a-string = TEXT
+sortOf an-integer = NUMBER
 
 -- "!" takes a comparison; "@ and $ bind as unary -", which takes no operator between operands
-unfoldable pub operandLevel : ℕ → ℕ
-operandLevel op = pick (eqb op Op.OPPOSITE) 2 6
+unfoldable pub operandLevel : Unary → ℕ
+operandLevel Operator.lookup = 6
+operandLevel Operator.convert = 6
+operandLevel Operator.negate = 6
+operandLevel Operator.opposite = 2
 
 -- what is wanted behind a prefix operator
-unfoldable pub operandWant : ℕ → ℕ → ℕ
-operandWant op want = pick (eqb op Op.OPPOSITE) ANY (pick (eqb op Op.NEGATE) (pick (eqb want ANY) NUMBER want) TEXT)
+unfoldable pub operandWant : Unary → ℕ → ℕ
+operandWant Operator.lookup want = TEXT
+operandWant Operator.convert want = TEXT
+operandWant Operator.negate want = pick (eqb want ANY) NUMBER want
+operandWant Operator.opposite want = ANY
 
--- what is wanted where an operand of this sort stands to the right
-abbrev pub wantOf : ℕ → ℕ
-wantOf sort = pick (eqb sort TEST) ANY (pick (eqb sort TEXT) TEXT INTEGER)
+-- what is wanted where an operand stands to the right
+abbrev pub wantOf : Sort → ℕ
+wantOf a-test = ANY
+wantOf a-string = TEXT
+wantOf an-integer = INTEGER
 
 -- what is wanted to the right of an operator
-unfoldable pub rightWant : ℕ → ℕ
-rightWant op = wantOf (operandOf op)
+unfoldable pub rightWant : Binary → ℕ
+rightWant op = wantOf (binaryTakes op)
 
 -- "left to right in a class": the right operand reaches to the next operator of the same level
-unfoldable pub rightLevel : ℕ → ℕ
+unfoldable pub rightLevel : Binary → ℕ
 rightLevel op = levelOf op + 1
 
--- does the operator belong to this level or one above?
-unfoldable pub binds : ℕ → ℕ → Bool
-binds level op = pick (eqb op NONE) false (pick (ltb (levelOf op) level) false true)
+-- does what a token writes belong to this level or one above? "~=" is a comparison
+unfoldable pub binds : ℕ → Infix → Bool
+binds level no-infix = false
+binds level matching = leb level 2
+binds level (between op) = leb level (levelOf op)
 
 -- brackets hold a whole test, or a whole string or integer
 unfoldable pub insideLevel : ℕ → ℕ

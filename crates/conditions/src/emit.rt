@@ -12,7 +12,7 @@ use lexical::token::Token;
 use syntax;
 ghost use mathlib.Core.Path.{_≡_};
 ghost use Prim.Native.Nat.{_<_};
-ghost use Rattle.conditions.specs.Table.{operandOf};
+ghost use Rattle.conditions.specs.Working.Numbered.{operandOf};
 ghost use Rattle.conditions.specs.Working.Emit.{slotOf, above, put, settledTop, settled, ran, refused, finishAt, endedAt, valuedAt, closedAt};
 
 // What was read: its sort, the place of a bare word that is not settled yet, the end of the code, and the token behind it. Or the

@@ -1,4 +1,4 @@
-// Which token may stand where, and what each operator takes and gives; specs/Table.antt says what each number is.
+// Which token may stand where, and what each operator takes and gives; specs/Table.antt and specs/Working/Numbered.antt say what each number is.
 use lexical::kind;
 use syntax;
 ghost use mathlib.Core.Path.{_≡_};
@@ -6,7 +6,8 @@ ghost use mathlib.Core.Bool.{true, false};
 ghost use Prim.Native.Nat.{_<_};
 ghost use Rattle.text.specs.Choice.{pick};
 ghost use Rattle.syntax.specs.Parsed.{refusal};
-ghost use Rattle.conditions.specs.Table.{beginsString, beginsNumber, beginsFloat, allows, comparison, numberOperator, textOperator, testOperator, operator, prefixOperator, levelOf, operandOf, resultOf, operandLevel, operandWant, rightWant, rightLevel, binds, insideLevel, fits, stops};
+ghost use Rattle.conditions.specs.Table.{beginsString, beginsNumber, beginsFloat, allows, insideLevel, fits, stops};
+ghost use Rattle.conditions.specs.Working.Numbered.{comparison, numberOperator, textOperator, testOperator, operator, prefixOperator, levelOf, operandOf, resultOf, operandLevel, operandWant, rightWant, rightLevel, binds};
 
 pub const ANY: u8 = 0;
 
@@ -24,7 +25,8 @@ pub const FALSE: u8 = 4;
 
 pub const NONE: u32 = 0;
 
-pub const MATCH: u32 = 34;
+// No entry stores it: an entry has room for operations below 64.
+pub const MATCH: u32 = 64;
 
 // May a token of this kind stand where this is wanted?
 pub fn is_allowed(want: u8, k: usize) -> bool

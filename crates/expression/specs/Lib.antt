@@ -4,7 +4,6 @@ pub mod Integers
 pub mod Names
 pub mod Operations
 pub mod Conditions
-pub mod Clauses
 pub mod Tables
 pub mod Reads
 pub mod Standing

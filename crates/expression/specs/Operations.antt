@@ -1,8 +1,8 @@
 -- What the operators give. Assumes nothing.
 use mathlib.Core.Bool.{Bool, true, false, not}
 use mathlib.Core.List.{List, _++_}
-use Prim.Native.Nat.{ℕ, _-_}
-use lib.Dec.{eqb, leb, ltb}
+use Prim.Native.Nat.{ℕ}
+use lib.Dec.{ltb}
 use lib.ListN.{length}
 use Rattle.text.specs.Choice.{pick}
 use Rattle.text.specs.Order.{order}
@@ -10,7 +10,8 @@ use Rattle.text.specs.Decimal.{decimal}
 use Rattle.text.specs.declared.Integer.{Integer}
 use Rattle.text.specs.declared.Order.{Order}
 use Rattle.text.specs.declared.Order.the-variants.{Less, Equal, Greater}
-use Rattle.syntax.specs.Op.{LOOKUP, CONVERT, NEGATE, OPPOSITE, JOIN, POWER, TIMES, OVER, REMAINDER, PLUS, MINUS, TEXT-EQUAL, TEXT-AT-LEAST, EQUAL, AT-LEAST, BOTH, EITHER}
+use Rattle.syntax.specs.Operator.{Unary, Binary, Relation}
+use Rattle.syntax.specs.Operator as Operator
 use Rattle.expression.specs.Value.{Value, text, integer, test, fault, onText, onInteger, onTest}
 use Rattle.expression.specs.Integers.{plus, minus, times, over, remainder, power, negated, compared}
 
@@ -34,48 +35,34 @@ isGreater Less = false
 isGreater Equal = false
 isGreater Greater = true
 
--- the comparisons are numbered alike for strings and for integers: == != < > <= >=
-unfoldable pub relates : ℕ → Order → Bool
-relates k o =
-    pick (eqb k 0) (isEqual o)
-    (pick (eqb k 1) (not (isEqual o))
-    (pick (eqb k 2) (isLess o)
-    (pick (eqb k 3) (isGreater o)
-    (pick (eqb k 4) (not (isGreater o)) (not (isLess o))))))
+unfoldable pub relates : Relation → Order → Bool
+relates Operator.equal o = isEqual o
+relates Operator.unequal o = not (isEqual o)
+relates Operator.less o = isLess o
+relates Operator.greater o = isGreater o
+relates Operator.at-most o = not (isGreater o)
+relates Operator.at-least o = not (isLess o)
 
--- two integers; a comparison is any but the operators that give an integer
-unfoldable pub arithmetic : ℕ → Integer → Integer → Value
-arithmetic op a b =
-    pick (eqb op POWER) (power a b)
-    (pick (eqb op TIMES) (times a b)
-    (pick (eqb op OVER) (over a b)
-    (pick (eqb op REMAINDER) (remainder a b)
-    (pick (eqb op PLUS) (plus a b)
-    (pick (eqb op MINUS) (minus a b) (test (relates (op - EQUAL) (compared a b))))))))
+-- two strings, two integers
+unfoldable pub onTexts : (List ℕ → List ℕ → Value) → Value → Value → Value
+onTexts f v w = onText (λ a. onText (λ b. f a b) w) v
 
--- two strings: "." or a comparison, "by byte; a proper prefix is less"
-unfoldable pub textual : ℕ → List ℕ → List ℕ → Value
-textual op a b = pick (eqb op JOIN) (held (a ++ b)) (test (relates (op - TEXT-EQUAL) (order a b)))
+unfoldable pub onIntegers : (Integer → Integer → Value) → Value → Value → Value
+onIntegers f v w = onInteger (λ a. onInteger (λ b. f a b) w) v
 
--- "&& and || go left to right and stop once decided"
-unfoldable pub logical : ℕ → Bool → Value → Value
-logical op t w = pick (eqb op BOTH) (pick t (onTest test w) (test false)) (pick t (test true) (onTest test w))
-
--- operators on strings, on integers and on tests
-unfoldable pub ofTexts : ℕ → Value → Value → Value
-ofTexts op v w = onText (λ a. onText (λ b. textual op a b) w) v
-
-unfoldable pub ofIntegers : ℕ → Value → Value → Value
-ofIntegers op v w = onInteger (λ a. onInteger (λ b. arithmetic op a b) w) v
-
-unfoldable pub ofTests : ℕ → Value → Value → Value
-ofTests op v w = onTest (λ t. logical op t w) v
-
-unfoldable pub isTextual : ℕ → Bool
-isTextual op = pick (eqb op JOIN) true (pick (leb op MINUS) false (leb op TEXT-AT-LEAST))
-
-unfoldable pub binaryOf : ℕ → Value → Value → Value
-binaryOf op v w = pick (isTextual op) (ofTexts op v w) (pick (leb op AT-LEAST) (ofIntegers op v w) (pick (leb op EITHER) (ofTests op v w) fault))
+-- strings compare "by byte; a proper prefix is less"; "&& and || go left to right and stop once decided"
+unfoldable pub binaryOf : Binary → Value → Value → Value
+binaryOf Operator.join v w = onTexts (λ a b. held (a ++ b)) v w
+binaryOf Operator.power v w = onIntegers power v w
+binaryOf Operator.times v w = onIntegers times v w
+binaryOf Operator.over v w = onIntegers over v w
+binaryOf Operator.remainder v w = onIntegers remainder v w
+binaryOf Operator.plus v w = onIntegers plus v w
+binaryOf Operator.minus v w = onIntegers minus v w
+binaryOf (Operator.comparison Operator.strings r) v w = onTexts (λ a b. test (relates r (order a b))) v w
+binaryOf (Operator.comparison Operator.integers r) v w = onIntegers (λ a b. test (relates r (compared a b))) v w
+binaryOf Operator.both v w = onTest (λ t. pick t (onTest test w) (test false)) v
+binaryOf Operator.either v w = onTest (λ t. pick t (test true) (onTest test w)) v
 
 -- "@", unary "-", "!"
 unfoldable pub converted : Value → Value
@@ -88,9 +75,8 @@ unfoldable pub opposite : Value → Value
 opposite v = onTest (λ t. test (not t)) v
 
 -- "$" looks its string up
-unfoldable pub unaryOf : (List ℕ → List ℕ) → ℕ → Value → Value
-unaryOf look op v =
-    pick (eqb op LOOKUP) (onText (λ a. held (look a)) v)
-    (pick (eqb op CONVERT) (converted v)
-    (pick (eqb op NEGATE) (negative v)
-    (pick (eqb op OPPOSITE) (opposite v) fault)))
+unfoldable pub unaryOf : (List ℕ → List ℕ) → Unary → Value → Value
+unaryOf look Operator.lookup v = onText (λ a. held (look a)) v
+unaryOf look Operator.convert v = converted v
+unaryOf look Operator.negate v = negative v
+unaryOf look Operator.opposite v = opposite v

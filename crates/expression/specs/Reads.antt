@@ -3,11 +3,10 @@ use mathlib.Core.Path.{_≡_}
 use mathlib.Core.Bool.{Bool, true, false, _||_}
 use mathlib.Core.List.{List, [], _∷_}
 use Prim.Native.Nat.{ℕ}
-use lib.Dec.{eqb}
 use Rattle.text.specs.Choice.{pick}
 use Rattle.text.specs.Equal.{equal}
 use Rattle.record.specs.Query.{Attribute}
-use Rattle.syntax.specs.Op.{LOOKUP}
+use Rattle.syntax.specs.Operator.{isLookup}
 use Rattle.syntax.specs.Expr.{Expr, literal, name, number, truth, unary, binary, Program, none, also, Clause, plain, valued, nested}
 use Rattle.expression.specs.Names.{Environment}
 
@@ -17,7 +16,7 @@ reads (literal b) n = false
 reads (name m) n = equal m n
 reads (number k) n = false
 reads (truth t) n = false
-reads (unary op e) n = eqb op LOOKUP || reads e n
+reads (unary op e) n = isLookup op || reads e n
 reads (binary op e f) n = reads e n || reads f n
 
 unfoldable mutual

@@ -2,9 +2,8 @@
 use mathlib.Core.Bool.{Bool, false, _||_}
 use mathlib.Core.List.{List}
 use Prim.Native.Nat.{ℕ}
-use lib.Dec.{eqb}
 use Rattle.text.specs.Equal.{equal}
-use Rattle.syntax.specs.Op.{LOOKUP}
+use Rattle.syntax.specs.Operator.{isLookup}
 use Rattle.syntax.specs.Expr.{Expr, literal, name, number, truth, unary, binary, Program, none, also, Clause, plain, valued, nested}
 
 -- "the name stands there as a string"
@@ -32,7 +31,7 @@ computes (literal b) = false
 computes (name m) = false
 computes (number k) = false
 computes (truth t) = false
-computes (unary op e) = eqb op LOOKUP || computes e
+computes (unary op e) = isLookup op || computes e
 computes (binary op e f) = computes e || computes f
 
 unfoldable mutual

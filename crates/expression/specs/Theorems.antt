@@ -3,3 +3,4 @@ pub mod Shown
 pub mod Queried
 pub mod Topmost
 pub mod Standing
+pub mod Numbered

@@ -1,3 +1,5 @@
+pub mod Numbered
+pub mod Clauses
 pub mod Arithmetic
 pub mod Searching
 pub mod Operating

@@ -32,14 +32,13 @@ ghost use Rattle.text.specs.Decimal.{integer as signed};
 ghost use Rattle.expression.specs.Value.{operand, rank};
 ghost use Rattle.expression.specs.Operands.{pack, valueOf, holdsIn, testIn};
 ghost use Rattle.expression.specs.Integers.{ranged, apart};
-ghost use Rattle.expression.specs.Operations.{isLess, isEqual, isGreater, relates, held, arithmetic, textual, logical, ofTexts, ofIntegers, ofTests, isTextual, binaryOf, converted, negative, opposite as not-of};
+ghost use Rattle.expression.specs.Operations.{isLess, isEqual, isGreater, held, converted, negative, opposite as not-of};
+ghost use Rattle.expression.specs.Working.Numbered.{relatesBy, arithmetic, textual, logical, ofTexts, ofIntegers, ofTests, isTextual, binaryBy};
 ghost use Rattle.expression.specs.Conditions.{rankOf};
-ghost use Rattle.expression.specs.Clauses.{applied, combined};
+ghost use Rattle.expression.specs.Working.Clauses.{applied, combined};
 
 // "string over 4,096 bytes" is a fault.
 pub const LONGEST: usize = 4096;
-// The higher of two ranks.
-pub const RAISE: u32 = 34;
 
 fn is_less(o: Order) -> bool
     ensures { λ r. ⌜ r ≡ isLess o ⌝ }
@@ -73,7 +72,7 @@ fn is_greater(o: Order) -> bool
 
 // Does the comparison k hold of sides that stand so?
 fn relation(k: u32, o: Order) -> bool
-    ensures { λ r. ⌜ r ≡ relates k o ⌝ }
+    ensures { λ r. ⌜ r ≡ relatesBy k o ⌝ }
 {
     if k == 0 {
         return is_equal(o);
@@ -303,7 +302,7 @@ fn is_textual(op: u32) -> bool
 
 // An operator of expressions on two operands.
 fn binary(op: u32, x: Operand, y: Operand, a: &[u8], b: &[u8]) -> Operand
-    ensures { λ r. ⌜ r ≡ operand (binaryOf op (valueOf x (now (a .entry))) (valueOf y (now (b .entry)))) ⌝ }
+    ensures { λ r. ⌜ r ≡ operand (binaryBy op (valueOf x (now (a .entry))) (valueOf y (now (b .entry)))) ⌝ }
 {
     if is_textual(op) {
         return texts(op, x, y, a, b);

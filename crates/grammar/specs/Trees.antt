@@ -8,7 +8,8 @@ use Rattle.lexical.specs.Kind
 use Rattle.lexical.specs.Literal.{decodedAt}
 use Rattle.lexical.specs.Word.{word-true, word-false}
 use Rattle.lexical.specs.declared.token.Token.{Token}
-use Rattle.syntax.specs.Op
+use Rattle.syntax.specs.Operator.{Binary, Relation}
+use Rattle.syntax.specs.Operator as Operator
 use Rattle.syntax.specs.Code.{nameAt, numberAt}
 use Rattle.syntax.specs.Expr.{Expr, literal, name, number, truth, unary, binary, Program, none, also, Clause, plain, valued, nested}
 use Rattle.grammar.specs.Conditions.{Class, operand, power, product, conjunction, whole}
@@ -18,64 +19,64 @@ use Rattle.grammar.specs.Spelled.{spelled}
 pub data StrTree (s : List ℕ) : Class → List Token → Expr → Type 0 where
   literal-tree : (t : Token) → t .kind ≡ Kind.LITERAL → StrTree s operand (t ∷ []) (literal (decodedAt s (t .start)))
   name-tree : (t : Token) → t .kind ≡ Kind.NAME → StrTree s operand (t ∷ []) (name (nameAt s (t .start)))
-  lookup-tree : (t : Token) (ts : List Token) (e : Expr) → t .kind ≡ Kind.DOLLAR → StrTree s operand ts e → StrTree s operand (t ∷ ts) (unary Op.LOOKUP e)
+  lookup-tree : (t : Token) (ts : List Token) (e : Expr) → t .kind ≡ Kind.DOLLAR → StrTree s operand ts e → StrTree s operand (t ∷ ts) (unary Operator.lookup e)
   text-bracket : (t u : Token) (ts : List Token) (e : Expr) → t .kind ≡ Kind.OPEN → u .kind ≡ Kind.CLOSE → StrTree s whole ts e → StrTree s operand (t ∷ ts ++ u ∷ []) e
   text-one : (ts : List Token) (e : Expr) → StrTree s operand ts e → StrTree s whole ts e
-  join-tree : (t : Token) (ts us : List Token) (e f : Expr) → t .kind ≡ Kind.DOT → StrTree s whole ts e → StrTree s operand us f → StrTree s whole (ts ++ t ∷ us) (binary Op.JOIN e f)
+  join-tree : (t : Token) (ts us : List Token) (e f : Expr) → t .kind ≡ Kind.DOT → StrTree s whole ts e → StrTree s operand us f → StrTree s whole (ts ++ t ∷ us) (binary Operator.join e f)
 
--- the operation that a mark writes between integers: "* / %"
-pub data ProductOp : ℕ → ℕ → Type 0 where
-  times-op : ProductOp Kind.TIMES Op.TIMES
-  divide-op : ProductOp Kind.DIVIDE Op.OVER
-  remainder-op : ProductOp Kind.REMAINDER Op.REMAINDER
+-- the operator that a mark writes between integers: "* / %"
+pub data ProductOp : ℕ → Binary → Type 0 where
+  times-op : ProductOp Kind.TIMES Operator.times
+  divide-op : ProductOp Kind.DIVIDE Operator.over
+  remainder-op : ProductOp Kind.REMAINDER Operator.remainder
 
 -- "+ -"
-pub data SumOp : ℕ → ℕ → Type 0 where
-  plus-op : SumOp Kind.PLUS Op.PLUS
-  minus-op : SumOp Kind.MINUS Op.MINUS
+pub data SumOp : ℕ → Binary → Type 0 where
+  plus-op : SumOp Kind.PLUS Operator.plus
+  minus-op : SumOp Kind.MINUS Operator.minus
 
 -- "Integers: unary -, then ^, then * / %, then + -, left to right in a class; @ and $ bind as unary -"
 pub data IntTree (s : List ℕ) : Class → List Token → Expr → Type 0 where
   number-tree : (t : Token) → t .kind ≡ Kind.DIGITS → IntTree s operand (t ∷ []) (number (numberAt s (t .start)))
-  negate-tree : (t : Token) (ts : List Token) (e : Expr) → t .kind ≡ Kind.MINUS → IntTree s operand ts e → IntTree s operand (t ∷ ts) (unary Op.NEGATE e)
-  convert-tree : (t : Token) (ts : List Token) (e : Expr) → t .kind ≡ Kind.AT → StrTree s operand ts e → IntTree s operand (t ∷ ts) (unary Op.CONVERT e)
+  negate-tree : (t : Token) (ts : List Token) (e : Expr) → t .kind ≡ Kind.MINUS → IntTree s operand ts e → IntTree s operand (t ∷ ts) (unary Operator.negate e)
+  convert-tree : (t : Token) (ts : List Token) (e : Expr) → t .kind ≡ Kind.AT → StrTree s operand ts e → IntTree s operand (t ∷ ts) (unary Operator.convert e)
   number-bracket : (t u : Token) (ts : List Token) (e : Expr) → t .kind ≡ Kind.OPEN → u .kind ≡ Kind.CLOSE → IntTree s whole ts e → IntTree s operand (t ∷ ts ++ u ∷ []) e
   number-one : (ts : List Token) (e : Expr) → IntTree s operand ts e → IntTree s power ts e
   power-tree : (t : Token) (ts us : List Token) (e f : Expr) → t .kind ≡ Kind.POWER → IntTree s power ts e → IntTree s operand us f
-      → IntTree s power (ts ++ t ∷ us) (binary Op.POWER e f)
+      → IntTree s power (ts ++ t ∷ us) (binary Operator.power e f)
   number-up : (ts : List Token) (e : Expr) → IntTree s power ts e → IntTree s product ts e
-  product-tree : (t : Token) (ts us : List Token) (e f : Expr) (o : ℕ) → ProductOp (t .kind) o → IntTree s product ts e → IntTree s power us f
+  product-tree : (t : Token) (ts us : List Token) (e f : Expr) (o : Binary) → ProductOp (t .kind) o → IntTree s product ts e → IntTree s power us f
       → IntTree s product (ts ++ t ∷ us) (binary o e f)
   number-term : (ts : List Token) (e : Expr) → IntTree s product ts e → IntTree s whole ts e
-  sum-tree : (t : Token) (ts us : List Token) (e f : Expr) (o : ℕ) → SumOp (t .kind) o → IntTree s whole ts e → IntTree s product us f
+  sum-tree : (t : Token) (ts us : List Token) (e f : Expr) (o : Binary) → SumOp (t .kind) o → IntTree s whole ts e → IntTree s product us f
       → IntTree s whole (ts ++ t ∷ us) (binary o e f)
 
--- the comparison that a mark writes: of strings, and of integers
-pub data CompareOp : ℕ → ℕ → ℕ → Type 0 where
-  equal-op : CompareOp Kind.EQUAL Op.TEXT-EQUAL Op.EQUAL
-  unequal-op : CompareOp Kind.UNEQUAL Op.TEXT-UNEQUAL Op.UNEQUAL
-  less-op : CompareOp Kind.LESS Op.TEXT-LESS Op.LESS
-  greater-op : CompareOp Kind.GREATER Op.TEXT-GREATER Op.GREATER
-  at-most-op : CompareOp Kind.AT-MOST Op.TEXT-AT-MOST Op.AT-MOST
-  at-least-op : CompareOp Kind.AT-LEAST Op.TEXT-AT-LEAST Op.AT-LEAST
+-- the relation that a mark writes
+pub data CompareOp : ℕ → Relation → Type 0 where
+  equal-op : CompareOp Kind.EQUAL Operator.equal
+  unequal-op : CompareOp Kind.UNEQUAL Operator.unequal
+  less-op : CompareOp Kind.LESS Operator.less
+  greater-op : CompareOp Kind.GREATER Operator.greater
+  at-most-op : CompareOp Kind.AT-MOST Operator.at-most
+  at-least-op : CompareOp Kind.AT-LEAST Operator.at-least
 
 -- "Tests: ! above && above || (house), a comparison inside; true, false"; "Both sides of a comparison have one type"
 pub data TestTree (s : List ℕ) : Class → List Token → Expr → Type 0 where
   true-tree : (t : Token) → t .kind ≡ Kind.NAME → spelled s t word-true ≡ true → TestTree s operand (t ∷ []) (truth true)
   false-tree : (t : Token) → t .kind ≡ Kind.NAME → spelled s t word-false ≡ true → TestTree s operand (t ∷ []) (truth false)
-  compare-numbers : (t : Token) (ts us : List Token) (e f : Expr) (o p : ℕ) → CompareOp (t .kind) o p → IntTree s whole ts e → IntTree s whole us f
-      → TestTree s operand (ts ++ t ∷ us) (binary p e f)
-  compare-texts : (t : Token) (ts us : List Token) (e f : Expr) (o p : ℕ) → CompareOp (t .kind) o p → StrTree s whole ts e → StrTree s whole us f
-      → TestTree s operand (ts ++ t ∷ us) (binary o e f)
-  not-tree : (t : Token) (ts : List Token) (e : Expr) → t .kind ≡ Kind.NOT → TestTree s operand ts e → TestTree s operand (t ∷ ts) (unary Op.OPPOSITE e)
+  compare-numbers : (t : Token) (ts us : List Token) (e f : Expr) (o : Relation) → CompareOp (t .kind) o → IntTree s whole ts e → IntTree s whole us f
+      → TestTree s operand (ts ++ t ∷ us) (binary (Operator.comparison Operator.integers o) e f)
+  compare-texts : (t : Token) (ts us : List Token) (e f : Expr) (o : Relation) → CompareOp (t .kind) o → StrTree s whole ts e → StrTree s whole us f
+      → TestTree s operand (ts ++ t ∷ us) (binary (Operator.comparison Operator.strings o) e f)
+  not-tree : (t : Token) (ts : List Token) (e : Expr) → t .kind ≡ Kind.NOT → TestTree s operand ts e → TestTree s operand (t ∷ ts) (unary Operator.opposite e)
   test-bracket-tree : (t u : Token) (ts : List Token) (e : Expr) → t .kind ≡ Kind.OPEN → u .kind ≡ Kind.CLOSE → TestTree s whole ts e
       → TestTree s operand (t ∷ ts ++ u ∷ []) e
   test-once : (ts : List Token) (e : Expr) → TestTree s operand ts e → TestTree s conjunction ts e
   and-tree : (t : Token) (ts us : List Token) (e f : Expr) → t .kind ≡ Kind.AND → TestTree s conjunction ts e → TestTree s operand us f
-      → TestTree s conjunction (ts ++ t ∷ us) (binary Op.BOTH e f)
+      → TestTree s conjunction (ts ++ t ∷ us) (binary Operator.both e f)
   test-up : (ts : List Token) (e : Expr) → TestTree s conjunction ts e → TestTree s whole ts e
   or-tree : (t : Token) (ts us : List Token) (e f : Expr) → t .kind ≡ Kind.OR → TestTree s whole ts e → TestTree s conjunction us f
-      → TestTree s whole (ts ++ t ∷ us) (binary Op.EITHER e f)
+      → TestTree s whole (ts ++ t ∷ us) (binary Operator.either e f)
 
 -- a program, or a clause of one
 pub data Says : Type 0 where

@@ -1,8 +1,6 @@
 -- How much room Conditions need to run: operands at once, and bytes of strings. Assumes nothing.
 use Prim.Native.Nat.{ℕ, _+_, max}
-use lib.Dec.{eqb}
-use Rattle.text.specs.Choice.{pick}
-use Rattle.syntax.specs.Op.{LOOKUP, JOIN}
+use Rattle.syntax.specs.Operator.{Sort, a-string, an-integer, a-test, unaryGives, binaryGives}
 use Rattle.syntax.specs.Expr.{Expr, literal, name, number, truth, unary, binary, Program, none, also, Clause, plain, valued, nested}
 
 -- operands that are on the stack at once
@@ -24,14 +22,20 @@ unfoldable mutual
   clauseNeed (valued e f) = max (need e) (1 + need f)
   clauseNeed (nested e p) = max (need e) (1 + programNeed p)
 
--- the bytes that an expression's value may have
+-- the bytes that a value may have: "string over 4,096 bytes" is a fault
+abbrev pub spanOf : Sort → ℕ
+spanOf a-string = 4096
+spanOf an-integer = 0
+spanOf a-test = 0
+
+-- those of an expression's value
 unfoldable pub span : Expr → ℕ
 span (literal b) = 4096
 span (name n) = 4096
 span (number n) = 0
 span (truth t) = 0
-span (unary op e) = pick (eqb op LOOKUP) 4096 0
-span (binary op e f) = pick (eqb op JOIN) 4096 0
+span (unary op e) = spanOf (unaryGives op)
+span (binary op e f) = spanOf (binaryGives op)
 
 -- the bytes that lie on the string stack at once
 unfoldable pub room : Expr → ℕ
@@ -39,7 +43,7 @@ room (literal b) = 4096
 room (name n) = 4096
 room (number n) = 0
 room (truth t) = 0
-room (unary op e) = max (room e) (pick (eqb op LOOKUP) 4096 0)
+room (unary op e) = max (room e) (spanOf (unaryGives op))
 room (binary op e f) = max (room e) (span e + room f)
 
 unfoldable mutual

@@ -3,7 +3,6 @@ use expression::integer::in_range;
 use expression::name::lookup;
 use expression::name::rank_of;
 use expression::operator::LONGEST;
-use expression::operator::RAISE;
 use expression::operator::apply;
 use expression::operator::combine;
 use expression::operator::of_naturals;
@@ -561,7 +560,7 @@ fn raise_step(
             return land(stack, n - 4, t, Packed { kind: 5, size: m });
         }
     }
-    binary_step(RAISE, query, values, stack, n, bytes, t)
+    binary_step(syntax::RAISE, query, values, stack, n, bytes, t)
 }
 
 // The rank of a clause that is a test of that kind.

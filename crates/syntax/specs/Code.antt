@@ -7,7 +7,9 @@ use Rattle.text.specs.Scan.{run}
 use Rattle.text.specs.Class.{inClass, digit, word}
 use Rattle.text.specs.Digits.{value, limit}
 use Rattle.lexical.specs.Literal.{decodedAt}
-use Rattle.syntax.specs.Op.{LITERAL, NAME, NUMBER, TRUE, FALSE, LOOKUP, OPPOSITE, JOIN, EITHER, BEGIN, PLAIN, VALUED, NESTED}
+use Rattle.syntax.specs.Op.{LITERAL, NAME, NUMBER, TRUE, FALSE, BEGIN, PLAIN, VALUED, NESTED}
+use Rattle.syntax.specs.Operator.{Unary, Binary}
+use Rattle.syntax.specs.Operation.{unaryNumber, binaryNumber}
 use Rattle.syntax.specs.Expr.{Expr, literal, name, number, truth, unary, binary, Program, none, also, Clause, plain, valued, nested}
 
 -- an entry: an operation and a place of the text
@@ -21,15 +23,15 @@ nameAt s at = take (run (inClass word) (drop at s)) (drop at s)
 unfoldable pub numberAt : List ℕ → ℕ → ℕ
 numberAt s at = min (value (take (run (inClass digit) (drop at s)) (drop at s))) limit
 
--- code of an expression in the text s: its places fit an entry, and its operators are of expressions
+-- code of an expression in the text s: its places fit an entry
 pub data Codes (s : List ℕ) : Expr → List ℕ → Type 0 where
   code-literal : (at : ℕ) → at < 65536 → Codes s (literal (decodedAt s at)) (entry LITERAL at ∷ [])
   code-name : (at : ℕ) → at < 65536 → Codes s (name (nameAt s at)) (entry NAME at ∷ [])
   code-number : (at : ℕ) → at < 65536 → Codes s (number (numberAt s at)) (entry NUMBER at ∷ [])
   code-true : Codes s (truth true) (entry TRUE 0 ∷ [])
   code-false : Codes s (truth false) (entry FALSE 0 ∷ [])
-  code-unary : {op : ℕ} {e : Expr} {c : List ℕ} → LOOKUP ≤ op → op ≤ OPPOSITE → Codes s e c → Codes s (unary op e) (c ++ (entry op 0 ∷ []))
-  code-binary : {op : ℕ} {e f : Expr} {c d : List ℕ} → JOIN ≤ op → op ≤ EITHER → Codes s e c → Codes s f d → Codes s (binary op e f) (c ++ d ++ (entry op 0 ∷ []))
+  code-unary : {op : Unary} {e : Expr} {c : List ℕ} → Codes s e c → Codes s (unary op e) (c ++ (entry (unaryNumber op) 0 ∷ []))
+  code-binary : {op : Binary} {e f : Expr} {c d : List ℕ} → Codes s e c → Codes s f d → Codes s (binary op e f) (c ++ d ++ (entry (binaryNumber op) 0 ∷ []))
 
 -- code of a program and of a clause, behind the code of the program before it
 mutual

@@ -2,15 +2,16 @@
 use mathlib.Core.Bool.{Bool}
 use mathlib.Core.List.{List}
 use Prim.Native.Nat.{ℕ}
+use Rattle.syntax.specs.Operator.{Unary, Binary}
 
--- strings, integers and tests; an operator is its number in Op
+-- strings, integers and tests
 pub data Expr : Type 0 where
   literal : List ℕ → Expr
   name : List ℕ → Expr
   number : ℕ → Expr
   truth : Bool → Expr
-  unary : ℕ → Expr → Expr
-  binary : ℕ → Expr → Expr → Expr
+  unary : Unary → Expr → Expr
+  binary : Binary → Expr → Expr → Expr
 
 -- "clauses ended by ";", each a test, test -> string expression, or test -> { clauses }"
 mutual

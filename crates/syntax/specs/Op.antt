@@ -1,4 +1,4 @@
--- The operations of expressions and of compiled code, by number. Assumes nothing.
+-- The numbers of the operations of compiled code. Assumes nothing.
 use Prim.Native.Nat.{ℕ}
 
 -- a literal
@@ -136,3 +136,7 @@ VALUED = 32
 -- a clause with a program
 abbrev pub NESTED : ℕ
 NESTED = 33
+
+-- the higher of two ranks: a clause's is brought to its program's; no entry stores it
+abbrev pub RAISE : ℕ
+RAISE = 34

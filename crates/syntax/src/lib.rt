@@ -66,3 +66,6 @@ pub const PLAIN: u32 = 31;
 pub const VALUED: u32 = 32;
 
 pub const NESTED: u32 = 33;
+
+// The higher of two ranks; no entry stores it.
+pub const RAISE: u32 = 34;

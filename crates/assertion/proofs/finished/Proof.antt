@@ -6,19 +6,15 @@ use Rattle.assertion.proofs.finished.Lts as lts
 use Rattle.assertion.proofs.kept.Reads as kept-reads
 use Rattle.assertion.specs.Working.ReadingWays.{finished-kept, finished-none}
 
--- src/lib.rt:69:9
 kept-requires : tie.Need-kept-requires
 kept-requires c κs = search needs
 
--- src/lib.rt:69:9
 same-length : tie.Need-same-length
 same-length c = search needs
 
--- src/lib.rt:69:9
 returns : tie.Need-returns
 returns c = search finished-kept
 
--- src/lib.rt:65:1
 returns-2 : tie.Need-returns-2
 returns-2 c = search finished-none
 

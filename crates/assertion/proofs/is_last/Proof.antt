@@ -7,27 +7,21 @@ use Rattle.assertion.proofs.label.is_free.Reads as is-free-reads
 use Rattle.fields.proofs.out.is_ending.Reads as is-ending-reads
 use Rattle.assertion.specs.Working.ReadingWays.{last-end, last-other, last-taken, last-label}
 
--- src/lib.rt:93:9
 returns : tie.Need-returns
 returns c = search last-end
 
--- src/lib.rt:95:8
 is-ending-requires : tie.Need-is-ending-requires
 is-ending-requires c κs = search needs
 
--- src/lib.rt:96:12
 is-free-requires : tie.Need-is-free-requires
 is-free-requires c κs = search needs
 
--- src/lib.rt:97:13
 returns-2 : tie.Need-returns-2
 returns-2 c = search last-label
 
--- src/lib.rt:99:9
 returns-3 : tie.Need-returns-3
 returns-3 c = search last-taken
 
--- src/lib.rt:89:1
 returns-4 : tie.Need-returns-4
 returns-4 c = search last-other
 

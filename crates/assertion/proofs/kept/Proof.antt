@@ -6,19 +6,15 @@ use Rattle.assertion.proofs.kept.Lts as lts
 use Rattle.fields.proofs.list.push.Reads as push-reads
 use Rattle.assertion.specs.Working.ReadingWays.{kept-given, kept-missing}
 
--- src/lib.rt:46:9
 returns : tie.Need-returns
 returns c = search kept-given
 
--- src/lib.rt:54:9
 push-requires : tie.Need-push-requires
 push-requires c κs = search needs
 
--- src/lib.rt:42:1
 same-length : tie.Need-same-length
 same-length c = search needs
 
--- src/lib.rt:42:1
 returns-2 : tie.Need-returns-2
 returns-2 c = search kept-missing
 

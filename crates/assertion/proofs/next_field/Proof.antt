@@ -9,47 +9,36 @@ use Rattle.assertion.proofs.label.use_label.Reads as use-label-reads
 use Rattle.lexical.proofs.mode_of.Reads as mode-of-reads
 use Rattle.lexical.proofs.token_at.Reads as token-at-reads
 
--- src/lib.rt:146:5
 use-label-requires : tie.Need-use-label-requires
 use-label-requires c κs = search needs
 
--- src/lib.rt:147:25
 mode-of-requires : tie.Need-mode-of-requires
 mode-of-requires c κs = search needs
 
--- src/lib.rt:147:9
 token-at-requires : tie.Need-token-at-requires
 token-at-requires c κs = search needs
 
--- src/lib.rt:148:5
 field-requires : tie.Need-field-requires
 field-requires c κs = search needs
 
--- src/lib.rt:127:1
 same-length : tie.Need-same-length
 same-length c = search needs
 
--- src/lib.rt:127:1
 same-length-2 : tie.Need-same-length-2
 same-length-2 c = search needs
 
--- src/lib.rt:127:1
 same-length-3 : tie.Need-same-length-3
 same-length-3 c = search needs
 
--- src/lib.rt:127:1
 same-length-4 : tie.Need-same-length-4
 same-length-4 c = search needs
 
--- src/lib.rt:127:1
 same-length-5 : tie.Need-same-length-5
 same-length-5 c = search needs
 
--- src/lib.rt:127:1
 same-length-6 : tie.Need-same-length-6
 same-length-6 c = search needs
 
--- src/lib.rt:127:1
 returns : tie.Need-returns
 returns c = (search next-is, search needs)
 

@@ -7,43 +7,33 @@ use Rattle.assertion.proofs.read.Lts as lts
 use Rattle.assertion.proofs.fields.Reads as fields-reads
 use Rattle.lexical.proofs.token_at.Reads as token-at-reads
 
--- src/lib.rt:240:9
 returns : tie.Need-returns
 returns c = search read-unverified
 
--- src/lib.rt:256:9
 token-at-requires : tie.Need-token-at-requires
 token-at-requires c κs = search needs
 
--- src/lib.rt:258:9
 slice-aggregate-fields : tie.Need-slice-aggregate-fields
 slice-aggregate-fields c = search needs
 
--- src/lib.rt:257:5
 fields-requires : tie.Need-fields-requires
 fields-requires c κs = search needs
 
--- src/lib.rt:220:1
 same-length : tie.Need-same-length
 same-length c = search needs
 
--- src/lib.rt:220:1
 same-length-2 : tie.Need-same-length-2
 same-length-2 c = search needs
 
--- src/lib.rt:220:1
 same-length-3 : tie.Need-same-length-3
 same-length-3 c = search needs
 
--- src/lib.rt:220:1
 same-length-4 : tie.Need-same-length-4
 same-length-4 c = search needs
 
--- src/lib.rt:220:1
 same-length-5 : tie.Need-same-length-5
 same-length-5 c = search needs
 
--- src/lib.rt:220:1
 returns-2 : tie.Need-returns-2
 returns-2 c = search read-on
 

@@ -7,31 +7,24 @@ use Rattle.assertion.proofs.finished.Reads as finished-reads
 use Rattle.fields.proofs.signature.signature.Reads as signature-reads
 use Rattle.assertion.specs.Working.ReadingWays.{signed-not, signed-on}
 
--- src/lib.rt:74:11
 signature-requires : tie.Need-signature-requires
 signature-requires c κs = search needs
 
--- src/lib.rt:75:22
 enum-known-reason : tie.Need-enum-known-reason
 enum-known-reason c = search needs
 
--- src/lib.rt:76:19
 enum-known-next : tie.Need-enum-known-next
 enum-known-next c = search needs
 
--- src/lib.rt:76:29
 finished-requires : tie.Need-finished-requires
 finished-requires c κs = search needs
 
--- src/lib.rt:71:1
 returns : tie.Need-returns
 returns c = search signed-not
 
--- src/lib.rt:71:1
 same-length : tie.Need-same-length
 same-length c = search needs
 
--- src/lib.rt:71:1
 returns-2 : tie.Need-returns-2
 returns-2 c = search signed-on
 

@@ -8,6 +8,7 @@ use Rattle.text.specs.Loop.{Step, next, done, loop}
 use Rattle.lexical.specs.Kind
 use Rattle.lexical.specs.declared.token.Token.{Token}
 use Rattle.conditions.specs.Table
+use Rattle.conditions.specs.Working.Numbered
 use Rattle.conditions.specs.Word.{nextAt}
 use Rattle.conditions.specs.Working.Emit.{Ran, ran, onFound, settledTop, settled, refused, finishAt, closedAt}
 use Rattle.conditions.specs.Working.Leaf.{leafRead}
@@ -24,15 +25,15 @@ exprBody operand chain m top level want row nest t = onFound (operand m top want
 abbrev pub operandBody : (List ℕ → ℕ → ℕ → ℕ → ℕ → ℕ → Token → Ran) → (List ℕ → ℕ → ℕ → ℕ → Token → Ran) → List ℕ → List ℕ → ℕ → ℕ → ℕ → ℕ → Token → Ran
 operandBody prefixed bracketed s m top want row nest t =
     pick (Table.allows want (t .kind))
-    (pick (eqb (Table.prefixOperator (t .kind)) Table.NONE)
+    (pick (eqb (Numbered.prefixOperator (t .kind)) Numbered.NONE)
     (pick (eqb (t .kind) Kind.OPEN) (bracketed m top want nest t) (leafRead s m top want row t))
-    (prefixed m top (Table.prefixOperator (t .kind)) want row nest t))
+    (prefixed m top (Numbered.prefixOperator (t .kind)) want row nest t))
     (ran (refused t) m)
 
 abbrev pub prefixedBody : Expr → List ℕ → List ℕ → ℕ → ℕ → ℕ → ℕ → ℕ → Token → Ran
 prefixedBody expr s m top op want row nest t =
     pick (leb 16 row) (ran (Aside 7 (t .start)) m)
-    (onFound (expr m top (Table.operandLevel op) (Table.operandWant op want) (row + 1) nest (nextAt s (t .end))) (λ x p u n b. finishAt b u op x p n))
+    (onFound (expr m top (Numbered.operandLevel op) (Numbered.operandWant op want) (row + 1) nest (nextAt s (t .end))) (λ x p u n b. finishAt b u op x p n))
 
 abbrev pub bracketedBody : Expr → List ℕ → List ℕ → ℕ → ℕ → ℕ → Token → Ran
 bracketedBody expr s m top want nest t =
@@ -42,7 +43,7 @@ bracketedBody expr s m top want nest t =
 abbrev pub joinedBody : Expr → List ℕ → List ℕ → ℕ → ℕ → ℕ → ℕ → ℕ → ℕ → Ran
 joinedBody expr s m top op nest sort place at =
     onFound
-    (expr (settled m top (Table.operandOf op) sort place) (settledTop m top sort) (Table.rightLevel op) (Table.rightWant op) 0 nest (nextAt s at))
+    (expr (settled m top (Numbered.operandOf op) sort place) (settledTop m top sort) (Numbered.rightLevel op) (Numbered.rightWant op) 0 nest (nextAt s at))
     (λ x p u n b. finishAt b u op x p n)
 
 -- the token, the sort and the place of what was read, the code's end and the code
@@ -56,9 +57,9 @@ onJoined t (ran (Found x p u n) b) = pick (leb (n .start) (t .start)) (done (ran
 abbrev pub chainTurn : (List ℕ → ℕ → ℕ → ℕ → ℕ → ℕ → ℕ → Ran) → List ℕ → ℕ → ℕ → State → Step State Ran
 chainTurn joined s level nest x =
     pick (leb (length s) (x .0 .start)) (done (ran (Found (x .1) (x .2) (x .3) (x .0)) (x .4)))
-    (pick (Table.binds level (Table.operator (x .1) (x .0 .kind)))
-    (pick (eqb (Table.operator (x .1) (x .0 .kind)) Table.MATCH) (done (ran (Aside 8 (x .0 .start)) (x .4)))
-    (onJoined (x .0) (joined (x .4) (x .3) (Table.operator (x .1) (x .0 .kind)) nest (x .1) (x .2) (x .0 .end))))
+    (pick (Numbered.binds level (Numbered.operator (x .1) (x .0 .kind)))
+    (pick (eqb (Numbered.operator (x .1) (x .0 .kind)) Numbered.MATCH) (done (ran (Aside 8 (x .0 .start)) (x .4)))
+    (onJoined (x .0) (joined (x .4) (x .3) (Numbered.operator (x .1) (x .0 .kind)) nest (x .1) (x .2) (x .0 .end))))
     (done (ran (Found (x .1) (x .2) (x .3) (x .0)) (x .4))))
 
 abbrev pub chainLoop : (List ℕ → ℕ → ℕ → ℕ → ℕ → ℕ → ℕ → Ran) → List ℕ → List ℕ → ℕ → ℕ → ℕ → ℕ → ℕ → Token → Ran

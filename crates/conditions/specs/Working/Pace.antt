@@ -20,6 +20,7 @@ use Rattle.lexical.specs.declared.token.Token.{Token}
 use Rattle.syntax.specs.Op
 use Rattle.syntax.specs.Parsed.{refusal}
 use Rattle.conditions.specs.Table
+use Rattle.conditions.specs.Working.Numbered
 use Rattle.conditions.specs.Word.{nextAt, wordSort}
 use Rattle.conditions.specs.Working.Emit.{Ran, ran, refused, onFound, above, put, settledTop, settled, finishAt}
 use Rattle.conditions.specs.Working.Leaf.{literalRead, nameRead, digitsRead, floatRead, leafRead, leafFound, nameAs}
@@ -103,13 +104,13 @@ module _ (s : List ℕ) (top₀ at₀ low : ℕ) where
   pub finish-paced : (op x p u : ℕ) (n : Token) (b : List ℕ) → Sound s n → low < n .start → u + debt x + 1 + at₀ ≤ top₀ + n .start → Paced s top₀ at₀ low (finishAt b u op x p n)
   unfolding finishAt
   finish-paced op x p u n b k i j =
-      chosen (Paced s top₀ at₀ low) (Table.fits (Table.operandOf op) x) _ _
-      (λ e. paced-found (Table.resultOf op) 0 (above b₁ u₁) n (put b₁ u₁ op 0) k i
-      (omega (arith, j, above-most b₁ u₁, settled-most b u x, debt-none (Table.resultOf op) (result-plain op))))
+      chosen (Paced s top₀ at₀ low) (Table.fits (Numbered.operandOf op) x) _ _
+      (λ e. paced-found (Numbered.resultOf op) 0 (above b₁ u₁) n (put b₁ u₁ op 0) k i
+      (omega (arith, j, above-most b₁ u₁, settled-most b u x, debt-none (Numbered.resultOf op) (result-plain op))))
       (λ e. paced-refused n b)
     where
       b₁ : List ℕ
-      b₁ = settled b u (Table.operandOf op) x p
+      b₁ = settled b u (Numbered.operandOf op) x p
 
       u₁ : ℕ
       u₁ = settledTop b u x

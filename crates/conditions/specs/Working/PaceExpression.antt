@@ -6,18 +6,22 @@ use Prim.Native.Nat.{ℕ, zero, suc, _+_, _-_, _*_, _<_, _≤_}
 use native.Mathlib.Omega.{arith}
 use lib.Dec.{eqb, leb}
 use lib.ListN.{length}
-use borrow.Author.Tests.{leb-true, leb-false, eqb-true, eqb-false}
+use borrow.Author.Tests.{leb-true, leb-false, eqb-true}
 use Rattle.text.specs.Choice.{pick, split}
 use Rattle.text.specs.Loop.{Step, next, done, loop}
 use Rattle.lexical.specs.Kind
 use Rattle.lexical.specs.Bounds.{chosen}
 use Rattle.lexical.specs.declared.token.Token.{Token}
+use Rattle.syntax.specs.Operator.{Unary, Binary}
+use Rattle.syntax.specs.Operation.{unaryNumber, binaryNumber}
 use Rattle.conditions.specs.Table
+use Rattle.conditions.specs.Working.Numbered
 use Rattle.conditions.specs.Word.{nextAt}
 use Rattle.conditions.specs.Working.Emit.{Ran, ran, onFound, refused, settledTop, settled, finishAt, closedAt}
 use Rattle.conditions.specs.Working.Expression
 use Rattle.conditions.specs.Working.Pace.{Sound, within, real, next-sound, next-after, debt, debt-most, settled-most, Paced, paced-aside, paced-found, paced-refused, paced-on, finish-paced, leaf-paced, seven, eight, Goes, goes-on, ends, loop-holds}
-use Rattle.conditions.specs.Working.Reach.{allowed-real, spread, spread-level, operand-level-most, prefix-level, operand-wanted, inside-most, inside-wanted, level-most, binds-level, Between, operator-between, operator-token, right-wanted}
+use Rattle.conditions.specs.Working.TieTable.{operator-number, prefix-number, unary-row, unary-want, right-want, right-level, binds-number, alike-prefix, alike-infix}
+use Rattle.conditions.specs.Working.Reach.{allowed-real, spread, spread-level, operand-level-most, prefix-level, operand-wanted, inside-most, inside-wanted, level-most, binds-level, operator-token, right-wanted}
 use Rattle.conditions.specs.declared.emit.Out.{Out}
 use Rattle.conditions.specs.declared.emit.Out.the-variants.{Found, Aside}
 
@@ -31,16 +35,16 @@ module _ (s : List ℕ) where
       → Paced s top (t .start) (t .start) (Expression.exprAt d s m top level want row nest t)
 
   module _ (d : ℕ) (inner : Expressions d) where
-    prefixed-body : (m : List ℕ) (top op want row nest : ℕ) (t : Token) → t .start < t .end → t .end ≤ length s
+    prefixed-body : (m : List ℕ) (top : ℕ) (op : Unary) (want row nest : ℕ) (t : Token) → t .start < t .end → t .end ≤ length s
         → 3 * (119 * (16 - nest) + (6 - Table.operandLevel op) * 17 + (16 - row)) ≤ d
-        → Paced s top (t .start) (t .start) (Expression.prefixedBody (λ m top level want row nest t. Expression.exprAt d s m top level want row nest t) s m top op want row nest t)
+        → Paced s top (t .start) (t .start) (Expression.prefixedBody (λ m top level want row nest t. Expression.exprAt d s m top level want row nest t) s m top (unaryNumber op) want row nest t)
     prefixed-body m top op want row nest t wide inside deep =
-        chosen (Paced s top (t .start) (t .start)) (leb 16 row) _ _ (λ h. paced-aside 7 (t .start) m seven)
+        rw (unary-row op .0, unary-want op want) (chosen (Paced s top (t .start) (t .start)) (leb 16 row) _ _ (λ h. paced-aside 7 (t .start) m seven)
         (λ h. paced-on s top (t .start) (t .start) top (nextAt s (t .end) .start) (nextAt s (t .end) .start)
-        (Expression.exprAt d s m top (Table.operandLevel op) (Table.operandWant op want) (row + 1) nest (nextAt s (t .end))) (λ x p u n b. finishAt b u op x p n)
-        (λ x p u n b k i j. finish-paced s top (t .start) (t .start) op x p u n b k (omega (arith, i, wide, next-after s (t .end) inside)) (omega (arith, j, wide, next-after s (t .end) inside)))
+        (Expression.exprAt d s m top (Table.operandLevel op) (Table.operandWant op want) (row + 1) nest (nextAt s (t .end))) (λ x p u n b. finishAt b u (unaryNumber op) x p n)
+        (λ x p u n b k i j. finish-paced s top (t .start) (t .start) (unaryNumber op) x p u n b k (omega (arith, i, wide, next-after s (t .end) inside)) (omega (arith, j, wide, next-after s (t .end) inside)))
         (inner m top (Table.operandLevel op) (Table.operandWant op want) (row + 1) nest (nextAt s (t .end)) (next-sound s (t .end)) (operand-level-most op) (operand-wanted op want)
-        (omega (arith, deep, leb-false 16 row h))))
+        (omega (arith, deep, leb-false 16 row h)))))
 
     closed-paced : (top₀ at₀ x p u : ℕ) (n : Token) (b : List ℕ) → Sound s n → at₀ < n .start → u + debt x + at₀ ≤ top₀ + n .start → Paced s top₀ at₀ at₀ (ran (closedAt s x p u n) b)
     unfolding closedAt
@@ -60,18 +64,21 @@ module _ (s : List ℕ) where
         (inner m top (Table.insideLevel want) want 0 (nest + 1) (nextAt s (t .end)) (next-sound s (t .end)) (inside-most want) (inside-wanted want)
         (omega (arith, deep, leb-false 16 nest h))))
 
-    joined-body : (top₀ at₀ : ℕ) (m : List ℕ) (top op nest sort place at : ℕ) → Between op → (op ≡ 0 → ⊥) → (op ≡ Table.MATCH → ⊥) → at ≤ length s
+    joined-body : (top₀ at₀ : ℕ) (m : List ℕ) (top : ℕ) (op : Binary) (nest sort place at : ℕ) → at ≤ length s
         → top + debt sort + at₀ + 1 ≤ top₀ + at → at₀ ≤ at → 3 * (119 * (16 - nest) + (6 - Table.levelOf op) * 17) ≤ d
-        → Paced s top₀ at₀ at (Expression.joinedBody (λ m top level want row nest t. Expression.exprAt d s m top level want row nest t) s m top op nest sort place at)
+        → Paced s top₀ at₀ at (Expression.joinedBody (λ m top level want row nest t. Expression.exprAt d s m top level want row nest t) s m top (binaryNumber op) nest sort place at)
     unfolding Table.rightLevel
-    joined-body top₀ at₀ m top op nest sort place at bt nz nm inside pace below deep =
-        paced-on s top₀ at₀ at (settledTop m top sort) (nextAt s at .start) (nextAt s at .start)
-        (Expression.exprAt d s (settled m top (Table.operandOf op) sort place) (settledTop m top sort) (Table.rightLevel op) (Table.rightWant op) 0 nest (nextAt s at))
-        (λ x p u n b. finishAt b u op x p n)
-        (λ x p u n b k i j. finish-paced s top₀ at₀ at op x p u n b k (omega (arith, i, next-after s at inside))
+    joined-body top₀ at₀ m top op nest sort place at inside pace below deep =
+        rw (right-level op, right-want op) (paced-on s top₀ at₀ at (settledTop m top sort) (nextAt s at .start) (nextAt s at .start)
+        (Expression.exprAt d s left (settledTop m top sort) (Table.rightLevel op) (Table.rightWant op) 0 nest (nextAt s at))
+        (λ x p u n b. finishAt b u (binaryNumber op) x p n)
+        (λ x p u n b k i j. finish-paced s top₀ at₀ at (binaryNumber op) x p u n b k (omega (arith, i, next-after s at inside))
         (omega (arith, j, pace, settled-most m top sort, next-after s at inside)))
-        (inner (settled m top (Table.operandOf op) sort place) (settledTop m top sort) (Table.rightLevel op) (Table.rightWant op) 0 nest (nextAt s at) (next-sound s at)
-        (omega (arith, level-most op)) (right-wanted op bt nz nm) (omega (arith, deep, level-most op)))
+        (inner left (settledTop m top sort) (Table.rightLevel op) (Table.rightWant op) 0 nest (nextAt s at) (next-sound s at)
+        (omega (arith, level-most op)) (right-wanted op) (omega (arith, deep, level-most op))))
+      where
+        left : List ℕ
+        left = settled m top (Numbered.operandOf (binaryNumber op)) sort place
 
   -- where a chain stands
   data State (top₀ at₀ : ℕ) : Expression.State → Type 0 where
@@ -90,22 +97,22 @@ module _ (s : List ℕ) where
         (λ h. goes-on (n, x, p, u, b) (state n x p u b k (omega (arith, i, l, after)) j) (omega (arith, short, l, i)))
 
     module _ (d level nest : ℕ) (deep : 1 + 3 * (119 * (16 - nest) + (6 - level) * 17) ≤ d)
-        (joined : (m : List ℕ) (top op sort place at : ℕ) → Between op → (op ≡ 0 → ⊥) → (op ≡ Table.MATCH → ⊥) → at ≤ length s → top + debt sort + at₀ + 1 ≤ top₀ + at → at₀ ≤ at
-        → 1 + 3 * (119 * (16 - nest) + (6 - Table.levelOf op) * 17) ≤ d → Paced s top₀ at₀ at (Expression.joinedAt d s m top op nest sort place at)) where
+        (joined : (m : List ℕ) (top : ℕ) (op : Binary) (sort place at : ℕ) → at ≤ length s → top + debt sort + at₀ + 1 ≤ top₀ + at → at₀ ≤ at
+        → 1 + 3 * (119 * (16 - nest) + (6 - Table.levelOf op) * 17) ≤ d → Paced s top₀ at₀ at (Expression.joinedAt d s m top (binaryNumber op) nest sort place at)) where
       chain-turn : (x : Expression.State) → State top₀ at₀ x
           → Turns x (Expression.chainTurn (λ m top op nest sort place at. Expression.joinedAt d s m top op nest sort place at) s level nest x)
       chain-turn _ (state t sort place top m k i j) =
-          chosen (Turns (t, sort, place, top, m)) (leb (length s) (t .start)) _ _
+          rw (operator-number sort (t .kind), binds-number level (Table.operator sort (t .kind))) (chosen (Turns (t, sort, place, top, m)) (leb (length s) (t .start)) _ _
           (λ h. ends (ran (Found sort place top t) m) (paced-found sort place top t m k i j))
           (λ h. chosen (Turns (t, sort, place, top, m)) (Table.binds level (Table.operator sort (t .kind))) _ _
-          (λ e. chosen (Turns (t, sort, place, top, m)) (eqb (Table.operator sort (t .kind)) Table.MATCH) _ _
-          (λ f. ends (ran (Aside 8 (t .start)) m) (paced-aside 8 (t .start) m eight))
-          (λ f. let b : (Table.operator sort (t .kind) ≡ 0 → ⊥) × (level ≤ Table.levelOf (Table.operator sort (t .kind))) = binds-level level (Table.operator sort (t .kind)) e in
-          let w : (t .start < t .end) × (t .end ≤ length s) = real s t k (operator-token sort (t .kind) (b .0)) in
+          (λ e. alike-infix (λ (i : Table.Infix). Turns (t, sort, place, top, m)) level (Table.operator sort (t .kind)) Table.no-infix Table.matching Table.between _
+          (λ op. Expression.onJoined t (Expression.joinedAt d s m top op nest sort place (t .end))) e
+          (ends (ran (Aside 8 (t .start)) m) (paced-aside 8 (t .start) m eight))
+          (λ op l. let b : level ≤ Table.levelOf op = binds-level level op (rw l at e) in
+          let w : (t .start < t .end) × (t .end ≤ length s) = real s t k (operator-token level (t .kind) sort e) in
           joined-on t sort place top m (leb-false (length s) (t .start) h) i (t .end) (w .0) _
-          (joined m top (Table.operator sort (t .kind)) sort place (t .end) (operator-between sort (t .kind)) (b .0) (eqb-false (Table.operator sort (t .kind)) Table.MATCH f) (w .1)
-          (omega (arith, j, w .0)) (omega (arith, i, w .0)) (omega (arith, deep, b .1)))))
-          (λ e. ends (ran (Found sort place top t) m) (paced-found sort place top t m k i j)))
+          (joined m top op sort place (t .end) (w .1) (omega (arith, j, w .0)) (omega (arith, i, w .0)) (omega (arith, deep, b)))))
+          (λ e. ends (ran (Found sort place top t) m) (paced-found sort place top t m k i j))))
 
       chain-body : (t : Token) (sort place top : ℕ) (m : List ℕ) → Sound s t → at₀ < t .start → top + debt sort + at₀ ≤ top₀ + t .start
           → Paced s top₀ at₀ at₀ (Expression.chainLoop (λ m top op nest sort place at. Expression.joinedAt d s m top op nest sort place at) s m top level nest sort place t)
@@ -132,15 +139,16 @@ module _ (s : List ℕ) where
     operand-paced (suc d) m top want row nest t k deep =
         chosen (Paced s top (t .start) (t .start)) (Table.allows want (t .kind)) _ _
         (λ h. let w : (t .start < t .end) × (t .end ≤ length s) = real s t k (allowed-real want (t .kind) h) in
-        chosen (Paced s top (t .start) (t .start)) (eqb (Table.prefixOperator (t .kind)) Table.NONE) _ _
-        (λ e. chosen (Paced s top (t .start) (t .start)) (eqb (t .kind) Kind.OPEN) _ _
+        rw (prefix-number (t .kind)) (alike-prefix (λ (i : Table.Prefix). Paced s top (t .start) (t .start)) (Table.prefixOperator (t .kind)) Table.no-prefix Table.before
+        _ (λ op. Expression.prefixedAt d s m top op want row nest t)
+        (chosen (Paced s top (t .start) (t .start)) (eqb (t .kind) Kind.OPEN) _ _
         (λ f. bracketed-paced d m top want nest t (w .0) (w .1) (omega (arith, deep))) (λ f. leaf-paced s m top t (w .0) (w .1) want row))
-        (λ e. prefixed-paced d m top (Table.prefixOperator (t .kind)) want row nest t (w .0) (w .1) (omega (arith, deep, prefix-level want (t .kind) h))))
+        (λ op e. prefixed-paced d m top op want row nest t (w .0) (w .1) (omega (arith, deep, prefix-level want (t .kind) op h e)))))
         (λ h. paced-refused s top (t .start) (t .start) t m)
 
-    prefixed-paced : (d : ℕ) (m : List ℕ) (top op want row nest : ℕ) (t : Token) → t .start < t .end → t .end ≤ length s
+    prefixed-paced : (d : ℕ) (m : List ℕ) (top : ℕ) (op : Unary) (want row nest : ℕ) (t : Token) → t .start < t .end → t .end ≤ length s
         → 1 + 3 * (119 * (16 - nest) + (6 - Table.operandLevel op) * 17 + (16 - row)) ≤ d
-        → Paced s top (t .start) (t .start) (Expression.prefixedAt d s m top op want row nest t)
+        → Paced s top (t .start) (t .start) (Expression.prefixedAt d s m top (unaryNumber op) want row nest t)
     prefixed-paced zero m top op want row nest t wide inside deep = absurd (let no : ⊥ = omega (arith, deep) in no)
     prefixed-paced (suc d) m top op want row nest t wide inside deep =
         prefixed-body d (λ m top level want row nest t k l w deep. expression-paced d m top level want row nest t k l w deep) m top op want row nest t wide inside (omega (arith, deep))
@@ -156,12 +164,12 @@ module _ (s : List ℕ) where
     chain-paced zero top₀ at₀ t level nest sort place top m k i j deep = absurd (let no : ⊥ = omega (arith, deep) in no)
     chain-paced (suc d) top₀ at₀ t level nest sort place top m k i j deep =
         chain-body top₀ at₀ d level nest (omega (arith, deep))
-        (λ m top op sort place at bt nz nm inside pace below deep. joined-paced d top₀ at₀ m top op nest sort place at bt nz nm inside pace below deep) t sort place top m k i j
+        (λ m top op sort place at inside pace below deep. joined-paced d top₀ at₀ m top op nest sort place at inside pace below deep) t sort place top m k i j
 
-    joined-paced : (d top₀ at₀ : ℕ) (m : List ℕ) (top op nest sort place at : ℕ) → Between op → (op ≡ 0 → ⊥) → (op ≡ Table.MATCH → ⊥) → at ≤ length s
+    joined-paced : (d top₀ at₀ : ℕ) (m : List ℕ) (top : ℕ) (op : Binary) (nest sort place at : ℕ) → at ≤ length s
         → top + debt sort + at₀ + 1 ≤ top₀ + at → at₀ ≤ at → 1 + 3 * (119 * (16 - nest) + (6 - Table.levelOf op) * 17) ≤ d
-        → Paced s top₀ at₀ at (Expression.joinedAt d s m top op nest sort place at)
-    joined-paced zero top₀ at₀ m top op nest sort place at bt nz nm inside pace below deep = absurd (let no : ⊥ = omega (arith, deep) in no)
-    joined-paced (suc d) top₀ at₀ m top op nest sort place at bt nz nm inside pace below deep =
-        joined-body d (λ m top level want row nest t k l w deep. expression-paced d m top level want row nest t k l w deep) top₀ at₀ m top op nest sort place at bt nz nm inside pace below
+        → Paced s top₀ at₀ at (Expression.joinedAt d s m top (binaryNumber op) nest sort place at)
+    joined-paced zero top₀ at₀ m top op nest sort place at inside pace below deep = absurd (let no : ⊥ = omega (arith, deep) in no)
+    joined-paced (suc d) top₀ at₀ m top op nest sort place at inside pace below deep =
+        joined-body d (λ m top level want row nest t k l w deep. expression-paced d m top level want row nest t k l w deep) top₀ at₀ m top op nest sort place at inside pace below
         (omega (arith, deep))

@@ -1,16 +1,16 @@
--- Facts of the tables that bound how deep a reader goes. Assumes nothing.
-use mathlib.Core.Path.{_≡_, refl, sym, ap, _∙_}
+-- Facts of the tables: what may stand, and how far an operator reaches. Assumes nothing.
+use mathlib.Core.Path.{_≡_, refl, ap}
 use mathlib.Core.Bool.{Bool, true, false}
 use Prim.Native.Nat.{ℕ, _+_, _-_, _*_, _<_, _≤_}
 use native.Mathlib.Omega.{arith}
-use lib.Dec.{eqb, ltb, leb}
-use borrow.Author.Tests.{ltb-true, ltb-false, eqb-true, eqb-false, eq-eqb, ne-eqb}
+use lib.Dec.{eqb}
+use borrow.Author.Tests.{leb-true, eqb-true, eqb-false}
 use Rattle.text.specs.Choice.{pick, split, clash}
 use Rattle.lexical.specs.Kind
 use Rattle.lexical.specs.Bounds.{chosen}
-use Rattle.syntax.specs.Op
+use Rattle.syntax.specs.Operator.{Unary, Binary, Side, lookup, convert, negate, opposite, join, power, times, over, remainder, plus, minus, comparison, both, either, strings, integers}
+use Rattle.conditions.specs.Table.{Infix, no-infix, between, Prefix, no-prefix, before}
 use Rattle.conditions.specs.Table
-use Rattle.conditions.specs.Working.TieOperand.{pick-small}
 
 -- a token that may stand as an operand is no fault and not the end
 abbrev Real : ℕ → Bool → Type 0
@@ -53,43 +53,57 @@ unfolding spread
 spread-level want level h =
     chosen (λ (n : ℕ). n ≤ (6 - level) * 17) (eqb want Table.ANY) 68 0 (λ e. omega (arith, h (eqb-true want Table.ANY e))) (λ e. omega arith)
 
-pub operand-level-most : (op : ℕ) → Table.operandLevel op ≤ 6
+pub operand-level-most : (op : Unary) → Table.operandLevel op ≤ 6
 unfolding Table.operandLevel
-operand-level-most op = chosen (λ (n : ℕ). n ≤ 6) (eqb op Op.OPPOSITE) 2 6 (λ e. omega arith) (λ e. omega arith)
+operand-level-most lookup = omega arith
+operand-level-most convert = omega arith
+operand-level-most negate = omega arith
+operand-level-most opposite = omega arith
 
-operand-level-least : (op : ℕ) → 2 ≤ Table.operandLevel op
+number-wanted : (want : ℕ) → pick (eqb want Table.ANY) Table.NUMBER want ≡ Table.ANY → 6 ≤ 2
+number-wanted want =
+    chosen (λ (w : ℕ). w ≡ Table.ANY → 6 ≤ 2) (eqb want Table.ANY) Table.NUMBER want (λ g h. omega (arith, h)) (λ g h. absurd (eqb-false want Table.ANY g h))
+
+operand-level-least : (op : Unary) → 2 ≤ Table.operandLevel op
 unfolding Table.operandLevel
-operand-level-least op = chosen (λ (n : ℕ). 2 ≤ n) (eqb op Op.OPPOSITE) 2 6 (λ e. omega arith) (λ e. omega arith)
+operand-level-least lookup = omega arith
+operand-level-least convert = omega arith
+operand-level-least negate = omega arith
+operand-level-least opposite = omega arith
+
+pub operand-wanted : (op : Unary) (want : ℕ) → Table.operandWant op want ≡ Table.ANY → Table.operandLevel op ≤ 2
+unfolding Table.operandWant Table.operandLevel
+operand-wanted lookup want h = omega (arith, h)
+operand-wanted convert want h = omega (arith, h)
+operand-wanted negate want h = number-wanted want h
+operand-wanted opposite want h = omega arith
 
 -- "!" stands only where a test may
 not-wanted : (want k : ℕ) → k ≡ Kind.NOT → Table.allows want k ≡ true → want ≡ Table.ANY
 unfolding Table.allows
 not-wanted want k e h = eqb-true want Table.ANY (rw e at h)
 
-other-level : (k : ℕ) → eqb k Kind.NOT ≡ false → Table.operandLevel (Table.prefixOperator k) ≡ 6
-unfolding Table.prefixOperator Table.operandLevel
-other-level k n =
-    rw n (chosen (λ (o : ℕ). Table.operandLevel o ≡ 6) (eqb k Kind.MINUS) 7 _ (λ e. refl)
-    (λ e. chosen (λ (o : ℕ). Table.operandLevel o ≡ 6) (eqb k Kind.AT) 6 _ (λ f. refl)
-    (λ f. chosen (λ (o : ℕ). Table.operandLevel o ≡ 6) (eqb k Kind.DOLLAR) 5 0 (λ g. refl) (λ g. refl))))
-
 spread-any : (want : ℕ) → want ≡ Table.ANY → spread want ≡ 68
 unfolding spread
 spread-any want e = rw e
 
-pub prefix-level : (want k : ℕ) → Table.allows want k ≡ true → (6 - Table.operandLevel (Table.prefixOperator k)) * 17 ≤ spread want
-prefix-level want k h =
-    split (eqb k Kind.NOT)
-    (λ e. let w : spread want ≡ 68 = spread-any want (not-wanted want k (eqb-true k Kind.NOT e) h) in omega (arith, w, operand-level-least (Table.prefixOperator k)))
-    (λ e. omega (arith, other-level k e))
+-- the level of what is read behind an operator before an operand
+abbrev levelBehind : Prefix → ℕ
+levelBehind i = Table.onPrefix i 6 (λ op. Table.operandLevel op)
 
-pub operand-wanted : (op want : ℕ) → Table.operandWant op want ≡ Table.ANY → Table.operandLevel op ≤ 2
-unfolding Table.operandWant Table.operandLevel
-operand-wanted op want =
-    split (eqb op Op.OPPOSITE) (λ e. rw e (λ h. omega arith))
-    (λ e. rw e (chosen (λ (w : ℕ). w ≡ Table.ANY → 6 ≤ 2) (eqb op Op.NEGATE) _ Table.TEXT
-    (λ f. chosen (λ (w : ℕ). w ≡ Table.ANY → 6 ≤ 2) (eqb want Table.ANY) Table.NUMBER want (λ g h. omega (arith, h)) (λ g h. absurd (eqb-false want Table.ANY g h)))
-    (λ f h. omega (arith, h))))
+other-level : (k : ℕ) → eqb k Kind.NOT ≡ false → levelBehind (Table.prefixOperator k) ≡ 6
+unfolding Table.prefixOperator Table.operandLevel
+other-level k n =
+    rw n (chosen (λ (i : Prefix). levelBehind i ≡ 6) (eqb k Kind.MINUS) (before negate) _ (λ e. refl)
+    (λ e. chosen (λ (i : Prefix). levelBehind i ≡ 6) (eqb k Kind.AT) (before convert) _ (λ f. refl)
+    (λ f. chosen (λ (i : Prefix). levelBehind i ≡ 6) (eqb k Kind.DOLLAR) (before lookup) no-prefix (λ g. refl) (λ g. refl))))
+
+-- an operator that may stand before an operand reaches no further than that operand may
+pub prefix-level : (want k : ℕ) (op : Unary) → Table.allows want k ≡ true → Table.prefixOperator k ≡ before op → (6 - Table.operandLevel op) * 17 ≤ spread want
+prefix-level want k op h i =
+    split (eqb k Kind.NOT)
+    (λ e. let w : spread want ≡ 68 = spread-any want (not-wanted want k (eqb-true k Kind.NOT e) h) in omega (arith, w, operand-level-least op))
+    (λ e. let q : levelBehind (Table.prefixOperator k) ≡ Table.operandLevel op = ap levelBehind i in omega (arith, q, other-level k e))
 
 pub inside-most : (want : ℕ) → Table.insideLevel want ≤ 6
 unfolding Table.insideLevel
@@ -99,154 +113,78 @@ pub inside-wanted : (want : ℕ) → want ≡ Table.ANY → Table.insideLevel wa
 unfolding Table.insideLevel
 inside-wanted want h = rw h (omega arith)
 
-pub level-most : (op : ℕ) → Table.levelOf op < 6
+pub level-most : (op : Binary) → Table.levelOf op < 6
 unfolding Table.levelOf
-level-most op =
-    (pick-small 6 (eqb op Op.EITHER) _ _ (omega arith) (pick-small 6 (eqb op Op.BOTH) _ _ (omega arith) (pick-small 6 (ltb Op.MINUS op) _ _ (omega arith)
-    (pick-small 6 (eqb op Op.POWER) _ _ (omega arith) (pick-small 6 (eqb op Op.JOIN) _ _ (omega arith) (pick-small 6 (ltb op Op.PLUS) _ _ (omega arith) (omega arith)))))))
-
-pub binds-level : (level op : ℕ) → Table.binds level op ≡ true → (op ≡ 0 → ⊥) × (level ≤ Table.levelOf op)
-unfolding Table.binds
-binds-level level op =
-    split (eqb op Table.NONE) (λ e. rw e (λ h. clash h refl))
-    (λ e. split (ltb (Table.levelOf op) level) (λ f. rw (e, f) (λ h. clash h refl)) (λ f h. (eqb-false op Table.NONE e, ltb-false (Table.levelOf op) level f)))
-
--- an operator between operands: none, or "." and those behind it, up to "||", and "~="
-abbrev pub Between : ℕ → Type 0
-Between n = (n < 9 → n ≡ 0) × (29 < n → n ≡ 34)
-
-abbrev Compares : ℕ → Type 0
-Compares n = (n < 16 → n ≡ 0) × (n ≤ 21)
-
-comparison-between : (k : ℕ) → Compares (Table.comparison k)
-unfolding Table.comparison
-comparison-between k =
-    (chosen Compares (eqb k Kind.EQUAL) _ _ (λ e. ((λ h. omega (arith, h)), omega arith))
-    (λ e. (chosen Compares (eqb k Kind.UNEQUAL) _ _ (λ e. ((λ h. omega (arith, h)), omega arith))
-    (λ e. (chosen Compares (eqb k Kind.LESS) _ _ (λ e. ((λ h. omega (arith, h)), omega arith))
-    (λ e. (chosen Compares (eqb k Kind.GREATER) _ _ (λ e. ((λ h. omega (arith, h)), omega arith))
-    (λ e. (chosen Compares (eqb k Kind.AT-MOST) _ _ (λ e. ((λ h. omega (arith, h)), omega arith))
-    (λ e. (chosen Compares (eqb k Kind.AT-LEAST) _ _ (λ e. ((λ h. omega (arith, h)), omega arith))
-    (λ e. ((λ h. omega arith), omega arith)))))))))))))
-
-text-between : (k : ℕ) → Between (Table.textOperator k)
-unfolding Table.textOperator
-text-between k =
-    (chosen Between (eqb k Kind.DOT) _ _ (λ e. ((λ h. omega (arith, h)), (λ h. omega (arith, h))))
-    (λ e. (chosen Between (eqb k Kind.MATCHES) _ _ (λ e. ((λ h. omega (arith, h)), (λ h. omega (arith, h))))
-    (λ e. (let c : Compares (Table.comparison k) = comparison-between k in ((λ h. c .0 (omega (arith, h))), (λ h. omega (arith, h, c .1))))))))
-
-test-between : (k : ℕ) → Between (Table.testOperator k)
-unfolding Table.testOperator
-test-between k =
-    (chosen Between (eqb k Kind.AND) _ _ (λ e. ((λ h. omega (arith, h)), (λ h. omega (arith, h))))
-    (λ e. (chosen Between (eqb k Kind.OR) _ _ (λ e. ((λ h. omega (arith, h)), (λ h. omega (arith, h))))
-    (λ e. ((λ h. omega arith), (λ h. omega (arith, h)))))))
-
-number-between : (k : ℕ) → Between (Table.numberOperator k)
-unfolding Table.numberOperator
-number-between k =
-    (chosen Between (eqb k Kind.POWER) _ _ (λ e. ((λ h. omega (arith, h)), (λ h. omega (arith, h))))
-    (λ e. (chosen Between (eqb k Kind.TIMES) _ _ (λ e. ((λ h. omega (arith, h)), (λ h. omega (arith, h))))
-    (λ e. (chosen Between (eqb k Kind.DIVIDE) _ _ (λ e. ((λ h. omega (arith, h)), (λ h. omega (arith, h))))
-    (λ e. (chosen Between (eqb k Kind.REMAINDER) _ _ (λ e. ((λ h. omega (arith, h)), (λ h. omega (arith, h))))
-    (λ e. (chosen Between (eqb k Kind.PLUS) _ _ (λ e. ((λ h. omega (arith, h)), (λ h. omega (arith, h))))
-    (λ e. (chosen Between (eqb k Kind.MINUS) _ _ (λ e. ((λ h. omega (arith, h)), (λ h. omega (arith, h))))
-    (λ e. (chosen Between (eqb (Table.comparison k) Table.NONE) _ _ (λ e. ((λ h. omega arith), (λ h. omega (arith, h))))
-    (λ e. let c : Compares (Table.comparison k) = comparison-between k in
-    ((λ h. absurd (eqb-false (Table.comparison k) Table.NONE e (c .0 (omega (arith, h))))), (λ h. omega (arith, h, c .1)))))))))))))))))
-
-pub operator-between : (sort k : ℕ) → Between (Table.operator sort k)
-unfolding Table.operator
-operator-between sort k =
-    chosen Between (eqb sort Table.NUMBER) _ _ (λ e. number-between k)
-    (λ e. chosen Between (eqb sort Table.TEXT) _ _ (λ f. text-between k)
-    (λ f. chosen Between (eqb (Table.testOperator k) Table.NONE) _ _
-    (λ g. chosen Between (eqb sort Table.TEST) _ _ (λ h. ((λ i. omega arith), (λ i. omega (arith, i)))) (λ h. text-between k)) (λ g. test-between k)))
-
--- an operator that is one and not "~="
-pub binary-between : (op : ℕ) → Between op → (op ≡ 0 → ⊥) → (op ≡ Table.MATCH → ⊥) → (Op.JOIN ≤ op) × (op ≤ Op.EITHER)
-binary-between op b nz nm = (
-  split (ltb op 9) (λ e. absurd (nz (b .0 (ltb-true op 9 e)))) (λ e. ltb-false op 9 e),
-  split (ltb 29 op) (λ e. absurd (nm (b .1 (ltb-true 29 op e)))) (λ e. ltb-false 29 op e),
-)
-
-below-both : (op : ℕ) → 27 < op → op ≤ 29 → (op ≡ Op.EITHER → ⊥) → op ≡ Op.BOTH
-below-both op h k n = split (eqb op Op.BOTH) (λ e. eqb-true op Op.BOTH e) (λ e. absurd (n (three op h k (eqb-false op Op.BOTH e))))
-  where
-    three : (op : ℕ) → 27 < op → op ≤ 29 → (op ≡ 28 → ⊥) → op ≡ 29
-    three op h k n = split (ltb op 29) (λ e. absurd (n (omega (arith, ltb-true op 29 e, h)))) (λ e. omega (arith, ltb-false op 29 e, k))
-
-wants-test : (x : ℕ) → Table.wantOf x ≡ Table.ANY → x ≡ Table.TEST
-wants-test x =
-    chosen (λ (w : ℕ). w ≡ Table.ANY → x ≡ Table.TEST) (eqb x Table.TEST) _ _ (λ e h. eqb-true x Table.TEST e)
-    (λ e. chosen (λ (w : ℕ). w ≡ Table.ANY → x ≡ Table.TEST) (eqb x Table.TEXT) _ _ (λ f h. absurd (let no : ⊥ = omega (arith, h) in no)) (λ f h. absurd (let no : ⊥ = omega (arith, h) in no)))
-
-takes-test : (op : ℕ) → (op ≡ Op.OPPOSITE → ⊥) → op ≤ 27 → Table.operandOf op ≡ Table.TEST → ⊥
-unfolding Table.operandOf
-takes-test op notto h =
-    chosen (λ (x : ℕ). x ≡ Table.TEST → ⊥) (eqb op Op.OPPOSITE) _ _ (λ e. absurd (notto (eqb-true op Op.OPPOSITE e)))
-    (λ e. chosen (λ (x : ℕ). x ≡ Table.TEST → ⊥) (ltb Op.AT-LEAST op) _ _ (λ f z. omega (arith, h, ltb-true Op.AT-LEAST op f))
-    (λ f. chosen (λ (x : ℕ). x ≡ Table.TEST → ⊥) (ltb Op.TEXT-AT-LEAST op) _ _ (λ g z. omega (arith, z))
-    (λ g. chosen (λ (x : ℕ). x ≡ Table.TEST → ⊥) (ltb Op.MINUS op) _ _ (λ i z. omega (arith, z))
-    (λ i. chosen (λ (x : ℕ). x ≡ Table.TEST → ⊥) (eqb op Op.NEGATE) _ _ (λ j z. omega (arith, z))
-    (λ j. chosen (λ (x : ℕ). x ≡ Table.TEST → ⊥) (ltb Op.JOIN op) _ _ (λ l z. omega (arith, z)) (λ l z. omega (arith, z)))))))
+level-most join = omega arith
+level-most power = omega arith
+level-most times = omega arith
+level-most over = omega arith
+level-most remainder = omega arith
+level-most plus = omega arith
+level-most minus = omega arith
+level-most (comparison side r) = omega arith
+level-most both = omega arith
+level-most either = omega arith
 
 -- a test to the right of an operator is read by "&&" or "||"
-pub right-wanted : (op : ℕ) → Between op → (op ≡ 0 → ⊥) → (op ≡ Table.MATCH → ⊥) → Table.rightWant op ≡ Table.ANY → Table.rightLevel op ≤ 2
+pub right-wanted : (op : Binary) → Table.rightWant op ≡ Table.ANY → Table.rightLevel op ≤ 2
 unfolding Table.rightWant Table.rightLevel Table.levelOf
-right-wanted op b nz nm h =
-    let low : 9 ≤ op = binary-between op b nz nm .0 in
-    let high : op ≤ 29 = binary-between op b nz nm .1 in
-    split (ltb 27 op)
-    (λ e. split (eqb op Op.EITHER) (λ f. rw f (omega arith))
-    (λ f. rw (below-both op (ltb-true 27 op e) high (eqb-false op Op.EITHER f)) (omega arith)))
-    (λ e. absurd (takes-test op (λ z. omega (arith, z, low)) (ltb-false 27 op e) (wants-test (Table.operandOf op) h)))
+right-wanted join h = omega (arith, h)
+right-wanted power h = omega (arith, h)
+right-wanted times h = omega (arith, h)
+right-wanted over h = omega (arith, h)
+right-wanted remainder h = omega (arith, h)
+right-wanted plus h = omega (arith, h)
+right-wanted minus h = omega (arith, h)
+right-wanted (comparison strings r) h = omega (arith, h)
+right-wanted (comparison integers r) h = omega (arith, h)
+right-wanted both h = omega arith
+right-wanted either h = omega arith
 
--- an operator is a token: where there is one, the kind is no fault's and not the end's
-abbrev Apart : ℕ → ℕ → Type 0
-Apart k o = (o ≡ 0 → ⊥) → Kind.BAD-LINE < k
+pub binds-level : (level : ℕ) (op : Binary) → Table.binds level (between op) ≡ true → level ≤ Table.levelOf op
+unfolding Table.binds
+binds-level level op h = leb-true level (Table.levelOf op) h
 
-comparison-token : (k : ℕ) → Apart k (Table.comparison k)
-unfolding Table.comparison
-comparison-token k =
-    (chosen (Apart k) (eqb k Kind.EQUAL) _ _ (λ e n. omega (arith, eqb-true k Kind.EQUAL e))
-    (λ e. (chosen (Apart k) (eqb k Kind.UNEQUAL) _ _ (λ e n. omega (arith, eqb-true k Kind.UNEQUAL e))
-    (λ e. (chosen (Apart k) (eqb k Kind.LESS) _ _ (λ e n. omega (arith, eqb-true k Kind.LESS e))
-    (λ e. (chosen (Apart k) (eqb k Kind.GREATER) _ _ (λ e n. omega (arith, eqb-true k Kind.GREATER e))
-    (λ e. (chosen (Apart k) (eqb k Kind.AT-MOST) _ _ (λ e n. omega (arith, eqb-true k Kind.AT-MOST e))
-    (λ e. (chosen (Apart k) (eqb k Kind.AT-LEAST) _ _ (λ e n. omega (arith, eqb-true k Kind.AT-LEAST e))
-    (λ e. λ n. absurd (n refl)))))))))))))
+-- an operator is a token: where one binds, the kind is no fault's and not the end's
+module _ (level k : ℕ) where
+  abbrev Apart : Infix → Type 0
+  Apart i = Table.binds level i ≡ true → Kind.BAD-LINE < k
 
-text-token : (k : ℕ) → Apart k (Table.textOperator k)
-unfolding Table.textOperator
-text-token k =
-    (chosen (Apart k) (eqb k Kind.DOT) _ _ (λ e n. omega (arith, eqb-true k Kind.DOT e))
-    (λ e. (chosen (Apart k) (eqb k Kind.MATCHES) _ _ (λ e n. omega (arith, eqb-true k Kind.MATCHES e))
-    (λ e. comparison-token k))))
+  none-token : Apart no-infix
+  unfolding Table.binds
+  none-token n = clash n refl
 
-test-token : (k : ℕ) → Apart k (Table.testOperator k)
-unfolding Table.testOperator
-test-token k =
-    (chosen (Apart k) (eqb k Kind.AND) _ _ (λ e n. omega (arith, eqb-true k Kind.AND e))
-    (λ e. (chosen (Apart k) (eqb k Kind.OR) _ _ (λ e n. omega (arith, eqb-true k Kind.OR e))
-    (λ e. λ n. absurd (n refl)))))
+  comparison-token : (side : Side) → Apart (Table.comparison side k)
+  unfolding Table.comparison
+  comparison-token side =
+      chosen Apart (eqb k Kind.EQUAL) _ _ (λ e n. omega (arith, eqb-true k Kind.EQUAL e))
+      (λ e. chosen Apart (eqb k Kind.UNEQUAL) _ _ (λ e n. omega (arith, eqb-true k Kind.UNEQUAL e))
+      (λ e. chosen Apart (eqb k Kind.LESS) _ _ (λ e n. omega (arith, eqb-true k Kind.LESS e))
+      (λ e. chosen Apart (eqb k Kind.GREATER) _ _ (λ e n. omega (arith, eqb-true k Kind.GREATER e))
+      (λ e. chosen Apart (eqb k Kind.AT-MOST) _ _ (λ e n. omega (arith, eqb-true k Kind.AT-MOST e))
+      (λ e. chosen Apart (eqb k Kind.AT-LEAST) _ _ (λ e n. omega (arith, eqb-true k Kind.AT-LEAST e)) (λ e. none-token))))))
 
-number-token : (k : ℕ) → Apart k (Table.numberOperator k)
-unfolding Table.numberOperator
-number-token k =
-    (chosen (Apart k) (eqb k Kind.POWER) _ _ (λ e n. omega (arith, eqb-true k Kind.POWER e))
-    (λ e. (chosen (Apart k) (eqb k Kind.TIMES) _ _ (λ e n. omega (arith, eqb-true k Kind.TIMES e))
-    (λ e. (chosen (Apart k) (eqb k Kind.DIVIDE) _ _ (λ e n. omega (arith, eqb-true k Kind.DIVIDE e))
-    (λ e. (chosen (Apart k) (eqb k Kind.REMAINDER) _ _ (λ e n. omega (arith, eqb-true k Kind.REMAINDER e))
-    (λ e. (chosen (Apart k) (eqb k Kind.PLUS) _ _ (λ e n. omega (arith, eqb-true k Kind.PLUS e))
-    (λ e. (chosen (Apart k) (eqb k Kind.MINUS) _ _ (λ e n. omega (arith, eqb-true k Kind.MINUS e))
-    (λ e. chosen (Apart k) (eqb (Table.comparison k) Table.NONE) _ _ (λ f n. absurd (n refl)) (λ f n. comparison-token k (eqb-false (Table.comparison k) Table.NONE f))))))))))))))
+  number-token : Apart (Table.numberOperator k)
+  unfolding Table.numberOperator
+  number-token =
+      chosen Apart (eqb k Kind.POWER) _ _ (λ e n. omega (arith, eqb-true k Kind.POWER e))
+      (λ e. chosen Apart (eqb k Kind.TIMES) _ _ (λ e n. omega (arith, eqb-true k Kind.TIMES e))
+      (λ e. chosen Apart (eqb k Kind.DIVIDE) _ _ (λ e n. omega (arith, eqb-true k Kind.DIVIDE e))
+      (λ e. chosen Apart (eqb k Kind.REMAINDER) _ _ (λ e n. omega (arith, eqb-true k Kind.REMAINDER e))
+      (λ e. chosen Apart (eqb k Kind.PLUS) _ _ (λ e n. omega (arith, eqb-true k Kind.PLUS e))
+      (λ e. chosen Apart (eqb k Kind.MINUS) _ _ (λ e n. omega (arith, eqb-true k Kind.MINUS e)) (λ e. comparison-token integers))))))
 
-pub operator-token : (sort k : ℕ) → (Table.operator sort k ≡ 0 → ⊥) → Kind.BAD-LINE < k
-unfolding Table.operator
-operator-token sort k =
-    chosen (Apart k) (eqb sort Table.NUMBER) _ _ (λ e. number-token k)
-    (λ e. chosen (Apart k) (eqb sort Table.TEXT) _ _ (λ f. text-token k)
-    (λ f. chosen (Apart k) (eqb (Table.testOperator k) Table.NONE) _ _
-    (λ g. chosen (Apart k) (eqb sort Table.TEST) _ _ (λ h n. absurd (n refl)) (λ h. text-token k)) (λ g. test-token k)))
+  text-token : Apart (Table.textOperator k)
+  unfolding Table.textOperator
+  text-token =
+      chosen Apart (eqb k Kind.DOT) _ _ (λ e n. omega (arith, eqb-true k Kind.DOT e))
+      (λ e. chosen Apart (eqb k Kind.MATCHES) _ _ (λ e n. omega (arith, eqb-true k Kind.MATCHES e)) (λ e. comparison-token strings))
+
+  pub operator-token : (sort : ℕ) → Apart (Table.operator sort k)
+  unfolding Table.operator Table.testOperator
+  operator-token sort =
+      chosen Apart (eqb sort Table.NUMBER) _ _ (λ e. number-token)
+      (λ e. chosen Apart (eqb sort Table.TEXT) _ _ (λ f. text-token)
+      (λ f. chosen Apart (eqb k Kind.AND) _ _ (λ g n. omega (arith, eqb-true k Kind.AND g))
+      (λ g. chosen Apart (eqb k Kind.OR) _ _ (λ h n. omega (arith, eqb-true k Kind.OR h))
+      (λ h. chosen Apart (eqb sort Table.TEST) _ _ (λ i. none-token) (λ i. text-token)))))

@@ -6,12 +6,14 @@ use Prim.Native.Nat.{ℕ, zero, suc, _+_, _-_, _<_, _≤_}
 use native.Mathlib.Omega.{arith}
 use lib.Dec.{eqb, leb}
 use lib.ListN.{length}
-use borrow.Author.Tests.{eqb-false}
 use Rattle.text.specs.Choice.{pick}
 use Rattle.text.specs.Loop.{Step, next, done, loop}
 use Rattle.lexical.specs.Kind
 use Rattle.lexical.specs.declared.token.Token.{Token}
-use Rattle.syntax.specs.Op
+use Rattle.syntax.specs.Operator.{Unary, Binary, unaryTakes, unaryGives, binaryTakes, binaryGives}
+use Rattle.syntax.specs.Operation.{unaryNumber, binaryNumber}
+use Rattle.syntax.specs.Operation as Operation
+use Rattle.syntax.specs.Theorems.Numbers.{number-fits}
 use Rattle.syntax.specs.Expr.{Expr, unary, binary}
 use Rattle.syntax.specs.Code.{Codes}
 use Rattle.conditions.specs.Table
@@ -25,8 +27,8 @@ use Rattle.conditions.specs.Working.Leaf.{leafRead}
 use Rattle.conditions.specs.Working.Expression as Write
 use Rattle.conditions.specs.Working.Written.{Grown, keeps-self, kept, under}
 use Rattle.conditions.specs.Working.Same.{PartCodes, Same, same-aside, same-part, same-refused, same-on, both, start-within, Steps, both-next, both-done, loop-same}
-use Rattle.conditions.specs.Working.TieOperand.{leaf-same, settle-grown, unary-same, binary-same, prefix-before}
-use Rattle.conditions.specs.Working.Reach.{binds-level, binary-between, operator-between}
+use Rattle.conditions.specs.Working.TieTable.{alike-prefix, alike-infix, operator-number, prefix-number, unary-row, unary-want, binary-row, right-want, right-level, binds-number}
+use Rattle.conditions.specs.Working.TieOperand.{leaf-same, settle-grown, unary-same, binary-same}
 use Rattle.conditions.specs.declared.emit.Out.{Out}
 use Rattle.conditions.specs.declared.emit.Out.the-variants.{Found, Aside}
 
@@ -37,17 +39,18 @@ module _ (s : List ℕ) (short : length s < 65536) where
       → Same s m top (Read.readExpression d s level want row nest t) (Write.exprAt d s m top level want row nest t)
 
   module _ (d : ℕ) (inner : Expressions d) where
-    prefixed-body : (m : List ℕ) (top op want row nest : ℕ) (t : Token) → Op.LOOKUP ≤ op → op ≤ Op.OPPOSITE
+    prefixed-body : (m : List ℕ) (top : ℕ) (op : Unary) (want row nest : ℕ) (t : Token)
         → Same s m top (Read.prefixedOf (λ level want row nest t. Read.readExpression d s level want row nest t) s op want row nest t)
-        (Write.prefixedBody (λ m top level want row nest t. Write.exprAt d s m top level want row nest t) s m top op want row nest t)
-    prefixed-body m top op want row nest t low high =
-        both (Same s m top) (leb 16 row) _ _ _ _ (λ h. same-aside 7 (t .start) m (keeps-self m top))
+        (Write.prefixedBody (λ m top level want row nest t. Write.exprAt d s m top level want row nest t) s m top (unaryNumber op) want row nest t)
+    prefixed-body m top op want row nest t =
+        rw (unary-row op .0, unary-want op want) (both (Same s m top) (leb 16 row) _ _ _ _ (λ h. same-aside 7 (t .start) m (keeps-self m top))
         (λ h. same-on (Same s m top) s m top same-aside
         (Read.readExpression d s (Table.operandLevel op) (Table.operandWant op want) (row + 1) nest (nextAt s (t .end)))
         (Write.exprAt d s m top (Table.operandLevel op) (Table.operandWant op want) (row + 1) nest (nextAt s (t .end)))
-        (λ sort e n. applied (unary op) op sort e n) (λ x p u n b. finishAt b u op x p n)
-        (λ x p u e n b near within g. unary-same s m top b u x p e near g op (omega (arith, high)) n within low high)
-        (inner m top (Table.operandLevel op) (Table.operandWant op want) (row + 1) nest (nextAt s (t .end)) (start-within s (t .end))))
+        (λ sort e n. applied (unary op) (unaryTakes op) (unaryGives op) sort e n) (λ x p u n b. finishAt b u (unaryNumber op) x p n)
+        (λ x p u e n b near within g. unary-same s m top b u x p e near g (unaryNumber op) (unaryTakes op) (unaryGives op) (unary-row op .1) (unary-row op .2)
+        (number-fits (Operation.unary op)) n within op refl)
+        (inner m top (Table.operandLevel op) (Table.operandWant op want) (row + 1) nest (nextAt s (t .end)) (start-within s (t .end)))))
 
     closed-same : (m : List ℕ) (top x p u : ℕ) (e : Expr) (n : Token) (b : List ℕ) → p < 65536 → Grown m top b u (PartCodes s x p e)
         → Same s m top (Read.closing s x e n) (ran (closedAt s x p u n) b)
@@ -70,19 +73,23 @@ module _ (s : List ℕ) (short : length s < 65536) where
         (λ x p u e n b near within g. closed-same m top x p u e n b near g)
         (inner m top (Table.insideLevel want) want 0 (nest + 1) (nextAt s (t .end)) (start-within s (t .end))))
 
-    joined-body : (m₀ : List ℕ) (top₀ : ℕ) (m : List ℕ) (top op nest sort place at : ℕ) (e : Expr) → place < 65536 → Op.JOIN ≤ op → op ≤ Op.EITHER
+    joined-body : (m₀ : List ℕ) (top₀ : ℕ) (m : List ℕ) (top : ℕ) (op : Binary) (nest sort place at : ℕ) (e : Expr) → place < 65536
         → Grown m₀ top₀ m top (PartCodes s sort place e)
         → Same s m₀ top₀ (Read.joinedOf (λ level want row nest t. Read.readExpression d s level want row nest t) s op nest sort e at)
-        (Write.joinedBody (λ m top level want row nest t. Write.exprAt d s m top level want row nest t) s m top op nest sort place at)
-    joined-body m₀ top₀ m top op nest sort place at e near low high g =
-        same-on (Same s m₀ top₀) s (settled m top (Table.operandOf op) sort place) (settledTop m top sort)
-        (λ r p b k. same-aside r p b (under (settle-grown s m₀ top₀ m top sort place e near g (Table.operandOf op)) k))
+        (Write.joinedBody (λ m top level want row nest t. Write.exprAt d s m top level want row nest t) s m top (binaryNumber op) nest sort place at)
+    joined-body m₀ top₀ m top op nest sort place at e near g =
+        rw (binary-row op .1, right-level op, right-want op) (same-on (Same s m₀ top₀) s (settled m top takes sort place) (settledTop m top sort)
+        (λ r p b k. same-aside r p b (under (settle-grown s m₀ top₀ m top sort place e near g takes) k))
         (Read.readExpression d s (Table.rightLevel op) (Table.rightWant op) 0 nest (nextAt s at))
-        (Write.exprAt d s (settled m top (Table.operandOf op) sort place) (settledTop m top sort) (Table.rightLevel op) (Table.rightWant op) 0 nest (nextAt s at))
-        (λ x f n. applied (binary op (settledTree (Table.operandOf op) sort e)) op x f n) (λ x p u n b. finishAt b u op x p n)
-        (λ x p u f n b near′ within h. binary-same s (settled m top (Table.operandOf op) sort place) (settledTop m top sort) b u x p f near′ h op (omega (arith, high)) n within low high
-        m₀ top₀ (settledTree (Table.operandOf op) sort e) (settle-grown s m₀ top₀ m top sort place e near g (Table.operandOf op)))
-        (inner (settled m top (Table.operandOf op) sort place) (settledTop m top sort) (Table.rightLevel op) (Table.rightWant op) 0 nest (nextAt s at) (start-within s at))
+        (Write.exprAt d s (settled m top takes sort place) (settledTop m top sort) (Table.rightLevel op) (Table.rightWant op) 0 nest (nextAt s at))
+        (λ x f n. applied (binary op (settledTree takes sort e)) (binaryTakes op) (binaryGives op) x f n) (λ x p u n b. finishAt b u (binaryNumber op) x p n)
+        (λ x p u f n b near′ within h. binary-same s (settled m top takes sort place) (settledTop m top sort) b u x p f near′ h (binaryNumber op) (binaryTakes op) (binaryGives op)
+        (binary-row op .1) (binary-row op .2) (number-fits (Operation.binary op)) n within op refl
+        m₀ top₀ (settledTree takes sort e) (settle-grown s m₀ top₀ m top sort place e near g takes))
+        (inner (settled m top takes sort place) (settledTop m top sort) (Table.rightLevel op) (Table.rightWant op) 0 nest (nextAt s at) (start-within s at)))
+      where
+        takes : ℕ
+        takes = Table.sortOf (binaryTakes op)
 
   -- where a chain stands
   data States (m₀ : List ℕ) (top₀ : ℕ) : Read.State → Write.State → Type 0 where
@@ -100,22 +107,19 @@ module _ (s : List ℕ) (short : length s < 65536) where
         (λ h. both-done (aside 0 (t .start)) (ran (Aside 0 (t .start)) b) (same-aside 0 (t .start) b (kept g)))
         (λ h. both-next (n, x, e) (n, x, p, u, b) (states n x e p u b near within g))
 
-    module _ (d level nest : ℕ) (joined : (m : List ℕ) (top op sort place at : ℕ) (e : Expr) → place < 65536 → Op.JOIN ≤ op → op ≤ Op.EITHER → Grown m₀ top₀ m top (PartCodes s sort place e)
-        → Same s m₀ top₀ (Read.readJoined d s op nest sort e at) (Write.joinedAt d s m top op nest sort place at)) where
+    module _ (d level nest : ℕ) (joined : (m : List ℕ) (top : ℕ) (op : Binary) (sort place at : ℕ) (e : Expr) → place < 65536 → Grown m₀ top₀ m top (PartCodes s sort place e)
+        → Same s m₀ top₀ (Read.readJoined d s op nest sort e at) (Write.joinedAt d s m top (binaryNumber op) nest sort place at)) where
       chain-turn : (x : Read.State) (y : Write.State) → States m₀ top₀ x y
           → Turns (Read.chainTurn (λ op nest sort e at. Read.readJoined d s op nest sort e at) s level nest x)
           (Write.chainTurn (λ m top op nest sort place at. Write.joinedAt d s m top op nest sort place at) s level nest y)
       chain-turn _ _ (states t sort e place top m near within g) =
-          both Turns (leb (length s) (t .start)) _ _ _ _
+          rw (operator-number sort (t .kind), binds-number level (Table.operator sort (t .kind))) (both Turns (leb (length s) (t .start)) _ _ _ _
           (λ h. both-done (ok (part sort e) t) (ran (Found sort place top t) m) (same-part sort place top e t m near within g))
           (λ h. both Turns (Table.binds level (Table.operator sort (t .kind))) _ _ _ _
-          (λ k. both Turns (eqb (Table.operator sort (t .kind)) Table.MATCH) _ _ _ _
-          (λ l. both-done (aside 8 (t .start)) (ran (Aside 8 (t .start)) m) (same-aside 8 (t .start) m (kept g)))
-          (λ l. let w : (Op.JOIN ≤ Table.operator sort (t .kind)) × (Table.operator sort (t .kind) ≤ Op.EITHER) =
-          binary-between (Table.operator sort (t .kind)) (operator-between sort (t .kind)) (binds-level level (Table.operator sort (t .kind)) k .0)
-          (eqb-false (Table.operator sort (t .kind)) Table.MATCH l) in
-          joined-on t _ _ (joined m top (Table.operator sort (t .kind)) sort place (t .end) e near (w .0) (w .1) g)))
-          (λ k. both-done (ok (part sort e) t) (ran (Found sort place top t) m) (same-part sort place top e t m near within g)))
+          (λ k. alike-infix Turns level (Table.operator sort (t .kind)) _ _ _ _ (λ op. Write.onJoined t (Write.joinedAt d s m top op nest sort place (t .end))) k
+          (both-done (aside 8 (t .start)) (ran (Aside 8 (t .start)) m) (same-aside 8 (t .start) m (kept g)))
+          (λ op l. joined-on t _ _ (joined m top op sort place (t .end) e near g)))
+          (λ k. both-done (ok (part sort e) t) (ran (Found sort place top t) m) (same-part sort place top e t m near within g))))
 
       measures : (x : Read.State) (y : Write.State) → States m₀ top₀ x y → length s - x .0 .start ≡ length s - y .0 .start
       measures _ _ (states t sort e place top m near within g) = refl
@@ -149,18 +153,17 @@ module _ (s : List ℕ) (short : length s < 65536) where
     operand-same zero m top want row nest t within = same-aside 0 (t .start) m (keeps-self m top)
     operand-same (suc d) m top want row nest t within =
         both (Same s m top) (Table.allows want (t .kind)) _ _ _ _
-        (λ h. both (Same s m top) (eqb (Table.prefixOperator (t .kind)) Table.NONE) _ _ _ _
-        (λ k. both (Same s m top) (eqb (t .kind) Kind.OPEN) _ _ _ _ (λ l. bracketed-same d m top want nest t) (λ l. leaf-same s short m top t within want row))
-        (λ k. let w : (Op.LOOKUP ≤ Table.prefixOperator (t .kind)) × (Table.prefixOperator (t .kind) ≤ Op.OPPOSITE) =
-        prefix-before (t .kind) (eqb-false (Table.prefixOperator (t .kind)) Table.NONE k) in
-        prefixed-same d m top (Table.prefixOperator (t .kind)) want row nest t (w .0) (w .1)))
+        (λ h. rw (prefix-number (t .kind)) (alike-prefix (Same s m top) (Table.prefixOperator (t .kind)) _ (λ op. Read.readPrefixed d s op want row nest t)
+        _ (λ op. Write.prefixedAt d s m top op want row nest t)
+        (both (Same s m top) (eqb (t .kind) Kind.OPEN) _ _ _ _ (λ l. bracketed-same d m top want nest t) (λ l. leaf-same s short m top t within want row))
+        (λ op l. prefixed-same d m top op want row nest t)))
         (λ h. same-refused s m top t m (keeps-self m top))
 
-    prefixed-same : (d : ℕ) (m : List ℕ) (top op want row nest : ℕ) (t : Token) → Op.LOOKUP ≤ op → op ≤ Op.OPPOSITE
-        → Same s m top (Read.readPrefixed d s op want row nest t) (Write.prefixedAt d s m top op want row nest t)
-    prefixed-same zero m top op want row nest t low high = same-aside 0 (t .start) m (keeps-self m top)
-    prefixed-same (suc d) m top op want row nest t low high =
-        prefixed-body d (λ m top level want row nest t within. expression-same d m top level want row nest t within) m top op want row nest t low high
+    prefixed-same : (d : ℕ) (m : List ℕ) (top : ℕ) (op : Unary) (want row nest : ℕ) (t : Token)
+        → Same s m top (Read.readPrefixed d s op want row nest t) (Write.prefixedAt d s m top (unaryNumber op) want row nest t)
+    prefixed-same zero m top op want row nest t = same-aside 0 (t .start) m (keeps-self m top)
+    prefixed-same (suc d) m top op want row nest t =
+        prefixed-body d (λ m top level want row nest t within. expression-same d m top level want row nest t within) m top op want row nest t
 
     bracketed-same : (d : ℕ) (m : List ℕ) (top want nest : ℕ) (t : Token)
         → Same s m top (Read.readBracketed d s want nest t) (Write.bracketedAt d s m top want nest t)
@@ -172,10 +175,10 @@ module _ (s : List ℕ) (short : length s < 65536) where
         → Grown m₀ top₀ m top (PartCodes s sort place e) → Same s m₀ top₀ (Read.readChain d s level nest sort e t) (Write.chainAt d s m top level nest sort place t)
     chain-same zero m₀ top₀ t level nest sort e place top m near within g = same-aside 0 (t .start) m (kept g)
     chain-same (suc d) m₀ top₀ t level nest sort e place top m near within g =
-        chain-body m₀ top₀ d level nest (λ m top op sort place at e near low high g. joined-same d m₀ top₀ m top op nest sort place at e near low high g) t sort e place top m near within g
+        chain-body m₀ top₀ d level nest (λ m top op sort place at e near g. joined-same d m₀ top₀ m top op nest sort place at e near g) t sort e place top m near within g
 
-    joined-same : (d : ℕ) (m₀ : List ℕ) (top₀ : ℕ) (m : List ℕ) (top op nest sort place at : ℕ) (e : Expr) → place < 65536 → Op.JOIN ≤ op → op ≤ Op.EITHER
-        → Grown m₀ top₀ m top (PartCodes s sort place e) → Same s m₀ top₀ (Read.readJoined d s op nest sort e at) (Write.joinedAt d s m top op nest sort place at)
-    joined-same zero m₀ top₀ m top op nest sort place at e near low high g = same-aside 0 at m (kept g)
-    joined-same (suc d) m₀ top₀ m top op nest sort place at e near low high g =
-        joined-body d (λ m top level want row nest t within. expression-same d m top level want row nest t within) m₀ top₀ m top op nest sort place at e near low high g
+    joined-same : (d : ℕ) (m₀ : List ℕ) (top₀ : ℕ) (m : List ℕ) (top : ℕ) (op : Binary) (nest sort place at : ℕ) (e : Expr) → place < 65536
+        → Grown m₀ top₀ m top (PartCodes s sort place e) → Same s m₀ top₀ (Read.readJoined d s op nest sort e at) (Write.joinedAt d s m top (binaryNumber op) nest sort place at)
+    joined-same zero m₀ top₀ m top op nest sort place at e near g = same-aside 0 at m (kept g)
+    joined-same (suc d) m₀ top₀ m top op nest sort place at e near g =
+        joined-body d (λ m top level want row nest t within. expression-same d m top level want row nest t within) m₀ top₀ m top op nest sort place at e near g

@@ -15,9 +15,13 @@ use Rattle.lexical.specs.Number as Number
 use Rattle.lexical.specs.Word.{spells, word-true, word-false}
 use Rattle.lexical.specs.declared.token.Token.{Token}
 use Rattle.syntax.specs.Op
+use Rattle.syntax.specs.Operator.{Unary, Binary, Sort, a-string, an-integer, a-test}
+use Rattle.syntax.specs.Operation.{unaryNumber, binaryNumber}
 use Rattle.syntax.specs.Expr.{Expr, name, unary, binary, truth}
 use Rattle.syntax.specs.Code.{entry, nameAt, Codes, code-literal, code-name, code-number, code-true, code-false, code-unary, code-binary}
+use Rattle.conditions.specs.Table.{sortOf}
 use Rattle.conditions.specs.Table
+use Rattle.conditions.specs.Working.Numbered
 use Rattle.conditions.specs.Word.{nextAt, wordSort}
 use Rattle.syntax.specs.Parsed.{Parsed, ok, aside, unexpected}
 use Rattle.conditions.specs.Parsed.{Part, part}
@@ -34,22 +38,15 @@ pick-small n true a b h k = h
 pick-small n false a b h k = k
 
 -- an operator gives what is settled
-pub result-plain : (op : ℕ) → Table.resultOf op < Table.TRUE
-unfolding Table.resultOf
+pub result-plain : (op : ℕ) → Numbered.resultOf op < Table.TRUE
+unfolding Numbered.resultOf
 result-plain op =
     (pick-small 3 (ltb Op.MINUS op) _ _ (omega arith) (pick-small 3 (eqb op Op.OPPOSITE) _ _ (omega arith) (pick-small 3 (eqb op Op.LOOKUP) _ _ (omega arith) (pick-small 3 (eqb op Op.JOIN) _ _ (omega arith) (omega arith)))))
 
--- an operator before an operand: none, or "$" and those behind it, up to "!"
-abbrev Before : ℕ → Type 0
-Before n = (n ≡ Table.NONE → ⊥) → (Op.LOOKUP ≤ n) × (n ≤ Op.OPPOSITE)
-
-pub prefix-before : (k : ℕ) → Before (Table.prefixOperator k)
-unfolding Table.prefixOperator
-prefix-before k =
-    chosen Before (eqb k Kind.MINUS) _ _ (λ e n. (omega arith, omega arith))
-    (λ e. chosen Before (eqb k Kind.AT) _ _ (λ e n. (omega arith, omega arith))
-    (λ e. chosen Before (eqb k Kind.DOLLAR) _ _ (λ e n. (omega arith, omega arith))
-    (λ e. chosen Before (eqb k Kind.NOT) _ _ (λ e n. (omega arith, omega arith)) (λ e n. absurd (n refl)))))
+pub sort-plain : (x : Sort) → sortOf x < Table.TRUE
+sort-plain a-string = omega arith
+sort-plain an-integer = omega arith
+sort-plain a-test = omega arith
 
 -- a name is a string or a bare word
 pub name-cases : (s : List ℕ) (want start end : ℕ) → (wordSort s want start end ≡ Table.TEXT → ⊥) → Table.TRUE ≤ wordSort s want start end
@@ -137,43 +134,45 @@ module _ (s m : List ℕ) (top : ℕ) (b : List ℕ) (u x p : ℕ) (e : Expr) (n
       (λ l. rw (h, k, l) (bare-grown (ltb-false x Table.TRUE h) Op.TRUE 0 (truth true) (omega arith) (omega arith) (λ q. code-true)))
       (λ l. rw (h, k, l) (bare-grown (ltb-false x Table.TRUE h) Op.FALSE 0 (truth false) (omega arith) (omega arith) (λ q. code-false)))))
 
-  module _ (op : ℕ) (small : op < 64) (n : Token) (within : n .start ≤ length s) where
+  module _ (op : ℕ) (takes gives : Sort) (operand : Numbered.operandOf op ≡ sortOf takes) (result : Numbered.resultOf op ≡ sortOf gives) (small : op < 64) (n : Token)
+      (within : n .start ≤ length s) where
     abbrev b₁ : List ℕ
-    b₁ = settled b u (Table.operandOf op) x p
+    b₁ = settled b u (sortOf takes) x p
 
     abbrev u₁ : ℕ
     u₁ = settledTop b u x
 
     abbrev f : Expr
-    f = settledTree (Table.operandOf op) x e
+    f = settledTree (sortOf takes) x e
 
     -- the operand and its operator
     taken : Grown m top (put b₁ u₁ op 0) (above b₁ u₁) (Then (Codes s f) (entry op 0))
     taken =
         grown-then m top b₁ u₁ (put b₁ u₁ op 0) (above b₁ u₁) (Codes s f) (λ d. d ≡ entry op 0 ∷ []) (Then (Codes s f) (entry op 0))
-        (λ c d q r. rw r (then c q)) (settle-grown (Table.operandOf op)) (grown-put b₁ u₁ op 0 small (omega arith))
+        (λ c d q r. rw r (then c q)) (settle-grown (sortOf takes)) (grown-put b₁ u₁ op 0 small (omega arith))
 
-    unary-codes : Op.LOOKUP ≤ op → op ≤ Op.OPPOSITE → (c : List ℕ) → Then (Codes s f) (entry op 0) c → Codes s (unary op f) c
-    unary-codes low high _ (then d q) = code-unary low high q
+    unary-codes : (o : Unary) → op ≡ unaryNumber o → (c : List ℕ) → Then (Codes s f) (entry op 0) c → Codes s (unary o f) c
+    unary-codes o i _ (then d q) = rw i (code-unary q)
 
-    pub unary-same : Op.LOOKUP ≤ op → op ≤ Op.OPPOSITE → Same s m top (applied (unary op) op x e n) (finishAt b u op x p n)
+    pub unary-same : (o : Unary) → op ≡ unaryNumber o → Same s m top (applied (unary o) takes gives x e n) (finishAt b u op x p n)
     unfolding applied finishAt
-    unary-same low high =
-        both (Same s m top) (Table.fits (Table.operandOf op) x) _ _ _ _
-        (λ h. same-part (Table.resultOf op) 0 (above b₁ u₁) (unary op f) n (put b₁ u₁ op 0) (omega arith) within
-        (grown-as m top (put b₁ u₁ op 0) (above b₁ u₁) (Then (Codes s f) (entry op 0)) (PartCodes s (Table.resultOf op) 0 (unary op f))
-        (λ c q. whole (result-plain op) (unary-codes low high c q)) taken))
-        (λ h. same-refused s m top n b (kept g))
+    unary-same o i =
+        rw (operand, result) (both (Same s m top) (Table.fits (sortOf takes) x) _ _ _ _
+        (λ h. same-part (sortOf gives) 0 (above b₁ u₁) (unary o f) n (put b₁ u₁ op 0) (omega arith) within
+        (grown-as m top (put b₁ u₁ op 0) (above b₁ u₁) (Then (Codes s f) (entry op 0)) (PartCodes s (sortOf gives) 0 (unary o f))
+        (λ c q. whole (sort-plain gives) (unary-codes o i c q)) taken))
+        (λ h. same-refused s m top n b (kept g)))
 
-    binary-codes : Op.JOIN ≤ op → op ≤ Op.EITHER → (l : Expr) (c d : List ℕ) → Codes s l c → Then (Codes s f) (entry op 0) d → Codes s (binary op l f) (c ++ d)
-    binary-codes low high l c _ k (then d q) = rw (sym (append-assoc c d (entry op 0 ∷ []))) (code-binary low high k q)
+    binary-codes : (o : Binary) → op ≡ binaryNumber o → (l : Expr) (c d : List ℕ) → Codes s l c → Then (Codes s f) (entry op 0) d → Codes s (binary o l f) (c ++ d)
+    binary-codes o i l c _ k (then d q) = rw (sym (append-assoc c d (entry op 0 ∷ [])), i) (code-binary k q)
 
     -- behind a left operand
-    pub binary-same : Op.JOIN ≤ op → op ≤ Op.EITHER → (m₀ : List ℕ) (top₀ : ℕ) (l : Expr) → Grown m₀ top₀ m top (Codes s l) → Same s m₀ top₀ (applied (binary op l) op x e n) (finishAt b u op x p n)
+    pub binary-same : (o : Binary) → op ≡ binaryNumber o → (m₀ : List ℕ) (top₀ : ℕ) (l : Expr) → Grown m₀ top₀ m top (Codes s l)
+        → Same s m₀ top₀ (applied (binary o l) takes gives x e n) (finishAt b u op x p n)
     unfolding applied finishAt
-    binary-same low high m₀ top₀ l k =
-        both (Same s m₀ top₀) (Table.fits (Table.operandOf op) x) _ _ _ _
-        (λ h. same-part (Table.resultOf op) 0 (above b₁ u₁) (binary op l f) n (put b₁ u₁ op 0) (omega arith) within
-        (grown-then m₀ top₀ m top (put b₁ u₁ op 0) (above b₁ u₁) (Codes s l) (Then (Codes s f) (entry op 0)) (PartCodes s (Table.resultOf op) 0 (binary op l f))
-        (λ c d q r. whole (result-plain op) (binary-codes low high l c d q r)) k taken))
-        (λ h. same-refused s m₀ top₀ n b (under k (kept g)))
+    binary-same o i m₀ top₀ l k =
+        rw (operand, result) (both (Same s m₀ top₀) (Table.fits (sortOf takes) x) _ _ _ _
+        (λ h. same-part (sortOf gives) 0 (above b₁ u₁) (binary o l f) n (put b₁ u₁ op 0) (omega arith) within
+        (grown-then m₀ top₀ m top (put b₁ u₁ op 0) (above b₁ u₁) (Codes s l) (Then (Codes s f) (entry op 0)) (PartCodes s (sortOf gives) 0 (binary o l f))
+        (λ c d q r. whole (sort-plain gives) (binary-codes o i l c d q r)) k taken))
+        (λ h. same-refused s m₀ top₀ n b (under k (kept g))))

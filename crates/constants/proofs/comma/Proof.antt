@@ -5,11 +5,9 @@ use Rattle.constants.proofs.comma.Tie as tie
 use Rattle.constants.proofs.comma.Reads as reads
 use Rattle.constants.proofs.comma.Lts as lts
 
--- src/lib.rt:17:9
 returns : tie.Need-returns
 returns c = search (needs, tests)
 
--- src/lib.rt:13:1
 returns-2 : tie.Need-returns-2
 returns-2 c = search (needs, tests)
 

@@ -6,31 +6,24 @@ use Rattle.constants.proofs.store_count.Reads as reads
 use Rattle.constants.proofs.store_count.Lts as lts
 use Rattle.constants.proofs.narrow.Reads as narrow-reads
 
--- src/lib.rt:57:9
 narrow-requires : tie.Need-narrow-requires
 narrow-requires c κs = search needs
 
--- src/lib.rt:58:9
 narrow-requires-2 : tie.Need-narrow-requires-2
 narrow-requires-2 c κs = search needs
 
--- src/lib.rt:59:5
 slice-write-dst : tie.Need-slice-write-dst
 slice-write-dst c = search needs
 
--- src/lib.rt:60:9
 add-dst : tie.Need-add-dst
 add-dst c = search needs
 
--- src/lib.rt:60:5
 slice-write-dst-2 : tie.Need-slice-write-dst-2
 slice-write-dst-2 c = search write-second
 
--- src/lib.rt:53:1
 same-length : tie.Need-same-length
 same-length c = search needs
 
--- src/lib.rt:53:1
 returns : tie.Need-returns
 returns c = search put-two
 

@@ -8,63 +8,48 @@ use Rattle.constants.proofs.joined_length.Reads as joined-length-reads
 use Rattle.constants.proofs.store_count.Reads as store-count-reads
 use Rattle.text.proofs.join_at.Reads as join-at-reads
 
--- src/lib.rt:67:9
 joined-length-requires : tie.Need-joined-length-requires
 joined-length-requires c κs = search needs
 
--- src/lib.rt:69:9
 returns : tie.Need-returns
 returns c = search write-over
 
--- src/lib.rt:72:9
 returns-2 : tie.Need-returns-2
 returns-2 c = search write-past
 
--- src/lib.rt:74:8
 sub-if3 : tie.Need-sub-if3
 sub-if3 c = search needs
 
--- src/lib.rt:75:9
 returns-3 : tie.Need-returns-3
 returns-3 c = search write-half
 
--- src/lib.rt:77:8
 sub-if4 : tie.Need-sub-if4
 sub-if4 c = search needs
 
--- src/lib.rt:77:8
 sub-if4-2 : tie.Need-sub-if4-2
 sub-if4-2 c = search needs
 
--- src/lib.rt:78:9
 returns-4 : tie.Need-returns-4
 returns-4 c = search write-short
 
--- src/lib.rt:80:5
 store-count-requires : tie.Need-store-count-requires
 store-count-requires c κs = search needs
 
--- src/lib.rt:81:24
 add-join-at : tie.Need-add-join-at
 add-join-at c = search needs
 
--- src/lib.rt:81:5
 join-at-requires : tie.Need-join-at-requires
 join-at-requires c κs = search needs
 
--- src/lib.rt:82:5
 add-result : tie.Need-add-result
 add-result c = search needs
 
--- src/lib.rt:82:5
 add-result-2 : tie.Need-add-result-2
 add-result-2 c = search needs
 
--- src/lib.rt:64:1
 same-length : tie.Need-same-length
 same-length c = search needs
 
--- src/lib.rt:64:1
 returns-5 : tie.Need-returns-5
 returns-5 c = write-in _ _ _ _ (c .before .before .before .before .before .before .before .before .before .before .before .before .joined-length .ensures) (c .before .before .before .before .before .before .before .before .before .before .before .if1 .left) (c .before .before .before .before .before .before .before .before .before .before .if2 .left) (c .before .before .before .before .before .before .before .before .before .if3 .left) (c .before .before .before .before .before .before .before .before .if4 .left) _ (c .before .before .before .before .before .before .store-count .ensures) _ _ (c .before .before .join-at .ensures)
 

@@ -3,11 +3,11 @@ use mathlib.Core.Path.{_≡_, refl, sym, ap, _∙_, subst}
 use mathlib.Core.Bool.{Bool, true, false, _||_}
 use mathlib.Core.List.{List, [], _∷_}
 use Prim.Native.Nat.{ℕ, max}
-use lib.Dec.{eqb}
-use Rattle.text.specs.Choice.{split}
+use Rattle.text.specs.Choice.{split, clash}
 use Rattle.text.specs.Equal.{equal, equal-true, equal-refl}
 use Rattle.record.specs.Query.{Attribute}
-use Rattle.syntax.specs.Op.{LOOKUP}
+use Rattle.syntax.specs.Operator.{Unary, isLookup}
+use Rattle.syntax.specs.Operator as Operator
 use Rattle.syntax.specs.Expr.{Expr, literal, name, number, truth, unary, binary, Program, none, also, Clause, plain, valued, nested}
 use Rattle.expression.specs.Value.{Value, text, integer, test, rank, fault, onText}
 use Rattle.expression.specs.Names.{Environment, settingOr, fromQuery, lookup}
@@ -41,9 +41,12 @@ setting-other (a ∷ c) n x y h =
 max-same : {a b c d : ℕ} → a ≡ b → c ≡ d → max a c ≡ max b d
 max-same e f = cc
 
-look-nothing : (op : ℕ) (f g : List ℕ → List ℕ) (v : Value) → eqb op LOOKUP ≡ false → unaryOf f op v ≡ unaryOf g op v
+look-nothing : (op : Unary) (f g : List ℕ → List ℕ) (v : Value) → isLookup op ≡ false → unaryOf f op v ≡ unaryOf g op v
 unfolding unaryOf
-look-nothing op f g v h = rw h
+look-nothing Operator.lookup f g v h = clash refl h
+look-nothing Operator.convert f g v h = refl
+look-nothing Operator.negate f g v h = refl
+look-nothing Operator.opposite f g v h = refl
 
 look-text : (f g : List ℕ → List ℕ) (v : Value) → ((n : List ℕ) → f n ≡ g n) → onText (λ a. held (f a)) v ≡ onText (λ a. held (g a)) v
 look-text f g (text b) h = ap held (h b)
@@ -52,9 +55,12 @@ look-text f g (test t) h = refl
 look-text f g (rank n) h = refl
 look-text f g fault h = refl
 
-look-all : (op : ℕ) (f g : List ℕ → List ℕ) (v : Value) → eqb op LOOKUP ≡ true → ((n : List ℕ) → f n ≡ g n) → unaryOf f op v ≡ unaryOf g op v
+look-all : (op : Unary) (f g : List ℕ → List ℕ) (v : Value) → ((n : List ℕ) → f n ≡ g n) → unaryOf f op v ≡ unaryOf g op v
 unfolding unaryOf
-look-all op f g v h k = rw h (look-text f g v k)
+look-all Operator.lookup f g v k = look-text f g v k
+look-all Operator.convert f g v k = refl
+look-all Operator.negate f g v k = refl
+look-all Operator.opposite f g v k = refl
 
 module _ (env : Environment) (R : List ℕ → Type 0) {l m : List Attribute} (same : Alike R l m) where
   abbrev Free : (List ℕ → Bool) → Type 0
@@ -76,9 +82,9 @@ module _ (env : Environment) (R : List ℕ → Type 0) {l m : List Attribute} (s
   evaluate-same (number k) h = refl
   evaluate-same (truth t) h = refl
   evaluate-same (unary op e) h =
-      ap (unaryOf (lookup (withAttributes env l)) op) (evaluate-same e (λ n r. h n (or-right (eqb op LOOKUP) _ r)))
-      ∙ split (eqb op LOOKUP)
-      (λ o. look-all op _ _ (evaluate (withAttributes env m) e) o (λ n. lookup-same n (h n (or-left _ _ o))))
+      ap (unaryOf (lookup (withAttributes env l)) op) (evaluate-same e (λ n r. h n (or-right (isLookup op) _ r)))
+      ∙ split (isLookup op)
+      (λ o. look-all op _ _ (evaluate (withAttributes env m) e) (λ n. lookup-same n (h n (or-left _ _ o))))
       (λ o. look-nothing op _ _ (evaluate (withAttributes env m) e) o)
   evaluate-same (binary op e f) h =
       cc (evaluate-same e (λ n r. h n (or-left _ _ r)), evaluate-same f (λ n r. h n (or-right (reads e n) _ r)))

@@ -18,9 +18,10 @@ use Rattle.text.specs.declared.Order.the-variants.{Less, Equal, Greater}
 use Rattle.expression.specs.Value.{Value, text, integer, test, fault, operand, onText, onInteger, onTest}
 use Rattle.expression.specs.Operands.{valueOf, isText, isNumber, integerIn, isTest, holdsIn, rankIn, testIn}
 use Rattle.expression.specs.Integers.{plus, minus, times, over, remainder, power, negated, compared}
-use Rattle.expression.specs.Operations.{relates, isLess, isEqual, isGreater, held, arithmetic, textual, logical, ofTexts, ofIntegers, ofTests, isTextual, binaryOf, converted, negative, opposite}
+use Rattle.expression.specs.Operations.{isLess, isEqual, isGreater, held, converted, negative, opposite}
+use Rattle.expression.specs.Working.Numbered.{relatesBy, arithmetic, textual, logical, ofTexts, ofIntegers, ofTests, isTextual, binaryBy}
 use Rattle.expression.specs.Conditions.{indexFrom, rankOf, gate, top}
-use Rattle.expression.specs.Clauses.{applied, combined}
+use Rattle.expression.specs.Working.Clauses.{applied, combined}
 use Rattle.expression.specs.declared.value.Operand.{Operand}
 use Rattle.expression.specs.declared.value.Operand.the-variants.{Text, Number, Test, Rank, Fault}
 
@@ -129,32 +130,32 @@ no-rank vals Fault a h = refl
 
 -- the ways out of `relation`
 module _ (k : ℕ) (o : Order) (r : Bool) where
-  pub relates-equal : k ≡ 0 → r ≡ isEqual o → r ≡ relates k o
-  unfolding relates
+  pub relates-equal : k ≡ 0 → r ≡ isEqual o → r ≡ relatesBy k o
+  unfolding relatesBy
   relates-equal h e = e ∙ simp (eq-eqb _ _ h)
 
   module _ (n0 : k ≡ 0 → ⊥) where
-    pub relates-unequal : (q : Bool) → q ≡ isEqual o → k ≡ 1 → r ≡ not q → r ≡ relates k o
-    unfolding relates
+    pub relates-unequal : (q : Bool) → q ≡ isEqual o → k ≡ 1 → r ≡ not q → r ≡ relatesBy k o
+    unfolding relatesBy
     relates-unequal q qe h e = e ∙ simp (qe, ne-eqb _ _ n0, eq-eqb _ _ h)
 
     module _ (n1 : k ≡ 1 → ⊥) where
-      pub relates-less : k ≡ 2 → r ≡ isLess o → r ≡ relates k o
-      unfolding relates
+      pub relates-less : k ≡ 2 → r ≡ isLess o → r ≡ relatesBy k o
+      unfolding relatesBy
       relates-less h e = e ∙ simp (ne-eqb _ _ n0, ne-eqb _ _ n1, eq-eqb _ _ h)
 
       module _ (n2 : k ≡ 2 → ⊥) where
-        pub relates-greater : k ≡ 3 → r ≡ isGreater o → r ≡ relates k o
-        unfolding relates
+        pub relates-greater : k ≡ 3 → r ≡ isGreater o → r ≡ relatesBy k o
+        unfolding relatesBy
         relates-greater h e = e ∙ simp (ne-eqb _ _ n0, ne-eqb _ _ n1, ne-eqb _ _ n2, eq-eqb _ _ h)
 
         module _ (n3 : k ≡ 3 → ⊥) (q : Bool) where
-          pub relates-most : q ≡ isGreater o → k ≡ 4 → r ≡ not q → r ≡ relates k o
-          unfolding relates
+          pub relates-most : q ≡ isGreater o → k ≡ 4 → r ≡ not q → r ≡ relatesBy k o
+          unfolding relatesBy
           relates-most qe h e = e ∙ simp (qe, ne-eqb _ _ n0, ne-eqb _ _ n1, ne-eqb _ _ n2, ne-eqb _ _ n3, eq-eqb _ _ h)
 
-          pub relates-least : q ≡ isLess o → (k ≡ 4 → ⊥) → r ≡ not q → r ≡ relates k o
-          unfolding relates
+          pub relates-least : q ≡ isLess o → (k ≡ 4 → ⊥) → r ≡ not q → r ≡ relatesBy k o
+          unfolding relatesBy
           relates-least qe n4 e = e ∙ simp (qe, ne-eqb _ _ n0, ne-eqb _ _ n1, ne-eqb _ _ n2, ne-eqb _ _ n3, ne-eqb _ _ n4)
 
 -- the ways out of `of_integers`
@@ -189,7 +190,7 @@ module _ (op : ℕ) (a b : Integer) (r : Operand) where
             does-minus h e = e ∙ simp (ne-eqb _ _ n10, ne-eqb _ _ n11, ne-eqb _ _ n12, ne-eqb _ _ n13, ne-eqb _ _ n14, eq-eqb _ _ h)
 
 module _ (op : ℕ) (a b : Integer) (n10 : op ≡ 10 → ⊥) (n11 : op ≡ 11 → ⊥) (n12 : op ≡ 12 → ⊥) (n13 : op ≡ 13 → ⊥) (n14 : op ≡ 14 → ⊥) (n15 : op ≡ 15 → ⊥) where
-  pub does-compare : (o : Order) → o ≡ compared a b → (k : ℕ) → k ≡ op - 22 → (t : Bool) → t ≡ relates k o → Test t ≡ operand (arithmetic op a b)
+  pub does-compare : (o : Order) → o ≡ compared a b → (k : ℕ) → k ≡ op - 22 → (t : Bool) → t ≡ relatesBy k o → Test t ≡ operand (arithmetic op a b)
   unfolding arithmetic operand
   does-compare o oe k ke t te = rw (te, ke, oe) (simp (ne-eqb _ _ n10, ne-eqb _ _ n11, ne-eqb _ _ n12, ne-eqb _ _ n13, ne-eqb _ _ n14, ne-eqb _ _ n15))
 
@@ -232,15 +233,15 @@ module _ (op : ℕ) (a b : List ℕ) where
 
   module _ (n9 : op ≡ 9 → ⊥) where
     pub does-equal : op ≡ 16 → (t : Bool) → t ≡ equal a b → Test t ≡ operand (textual op a b)
-    unfolding textual operand relates
+    unfolding textual operand relatesBy
     does-equal h t te = rw (te, ne-eqb _ _ n9, h) (ap Test (equal-is a b))
 
     module _ (n16 : op ≡ 16 → ⊥) where
       pub does-differ : op ≡ 17 → (t : Bool) → t ≡ equal a b → (u : Bool) → u ≡ not t → Test u ≡ operand (textual op a b)
-      unfolding textual operand relates
+      unfolding textual operand relatesBy
       does-differ h t te u ue = rw (ue, te, ne-eqb _ _ n9, h) (ap (λ (k : Bool). Test (not k)) (equal-is a b))
 
-    pub does-order : (o : Order) → o ≡ order a b → (k : ℕ) → k ≡ op - 16 → (t : Bool) → t ≡ relates k o → Test t ≡ operand (textual op a b)
+    pub does-order : (o : Order) → o ≡ order a b → (k : ℕ) → k ≡ op - 16 → (t : Bool) → t ≡ relatesBy k o → Test t ≡ operand (textual op a b)
     unfolding textual operand
     does-order o oe k ke t te = rw (te, ke, oe) (simp (ne-eqb _ _ n9))
 
@@ -305,22 +306,22 @@ module _ (op : ℕ) (x y : Operand) (a b : List ℕ) (t : Bool) where
 
 -- the ways out of `binary`
 module _ (op : ℕ) (v w : Value) (r : Operand) (t : Bool) (te : t ≡ isTextual op) where
-  pub binary-texts : t ≡ true → r ≡ operand (ofTexts op v w) → r ≡ operand (binaryOf op v w)
-  unfolding binaryOf
+  pub binary-texts : t ≡ true → r ≡ operand (ofTexts op v w) → r ≡ operand (binaryBy op v w)
+  unfolding binaryBy
   binary-texts h e = e ∙ simp (sym te, h)
 
   module _ (no : t ≡ false) where
-    pub binary-integers : op ≤ 27 → r ≡ operand (ofIntegers op v w) → r ≡ operand (binaryOf op v w)
-    unfolding binaryOf
+    pub binary-integers : op ≤ 27 → r ≡ operand (ofIntegers op v w) → r ≡ operand (binaryBy op v w)
+    unfolding binaryBy
     binary-integers h e = e ∙ simp (sym te, no, le-leb _ _ h)
 
     module _ (n : 27 < op) where
-      pub binary-tests : op ≤ 29 → r ≡ operand (ofTests op v w) → r ≡ operand (binaryOf op v w)
-      unfolding binaryOf
+      pub binary-tests : op ≤ 29 → r ≡ operand (ofTests op v w) → r ≡ operand (binaryBy op v w)
+      unfolding binaryBy
       binary-tests h e = e ∙ simp (sym te, no, lt-leb _ _ n, le-leb _ _ h)
 
-      pub binary-none : 29 < op → Fault ≡ operand (binaryOf op v w)
-      unfolding binaryOf operand
+      pub binary-none : 29 < op → Fault ≡ operand (binaryBy op v w)
+      unfolding binaryBy operand
       binary-none h = simp (sym te, no, lt-leb _ _ n, lt-leb _ _ h)
 
 -- the ways out of `rank_of_text`
@@ -334,7 +335,7 @@ module _ (vals : List (List ℕ)) (y : Operand) (b : List ℕ) (t : Bool) (te : 
 
 -- the ways out of `combine`
 module _ (vals : List (List ℕ)) (op : ℕ) (x y : Operand) (a b : List ℕ) where
-  pub combine-binary : (r : Operand) → op ≤ 29 → r ≡ operand (binaryOf op (valueOf x a) (valueOf y b)) → r ≡ operand (combined vals op (valueOf x a) (valueOf y b))
+  pub combine-binary : (r : Operand) → op ≤ 29 → r ≡ operand (binaryBy op (valueOf x a) (valueOf y b)) → r ≡ operand (combined vals op (valueOf x a) (valueOf y b))
   unfolding combined
   combine-binary r h e = e ∙ simp (le-leb _ _ h)
 

@@ -11,7 +11,7 @@ use Rattle.text.specs.declared.Order.{Order}
 use Rattle.expression.specs.Value.{integer, test, fault, operand}
 use Rattle.expression.specs.Operands.{kindOf, sizeOf, pack}
 use Rattle.expression.specs.Integers.{ranged, apart, plus, minus, compared}
-use Rattle.expression.specs.Operations.{relates, arithmetic}
+use Rattle.expression.specs.Working.Numbered.{relatesBy, arithmetic}
 use Rattle.expression.specs.Working.Operating.{does-compare}
 use Rattle.expression.specs.declared.value.Operand.{Operand}
 use Rattle.expression.specs.declared.value.Operand.the-variants.{Number, Test, Fault}
@@ -78,7 +78,7 @@ module _ (op x y : ℕ) (q : Packed) where
   pub naturals-other : (v : Operand) → v ≡ operand (arithmetic op (signed false x) (signed false y)) → q ≡ pack v → q ≡ pack (operand (arithmetic op (signed false x) (signed false y)))
   naturals-other v ve e = e ∙ ap pack ve
 
-  pub naturals-order : 22 ≤ op → (o : Order) → o ≡ compared (signed false x) (signed false y) → (k : ℕ) → k ≡ op - 22 → (t : Bool) → t ≡ relates k o → q ≡ pack (Test t)
+  pub naturals-order : 22 ≤ op → (o : Order) → o ≡ compared (signed false x) (signed false y) → (k : ℕ) → k ≡ op - 22 → (t : Bool) → t ≡ relatesBy k o → q ≡ pack (Test t)
       → q ≡ pack (operand (arithmetic op (signed false x) (signed false y)))
   naturals-order h o oe k ke t te e =
       e ∙ ap pack (does-compare op (signed false x) (signed false y)

@@ -14,6 +14,7 @@ use Rattle.syntax.specs.Expr.{Expr}
 use Rattle.grammar.specs.Conditions.{Class, operand, power, product, conjunction, whole, TRUTH, Name, any-name, truth-name, Str, str-literal, str-name, str-lookup, str-bracket, str-one, str-join, Product, times, divide, remainder, Sum, plus, minus, Int, int-literal, int-minus, int-convert, int-bracket, int-one, int-power, int-up, int-product, int-term, int-sum, less, greater, at-most, at-least, Compare, order, equal, unequal, of-integers, of-strings, Tests, test-truth, test-comparison, test-not, test-bracket, test-one, test-and, test-ands, test-or, Clauses, no-clause, clause, tested, valued, nested}
 use Rattle.grammar.specs.Spelled.{spelled, kindIn, kindsIn}
 use Rattle.grammar.specs.Working.Marks.{kinds-append, around, before}
+use Rattle.syntax.specs.Operator.{Binary, Relation}
 use Rattle.grammar.specs.Trees.{StrTree, literal-tree, name-tree, lookup-tree, text-bracket, text-one, join-tree, ProductOp, times-op, divide-op, remainder-op, SumOp, plus-op, minus-op, IntTree, number-tree, negate-tree, convert-tree, number-bracket, number-one, power-tree, number-up, product-tree, number-term, sum-tree, CompareOp, equal-op, unequal-op, less-op, greater-op, at-most-op, at-least-op, TestTree, true-tree, false-tree, compare-numbers, compare-texts, not-tree, test-bracket-tree, test-once, and-tree, test-up, or-tree, Says, a-program, a-clause, ProgramTree, no-clauses, one-more, plain-tree, valued-tree, nested-tree}
 
 -- any token but a name is of the lexer's kind
@@ -36,22 +37,22 @@ pub kind-false : (s : List ℕ) (t : Token) → t .kind ≡ Kind.NAME → spelle
 unfolding kindIn
 kind-false s t e f = rw e (split (spelled s t word-true) (λ g. rw g) (λ g. rw (g, f)))
 
-pub product-shadow : (k o : ℕ) → ProductOp k o → Product k × (eqb k Kind.NAME ≡ false)
+pub product-shadow : (k : ℕ) (o : Binary) → ProductOp k o → Product k × (eqb k Kind.NAME ≡ false)
 product-shadow _ _ times-op = (times, refl)
 product-shadow _ _ divide-op = (divide, refl)
 product-shadow _ _ remainder-op = (remainder, refl)
 
-pub sum-shadow : (k o : ℕ) → SumOp k o → Sum k × (eqb k Kind.NAME ≡ false)
+pub sum-shadow : (k : ℕ) (o : Binary) → SumOp k o → Sum k × (eqb k Kind.NAME ≡ false)
 sum-shadow _ _ plus-op = (plus, refl)
 sum-shadow _ _ minus-op = (minus, refl)
 
-pub compare-shadow : (k o p : ℕ) → CompareOp k o p → Compare k × (eqb k Kind.NAME ≡ false)
-compare-shadow _ _ _ equal-op = (equal, refl)
-compare-shadow _ _ _ unequal-op = (unequal, refl)
-compare-shadow _ _ _ less-op = (order Kind.LESS less, refl)
-compare-shadow _ _ _ greater-op = (order Kind.GREATER greater, refl)
-compare-shadow _ _ _ at-most-op = (order Kind.AT-MOST at-most, refl)
-compare-shadow _ _ _ at-least-op = (order Kind.AT-LEAST at-least, refl)
+pub compare-shadow : (k : ℕ) (o : Relation) → CompareOp k o → Compare k × (eqb k Kind.NAME ≡ false)
+compare-shadow _ _ equal-op = (equal, refl)
+compare-shadow _ _ unequal-op = (unequal, refl)
+compare-shadow _ _ less-op = (order Kind.LESS less, refl)
+compare-shadow _ _ greater-op = (order Kind.GREATER greater, refl)
+compare-shadow _ _ at-most-op = (order Kind.AT-MOST at-most, refl)
+compare-shadow _ _ at-least-op = (order Kind.AT-LEAST at-least, refl)
 
 module _ (s : List ℕ) where
   pub bracketed : (G : List ℕ → Type 0) (t u : Token) (ts : List Token) → t .kind ≡ Kind.OPEN → u .kind ≡ Kind.CLOSE → G (Kind.OPEN ∷ kindsIn s ts ++ Kind.CLOSE ∷ [])
@@ -87,12 +88,12 @@ module _ (s : List ℕ) where
   pub test-shadow : (c : Class) (ts : List Token) (e : Expr) → TestTree s c ts e → Tests c (kindsIn s ts)
   test-shadow _ _ _ (true-tree t k w) = subst (λ (x : ℕ). Tests operand (x ∷ [])) (sym (kind-true s t k w)) test-truth
   test-shadow _ _ _ (false-tree t k w) = subst (λ (x : ℕ). Tests operand (x ∷ [])) (sym (kind-false s t k w)) test-truth
-  test-shadow _ _ _ (compare-numbers t ts us e f o p k d g) =
-      around (kindIn s) (Tests operand) t ts us (t .kind) (kind-other s t (compare-shadow _ o p k .1))
-      (test-comparison _ (of-integers _ _ _ (compare-shadow _ o p k .0) (int-shadow whole ts e d) (int-shadow whole us f g)))
-  test-shadow _ _ _ (compare-texts t ts us e f o p k d g) =
-      around (kindIn s) (Tests operand) t ts us (t .kind) (kind-other s t (compare-shadow _ o p k .1))
-      (test-comparison _ (of-strings _ _ _ (compare-shadow _ o p k .0) (str-shadow whole ts e d) (str-shadow whole us f g)))
+  test-shadow _ _ _ (compare-numbers t ts us e f o k d g) =
+      around (kindIn s) (Tests operand) t ts us (t .kind) (kind-other s t (compare-shadow _ o k .1))
+      (test-comparison _ (of-integers _ _ _ (compare-shadow _ o k .0) (int-shadow whole ts e d) (int-shadow whole us f g)))
+  test-shadow _ _ _ (compare-texts t ts us e f o k d g) =
+      around (kindIn s) (Tests operand) t ts us (t .kind) (kind-other s t (compare-shadow _ o k .1))
+      (test-comparison _ (of-strings _ _ _ (compare-shadow _ o k .0) (str-shadow whole ts e d) (str-shadow whole us f g)))
   test-shadow _ _ _ (not-tree t ts e k d) = marked (Tests operand) t ts Kind.NOT k refl (test-not _ (test-shadow operand ts e d))
   test-shadow _ _ _ (test-bracket-tree t u ts e k l d) = bracketed (Tests operand) t u ts k l (test-bracket _ (test-shadow whole ts e d))
   test-shadow _ _ _ (test-once ts e d) = test-one _ (test-shadow operand ts e d)

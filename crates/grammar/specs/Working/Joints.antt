@@ -5,13 +5,15 @@ use mathlib.Core.List.{List}
 use Prim.Native.Nat.{ℕ, _+_, _≤_, _<_}
 use native.Mathlib.Omega.{arith}
 use lib.Dec.{eqb, ltb}
-use borrow.Author.Tests.{eqb-true, eqb-false, ltb-true, lt-ltb}
+use borrow.Author.Tests.{eqb-true, lt-leb, leb-false}
 use Rattle.text.specs.Choice.{pick, split, clash}
 use Rattle.lexical.specs.Kind
 use Rattle.lexical.specs.Bounds.{chosen}
 use Rattle.lexical.specs.Word.{word-true, word-false}
 use Rattle.lexical.specs.declared.token.Token.{Token}
-use Rattle.syntax.specs.Op
+use Rattle.syntax.specs.Operator.{Binary, Side, Relation, binaryTakes, binaryGives}
+use Rattle.syntax.specs.Operator as Operator
+use Rattle.conditions.specs.Table.{Infix, no-infix, matching, between}
 use Rattle.conditions.specs.Table
 use Rattle.conditions.specs.Working.Reach.{level-most, operator-token}
 use Rattle.grammar.specs.Conditions.{TRUTH}
@@ -54,22 +56,22 @@ test-fit _ is-true = test-fits fit-true
 test-fit _ is-false = test-fits fit-false
 
 -- the mark k writes the operator op of level l, which takes two of sort o and gives one of sort r
-pub data Joint : ℕ → ℕ → ℕ → ℕ → ℕ → Type 0 where
-  j-power : Joint Kind.POWER Op.POWER 5 Table.NUMBER Table.NUMBER
-  j-product : (k op : ℕ) → ProductOp k op → Joint k op 4 Table.NUMBER Table.NUMBER
-  j-sum : (k op : ℕ) → SumOp k op → Joint k op 3 Table.NUMBER Table.NUMBER
-  j-join : Joint Kind.DOT Op.JOIN 3 Table.TEXT Table.TEXT
-  j-numbers : (k op p : ℕ) → CompareOp k op p → Joint k p 2 Table.NUMBER Table.TEST
-  j-texts : (k op p : ℕ) → CompareOp k op p → Joint k op 2 Table.TEXT Table.TEST
-  j-and : Joint Kind.AND Op.BOTH 1 Table.TEST Table.TEST
-  j-or : Joint Kind.OR Op.EITHER 0 Table.TEST Table.TEST
+pub data Joint : ℕ → Binary → ℕ → ℕ → ℕ → Type 0 where
+  j-power : Joint Kind.POWER Operator.power 5 Table.NUMBER Table.NUMBER
+  j-product : (k : ℕ) (op : Binary) → ProductOp k op → Joint k op 4 Table.NUMBER Table.NUMBER
+  j-sum : (k : ℕ) (op : Binary) → SumOp k op → Joint k op 3 Table.NUMBER Table.NUMBER
+  j-join : Joint Kind.DOT Operator.join 3 Table.TEXT Table.TEXT
+  j-numbers : (k : ℕ) (x : Relation) → CompareOp k x → Joint k (Operator.comparison Operator.integers x) 2 Table.NUMBER Table.TEST
+  j-texts : (k : ℕ) (x : Relation) → CompareOp k x → Joint k (Operator.comparison Operator.strings x) 2 Table.TEXT Table.TEST
+  j-and : Joint Kind.AND Operator.both 1 Table.TEST Table.TEST
+  j-or : Joint Kind.OR Operator.either 0 Table.TEST Table.TEST
 
 -- what the tables say of it
-pub data Tabled (op l o r : ℕ) : Type 0 where
-  tabled : Table.levelOf op ≡ l → Table.operandOf op ≡ o → Table.resultOf op ≡ r → Tabled op l o r
+pub data Tabled (op : Binary) (l o r : ℕ) : Type 0 where
+  tabled : Table.levelOf op ≡ l → Table.sortOf (binaryTakes op) ≡ o → Table.sortOf (binaryGives op) ≡ r → Tabled op l o r
 
-pub joint-tabled : (k op l o r : ℕ) → Joint k op l o r → Tabled op l o r
-unfolding Table.levelOf Table.operandOf Table.resultOf
+pub joint-tabled : (k : ℕ) (op : Binary) (l o r : ℕ) → Joint k op l o r → Tabled op l o r
+unfolding Table.levelOf
 joint-tabled _ _ _ _ _ j-power = tabled refl refl refl
 joint-tabled _ _ _ _ _ (j-product _ _ times-op) = tabled refl refl refl
 joint-tabled _ _ _ _ _ (j-product _ _ divide-op) = tabled refl refl refl
@@ -77,30 +79,20 @@ joint-tabled _ _ _ _ _ (j-product _ _ remainder-op) = tabled refl refl refl
 joint-tabled _ _ _ _ _ (j-sum _ _ plus-op) = tabled refl refl refl
 joint-tabled _ _ _ _ _ (j-sum _ _ minus-op) = tabled refl refl refl
 joint-tabled _ _ _ _ _ j-join = tabled refl refl refl
-joint-tabled _ _ _ _ _ (j-numbers _ _ _ equal-op) = tabled refl refl refl
-joint-tabled _ _ _ _ _ (j-numbers _ _ _ unequal-op) = tabled refl refl refl
-joint-tabled _ _ _ _ _ (j-numbers _ _ _ less-op) = tabled refl refl refl
-joint-tabled _ _ _ _ _ (j-numbers _ _ _ greater-op) = tabled refl refl refl
-joint-tabled _ _ _ _ _ (j-numbers _ _ _ at-most-op) = tabled refl refl refl
-joint-tabled _ _ _ _ _ (j-numbers _ _ _ at-least-op) = tabled refl refl refl
-joint-tabled _ _ _ _ _ (j-texts _ _ _ equal-op) = tabled refl refl refl
-joint-tabled _ _ _ _ _ (j-texts _ _ _ unequal-op) = tabled refl refl refl
-joint-tabled _ _ _ _ _ (j-texts _ _ _ less-op) = tabled refl refl refl
-joint-tabled _ _ _ _ _ (j-texts _ _ _ greater-op) = tabled refl refl refl
-joint-tabled _ _ _ _ _ (j-texts _ _ _ at-most-op) = tabled refl refl refl
-joint-tabled _ _ _ _ _ (j-texts _ _ _ at-least-op) = tabled refl refl refl
+joint-tabled _ _ _ _ _ (j-numbers _ _ _) = tabled refl refl refl
+joint-tabled _ _ _ _ _ (j-texts _ _ _) = tabled refl refl refl
 joint-tabled _ _ _ _ _ j-and = tabled refl refl refl
 joint-tabled _ _ _ _ _ j-or = tabled refl refl refl
 
-compare-mark : (k o p : ℕ) → CompareOp k o p → eqb k Kind.NAME ≡ false
-compare-mark _ _ _ equal-op = refl
-compare-mark _ _ _ unequal-op = refl
-compare-mark _ _ _ less-op = refl
-compare-mark _ _ _ greater-op = refl
-compare-mark _ _ _ at-most-op = refl
-compare-mark _ _ _ at-least-op = refl
+compare-mark : (k : ℕ) (x : Relation) → CompareOp k x → eqb k Kind.NAME ≡ false
+compare-mark _ _ equal-op = refl
+compare-mark _ _ unequal-op = refl
+compare-mark _ _ less-op = refl
+compare-mark _ _ greater-op = refl
+compare-mark _ _ at-most-op = refl
+compare-mark _ _ at-least-op = refl
 
-pub joint-mark : (k op l o r : ℕ) → Joint k op l o r → eqb k Kind.NAME ≡ false
+pub joint-mark : (k : ℕ) (op : Binary) (l o r : ℕ) → Joint k op l o r → eqb k Kind.NAME ≡ false
 joint-mark _ _ _ _ _ j-power = refl
 joint-mark _ _ _ _ _ (j-product _ _ times-op) = refl
 joint-mark _ _ _ _ _ (j-product _ _ divide-op) = refl
@@ -108,41 +100,36 @@ joint-mark _ _ _ _ _ (j-product _ _ remainder-op) = refl
 joint-mark _ _ _ _ _ (j-sum _ _ plus-op) = refl
 joint-mark _ _ _ _ _ (j-sum _ _ minus-op) = refl
 joint-mark _ _ _ _ _ j-join = refl
-joint-mark _ _ _ _ _ (j-numbers k op p c) = compare-mark k op p c
-joint-mark _ _ _ _ _ (j-texts k op p c) = compare-mark k op p c
+joint-mark _ _ _ _ _ (j-numbers k x c) = compare-mark k x c
+joint-mark _ _ _ _ _ (j-texts k x c) = compare-mark k x c
 joint-mark _ _ _ _ _ j-and = refl
 joint-mark _ _ _ _ _ j-or = refl
 
 -- the operator that a kind writes behind a sort
-pub data Operated (sort k : ℕ) : ℕ → Type 0 where
-  no-operator : Operated sort k Table.NONE
-  match-operator : Operated sort k Table.MATCH
-  joins : (op l o r : ℕ) → Joint k op l o r → Fits o sort → Operated sort k op
+pub data Operated (sort k : ℕ) : Infix → Type 0 where
+  no-operator : Operated sort k no-infix
+  match-operator : Operated sort k matching
+  joins : (op : Binary) (l o r : ℕ) → Joint k op l o r → Fits o sort → Operated sort k (between op)
 
-data Compared (k : ℕ) : ℕ → Type 0 where
-  not-compared : Compared k Table.NONE
-  compared : (o p : ℕ) → CompareOp k o p → Compared k o
+data Compared (side : Side) (k : ℕ) : Infix → Type 0 where
+  not-compared : Compared side k no-infix
+  compared : (x : Relation) → CompareOp k x → Compared side k (between (Operator.comparison side x))
 
-compares : (k : ℕ) → Compared k (Table.comparison k)
+compares : (side : Side) (k : ℕ) → Compared side k (Table.comparison side k)
 unfolding Table.comparison
-compares k =
-    chosen (Compared k) (eqb k Kind.EQUAL) _ _ (λ e. rw (eqb-true k _ e) (compared _ _ equal-op))
-    (λ e. chosen (Compared k) (eqb k Kind.UNEQUAL) _ _ (λ e. rw (eqb-true k _ e) (compared _ _ unequal-op))
-    (λ e. chosen (Compared k) (eqb k Kind.LESS) _ _ (λ e. rw (eqb-true k _ e) (compared _ _ less-op))
-    (λ e. chosen (Compared k) (eqb k Kind.GREATER) _ _ (λ e. rw (eqb-true k _ e) (compared _ _ greater-op))
-    (λ e. chosen (Compared k) (eqb k Kind.AT-MOST) _ _ (λ e. rw (eqb-true k _ e) (compared _ _ at-most-op))
-    (λ e. chosen (Compared k) (eqb k Kind.AT-LEAST) _ _ (λ e. rw (eqb-true k _ e) (compared _ _ at-least-op)) (λ e. not-compared))))))
+compares side k =
+    chosen (Compared side k) (eqb k Kind.EQUAL) _ _ (λ e. rw (eqb-true k _ e) (compared _ equal-op))
+    (λ e. chosen (Compared side k) (eqb k Kind.UNEQUAL) _ _ (λ e. rw (eqb-true k _ e) (compared _ unequal-op))
+    (λ e. chosen (Compared side k) (eqb k Kind.LESS) _ _ (λ e. rw (eqb-true k _ e) (compared _ less-op))
+    (λ e. chosen (Compared side k) (eqb k Kind.GREATER) _ _ (λ e. rw (eqb-true k _ e) (compared _ greater-op))
+    (λ e. chosen (Compared side k) (eqb k Kind.AT-MOST) _ _ (λ e. rw (eqb-true k _ e) (compared _ at-most-op))
+    (λ e. chosen (Compared side k) (eqb k Kind.AT-LEAST) _ _ (λ e. rw (eqb-true k _ e) (compared _ at-least-op)) (λ e. not-compared))))))
 
-number-compared : (k o : ℕ) → Compared k o → Operated Table.NUMBER k (pick (eqb o Table.NONE) Table.NONE (o + 6))
+number-compared : (k : ℕ) (i : Infix) → Compared Operator.integers k i → Operated Table.NUMBER k i
 number-compared k _ not-compared = no-operator
-number-compared _ _ (compared o p equal-op) = joins _ 2 Table.NUMBER Table.TEST (j-numbers _ _ _ equal-op) fit-number
-number-compared _ _ (compared o p unequal-op) = joins _ 2 Table.NUMBER Table.TEST (j-numbers _ _ _ unequal-op) fit-number
-number-compared _ _ (compared o p less-op) = joins _ 2 Table.NUMBER Table.TEST (j-numbers _ _ _ less-op) fit-number
-number-compared _ _ (compared o p greater-op) = joins _ 2 Table.NUMBER Table.TEST (j-numbers _ _ _ greater-op) fit-number
-number-compared _ _ (compared o p at-most-op) = joins _ 2 Table.NUMBER Table.TEST (j-numbers _ _ _ at-most-op) fit-number
-number-compared _ _ (compared o p at-least-op) = joins _ 2 Table.NUMBER Table.TEST (j-numbers _ _ _ at-least-op) fit-number
+number-compared k _ (compared x c) = joins _ 2 Table.NUMBER Table.TEST (j-numbers k x c) fit-number
 
-abbrev N : ℕ → ℕ → Type 0
+abbrev N : ℕ → Infix → Type 0
 N = Operated Table.NUMBER
 
 number-operated : (k : ℕ) → Operated Table.NUMBER k (Table.numberOperator k)
@@ -154,20 +141,19 @@ number-operated k =
     (λ e. chosen (N k) (eqb k Kind.REMAINDER) _ _ (λ e. rw (eqb-true k _ e) (joins _ 4 Table.NUMBER Table.NUMBER (j-product _ _ remainder-op) fit-number))
     (λ e. chosen (N k) (eqb k Kind.PLUS) _ _ (λ e. rw (eqb-true k _ e) (joins _ 3 Table.NUMBER Table.NUMBER (j-sum _ _ plus-op) fit-number))
     (λ e. chosen (N k) (eqb k Kind.MINUS) _ _ (λ e. rw (eqb-true k _ e) (joins _ 3 Table.NUMBER Table.NUMBER (j-sum _ _ minus-op) fit-number))
-    (λ e. number-compared k (Table.comparison k) (compares k)))))))
+    (λ e. number-compared k (Table.comparison Operator.integers k) (compares Operator.integers k)))))))
 
-text-compared : (sort k o : ℕ) → Fits Table.TEXT sort → Compared k o → Operated sort k o
+text-compared : (sort k : ℕ) (i : Infix) → Fits Table.TEXT sort → Compared Operator.strings k i → Operated sort k i
 text-compared sort k _ f not-compared = no-operator
-text-compared sort k _ f (compared o p c) = joins o 2 Table.TEXT Table.TEST (j-texts k o p c) f
+text-compared sort k _ f (compared x c) = joins _ 2 Table.TEXT Table.TEST (j-texts k x c) f
 
 text-operated : (sort k : ℕ) → Fits Table.TEXT sort → Operated sort k (Table.textOperator k)
 unfolding Table.textOperator
 text-operated sort k f =
     chosen (Operated sort k) (eqb k Kind.DOT) _ _ (λ e. rw (eqb-true k _ e) (joins _ 3 Table.TEXT Table.TEXT j-join f))
-    (λ e. chosen (Operated sort k) (eqb k Kind.MATCHES) _ _ (λ e. match-operator) (λ e. text-compared sort k (Table.comparison k) f (compares k)))
+    (λ e. chosen (Operated sort k) (eqb k Kind.MATCHES) _ _ (λ e. match-operator) (λ e. text-compared sort k (Table.comparison Operator.strings k) f (compares Operator.strings k)))
 
-test-operated : (sort k other : ℕ) → Fits Table.TEST sort → Operated sort k other
-    → Operated sort k (pick (eqb (Table.testOperator k) Table.NONE) other (Table.testOperator k))
+test-operated : (sort k : ℕ) (other : Infix) → Fits Table.TEST sort → Operated sort k other → Operated sort k (Table.testOperator k other)
 unfolding Table.testOperator
 test-operated sort k other f h =
     split (eqb k Kind.AND) (λ e. rw (eqb-true k _ e) (joins _ 1 Table.TEST Table.TEST j-and f))
@@ -175,29 +161,28 @@ test-operated sort k other f h =
 
 pub operated : (sort k : ℕ) → Sorted sort → Operated sort k (Table.operator sort k)
 unfolding Table.operator
-operated _ k is-test = test-operated Table.TEST k Table.NONE fit-test no-operator
+operated _ k is-test = test-operated Table.TEST k no-infix fit-test no-operator
 operated _ k is-text = text-operated Table.TEXT k fit-text
 operated _ k is-number = number-operated k
 operated _ k is-true = test-operated Table.TRUE k (Table.textOperator k) fit-true (text-operated Table.TRUE k fit-true-name)
 operated _ k is-false = test-operated Table.FALSE k (Table.textOperator k) fit-false (text-operated Table.FALSE k fit-false-name)
 
 -- an operator that a level does not take no tighter level takes
-pub binds-less : (level m op : ℕ) → Table.binds level op ≡ false → level ≤ m → Table.binds m op ≡ false
+pub binds-less : (level m : ℕ) (i : Infix) → Table.binds level i ≡ false → level ≤ m → Table.binds m i ≡ false
 unfolding Table.binds
-binds-less level m op h l =
-    split (eqb op Table.NONE) (λ e. rw e)
-    (λ e. split (ltb (Table.levelOf op) level) (λ f. rw (e, lt-ltb (Table.levelOf op) m (omega (arith, ltb-true (Table.levelOf op) level f, l)))) (λ f. clash (rw (e, f)) h))
+binds-less level m no-infix h l = refl
+binds-less level m matching h l = lt-leb m 2 (omega (arith, leb-false level 2 h, l))
+binds-less level m (between op) h l = lt-leb m (Table.levelOf op) (omega (arith, leb-false level (Table.levelOf op) h, l))
 
-pub binds-high : (m op : ℕ) → 5 < m → Table.binds m op ≡ false
+pub binds-high : (m : ℕ) (i : Infix) → 5 < m → Table.binds m i ≡ false
 unfolding Table.binds
-binds-high m op h =
-    chosen (λ (b : Bool). b ≡ false) (eqb op Table.NONE) false _ (λ e. refl) (λ e. rw (lt-ltb (Table.levelOf op) m (omega (arith, level-most op, h))))
+binds-high m no-infix h = refl
+binds-high m matching h = lt-leb m 2 (omega (arith, h))
+binds-high m (between op) h = lt-leb m (Table.levelOf op) (omega (arith, level-most op, h))
 
 pub binds-none : (level sort k : ℕ) → k ≤ Kind.BAD-LINE → Table.binds level (Table.operator sort k) ≡ false
-unfolding Table.binds
 binds-none level sort k h =
-    split (eqb (Table.operator sort k) Table.NONE) (λ e. rw e)
-    (λ e. absurd (let l : Kind.BAD-LINE < k = operator-token sort k (eqb-false _ _ e) in let bad : ⊥ = omega (arith, l, h) in bad))
+    split (Table.binds level (Table.operator sort k)) (λ e. absurd (let l : Kind.BAD-LINE < k = operator-token level k sort e in let bad : ⊥ = omega (arith, l, h) in bad)) (λ e. e)
 
 -- for the tables a word is a name
 module _ (s : List ℕ) (t : Token) where

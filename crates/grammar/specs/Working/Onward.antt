@@ -4,11 +4,13 @@ use mathlib.Core.Bool.{Bool, true, false}
 use Prim.Native.Nat.{ℕ, _+_, _≤_, _<_}
 use native.Mathlib.Omega.{arith}
 use lib.Dec.{eqb, ltb}
-use borrow.Author.Tests.{eqb-true, ltb-true}
+use borrow.Author.Tests.{eqb-true, leb-false}
 use Rattle.text.specs.Choice.{pick, split, clash}
 use Rattle.lexical.specs.Kind
 use Rattle.lexical.specs.Bounds.{chosen}
+use Rattle.syntax.specs.Operator.{Binary}
 use Rattle.conditions.specs.Table
+use Rattle.conditions.specs.Working.Numbered as Numbered
 use Rattle.grammar.specs.Theorems.Shadow.{product-shadow, sum-shadow, compare-shadow}
 use Rattle.grammar.specs.Working.Stations.{Spot, in-clause, in-bracket, Frame, tests, right, Place, p-dead, p-over, p-begin, p-arrow, p-block, p-any, p-text, p-number, p-have, strict, station, endAt}
 use Rattle.grammar.specs.Working.Stationed.{Words, w-text, w-word, Held, h-test, h-word, Junction, junction-and, junction-or, strict-strict, power-number, product-number, sum-number, dot-text, words-dot, number-compare, words-compare, held-junction}
@@ -68,32 +70,30 @@ test-low k = split (eqb k Kind.AND) (λ e. rw e) (λ e. split (eqb k Kind.OR) (�
 test-none : (k : ℕ) → Table.binds 3 (Table.operator Table.TEST k) ≡ false
 test-none k = binds-less 2 3 (Table.operator Table.TEST k) (test-low k) (omega arith)
 
-level-two : (op : ℕ) → 2 ≤ Table.levelOf op → Table.binds 2 op ≡ false → Table.binds 0 op ≡ false
+level-two : (op : Binary) → 2 ≤ Table.levelOf op → Table.binds 2 (Table.between op) ≡ false → Table.binds 0 (Table.between op) ≡ false
 unfolding Table.binds
-level-two op h b =
-    split (eqb op Table.NONE) (λ e. rw e)
-    (λ e. split (ltb (Table.levelOf op) 2) (λ f. absurd (let bad : ⊥ = omega (arith, h, ltb-true (Table.levelOf op) 2 f) in bad)) (λ f. clash (rw (e, f)) b))
+level-two op h b = absurd (let bad : ⊥ = omega (arith, h, leb-false 2 (Table.levelOf op) b) in bad)
 
-none-low : Table.binds 0 Table.NONE ≡ false
+none-low : Table.binds 0 Table.no-infix ≡ false
 unfolding Table.binds
 none-low = refl
 
-match-high : Table.binds 2 Table.MATCH ≡ true
-unfolding Table.binds Table.levelOf
+match-high : Table.binds 2 Table.matching ≡ true
+unfolding Table.binds
 match-high = refl
 
-tabled-level : (op l o r : ℕ) → Tabled op l o r → Table.levelOf op ≡ l
+tabled-level : (op : Binary) (l o r : ℕ) → Tabled op l o r → Table.levelOf op ≡ l
 tabled-level op l o r (tabled a b c) = a
 
-pub unfit-low : (sort k op : ℕ) → Unfit sort → Operated sort k op → Table.binds 2 op ≡ false → Table.binds 0 op ≡ false
+pub unfit-low : (sort k : ℕ) (i : Table.Infix) → Unfit sort → Operated sort k i → Table.binds 2 i ≡ false → Table.binds 0 i ≡ false
 unfit-low sort k _ u no-operator b = none-low
 unfit-low sort k _ u match-operator b = clash match-high b
 unfit-low _ k _ unfit-text (joins op l o r j-join fit-text) b = level-two op (omega (arith, tabled-level op l o r (joint-tabled k op l o r j-join))) b
-unfit-low _ k _ unfit-text (joins op l o r (j-texts _ _ p c) fit-text) b = level-two op (omega (arith, tabled-level op l o r (joint-tabled k op l o r (j-texts k op p c)))) b
+unfit-low _ k _ unfit-text (joins op l o r (j-texts _ x c) fit-text) b = level-two op (omega (arith, tabled-level op l o r (joint-tabled k op l o r (j-texts k x c)))) b
 unfit-low _ k _ unfit-number (joins op l o r j-power fit-number) b = level-two op (omega (arith, tabled-level op l o r (joint-tabled k op l o r j-power))) b
 unfit-low _ k _ unfit-number (joins op l o r (j-product _ _ c) fit-number) b = level-two op (omega (arith, tabled-level op l o r (joint-tabled k op l o r (j-product k op c)))) b
 unfit-low _ k _ unfit-number (joins op l o r (j-sum _ _ c) fit-number) b = level-two op (omega (arith, tabled-level op l o r (joint-tabled k op l o r (j-sum k op c)))) b
-unfit-low _ k _ unfit-number (joins op l o r (j-numbers _ q _ c) fit-number) b = level-two op (omega (arith, tabled-level op l o r (joint-tabled k op l o r (j-numbers k q op c)))) b
+unfit-low _ k _ unfit-number (joins op l o r (j-numbers _ x c) fit-number) b = level-two op (omega (arith, tabled-level op l o r (joint-tabled k op l o r (j-numbers k x c)))) b
 
 -- a bare word that no operator of strings follows is a test
 word-operator : (k : ℕ) → Table.binds 2 (Table.operator Table.TRUE k) ≡ false → Table.binds 0 (Table.operator Table.TRUE k) ≡ Table.binds 0 (Table.operator Table.TEST k)
@@ -186,55 +186,55 @@ junction S m k h j sort f =
     onward (p-any (strict S)) (any-test S k (p-any (strict S)) (held-junction S k j) sort f) (start-any (strict S)) (strict-test S m h) (λ sort k z u b. strict-dead S m h sort k u b)
 
 -- where an operator leads behind what was read
-pub joint-onward : (level want sort k op l o r : ℕ) (q : Place) → Asked level want → Starts level want q → Suits want sort → Joint k op l o r → Fits o sort → level ≤ l
-    → Onward q (l + 1) (Table.wantOf o) o r (station (after q sort) k)
+pub joint-onward : (level want sort k : ℕ) (op : Binary) (l o r : ℕ) (q : Place) → Asked level want → Starts level want q → Suits want sort → Joint k op l o r → Fits o sort → level ≤ l
+    → Onward q (l + 1) (Numbered.wantOf o) o r (station (after q sort) k)
 joint-onward level _ _ _ _ _ _ _ _ a (start-any S) u j-power fit-number h = arithmetic (p-any S) (tests S) 6 Kind.POWER refl (power-number (tests S))
 joint-onward level _ _ _ _ _ _ _ _ a (start-any S) u (j-product k op c) fit-number h = arithmetic (p-any S) (tests S) 5 k refl (product-number (tests S) k (product-shadow k op c .0))
 joint-onward level _ _ _ _ _ _ _ _ a (start-any S) u (j-sum k op c) fit-number h = arithmetic (p-any S) (tests S) 4 k refl (sum-number (tests S) k (sum-shadow k op c .0))
 joint-onward level _ sort _ _ _ _ _ _ a (start-any S) u j-join f h =
     typed (p-any S) 4 Table.TEXT Table.TEXT Table.TEXT _ (p-text Table.TEXT (tests S)) (any-text S Kind.DOT _ (words-dot S) sort f) (start-text (tests S)) text-test (λ x j g b. refl)
-joint-onward level _ _ _ _ _ _ _ _ a (start-any S) u (j-numbers k op p c) fit-number h =
-    typed (p-any S) 3 Table.INTEGER Table.NUMBER Table.TEST _ (p-number Table.INTEGER (right (strict S))) (number-compare S k (compare-shadow k op p c .0)) (start-integer (right (strict S))) number-test
+joint-onward level _ _ _ _ _ _ _ _ a (start-any S) u (j-numbers k y c) fit-number h =
+    typed (p-any S) 3 Table.INTEGER Table.NUMBER Table.TEST _ (p-number Table.INTEGER (right (strict S))) (number-compare S k (compare-shadow k y c .0)) (start-integer (right (strict S))) number-test
     (λ x j g b. right-number (strict S) j (number-fit x j 3 g b))
-joint-onward level _ sort _ _ _ _ _ _ a (start-any S) u (j-texts k op p c) f h =
-    typed (p-any S) 3 Table.TEXT Table.TEXT Table.TEST _ (p-text Table.TEXT (right (strict S))) (any-text S k _ (words-compare S k (compare-shadow k op p c .0)) sort f) (start-text (right (strict S))) text-test
+joint-onward level _ sort _ _ _ _ _ _ a (start-any S) u (j-texts k y c) f h =
+    typed (p-any S) 3 Table.TEXT Table.TEXT Table.TEST _ (p-text Table.TEXT (right (strict S))) (any-text S k _ (words-compare S k (compare-shadow k y c .0)) sort f) (start-text (right (strict S))) text-test
     (λ x j g b. right-text (strict S) j (text-fit x j 3 g b))
 joint-onward level _ sort _ _ _ _ _ _ a (start-any S) u j-and f h = junction S 2 Kind.AND (omega arith) junction-and sort f
 joint-onward level _ sort _ _ _ _ _ _ a (start-any S) u j-or f h = junction S 1 Kind.OR (omega arith) junction-or sort f
 joint-onward level _ _ _ _ _ _ _ _ a (start-text F) suits-text j-join fit-text h =
     typed (p-text Table.TEXT F) 4 Table.TEXT Table.TEXT Table.TEXT _ (p-text Table.TEXT F) (dot-text F) (start-text F) text-test (λ x j g b. refl)
-joint-onward level _ _ _ _ _ _ _ _ (asked-text i g) (start-text F) suits-text (j-texts k op p c) fit-text h = absurd (let bad : ⊥ = omega (arith, i, h) in bad)
+joint-onward level _ _ _ _ _ _ _ _ (asked-text i g) (start-text F) suits-text (j-texts k y c) fit-text h = absurd (let bad : ⊥ = omega (arith, i, h) in bad)
 joint-onward level _ _ _ _ _ _ _ _ a (start-operand x F i) suits-text j-join fit-text h = absurd (let bad : ⊥ = omega (arith, i, h) in bad)
-joint-onward level _ _ _ _ _ _ _ _ a (start-operand x F i) suits-text (j-texts k op p c) fit-text h = absurd (let bad : ⊥ = omega (arith, i, h) in bad)
+joint-onward level _ _ _ _ _ _ _ _ a (start-operand x F i) suits-text (j-texts k y c) fit-text h = absurd (let bad : ⊥ = omega (arith, i, h) in bad)
 joint-onward level _ _ _ _ _ _ _ _ a (start-number F) suits-number j-power fit-number h = arithmetic (p-number Table.NUMBER F) F 6 Kind.POWER refl (power-number F)
 joint-onward level _ _ _ _ _ _ _ _ a (start-number F) suits-number (j-product k op c) fit-number h = arithmetic (p-number Table.NUMBER F) F 5 k refl (product-number F k (product-shadow k op c .0))
 joint-onward level _ _ _ _ _ _ _ _ a (start-number F) suits-number (j-sum k op c) fit-number h = arithmetic (p-number Table.NUMBER F) F 4 k refl (sum-number F k (sum-shadow k op c .0))
-joint-onward level _ _ _ _ _ _ _ _ (asked-number i g) (start-number F) suits-number (j-numbers k op p c) fit-number h = absurd (let bad : ⊥ = omega (arith, i, h) in bad)
+joint-onward level _ _ _ _ _ _ _ _ (asked-number i g) (start-number F) suits-number (j-numbers k y c) fit-number h = absurd (let bad : ⊥ = omega (arith, i, h) in bad)
 joint-onward level _ _ _ _ _ _ _ _ a (start-integer F) suits-integer j-power fit-number h = arithmetic (p-number Table.INTEGER F) F 6 Kind.POWER refl (power-number F)
 joint-onward level _ _ _ _ _ _ _ _ a (start-integer F) suits-integer (j-product k op c) fit-number h = arithmetic (p-number Table.INTEGER F) F 5 k refl (product-number F k (product-shadow k op c .0))
 joint-onward level _ _ _ _ _ _ _ _ a (start-integer F) suits-integer (j-sum k op c) fit-number h = arithmetic (p-number Table.INTEGER F) F 4 k refl (sum-number F k (sum-shadow k op c .0))
-joint-onward level _ _ _ _ _ _ _ _ (asked-integer i g) (start-integer F) suits-integer (j-numbers k op p c) fit-number h = absurd (let bad : ⊥ = omega (arith, i, h) in bad)
+joint-onward level _ _ _ _ _ _ _ _ (asked-integer i g) (start-integer F) suits-integer (j-numbers k y c) fit-number h = absurd (let bad : ⊥ = omega (arith, i, h) in bad)
 
 -- and what is read then suits what was wanted
-pub joint-suits : (level want sort k op l o r : ℕ) → Asked level want → Suits want sort → Joint k op l o r → Fits o sort → level ≤ l → Suits want r
+pub joint-suits : (level want sort k : ℕ) (op : Binary) (l o r : ℕ) → Asked level want → Suits want sort → Joint k op l o r → Fits o sort → level ≤ l → Suits want r
 joint-suits level _ _ _ _ _ _ _ a (suits-any sort x) j-power f h = suits-any _ is-number
 joint-suits level _ _ _ _ _ _ _ a (suits-any sort x) (j-product k op c) f h = suits-any _ is-number
 joint-suits level _ _ _ _ _ _ _ a (suits-any sort x) (j-sum k op c) f h = suits-any _ is-number
 joint-suits level _ _ _ _ _ _ _ a (suits-any sort x) j-join f h = suits-any _ is-text
-joint-suits level _ _ _ _ _ _ _ a (suits-any sort x) (j-numbers k op p c) f h = suits-any _ is-test
-joint-suits level _ _ _ _ _ _ _ a (suits-any sort x) (j-texts k op p c) f h = suits-any _ is-test
+joint-suits level _ _ _ _ _ _ _ a (suits-any sort x) (j-numbers k y c) f h = suits-any _ is-test
+joint-suits level _ _ _ _ _ _ _ a (suits-any sort x) (j-texts k y c) f h = suits-any _ is-test
 joint-suits level _ _ _ _ _ _ _ a (suits-any sort x) j-and f h = suits-any _ is-test
 joint-suits level _ _ _ _ _ _ _ a (suits-any sort x) j-or f h = suits-any _ is-test
 joint-suits level _ _ _ _ _ _ _ a suits-text j-join fit-text h = suits-text
-joint-suits level _ _ _ _ _ _ _ (asked-text i g) suits-text (j-texts k op p c) fit-text h = absurd (let bad : ⊥ = omega (arith, i, h) in bad)
+joint-suits level _ _ _ _ _ _ _ (asked-text i g) suits-text (j-texts k y c) fit-text h = absurd (let bad : ⊥ = omega (arith, i, h) in bad)
 joint-suits level _ _ _ _ _ _ _ a suits-number j-power f h = suits-number
 joint-suits level _ _ _ _ _ _ _ a suits-number (j-product k op c) f h = suits-number
 joint-suits level _ _ _ _ _ _ _ a suits-number (j-sum k op c) f h = suits-number
-joint-suits level _ _ _ _ _ _ _ (asked-number i g) suits-number (j-numbers k op p c) fit-number h = absurd (let bad : ⊥ = omega (arith, i, h) in bad)
+joint-suits level _ _ _ _ _ _ _ (asked-number i g) suits-number (j-numbers k y c) fit-number h = absurd (let bad : ⊥ = omega (arith, i, h) in bad)
 joint-suits level _ _ _ _ _ _ _ a suits-integer j-power f h = suits-integer
 joint-suits level _ _ _ _ _ _ _ a suits-integer (j-product k op c) f h = suits-integer
 joint-suits level _ _ _ _ _ _ _ a suits-integer (j-sum k op c) f h = suits-integer
-joint-suits level _ _ _ _ _ _ _ (asked-integer i g) suits-integer (j-numbers k op p c) fit-number h = absurd (let bad : ⊥ = omega (arith, i, h) in bad)
+joint-suits level _ _ _ _ _ _ _ (asked-integer i g) suits-integer (j-numbers k y c) fit-number h = absurd (let bad : ⊥ = omega (arith, i, h) in bad)
 
 test-ends : (m sort k : ℕ) → Fits Table.TEST sort → Table.binds m (Table.operator sort k) ≡ false → Table.binds m (Table.operator Table.TEST k) ≡ false
 unfolding Table.operator Table.testOperator Table.binds
@@ -243,33 +243,33 @@ test-ends m _ k fit-true b = split (eqb k Kind.AND) (λ e. rw e (rw e at b)) (λ
 test-ends m _ k fit-false b = split (eqb k Kind.AND) (λ e. rw e (rw e at b)) (λ e. split (eqb k Kind.OR) (λ f. rw (e, f) (rw (e, f) at b)) (λ f. rw (e, f) refl))
 
 -- what follows the right operand and is no operator there is none behind the whole
-pub joint-ends : (k op l o r : ℕ) → Joint k op l o r → (sort j : ℕ) → Fits o sort → Table.binds (l + 1) (Table.operator sort j) ≡ false → Table.binds (l + 1) (Table.operator r j) ≡ false
+pub joint-ends : (k : ℕ) (op : Binary) (l o r : ℕ) → Joint k op l o r → (sort j : ℕ) → Fits o sort → Table.binds (l + 1) (Table.operator sort j) ≡ false → Table.binds (l + 1) (Table.operator r j) ≡ false
 joint-ends _ _ _ _ _ j-power sort j f b = number-fit sort j 6 f b
 joint-ends _ _ _ _ _ (j-product k op c) sort j f b = number-fit sort j 5 f b
 joint-ends _ _ _ _ _ (j-sum k op c) sort j f b = number-fit sort j 4 f b
 joint-ends _ _ _ _ _ j-join sort j f b = text-fit sort j 4 f b
-joint-ends _ _ _ _ _ (j-numbers k op p c) sort j f b = test-none j
-joint-ends _ _ _ _ _ (j-texts k op p c) sort j f b = test-none j
+joint-ends _ _ _ _ _ (j-numbers k y c) sort j f b = test-none j
+joint-ends _ _ _ _ _ (j-texts k y c) sort j f b = test-none j
 joint-ends _ _ _ _ _ j-and sort j f b = test-low j
 joint-ends _ _ _ _ _ j-or sort j f b = test-ends 1 sort j f b
 
-pub joint-asked : (k op l o r : ℕ) → Joint k op l o r → Asked (l + 1) (Table.wantOf o)
+pub joint-asked : (k : ℕ) (op : Binary) (l o r : ℕ) → Joint k op l o r → Asked (l + 1) (Numbered.wantOf o)
 joint-asked _ _ _ _ _ j-power = asked-integer (omega arith) (omega arith)
 joint-asked _ _ _ _ _ (j-product k op c) = asked-integer (omega arith) (omega arith)
 joint-asked _ _ _ _ _ (j-sum k op c) = asked-integer (omega arith) (omega arith)
 joint-asked _ _ _ _ _ j-join = asked-text (omega arith) (omega arith)
-joint-asked _ _ _ _ _ (j-numbers k op p c) = asked-integer (omega arith) (omega arith)
-joint-asked _ _ _ _ _ (j-texts k op p c) = asked-text (omega arith) (omega arith)
+joint-asked _ _ _ _ _ (j-numbers k y c) = asked-integer (omega arith) (omega arith)
+joint-asked _ _ _ _ _ (j-texts k y c) = asked-text (omega arith) (omega arith)
 joint-asked _ _ _ _ _ j-and = asked-any (omega arith)
 joint-asked _ _ _ _ _ j-or = asked-any (omega arith)
 
-pub joint-goal : (k op l o r : ℕ) → Joint k op l o r → goal (Table.wantOf o) ≡ o
+pub joint-goal : (k : ℕ) (op : Binary) (l o r : ℕ) → Joint k op l o r → goal (Numbered.wantOf o) ≡ o
 joint-goal _ _ _ _ _ j-power = refl
 joint-goal _ _ _ _ _ (j-product k op c) = refl
 joint-goal _ _ _ _ _ (j-sum k op c) = refl
 joint-goal _ _ _ _ _ j-join = refl
-joint-goal _ _ _ _ _ (j-numbers k op p c) = refl
-joint-goal _ _ _ _ _ (j-texts k op p c) = refl
+joint-goal _ _ _ _ _ (j-numbers k y c) = refl
+joint-goal _ _ _ _ _ (j-texts k y c) = refl
 joint-goal _ _ _ _ _ j-and = refl
 joint-goal _ _ _ _ _ j-or = refl
 

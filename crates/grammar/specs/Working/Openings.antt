@@ -11,7 +11,8 @@ use Rattle.lexical.specs.Kind
 use Rattle.lexical.specs.Bounds.{chosen}
 use Rattle.lexical.specs.Word.{word-true, word-false}
 use Rattle.lexical.specs.declared.token.Token.{Token}
-use Rattle.syntax.specs.Op
+use Rattle.syntax.specs.Operator.{Unary, unaryTakes, unaryGives}
+use Rattle.syntax.specs.Operator as Operator
 use Rattle.syntax.specs.Expr.{Expr, unary}
 use Rattle.conditions.specs.Table
 use Rattle.conditions.specs.Word.{wordSort}
@@ -26,35 +27,35 @@ use Rattle.grammar.specs.Working.Told.{goal, Completes, something, Told,
 use Rattle.grammar.specs.Working.Onward.{Starts, start-any, start-text, start-operand, start-number, start-integer, after, Asked, asked-any, asked-text, asked-number, asked-integer, Onward, onward, typed, number-test, text-test, strict-test, strict-dead}
 
 -- where `want` is wanted, the mark k writes the prefix operator op, behind which `wanted` is read at `level`; it takes one of sort o and gives one of sort r
-pub data Before : ℕ → ℕ → ℕ → ℕ → ℕ → ℕ → ℕ → Type 0 where
-  minus-any : Before Kind.MINUS Op.NEGATE Table.ANY 6 Table.NUMBER Table.NUMBER Table.NUMBER
-  minus-number : Before Kind.MINUS Op.NEGATE Table.NUMBER 6 Table.NUMBER Table.NUMBER Table.NUMBER
-  minus-integer : Before Kind.MINUS Op.NEGATE Table.INTEGER 6 Table.INTEGER Table.NUMBER Table.NUMBER
-  at-any : Before Kind.AT Op.CONVERT Table.ANY 6 Table.TEXT Table.TEXT Table.NUMBER
-  at-number : Before Kind.AT Op.CONVERT Table.NUMBER 6 Table.TEXT Table.TEXT Table.NUMBER
-  at-integer : Before Kind.AT Op.CONVERT Table.INTEGER 6 Table.TEXT Table.TEXT Table.NUMBER
-  dollar-any : Before Kind.DOLLAR Op.LOOKUP Table.ANY 6 Table.TEXT Table.TEXT Table.TEXT
-  dollar-text : Before Kind.DOLLAR Op.LOOKUP Table.TEXT 6 Table.TEXT Table.TEXT Table.TEXT
-  not-test : Before Kind.NOT Op.OPPOSITE Table.ANY 2 Table.ANY Table.TEST Table.TEST
+pub data Before : ℕ → Unary → ℕ → ℕ → ℕ → ℕ → ℕ → Type 0 where
+  minus-any : Before Kind.MINUS Operator.negate Table.ANY 6 Table.NUMBER Table.NUMBER Table.NUMBER
+  minus-number : Before Kind.MINUS Operator.negate Table.NUMBER 6 Table.NUMBER Table.NUMBER Table.NUMBER
+  minus-integer : Before Kind.MINUS Operator.negate Table.INTEGER 6 Table.INTEGER Table.NUMBER Table.NUMBER
+  at-any : Before Kind.AT Operator.convert Table.ANY 6 Table.TEXT Table.TEXT Table.NUMBER
+  at-number : Before Kind.AT Operator.convert Table.NUMBER 6 Table.TEXT Table.TEXT Table.NUMBER
+  at-integer : Before Kind.AT Operator.convert Table.INTEGER 6 Table.TEXT Table.TEXT Table.NUMBER
+  dollar-any : Before Kind.DOLLAR Operator.lookup Table.ANY 6 Table.TEXT Table.TEXT Table.TEXT
+  dollar-text : Before Kind.DOLLAR Operator.lookup Table.TEXT 6 Table.TEXT Table.TEXT Table.TEXT
+  not-test : Before Kind.NOT Operator.opposite Table.ANY 2 Table.ANY Table.TEST Table.TEST
 
 -- what the tables say of it; its mark is no name
-pub data BeforeTabled (k op want level wanted o r : ℕ) : Type 0 where
-  before-tabled : Table.operandLevel op ≡ level → Table.operandWant op want ≡ wanted → Table.operandOf op ≡ o → Table.resultOf op ≡ r → goal wanted ≡ o → eqb k Kind.NAME ≡ false
-      → eqb op Table.NONE ≡ false → BeforeTabled k op want level wanted o r
+pub data BeforeTabled (k : ℕ) (op : Unary) (want level wanted o r : ℕ) : Type 0 where
+  before-tabled : Table.operandLevel op ≡ level → Table.operandWant op want ≡ wanted → Table.sortOf (unaryTakes op) ≡ o → Table.sortOf (unaryGives op) ≡ r → goal wanted ≡ o
+      → eqb k Kind.NAME ≡ false → BeforeTabled k op want level wanted o r
 
-pub before-table : (k op want level wanted o r : ℕ) → Before k op want level wanted o r → BeforeTabled k op want level wanted o r
-unfolding Table.operandLevel Table.operandWant Table.operandOf Table.resultOf
-before-table _ _ _ _ _ _ _ minus-any = before-tabled refl refl refl refl refl refl refl
-before-table _ _ _ _ _ _ _ minus-number = before-tabled refl refl refl refl refl refl refl
-before-table _ _ _ _ _ _ _ minus-integer = before-tabled refl refl refl refl refl refl refl
-before-table _ _ _ _ _ _ _ at-any = before-tabled refl refl refl refl refl refl refl
-before-table _ _ _ _ _ _ _ at-number = before-tabled refl refl refl refl refl refl refl
-before-table _ _ _ _ _ _ _ at-integer = before-tabled refl refl refl refl refl refl refl
-before-table _ _ _ _ _ _ _ dollar-any = before-tabled refl refl refl refl refl refl refl
-before-table _ _ _ _ _ _ _ dollar-text = before-tabled refl refl refl refl refl refl refl
-before-table _ _ _ _ _ _ _ not-test = before-tabled refl refl refl refl refl refl refl
+pub before-table : (k : ℕ) (op : Unary) (want level wanted o r : ℕ) → Before k op want level wanted o r → BeforeTabled k op want level wanted o r
+unfolding Table.operandLevel Table.operandWant
+before-table _ _ _ _ _ _ _ minus-any = before-tabled refl refl refl refl refl refl
+before-table _ _ _ _ _ _ _ minus-number = before-tabled refl refl refl refl refl refl
+before-table _ _ _ _ _ _ _ minus-integer = before-tabled refl refl refl refl refl refl
+before-table _ _ _ _ _ _ _ at-any = before-tabled refl refl refl refl refl refl
+before-table _ _ _ _ _ _ _ at-number = before-tabled refl refl refl refl refl refl
+before-table _ _ _ _ _ _ _ at-integer = before-tabled refl refl refl refl refl refl
+before-table _ _ _ _ _ _ _ dollar-any = before-tabled refl refl refl refl refl refl
+before-table _ _ _ _ _ _ _ dollar-text = before-tabled refl refl refl refl refl refl
+before-table _ _ _ _ _ _ _ not-test = before-tabled refl refl refl refl refl refl
 
-pub before-asked : (k op want level wanted o r : ℕ) → Before k op want level wanted o r → Asked level wanted
+pub before-asked : (k : ℕ) (op : Unary) (want level wanted o r : ℕ) → Before k op want level wanted o r → Asked level wanted
 before-asked _ _ _ _ _ _ _ minus-any = asked-number (omega arith) (omega arith)
 before-asked _ _ _ _ _ _ _ minus-number = asked-number (omega arith) (omega arith)
 before-asked _ _ _ _ _ _ _ minus-integer = asked-integer (omega arith) (omega arith)
@@ -65,7 +66,7 @@ before-asked _ _ _ _ _ _ _ dollar-any = asked-text (omega arith) (omega arith)
 before-asked _ _ _ _ _ _ _ dollar-text = asked-text (omega arith) (omega arith)
 before-asked _ _ _ _ _ _ _ not-test = asked-any (omega arith)
 
-pub before-suits : (k op want level wanted o r : ℕ) → Before k op want level wanted o r → Suits want r
+pub before-suits : (k : ℕ) (op : Unary) (want level wanted o r : ℕ) → Before k op want level wanted o r → Suits want r
 before-suits _ _ _ _ _ _ _ minus-any = suits-any _ is-number
 before-suits _ _ _ _ _ _ _ minus-number = suits-number
 before-suits _ _ _ _ _ _ _ minus-integer = suits-integer
@@ -77,7 +78,7 @@ before-suits _ _ _ _ _ _ _ dollar-text = suits-text
 before-suits _ _ _ _ _ _ _ not-test = suits-any _ is-test
 
 -- the tree
-pub before-told : (s : List ℕ) (k op want level wanted o r : ℕ) (t : Token) (us : List Token) (f : Expr) → Before k op want level wanted o r → t .kind ≡ k → Told s o level us f
+pub before-told : (s : List ℕ) (k : ℕ) (op : Unary) (want level wanted o r : ℕ) (t : Token) (us : List Token) (f : Expr) → Before k op want level wanted o r → t .kind ≡ k → Told s o level us f
     → Told s r 7 (t ∷ us) (unary op f)
 before-told s _ _ _ _ _ _ _ t _ _ minus-any z (told-number _ us f d) = told-number 7 _ _ (negate-tree t us f z d)
 before-told s _ _ _ _ _ _ _ t _ _ minus-number z (told-number _ us f d) = told-number 7 _ _ (negate-tree t us f z d)
@@ -90,7 +91,7 @@ before-told s _ _ _ _ _ _ _ t _ _ dollar-text z (told-text _ us f d) = told-text
 before-told s _ _ _ _ _ _ _ t _ _ not-test z (told-test _ us f d) = told-test 7 _ _ (not-tree t us f z d)
 
 -- where the mark leads
-pub before-onward : (k op want level wanted o r : ℕ) (q : Place) → Before k op want level wanted o r → Starts 7 want q → Onward q level wanted o r (station q k)
+pub before-onward : (k : ℕ) (op : Unary) (want level wanted o r : ℕ) (q : Place) → Before k op want level wanted o r → Starts 7 want q → Onward q level wanted o r (station q k)
 unfolding station Table.allows Table.beginsNumber Table.beginsString Table.beginsFloat
 before-onward _ _ _ _ _ _ _ _ minus-any (start-any S) = typed (p-any S) 6 _ Table.NUMBER _ _ (p-number Table.NUMBER (tests S)) refl (start-number (tests S)) number-test (λ x j g b. refl)
 before-onward _ _ _ _ _ _ _ _ minus-number (start-number F) = typed (p-number Table.NUMBER F) 6 _ Table.NUMBER _ _ (p-number Table.NUMBER F) refl (start-number F) number-test (λ x j g b. refl)
@@ -122,32 +123,32 @@ asked-wanting level _ (asked-number h i) = want-number
 asked-wanting level _ (asked-integer h i) = want-integer
 
 -- a token that may stand as an operand: a prefix operator, or none
-pub data Prefixing (want k : ℕ) : ℕ → Type 0 where
-  prefixes : (op level wanted o r : ℕ) → Before k op want level wanted o r → Prefixing want k op
-  no-prefix : Prefixing want k Table.NONE
+pub data Prefixing (want k : ℕ) : Table.Prefix → Type 0 where
+  prefixes : (op : Unary) (level wanted o r : ℕ) → Before k op want level wanted o r → Prefixing want k (Table.before op)
+  no-prefix : Prefixing want k Table.no-prefix
 
-minus-prefix : (want : ℕ) → Wanting want → Table.allows want Kind.MINUS ≡ true → Prefixing want Kind.MINUS Op.NEGATE
+minus-prefix : (want : ℕ) → Wanting want → Table.allows want Kind.MINUS ≡ true → Prefixing want Kind.MINUS (Table.before Operator.negate)
 unfolding Table.allows Table.beginsString
 minus-prefix _ want-any h = prefixes _ _ _ _ _ minus-any
 minus-prefix _ want-text h = clash h refl
 minus-prefix _ want-number h = prefixes _ _ _ _ _ minus-number
 minus-prefix _ want-integer h = prefixes _ _ _ _ _ minus-integer
 
-at-prefix : (want : ℕ) → Wanting want → Table.allows want Kind.AT ≡ true → Prefixing want Kind.AT Op.CONVERT
+at-prefix : (want : ℕ) → Wanting want → Table.allows want Kind.AT ≡ true → Prefixing want Kind.AT (Table.before Operator.convert)
 unfolding Table.allows Table.beginsString
 at-prefix _ want-any h = prefixes _ _ _ _ _ at-any
 at-prefix _ want-text h = clash h refl
 at-prefix _ want-number h = prefixes _ _ _ _ _ at-number
 at-prefix _ want-integer h = prefixes _ _ _ _ _ at-integer
 
-dollar-prefix : (want : ℕ) → Wanting want → Table.allows want Kind.DOLLAR ≡ true → Prefixing want Kind.DOLLAR Op.LOOKUP
+dollar-prefix : (want : ℕ) → Wanting want → Table.allows want Kind.DOLLAR ≡ true → Prefixing want Kind.DOLLAR (Table.before Operator.lookup)
 unfolding Table.allows Table.beginsNumber Table.beginsFloat
 dollar-prefix _ want-any h = prefixes _ _ _ _ _ dollar-any
 dollar-prefix _ want-text h = prefixes _ _ _ _ _ dollar-text
 dollar-prefix _ want-number h = clash h refl
 dollar-prefix _ want-integer h = clash h refl
 
-not-prefix : (want : ℕ) → Wanting want → Table.allows want Kind.NOT ≡ true → Prefixing want Kind.NOT Op.OPPOSITE
+not-prefix : (want : ℕ) → Wanting want → Table.allows want Kind.NOT ≡ true → Prefixing want Kind.NOT (Table.before Operator.opposite)
 unfolding Table.allows
 not-prefix _ want-any h = prefixes _ _ _ _ _ not-test
 not-prefix _ want-text h = clash h refl
@@ -311,7 +312,7 @@ asked-most level _ (asked-text h i) = omega (arith, i)
 asked-most level _ (asked-number h i) = omega (arith, i)
 asked-most level _ (asked-integer h i) = omega (arith, i)
 
-pub before-most : (k op want level wanted o r : ℕ) → Before k op want level wanted o r → level ≤ 7
+pub before-most : (k : ℕ) (op : Unary) (want level wanted o r : ℕ) → Before k op want level wanted o r → level ≤ 7
 before-most k op want level wanted o r b = asked-most level wanted (before-asked k op want level wanted o r b)
 
 pub inside-asked : (want : ℕ) → Wanting want → Asked (Table.insideLevel want) want

@@ -6,7 +6,7 @@ use Prim.Native.Nat.{ℕ, zero, suc, _+_, _-_, _≤_, _<_}
 use native.Mathlib.Omega.{arith}
 use lib.Dec.{eqb, leb, ltb}
 use lib.ListN.{length}
-use borrow.Author.Tests.{eqb-true, ne-eqb, leb-true, ltb-true, ltb-false}
+use borrow.Author.Tests.{eqb-true, leb-true, leb-false, ltb-true, ltb-false}
 use Rattle.text.specs.Choice.{pick, split, clash}
 use Rattle.text.specs.Loop.{Step}
 use Rattle.lexical.specs.Kind
@@ -14,6 +14,7 @@ use Rattle.lexical.specs.Bounds.{chosen}
 use Rattle.lexical.specs.Literal.{decodedAt}
 use Rattle.lexical.specs.Number as Number
 use Rattle.lexical.specs.declared.token.Token.{Token}
+use Rattle.syntax.specs.Operator.{Unary, Binary, Sort, unaryTakes, unaryGives, binaryTakes, binaryGives}
 use Rattle.syntax.specs.Code.{nameAt}
 use Rattle.syntax.specs.Expr.{Expr, name, unary, binary}
 use Rattle.syntax.specs.Parsed.{Parsed, ok, aside, refusal, unexpected}
@@ -23,7 +24,10 @@ use Rattle.conditions.specs.Parsed.{Part, part, onPart}
 use Rattle.conditions.specs.Operand.{readLiteral, readName, readDigits, readFloat, readLeaf, settledTree, applied}
 use Rattle.conditions.specs.Expression as E
 use Rattle.conditions.specs.Working.Pace.{Sound, real}
+use Rattle.conditions.specs.Working.Cases.{infix-cases}
 use Rattle.conditions.specs.Working.Reach.{binds-level}
+use Rattle.conditions.specs.Working.TieTable.{want-number}
+use Rattle.conditions.specs.Working.Numbered as Numbered
 use Rattle.grammar.specs.Conditions.{TRUTH}
 use Rattle.grammar.specs.Spelled.{kindIn, kindsIn, Tokens}
 use Rattle.grammar.specs.Viable.{at-once, and-on}
@@ -33,16 +37,19 @@ use Rattle.grammar.specs.Working.Marks.{mark, kinds-append, tokens-appen
 use Rattle.grammar.specs.Working.Automaton.{run, run-append}
 use Rattle.grammar.specs.Working.Looping.{Went, went-next, went-done, loop-went}
 use Rattle.grammar.specs.Working.Stations.{Place, p-dead, station}
-use Rattle.grammar.specs.Working.Joints.{Fits, Unfit, Joint, Tabled, tabled, joint-tabled, joint-mark, Operated, no-operator, match-operator, joins, operated, binds-high, binds-none, operator-kind, test-kind}
+use Rattle.grammar.specs.Working.Joints.{Fits, Unfit, Joint, Tabled, tabled, joint-tabled, joint-mark, Operated, joins, operated, binds-high, binds-none, operator-kind, test-kind}
 use Rattle.grammar.specs.Working.Told.{Told, told-text, told-number, told-true, told-false, lower, settle, joined, enclosed, goal, Suits, suits-sorted, Completes, completes, completes-lower, finish}
 use Rattle.grammar.specs.Working.Onward.{Starts, starts-up, after, Asked, Onward, onward, joint-onward, joint-suits, joint-ends, joint-asked, joint-goal, RightFit, right-fits, right-unfit, right-fit}
 use Rattle.grammar.specs.Working.Openings as O
 
 -- an operator that a level takes, and the next tighter one does not, is of that level at most
-operator-low : (l op lo : ℕ) → Table.levelOf op ≡ lo → (eqb op Table.NONE ≡ false) → Table.binds (l + 1) op ≡ false → lo ≤ l
+operator-low : (l : ℕ) (op : Binary) (lo : ℕ) → Table.levelOf op ≡ lo → Table.binds (l + 1) (Table.between op) ≡ false → lo ≤ l
 unfolding Table.binds
-operator-low l op lo e h b =
-    split (ltb (Table.levelOf op) (l + 1)) (λ f. omega (arith, e, ltb-true (Table.levelOf op) (l + 1) f)) (λ f. clash (rw (h, f)) b)
+operator-low l op lo e b = omega (arith, e, leb-false (l + 1) (Table.levelOf op) b)
+
+unbound : (level : ℕ) (i : Table.Infix) → i ≡ Table.no-infix → Table.binds level i ≡ false
+unfolding Table.binds
+unbound level i e = rw e
 
 -- a token of the text
 pub data Real (s : List ℕ) (u : Token) : Type 0 where
@@ -76,8 +83,8 @@ module _ (s : List ℕ) where
   completes-more w level ts rest (completes more e d) = completes (rest ++ more) e (subst (λ (l : List Token). Told s w level l e) (append-assoc ts rest more) d)
 
   -- an operand behind tokens, and the operator that takes it
-  module _ (t : Token) (pre : List Token) (v : Token) (path : Tokens s t pre v) (l level want lv wn r op : ℕ) (build : Expr → Expr)
-      (takes : Table.operandOf op ≡ goal wn) (gives : Table.resultOf op ≡ r) (high : level ≤ 7) (low : level ≤ l) (deep : lv ≤ 7) (suits : Suits want r)
+  module _ (t : Token) (pre : List Token) (v : Token) (path : Tokens s t pre v) (l level want lv wn r : ℕ) (x₀ y₀ : Sort) (build : Expr → Expr)
+      (takes : Table.sortOf x₀ ≡ goal wn) (gives : Table.sortOf y₀ ≡ r) (high : level ≤ 7) (low : level ≤ l) (deep : lv ≤ 7) (suits : Suits want r)
       (grows : (us : List Token) (f : Expr) → Told s (goal wn) lv us f → Told s r l (pre ++ us) (build f))
       (leads : (q : Place) → Starts level want q → Onward q lv wn (goal wn) r (run station q (kindsIn s pre)))
       (ends : (sort k : ℕ) → Fits (goal wn) sort → Table.binds lv (Table.operator sort k) ≡ false → Table.binds (l + 1) (Table.operator r k) ≡ false) where
@@ -107,7 +114,7 @@ module _ (s : List ℕ) where
         halted (pre ++ us) u (tokens-append s Kind.IN-FIELD t v u pre us path p) (grown-completes us (finish s wn sort lv lv us f deep (omega arith) y d))
         (λ q st. runs-on q pre us u ∙ leads-unfit q us u sort (run station q (kindsIn s pre)) (leads q st) g z i b) (refusal (u .kind)) refl
 
-    pub extend : (rr : Parsed Part) → Reading lv lv lv wn v rr → Reading l (l + 1) level want t (onPart rr (λ x f n. applied build op x f n))
+    pub extend : (rr : Parsed Part) → Reading lv lv lv wn v rr → Reading l (l + 1) level want t (onPart rr (λ x f n. applied build x₀ y₀ x f n))
     unfolding applied
     extend _ (got us u sort f p x y d b g) = rw (takes, gives) (grown us u sort f p x y d b g (Table.fits (goal wn) sort) (right-fit wn sort y))
     extend _ (halted us u p c g rr e) =
@@ -219,13 +226,13 @@ module _ (s : List ℕ) where
     bracket-reads z _ (otherwise r p n) = otherwise r p n
 
     -- a prefix operator
-    prefix-reads : (op lv wn o r : ℕ) → O.Before (t .kind) op want lv wn o r → (rr : Parsed Part) → Reading (Table.operandLevel op) (Table.operandLevel op) (Table.operandLevel op) (Table.operandWant op want) first rr
-        → Reading 7 8 7 want t (onPart rr (λ sort e n. applied (unary op) op sort e n))
+    prefix-reads : (op : Unary) (lv wn o r : ℕ) → O.Before (t .kind) op want lv wn o r → (rr : Parsed Part) → Reading (Table.operandLevel op) (Table.operandLevel op) (Table.operandLevel op) (Table.operandWant op want) first rr
+        → Reading 7 8 7 want t (onPart rr (λ sort e n. applied (unary op) (unaryTakes op) (unaryGives op) sort e n))
     prefix-reads op lv wn o r b rr h = on-table (O.before-table (t .kind) op want lv wn o r b)
       where
-        on-table : O.BeforeTabled (t .kind) op want lv wn o r → Reading 7 8 7 want t (onPart rr (λ sort e n. applied (unary op) op sort e n))
-        on-table (O.before-tabled el ew eo er eg em es) =
-            extend t (t ∷ []) first (and-on t first [] (at-once first)) 7 7 want lv wn r op (unary op) (eo ∙ sym eg) er (omega arith) (omega arith) (O.before-most (t .kind) op want lv wn o r b)
+        on-table : O.BeforeTabled (t .kind) op want lv wn o r → Reading 7 8 7 want t (onPart rr (λ sort e n. applied (unary op) (unaryTakes op) (unaryGives op) sort e n))
+        on-table (O.before-tabled el ew eo er eg em) =
+            extend t (t ∷ []) first (and-on t first [] (at-once first)) 7 7 want lv wn r (unaryTakes op) (unaryGives op) (unary op) (eo ∙ sym eg) er (omega arith) (omega arith) (O.before-most (t .kind) op want lv wn o r b)
             (O.before-suits (t .kind) op want lv wn o r b) (λ us f d. O.before-told s (t .kind) op want lv wn o r t us f b refl (subst (λ (x : ℕ). Told s x lv us f) eg d))
             (λ q st. subst (λ (x : ℕ). Onward q lv wn x r (station q (kindIn s t))) (sym eg)
             (subst (λ (x : ℕ). Onward q lv wn o r (station q x)) (sym (kind-other s t em)) (O.before-onward (t .kind) op want lv wn o r q b st)))
@@ -233,27 +240,23 @@ module _ (s : List ℕ) where
             (subst (λ (x : ℕ). Reading x x x wn first rr) el (subst (λ (x : ℕ). Reading (Table.operandLevel op) (Table.operandLevel op) (Table.operandLevel op) x first rr) ew h))
 
     -- an operand
-    operand-body : Real s t → (prefixed : ℕ → ℕ → ℕ → ℕ → Token → Parsed Part) (bracketed : ℕ → ℕ → Token → Parsed Part) (row nest : ℕ)
-        → ((op lv wn o r : ℕ) → O.Before (t .kind) op want lv wn o r → Reading 7 8 7 want t (prefixed op want row nest t))
+    operand-body : Real s t → (prefixed : Unary → ℕ → ℕ → ℕ → Token → Parsed Part) (bracketed : ℕ → ℕ → Token → Parsed Part) (row nest : ℕ)
+        → ((op : Unary) (lv wn o r : ℕ) → O.Before (t .kind) op want lv wn o r → Reading 7 8 7 want t (prefixed op want row nest t))
         → (t .kind ≡ Kind.OPEN → Reading 7 8 7 want t (bracketed want nest t)) → Reading 7 8 7 want t (E.operandOf prefixed bracketed s want row nest t)
     operand-body (real-token x n) prefixed bracketed row nest onPrefix onBracket =
         chosen (Reading 7 8 7 want t) (Table.allows want (t .kind)) _ _ (λ h. allowed h (Table.prefixOperator (t .kind)) (O.prefixing want (t .kind) w h))
         (λ h. halted [] t (at-once t) (O.wanting-something s want w) (λ q st. O.not-allowed s t want q st n h) (refusal (t .kind)) refl)
       where
-        allowed : Table.allows want (t .kind) ≡ true → (op : ℕ) → O.Prefixing want (t .kind) op
-            → Reading 7 8 7 want t (pick (eqb op Table.NONE) (pick (eqb (t .kind) Kind.OPEN) (bracketed want nest t) (readLeaf s want row t)) (prefixed op want row nest t))
+        allowed : Table.allows want (t .kind) ≡ true → (i : Table.Prefix) → O.Prefixing want (t .kind) i
+            → Reading 7 8 7 want t (Table.onPrefix i (pick (eqb (t .kind) Kind.OPEN) (bracketed want nest t) (readLeaf s want row t)) (λ op. prefixed op want row nest t))
         allowed h _ O.no-prefix = chosen (Reading 7 8 7 want t) (eqb (t .kind) Kind.OPEN) _ _ (λ e. onBracket (eqb-true _ _ e)) (λ e. leaf-reads row h)
-        allowed h _ (O.prefixes op lv wn o r b) = on-table (O.before-table (t .kind) op want lv wn o r b)
-          where
-            on-table : O.BeforeTabled (t .kind) op want lv wn o r
-                → Reading 7 8 7 want t (pick (eqb op Table.NONE) (pick (eqb (t .kind) Kind.OPEN) (bracketed want nest t) (readLeaf s want row t)) (prefixed op want row nest t))
-            on-table (O.before-tabled el ew eo er eg em es) = rw es (onPrefix op lv wn o r b)
+        allowed h _ (O.prefixes op lv wn o r b) = onPrefix op lv wn o r b
 
   -- what the reader makes of a right operand
-  pub data JoinedAs (u : Token) (sort : ℕ) (e : Expr) (op : ℕ) : Parsed Part → Type 0 where
+  pub data JoinedAs (u : Token) (sort : ℕ) (e : Expr) (op : Binary) : Parsed Part → Type 0 where
     joined-none : (p : ℕ) → JoinedAs u sort e op (aside 0 p)
     joined-some : (rr : Parsed Part) → Reading (Table.rightLevel op) (Table.rightLevel op) (Table.rightLevel op) (Table.rightWant op) (nextAt s (u .end)) rr
-        → JoinedAs u sort e op (onPart rr (λ x f n. applied (binary op (settledTree (Table.operandOf op) sort e)) op x f n))
+        → JoinedAs u sort e op (onPart rr (λ x f n. applied (binary op (settledTree (Table.sortOf (binaryTakes op)) sort e)) (binaryTakes op) (binaryGives op) x f n))
 
   -- operators from left to right
   module _ (reals : (at : ℕ) → Real s (nextAt s at)) (level want : ℕ) (a : Asked level want) (t : Token) where
@@ -277,65 +280,63 @@ module _ (s : List ℕ) where
         (λ e. binds-none level sort (u .kind) (ltb-false Kind.BAD-LINE (u .kind) e))
 
     -- an operator that the level takes, and its right operand
-    operator-joined : (u : Token) (sort : ℕ) (e : Expr) (op lo o r : ℕ) → Joint (u .kind) op lo o r → Fits o sort → Table.binds level op ≡ true
+    operator-joined : (u : Token) (sort : ℕ) (e : Expr) (op : Binary) (lo o r : ℕ) → Joint (u .kind) op lo o r → Fits o sort → Table.binds level (Table.between op) ≡ true
         → (rr : Parsed Part) → Reading (Table.rightLevel op) (Table.rightLevel op) (Table.rightLevel op) (Table.rightWant op) (nextAt s (u .end)) rr
-        → (l : ℕ) (ts : List Token) → level ≤ l → Tokens s t ts u → Real s u → Suits want sort → Told s sort l ts e → Table.binds (l + 1) op ≡ false
+        → (l : ℕ) (ts : List Token) → level ≤ l → Tokens s t ts u → Real s u → Suits want sort → Told s sort l ts e → Table.binds (l + 1) (Table.between op) ≡ false
         → ((q : Place) → Starts level want q → runs q ts u ≡ station (after q sort) (kindIn s u))
-        → (m : ℕ) × ((level ≤ m) × Reading m (m + 1) level want t (onPart rr (λ x f n. applied (binary op (settledTree (Table.operandOf op) sort e)) op x f n)))
+        → (m : ℕ) × ((level ≤ m) × Reading m (m + 1) level want t (onPart rr (λ x f n. applied (binary op (settledTree (Table.sortOf (binaryTakes op)) sort e)) (binaryTakes op) (binaryGives op) x f n)))
     unfolding Table.rightLevel Table.rightWant
     operator-joined u sort e op lo o r j fit h rr inner l ts low p x y d b g = on-table (joint-tabled (u .kind) op lo o r j)
       where
-        on-table : Tabled op lo o r → (m : ℕ) × ((level ≤ m) × Reading m (m + 1) level want t (onPart rr (λ x f n. applied (binary op (settledTree (Table.operandOf op) sort e)) op x f n)))
+        on-table : Tabled op lo o r → (m : ℕ) × ((level ≤ m) × Reading m (m + 1) level want t (onPart rr (λ x f n. applied (binary op (settledTree (Table.sortOf (binaryTakes op)) sort e)) (binaryTakes op) (binaryGives op) x f n)))
         on-table (tabled el eo er) = (
           lo,
           (
             level-low,
-            extend t (ts ++ u ∷ []) (nextAt s (u .end)) (tokens-one s Kind.IN-FIELD t u ts p) lo level want (lo + 1) (Table.wantOf o) r op (binary op (settledTree (Table.operandOf op) sort e))
-                (eo ∙ sym (joint-goal (u .kind) op lo o r j)) er (O.asked-most level want a) level-low (O.asked-most (lo + 1) (Table.wantOf o) (joint-asked (u .kind) op lo o r j))
+            extend t (ts ++ u ∷ []) (nextAt s (u .end)) (tokens-one s Kind.IN-FIELD t u ts p) lo level want (lo + 1) (Numbered.wantOf o) r (binaryTakes op) (binaryGives op) (binary op (settledTree (Table.sortOf (binaryTakes op)) sort e))
+                (eo ∙ sym (joint-goal (u .kind) op lo o r j)) er (O.asked-most level want a) level-low (O.asked-most (lo + 1) (Numbered.wantOf o) (joint-asked (u .kind) op lo o r j))
                 (joint-suits level want sort (u .kind) op lo o r a y j fit level-low) grows leads ends rr inner-at,
           ),
         )
           where
             level-low : level ≤ lo
-            level-low = let k : level ≤ Table.levelOf op = binds-level level op h .1 in omega (arith, k, el)
+            level-low = let k : level ≤ Table.levelOf op = binds-level level op h in omega (arith, k, el)
 
             lo-low : lo ≤ l
-            lo-low = operator-low l op lo el (ne-eqb op Table.NONE (binds-level level op h .0)) b
+            lo-low = operator-low l op lo el b
 
             left : Told s o lo ts (settledTree o sort e)
-            left = settle s o sort lo ts e (O.asked-low (lo + 1) (Table.wantOf o) lo (joint-asked (u .kind) op lo o r j) (omega arith)) fit (lower s sort lo l ts e lo-low d)
+            left = settle s o sort lo ts e (O.asked-low (lo + 1) (Numbered.wantOf o) lo (joint-asked (u .kind) op lo o r j) (omega arith)) fit (lower s sort lo l ts e lo-low d)
 
-            grows : (us : List Token) (f : Expr) → Told s (goal (Table.wantOf o)) (lo + 1) us f → Told s r lo ((ts ++ u ∷ []) ++ us) (binary op (settledTree (Table.operandOf op) sort e) f)
+            grows : (us : List Token) (f : Expr) → Told s (goal (Numbered.wantOf o)) (lo + 1) us f → Told s r lo ((ts ++ u ∷ []) ++ us) (binary op (settledTree (Table.sortOf (binaryTakes op)) sort e) f)
             grows us f k =
-                subst (λ (z : List Token). Told s r lo z (binary op (settledTree (Table.operandOf op) sort e) f)) (sym (append-assoc ts (u ∷ []) us))
+                subst (λ (z : List Token). Told s r lo z (binary op (settledTree (Table.sortOf (binaryTakes op)) sort e) f)) (sym (append-assoc ts (u ∷ []) us))
                 (rw eo (joined s (u .kind) op lo o r u ts us (settledTree o sort e) f j refl left (subst (λ (z : ℕ). Told s z (lo + 1) us f) (joint-goal (u .kind) op lo o r j) k)))
 
-            leads : (q : Place) → Starts level want q → Onward q (lo + 1) (Table.wantOf o) (goal (Table.wantOf o)) r (run station q (kindsIn s (ts ++ u ∷ [])))
+            leads : (q : Place) → Starts level want q → Onward q (lo + 1) (Numbered.wantOf o) (goal (Numbered.wantOf o)) r (run station q (kindsIn s (ts ++ u ∷ [])))
             leads q st =
-                subst (λ (z : ℕ). Onward q (lo + 1) (Table.wantOf o) z r (run station q (kindsIn s (ts ++ u ∷ [])))) (sym (joint-goal (u .kind) op lo o r j))
-                (subst (Onward q (lo + 1) (Table.wantOf o) o r) (sym (run-one q ts u ∙ g q st ∙ ap (λ (z : ℕ). station (after q sort) z) (kind-other s u (joint-mark (u .kind) op lo o r j))))
+                subst (λ (z : ℕ). Onward q (lo + 1) (Numbered.wantOf o) z r (run station q (kindsIn s (ts ++ u ∷ [])))) (sym (joint-goal (u .kind) op lo o r j))
+                (subst (Onward q (lo + 1) (Numbered.wantOf o) o r) (sym (run-one q ts u ∙ g q st ∙ ap (λ (z : ℕ). station (after q sort) z) (kind-other s u (joint-mark (u .kind) op lo o r j))))
                 (joint-onward level want sort (u .kind) op lo o r q a st y j fit level-low))
 
-            ends : (x k : ℕ) → Fits (goal (Table.wantOf o)) x → Table.binds (lo + 1) (Table.operator x k) ≡ false → Table.binds (lo + 1) (Table.operator r k) ≡ false
+            ends : (x k : ℕ) → Fits (goal (Numbered.wantOf o)) x → Table.binds (lo + 1) (Table.operator x k) ≡ false → Table.binds (lo + 1) (Table.operator r k) ≡ false
             ends x k f = joint-ends (u .kind) op lo o r j x k (subst (λ (z : ℕ). Fits z x) (joint-goal (u .kind) op lo o r j) f)
 
-            inner-at : Reading (lo + 1) (lo + 1) (lo + 1) (Table.wantOf o) (nextAt s (u .end)) rr
+            inner-at : Reading (lo + 1) (lo + 1) (lo + 1) (Numbered.wantOf o) (nextAt s (u .end)) rr
             inner-at =
-                let k : Reading (lo + 1) (lo + 1) (lo + 1) (Table.wantOf (Table.operandOf op)) (nextAt s (u .end)) rr = subst (λ (z : ℕ). Reading (z + 1) (z + 1) (z + 1) (Table.wantOf (Table.operandOf op)) (nextAt s (u .end)) rr) el inner in
-                subst (λ (z : ℕ). Reading (lo + 1) (lo + 1) (lo + 1) (Table.wantOf z) (nextAt s (u .end)) rr) eo k
+                let k : Reading (lo + 1) (lo + 1) (lo + 1) (Table.wantOf (binaryTakes op)) (nextAt s (u .end)) rr = subst (λ (z : ℕ). Reading (z + 1) (z + 1) (z + 1) (Table.wantOf (binaryTakes op)) (nextAt s (u .end)) rr) el inner in
+                subst (λ (z : ℕ). Reading (lo + 1) (lo + 1) (lo + 1) z (nextAt s (u .end)) rr) (sym (want-number (binaryTakes op)) ∙ ap Numbered.wantOf eo) k
 
     module _ (u : Token) (sort : ℕ) (e : Expr) (l : ℕ) (ts : List Token) (low : level ≤ l) (p : Tokens s t ts u) (x : Real s u) (y : Suits want sort) (d : Told s sort l ts e)
         (g : (q : Place) → Starts level want q → runs q ts u ≡ station (after q sort) (kindIn s u)) where
-      joined-as : (op lo o r : ℕ) → Joint (u .kind) op lo o r → Fits o sort → Table.binds level op ≡ true → Table.binds (l + 1) op ≡ false → (rr : Parsed Part) → JoinedAs u sort e op rr
+      joined-as : (op : Binary) (lo o r : ℕ) → Joint (u .kind) op lo o r → Fits o sort → Table.binds level (Table.between op) ≡ true → Table.binds (l + 1) (Table.between op) ≡ false → (rr : Parsed Part) → JoinedAs u sort e op rr
           → (m : ℕ) × ((level ≤ m) × Reading m (m + 1) level want t rr)
       joined-as op lo o r j fit h b _ (joined-none at) = (level, (omega arith, otherwise 0 at (λ n. let bad : ⊥ = omega (arith, n) in bad)))
       joined-as op lo o r j fit h b _ (joined-some rr inner) = operator-joined u sort e op lo o r j fit h rr inner l ts low p x y d b g
 
-      by-operator : (op : ℕ) → Operated sort (u .kind) op → Table.binds level op ≡ true → eqb op Table.MATCH ≡ false → Table.binds (l + 1) op ≡ false → (rr : Parsed Part)
+      by-operator : (op : Binary) → Operated sort (u .kind) (Table.between op) → Table.binds level (Table.between op) ≡ true → Table.binds (l + 1) (Table.between op) ≡ false → (rr : Parsed Part)
           → ((lo o r : ℕ) → Joint (u .kind) op lo o r → JoinedAs u sort e op rr) → (m : ℕ) × ((level ≤ m) × Reading m (m + 1) level want t rr)
-      by-operator _ no-operator h n b rr k = absurd (binds-level level Table.NONE h .0 refl)
-      by-operator _ match-operator h n b rr k = clash refl n
-      by-operator _ (joins op lo o r j fit) h n b rr k = joined-as op lo o r j fit h b rr (k lo o r j)
+      by-operator op (joins _ lo o r j fit) h b rr k = joined-as op lo o r j fit h b rr (k lo o r j)
 
     module _ (μ : E.State → ℕ) (out : E.State → Parsed Part) (f : E.State → Step E.State (Parsed Part)) where
       abbrev Turn : E.State → Step E.State (Parsed Part) → Type 0
@@ -365,7 +366,7 @@ module _ (s : List ℕ) where
           from-ok : (r : Parsed Part) → Stands (v, sort′, e′) r → (m : ℕ) × ((level ≤ m) × Reading m (m + 1) level want t (ok (part sort′ e′) v)) → Done r
           from-ok r k (m, (low, i)) = from-reading m r low k i
 
-    module _ (nest : ℕ) (join : ℕ → ℕ → ℕ → Expr → ℕ → Parsed Part) where
+    module _ (nest : ℕ) (join : Binary → ℕ → ℕ → Expr → ℕ → Parsed Part) where
       abbrev μ : E.State → ℕ
       μ x = length s - x .0 .start
 
@@ -375,18 +376,19 @@ module _ (s : List ℕ) where
       abbrev turn : E.State → Step E.State (Parsed Part)
       turn = E.chainTurn join s level nest
 
-      module _ (joining : (u : Token) (sort : ℕ) (e : Expr) (op lo o r : ℕ) → Joint (u .kind) op lo o r → JoinedAs u sort e op (join op nest sort e (u .end))) where
+      module _ (joining : (u : Token) (sort : ℕ) (e : Expr) (op : Binary) (lo o r : ℕ) → Joint (u .kind) op lo o r → JoinedAs u sort e op (join op nest sort e (u .end))) where
         chain-turn : (x : E.State) → Went μ out turn Stands x (turn x)
         chain-turn (u, sort, e) =
             chosen (Went μ out turn Stands (u, sort, e)) (leb (length s) (u .start)) _ _
             (λ z. went-done (ok (part sort e) u) (λ l ts low p x y d b g. stopped u sort e (late u sort (leb-true _ _ z) x) l ts low p x y d b g))
             (λ z. chosen (Went μ out turn Stands (u, sort, e)) (Table.binds level (Table.operator sort (u .kind))) _ _
-            (λ h. chosen (Went μ out turn Stands (u, sort, e)) (eqb (Table.operator sort (u .kind)) Table.MATCH) _ _
+            (λ h. infix-cases (Went μ out turn Stands (u, sort, e)) (Table.operator sort (u .kind)) _ _ _
+            (λ n. went-done (ok (part sort e) u) (λ l ts low p x y d b g. stopped u sort e (unbound level (Table.operator sort (u .kind)) n) l ts low p x y d b g))
             (λ n. went-done (aside 8 (u .start)) (λ l ts low p x y d b g. otherwise 8 (u .start) (λ k. let bad : ⊥ = omega (arith, k) in bad)))
-            (λ n. on-joined μ out turn u sort e (join (Table.operator sort (u .kind)) nest sort e (u .end))
-            (λ l ts low p x y d b g. by-operator u sort e l ts low p x y d g (Table.operator sort (u .kind)) (operated sort (u .kind) (suits-sorted want sort y)) h n
-            (ap (Table.binds (l + 1)) (sym (operator-kind s u sort)) ∙ b) (join (Table.operator sort (u .kind)) nest sort e (u .end))
-            (λ lo o r j. joining u sort e (Table.operator sort (u .kind)) lo o r j))))
+            (λ op n. on-joined μ out turn u sort e (join op nest sort e (u .end))
+            (λ l ts low p x y d b g. by-operator u sort e l ts low p x y d g op (subst (Operated sort (u .kind)) n (operated sort (u .kind) (suits-sorted want sort y))) (subst (λ (i : Table.Infix). Table.binds level i ≡ true) n h)
+            (subst (λ (i : Table.Infix). Table.binds (l + 1) i ≡ false) n (ap (Table.binds (l + 1)) (sym (operator-kind s u sort)) ∙ b)) (join op nest sort e (u .end))
+            (λ lo o r j. joining u sort e op lo o r j))))
             (λ h. went-done (ok (part sort e) u) (λ l ts low p x y d b g. stopped u sort e h l ts low p x y d b g)))
 
         chain-body : (u : Token) (sort : ℕ) (e : Expr) → Stands (u, sort, e) (E.chainOf join s level nest sort e u)
@@ -402,18 +404,18 @@ module _ (s : List ℕ) where
     expression-body chain nest h _ (otherwise r p n) = otherwise r p n
 
   module _ (reals : (at : ℕ) → Real s (nextAt s at)) where
-    right-asked : (k op lo o r : ℕ) → Joint k op lo o r → Asked (Table.rightLevel op) (Table.rightWant op)
+    right-asked : (k : ℕ) (op : Binary) (lo o r : ℕ) → Joint k op lo o r → Asked (Table.rightLevel op) (Table.rightWant op)
     unfolding Table.rightLevel Table.rightWant
     right-asked k op lo o r j = on-table (joint-tabled k op lo o r j)
       where
-        on-table : Tabled op lo o r → Asked (Table.levelOf op + 1) (Table.wantOf (Table.operandOf op))
-        on-table (tabled el eo er) = rw (el, eo) (joint-asked k op lo o r j)
+        on-table : Tabled op lo o r → Asked (Table.levelOf op + 1) (Table.wantOf (binaryTakes op))
+        on-table (tabled el eo er) = rw (el, sym (want-number (binaryTakes op)), eo) (joint-asked k op lo o r j)
 
-    prefix-asked : (k op want lv wn o r : ℕ) → O.Before k op want lv wn o r → Asked (Table.operandLevel op) (Table.operandWant op want)
+    prefix-asked : (k : ℕ) (op : Unary) (want lv wn o r : ℕ) → O.Before k op want lv wn o r → Asked (Table.operandLevel op) (Table.operandWant op want)
     prefix-asked k op want lv wn o r b = on-table (O.before-table k op want lv wn o r b)
       where
         on-table : O.BeforeTabled k op want lv wn o r → Asked (Table.operandLevel op) (Table.operandWant op want)
-        on-table (O.before-tabled el ew eo er eg em es) = rw (el, ew) (O.before-asked k op want lv wn o r b)
+        on-table (O.before-tabled el ew eo er eg em) = rw (el, ew) (O.before-asked k op want lv wn o r b)
 
     mutual
       unfolding E.readExpression
@@ -430,7 +432,7 @@ module _ (s : List ℕ) where
           operand-body reals want w t x (λ op want row nest t. E.readPrefixed d s op want row nest t) (λ want nest t. E.readBracketed d s want nest t) row nest
           (λ op lv wn o r b. prefixed-reads d op want row nest t lv wn o r w b) (λ z. bracketed-reads d want nest t w z)
 
-      prefixed-reads : (d op want row nest : ℕ) (t : Token) (lv wn o r : ℕ) → O.Wanting want → O.Before (t .kind) op want lv wn o r → Reading 7 8 7 want t (E.readPrefixed d s op want row nest t)
+      prefixed-reads : (d : ℕ) (op : Unary) (want row nest : ℕ) (t : Token) (lv wn o r : ℕ) → O.Wanting want → O.Before (t .kind) op want lv wn o r → Reading 7 8 7 want t (E.readPrefixed d s op want row nest t)
       prefixed-reads zero op want row nest t lv wn o r w b = otherwise 0 (t .start) (λ k. let bad : ⊥ = omega (arith, k) in bad)
       prefixed-reads (suc d) op want row nest t lv wn o r w b =
           chosen (Reading 7 8 7 want t) (leb 16 row) _ _ (λ h. otherwise 7 (t .start) seven)
@@ -449,7 +451,7 @@ module _ (s : List ℕ) where
       chain-reads (suc d) level want nest t a u sort e =
           chain-body reals level want a t nest (λ op nest sort e at. E.readJoined d s op nest sort e at) (λ u sort e op lo o r j. joined-reads d level want nest t a u sort e op lo o r j) u sort e
 
-      joined-reads : (d level want nest : ℕ) (t : Token) (a : Asked level want) (u : Token) (sort : ℕ) (e : Expr) (op lo o r : ℕ) → Joint (u .kind) op lo o r
+      joined-reads : (d level want nest : ℕ) (t : Token) (a : Asked level want) (u : Token) (sort : ℕ) (e : Expr) (op : Binary) (lo o r : ℕ) → Joint (u .kind) op lo o r
           → JoinedAs u sort e op (E.readJoined d s op nest sort e (u .end))
       joined-reads zero level want nest t a u sort e op lo o r j = joined-none (u .end)
       joined-reads (suc d) level want nest t a u sort e op lo o r j =

@@ -49,10 +49,10 @@ abbrev pub flat : ℕ → ℕ
 flat k = pick (eqb k TRUTH) Kind.NAME k
 
 -- the operator behind what was read; floats have no "%", "==" and "!="
-abbrev pub acts : ℕ → ℕ → ℕ
+abbrev pub acts : ℕ → ℕ → Table.Infix
 acts sort k =
     pick (eqb sort FLOATING)
-    (pick (eqb k Kind.REMAINDER) Table.NONE (pick (eqb k Kind.EQUAL) Table.NONE (pick (eqb k Kind.UNEQUAL) Table.NONE (Table.numberOperator k))))
+    (pick (eqb k Kind.REMAINDER) Table.no-infix (pick (eqb k Kind.EQUAL) Table.no-infix (pick (eqb k Kind.UNEQUAL) Table.no-infix (Table.numberOperator k))))
     (Table.operator sort k)
 
 abbrev pub isTest : ℕ → Bool

@@ -9,6 +9,7 @@ use lib.Dec.{eqb}
 use Rattle.text.specs.Choice.{pick}
 use Rattle.lexical.specs.Kind
 use Rattle.lexical.specs.declared.token.Token.{Token}
+use Rattle.syntax.specs.Operator.{Binary}
 use Rattle.syntax.specs.Expr.{Expr, truth, binary}
 use Rattle.conditions.specs.Table
 use Rattle.conditions.specs.Operand.{settledTree}
@@ -116,7 +117,7 @@ module _ (s : List ℕ) where
   settle _ _ l _ _ h fit-false-name (told-false _ ts e d g) = text-operand l ts e h d
 
   -- two operands and the operator between them
-  pub joined : (k op l o r : ℕ) (t : Token) (ts us : List Token) (e f : Expr) → Joint k op l o r → t .kind ≡ k → Told o l ts e → Told o (l + 1) us f
+  pub joined : (k : ℕ) (op : Binary) (l o r : ℕ) (t : Token) (ts us : List Token) (e f : Expr) → Joint k op l o r → t .kind ≡ k → Told o l ts e → Told o (l + 1) us f
       → Told r l (ts ++ t ∷ us) (binary op e f)
   joined _ _ _ _ _ t _ _ _ _ j-power z (told-number _ ts e d) (told-number _ us f g) = told-number 5 _ _ (power-tree t ts us e f z d g)
   joined _ _ _ _ _ t _ _ _ _ (j-product k op c) z (told-number _ ts e d) (told-number _ us f g) =
@@ -124,10 +125,10 @@ module _ (s : List ℕ) where
   joined _ _ _ _ _ t _ _ _ _ (j-sum k op c) z (told-number _ ts e d) (told-number _ us f g) =
       told-number 3 _ _ (sum-tree t ts us e f op (subst (λ (x : ℕ). SumOp x op) (sym z) c) d g)
   joined _ _ _ _ _ t _ _ _ _ j-join z (told-text _ ts e d) (told-text _ us f g) = told-text 3 _ _ (join-tree t ts us e f z d g)
-  joined _ _ _ _ _ t _ _ _ _ (j-numbers k op p c) z (told-number _ ts e d) (told-number _ us f g) =
-      told-test 2 _ _ (compare-numbers t ts us e f op p (subst (λ (x : ℕ). CompareOp x op p) (sym z) c) d g)
-  joined _ _ _ _ _ t _ _ _ _ (j-texts k op p c) z (told-text _ ts e d) (told-text _ us f g) =
-      told-test 2 _ _ (compare-texts t ts us e f op p (subst (λ (x : ℕ). CompareOp x op p) (sym z) c) d g)
+  joined _ _ _ _ _ t _ _ _ _ (j-numbers k x c) z (told-number _ ts e d) (told-number _ us f g) =
+      told-test 2 _ _ (compare-numbers t ts us e f x (subst (λ (y : ℕ). CompareOp y x) (sym z) c) d g)
+  joined _ _ _ _ _ t _ _ _ _ (j-texts k x c) z (told-text _ ts e d) (told-text _ us f g) =
+      told-test 2 _ _ (compare-texts t ts us e f x (subst (λ (y : ℕ). CompareOp y x) (sym z) c) d g)
   joined _ _ _ _ _ t _ _ _ _ j-and z (told-test _ ts e d) (told-test _ us f g) = told-test 1 _ _ (and-tree t ts us e f z d g)
   joined _ _ _ _ _ t _ _ _ _ j-or z (told-test _ ts e d) (told-test _ us f g) = told-test 0 _ _ (or-tree t ts us e f z d g)
 
@@ -150,12 +151,12 @@ module _ (s : List ℕ) where
   -- a comparison with something
   text-test : (ts : List Token) (e : Expr) → Told s Table.TEXT 0 ts e → Completes s Table.TEST 7 ts
   text-test _ _ (told-text _ ts e d) =
-      completes (mark Kind.EQUAL ∷ mark Kind.LITERAL ∷ []) _ (told-test 7 _ _ (compare-texts (mark Kind.EQUAL) ts (mark Kind.LITERAL ∷ []) e _ _ _ equal-op d (text-one _ _ (literal-tree (mark Kind.LITERAL) refl))))
+      completes (mark Kind.EQUAL ∷ mark Kind.LITERAL ∷ []) _ (told-test 7 _ _ (compare-texts (mark Kind.EQUAL) ts (mark Kind.LITERAL ∷ []) e _ _ equal-op d (text-one _ _ (literal-tree (mark Kind.LITERAL) refl))))
 
   number-test : (ts : List Token) (e : Expr) → Told s Table.NUMBER 0 ts e → Completes s Table.TEST 7 ts
   number-test _ _ (told-number _ ts e d) =
       completes (mark Kind.EQUAL ∷ mark Kind.DIGITS ∷ []) _
-      (told-test 7 _ _ (compare-numbers (mark Kind.EQUAL) ts (mark Kind.DIGITS ∷ []) e _ _ _ equal-op d (number-term _ _ (number-up _ _ (number-one _ _ (number-tree (mark Kind.DIGITS) refl))))))
+      (told-test 7 _ _ (compare-numbers (mark Kind.EQUAL) ts (mark Kind.DIGITS ∷ []) e _ _ equal-op d (number-term _ _ (number-up _ _ (number-one _ _ (number-tree (mark Kind.DIGITS) refl))))))
 
   as-it-is : (w level : ℕ) (ts : List Token) (e : Expr) → Told s w level ts e → Completes s w level ts
   as-it-is w level ts e d = completes [] e (subst (λ (l : List Token). Told s w level l e) (sym (append-nil ts)) d)
@@ -178,7 +179,7 @@ module _ (s : List ℕ) where
       anything : Completes s Table.TEST 7 []
       anything =
           completes (mark Kind.LITERAL ∷ mark Kind.EQUAL ∷ mark Kind.LITERAL ∷ []) _
-          (told-test 7 _ _ (compare-texts (mark Kind.EQUAL) (mark Kind.LITERAL ∷ []) (mark Kind.LITERAL ∷ []) _ _ _ _ equal-op
+          (told-test 7 _ _ (compare-texts (mark Kind.EQUAL) (mark Kind.LITERAL ∷ []) (mark Kind.LITERAL ∷ []) _ _ _ equal-op
           (text-one _ _ (literal-tree (mark Kind.LITERAL) refl)) (text-one _ _ (literal-tree (mark Kind.LITERAL) refl))))
   something _ _ suits-text = completes (mark Kind.LITERAL ∷ []) _ (told-text 7 _ _ (literal-tree (mark Kind.LITERAL) refl))
   something _ _ suits-number = completes (mark Kind.DIGITS ∷ []) _ (told-number 7 _ _ (number-tree (mark Kind.DIGITS) refl))

@@ -11,7 +11,8 @@ use Rattle.lexical.specs.Bounds.{chosen}
 use Rattle.lexical.specs.Literal.{decodedAt}
 use Rattle.lexical.specs.Word.{spells, word-true, word-false}
 use Rattle.lexical.specs.declared.token.Token.{Token}
-use Rattle.syntax.specs.Op
+use Rattle.syntax.specs.Operator.{Unary, Binary, Relation, Sort, unaryTakes, unaryGives, binaryTakes, binaryGives}
+use Rattle.syntax.specs.Operator as Operator
 use Rattle.syntax.specs.Code.{nameAt, numberAt}
 use Rattle.syntax.specs.Expr.{Expr, literal, name, number, truth, unary, binary, Program, none, also, Clause, plain, valued, nested}
 use Rattle.conditions.specs.Table
@@ -66,14 +67,14 @@ levelOf k =
     (pick (eqb k Kind.DOT) 3 2))))))))
 
 -- an operand as an operator takes it
-abbrev taken : ℕ → Value → Expr
-taken op v = settledTree (Table.operandOf op) (v .0) (v .1)
+abbrev taken : Sort → Value → Expr
+taken x v = settledTree (Table.sortOf x) (v .0) (v .1)
 
-abbrev prefixed : ℕ → Value → Value
-prefixed op v = (Table.resultOf op, unary op (taken op v))
+abbrev prefixed : Unary → Value → Value
+prefixed op v = (Table.sortOf (unaryGives op), unary op (taken (unaryTakes op) v))
 
-abbrev joined : ℕ → Value → Value → Value
-joined op v w = (Table.resultOf op, binary op (taken op v) (taken op w))
+abbrev joined : Binary → Value → Value → Value
+joined op v w = (Table.sortOf (binaryGives op), binary op (taken (binaryTakes op) v) (taken (binaryTakes op) w))
 
 abbrev closedIn : Context → Value × Waiting → Yard
 closedIn C (v, []) = y-lost
@@ -101,7 +102,10 @@ abbrev clauseEnded : Context → Clause → Yard
 clauseEnded (context role p B) c = y-want (context role-test (also p c) B) []
 
 abbrev operated : Context → ℕ → Value × Waiting → Yard
-operated C k x = y-want C (pending (levelOf k) (joined (Table.operator (x .0 .0) k) (x .0)) ∷ x .1)
+operated C k x = Table.onInfix (Table.operator (x .0 .0) k) y-lost y-lost (λ op. y-want C (pending (levelOf k) (joined op (x .0)) ∷ x .1))
+
+abbrev before : Context → Waiting → ℕ → Yard
+before C P k = Table.onPrefix (Table.prefixOperator k) y-lost (λ op. y-want C (pending (pick (eqb k Kind.NOT) 1 6) (prefixed op) ∷ P))
 
 module _ (s : List ℕ) where
   unfoldable yard : Yard → Token → Yard
@@ -112,7 +116,7 @@ module _ (s : List ℕ) where
       (pick (eqb (t .kind) Kind.DIGITS) (y-have C (Table.NUMBER, number (numberAt s (t .start))) P)
       (pick (eqb (t .kind) Kind.OPEN-BRACE) (openBlock C)
       (pick (eqb (t .kind) Kind.CLOSE-BRACE) (closeBlock C)
-      (y-want C (pending (pick (eqb (t .kind) Kind.NOT) 1 6) (prefixed (Table.prefixOperator (t .kind))) ∷ P)))))))
+      (before C P (t .kind)))))))
   yard (y-have C v P) t =
       pick (eqb (t .kind) Kind.CLOSE) (closedIn C (reduce 0 v P))
       (pick (eqb (t .kind) Kind.ARROW) (arrowed C (reduce 0 v P))
@@ -155,69 +159,69 @@ module _ (s : List ℕ) where
   sim-at l C o e P q r z x = subst (Sim l C o e P) (sym z) x
 
   -- the marks
-  data Operator (k op l o r : ℕ) : Type 0 where
+  data Acting (k : ℕ) (op : Binary) (l o r : ℕ) : Type 0 where
     operator-is : eqb k Kind.CLOSE ≡ false → eqb k Kind.ARROW ≡ false → eqb k Kind.SEMICOLON ≡ false → levelOf k ≡ l
-        → ((e : Expr) (v : Value) → Means o e v → Table.operator (v .0) k ≡ op) → Operator k op l o r
+        → ((e : Expr) (v : Value) → Means o e v → Table.operator (v .0) k ≡ Table.between op) → Acting k op l o r
 
-  compare-text : (k op p : ℕ) → CompareOp k op p → (e : Expr) (v : Value) → Means Table.TEXT e v → Table.operator (v .0) k ≡ op
+  compare-text : (k : ℕ) (x : Relation) → CompareOp k x → (e : Expr) (v : Value) → Means Table.TEXT e v → Table.operator (v .0) k ≡ Table.between (Operator.comparison Operator.strings x)
   unfolding Table.operator Table.textOperator Table.testOperator Table.comparison
-  compare-text _ _ _ equal-op _ _ (means-text e) = refl
-  compare-text _ _ _ equal-op _ _ (means-true-name e) = refl
-  compare-text _ _ _ equal-op _ _ (means-false-name e) = refl
-  compare-text _ _ _ unequal-op _ _ (means-text e) = refl
-  compare-text _ _ _ unequal-op _ _ (means-true-name e) = refl
-  compare-text _ _ _ unequal-op _ _ (means-false-name e) = refl
-  compare-text _ _ _ less-op _ _ (means-text e) = refl
-  compare-text _ _ _ less-op _ _ (means-true-name e) = refl
-  compare-text _ _ _ less-op _ _ (means-false-name e) = refl
-  compare-text _ _ _ greater-op _ _ (means-text e) = refl
-  compare-text _ _ _ greater-op _ _ (means-true-name e) = refl
-  compare-text _ _ _ greater-op _ _ (means-false-name e) = refl
-  compare-text _ _ _ at-most-op _ _ (means-text e) = refl
-  compare-text _ _ _ at-most-op _ _ (means-true-name e) = refl
-  compare-text _ _ _ at-most-op _ _ (means-false-name e) = refl
-  compare-text _ _ _ at-least-op _ _ (means-text e) = refl
-  compare-text _ _ _ at-least-op _ _ (means-true-name e) = refl
-  compare-text _ _ _ at-least-op _ _ (means-false-name e) = refl
+  compare-text _ _ equal-op _ _ (means-text e) = refl
+  compare-text _ _ equal-op _ _ (means-true-name e) = refl
+  compare-text _ _ equal-op _ _ (means-false-name e) = refl
+  compare-text _ _ unequal-op _ _ (means-text e) = refl
+  compare-text _ _ unequal-op _ _ (means-true-name e) = refl
+  compare-text _ _ unequal-op _ _ (means-false-name e) = refl
+  compare-text _ _ less-op _ _ (means-text e) = refl
+  compare-text _ _ less-op _ _ (means-true-name e) = refl
+  compare-text _ _ less-op _ _ (means-false-name e) = refl
+  compare-text _ _ greater-op _ _ (means-text e) = refl
+  compare-text _ _ greater-op _ _ (means-true-name e) = refl
+  compare-text _ _ greater-op _ _ (means-false-name e) = refl
+  compare-text _ _ at-most-op _ _ (means-text e) = refl
+  compare-text _ _ at-most-op _ _ (means-true-name e) = refl
+  compare-text _ _ at-most-op _ _ (means-false-name e) = refl
+  compare-text _ _ at-least-op _ _ (means-text e) = refl
+  compare-text _ _ at-least-op _ _ (means-true-name e) = refl
+  compare-text _ _ at-least-op _ _ (means-false-name e) = refl
 
-  from-number : (k op : ℕ) → Table.operator Table.NUMBER k ≡ op → (e : Expr) (v : Value) → Means Table.NUMBER e v → Table.operator (v .0) k ≡ op
+  from-number : (k : ℕ) (op : Binary) → Table.operator Table.NUMBER k ≡ Table.between op → (e : Expr) (v : Value) → Means Table.NUMBER e v → Table.operator (v .0) k ≡ Table.between op
   from-number k op h _ _ (means-number e) = h
 
-  from-test : (k op : ℕ) → Table.operator Table.TEST k ≡ op → Table.operator Table.TRUE k ≡ op → Table.operator Table.FALSE k ≡ op → (e : Expr) (v : Value) → Means Table.TEST e v → Table.operator (v .0) k ≡ op
+  from-test : (k : ℕ) (op : Binary) → Table.operator Table.TEST k ≡ Table.between op → Table.operator Table.TRUE k ≡ Table.between op → Table.operator Table.FALSE k ≡ Table.between op → (e : Expr) (v : Value) → Means Table.TEST e v → Table.operator (v .0) k ≡ Table.between op
   from-test k op a b c _ _ (means-test e) = a
   from-test k op a b c _ _ (means-true e) = b
   from-test k op a b c _ _ (means-false e) = c
 
-  from-text : (k op : ℕ) → Table.operator Table.TEXT k ≡ op → Table.operator Table.TRUE k ≡ op → Table.operator Table.FALSE k ≡ op → (e : Expr) (v : Value) → Means Table.TEXT e v → Table.operator (v .0) k ≡ op
+  from-text : (k : ℕ) (op : Binary) → Table.operator Table.TEXT k ≡ Table.between op → Table.operator Table.TRUE k ≡ Table.between op → Table.operator Table.FALSE k ≡ Table.between op → (e : Expr) (v : Value) → Means Table.TEXT e v → Table.operator (v .0) k ≡ Table.between op
   from-text k op a b c _ _ (means-text e) = a
   from-text k op a b c _ _ (means-true-name e) = b
   from-text k op a b c _ _ (means-false-name e) = c
 
-  numbers-compared : (k op p : ℕ) → CompareOp k op p → Operator k p 2 Table.NUMBER Table.TEST
+  numbers-compared : (k : ℕ) (x : Relation) → CompareOp k x → Acting k (Operator.comparison Operator.integers x) 2 Table.NUMBER Table.TEST
   unfolding Table.operator Table.numberOperator Table.comparison levelOf
-  numbers-compared _ _ _ equal-op = operator-is refl refl refl refl (from-number Kind.EQUAL Op.EQUAL refl)
-  numbers-compared _ _ _ unequal-op = operator-is refl refl refl refl (from-number Kind.UNEQUAL Op.UNEQUAL refl)
-  numbers-compared _ _ _ less-op = operator-is refl refl refl refl (from-number Kind.LESS Op.LESS refl)
-  numbers-compared _ _ _ greater-op = operator-is refl refl refl refl (from-number Kind.GREATER Op.GREATER refl)
-  numbers-compared _ _ _ at-most-op = operator-is refl refl refl refl (from-number Kind.AT-MOST Op.AT-MOST refl)
-  numbers-compared _ _ _ at-least-op = operator-is refl refl refl refl (from-number Kind.AT-LEAST Op.AT-LEAST refl)
+  numbers-compared _ _ equal-op = operator-is refl refl refl refl (from-number Kind.EQUAL (Operator.comparison Operator.integers Operator.equal) refl)
+  numbers-compared _ _ unequal-op = operator-is refl refl refl refl (from-number Kind.UNEQUAL (Operator.comparison Operator.integers Operator.unequal) refl)
+  numbers-compared _ _ less-op = operator-is refl refl refl refl (from-number Kind.LESS (Operator.comparison Operator.integers Operator.less) refl)
+  numbers-compared _ _ greater-op = operator-is refl refl refl refl (from-number Kind.GREATER (Operator.comparison Operator.integers Operator.greater) refl)
+  numbers-compared _ _ at-most-op = operator-is refl refl refl refl (from-number Kind.AT-MOST (Operator.comparison Operator.integers Operator.at-most) refl)
+  numbers-compared _ _ at-least-op = operator-is refl refl refl refl (from-number Kind.AT-LEAST (Operator.comparison Operator.integers Operator.at-least) refl)
 
-  texts-compared : (k op p : ℕ) → CompareOp k op p → Operator k p 2 Table.NUMBER Table.TEST → Operator k op 2 Table.TEXT Table.TEST
-  texts-compared k op p c (operator-is x y z l h) = operator-is x y z l (compare-text k op p c)
+  texts-compared : (k : ℕ) (x : Relation) → CompareOp k x → Acting k (Operator.comparison Operator.integers x) 2 Table.NUMBER Table.TEST → Acting k (Operator.comparison Operator.strings x) 2 Table.TEXT Table.TEST
+  texts-compared k x c (operator-is a b z l h) = operator-is a b z l (compare-text k x c)
 
-  joint-operator : (k op l o r : ℕ) → Joint k op l o r → Operator k op l o r
+  joint-operator : (k : ℕ) (op : Binary) (l o r : ℕ) → Joint k op l o r → Acting k op l o r
   unfolding Table.operator Table.numberOperator Table.textOperator Table.testOperator Table.comparison levelOf
-  joint-operator _ _ _ _ _ j-power = operator-is refl refl refl refl (from-number Kind.POWER Op.POWER refl)
-  joint-operator _ _ _ _ _ (j-product _ _ times-op) = operator-is refl refl refl refl (from-number Kind.TIMES Op.TIMES refl)
-  joint-operator _ _ _ _ _ (j-product _ _ divide-op) = operator-is refl refl refl refl (from-number Kind.DIVIDE Op.OVER refl)
-  joint-operator _ _ _ _ _ (j-product _ _ remainder-op) = operator-is refl refl refl refl (from-number Kind.REMAINDER Op.REMAINDER refl)
-  joint-operator _ _ _ _ _ (j-sum _ _ plus-op) = operator-is refl refl refl refl (from-number Kind.PLUS Op.PLUS refl)
-  joint-operator _ _ _ _ _ (j-sum _ _ minus-op) = operator-is refl refl refl refl (from-number Kind.MINUS Op.MINUS refl)
-  joint-operator _ _ _ _ _ j-join = operator-is refl refl refl refl (from-text Kind.DOT Op.JOIN refl refl refl)
-  joint-operator _ _ _ _ _ (j-numbers k op p c) = numbers-compared k op p c
-  joint-operator _ _ _ _ _ (j-texts k op p c) = texts-compared k op p c (numbers-compared k op p c)
-  joint-operator _ _ _ _ _ j-and = operator-is refl refl refl refl (from-test Kind.AND Op.BOTH refl refl refl)
-  joint-operator _ _ _ _ _ j-or = operator-is refl refl refl refl (from-test Kind.OR Op.EITHER refl refl refl)
+  joint-operator _ _ _ _ _ j-power = operator-is refl refl refl refl (from-number Kind.POWER Operator.power refl)
+  joint-operator _ _ _ _ _ (j-product _ _ times-op) = operator-is refl refl refl refl (from-number Kind.TIMES Operator.times refl)
+  joint-operator _ _ _ _ _ (j-product _ _ divide-op) = operator-is refl refl refl refl (from-number Kind.DIVIDE Operator.over refl)
+  joint-operator _ _ _ _ _ (j-product _ _ remainder-op) = operator-is refl refl refl refl (from-number Kind.REMAINDER Operator.remainder refl)
+  joint-operator _ _ _ _ _ (j-sum _ _ plus-op) = operator-is refl refl refl refl (from-number Kind.PLUS Operator.plus refl)
+  joint-operator _ _ _ _ _ (j-sum _ _ minus-op) = operator-is refl refl refl refl (from-number Kind.MINUS Operator.minus refl)
+  joint-operator _ _ _ _ _ j-join = operator-is refl refl refl refl (from-text Kind.DOT Operator.join refl refl refl)
+  joint-operator _ _ _ _ _ (j-numbers k x c) = numbers-compared k x c
+  joint-operator _ _ _ _ _ (j-texts k x c) = texts-compared k x c (numbers-compared k x c)
+  joint-operator _ _ _ _ _ j-and = operator-is refl refl refl refl (from-test Kind.AND Operator.both refl refl refl)
+  joint-operator _ _ _ _ _ j-or = operator-is refl refl refl refl (from-test Kind.OR Operator.either refl refl refl)
 
   have-operator : (C : Context) (v₁ : Value) (P₁ : Waiting) (t : Token) → eqb (t .kind) Kind.CLOSE ≡ false → eqb (t .kind) Kind.ARROW ≡ false → eqb (t .kind) Kind.SEMICOLON ≡ false
       → yard (y-have C v₁ P₁) t ≡ operated C (t .kind) (reduce (levelOf (t .kind)) v₁ P₁)
@@ -225,11 +229,11 @@ module _ (s : List ℕ) where
   have-operator C v₁ P₁ t a b c = rw (a, b, c) refl
 
   -- two operands and the operator between them
-  two : (k op l o r : ℕ) (C : Context) (P : Waiting) (e f : Expr) (t : Token) (us : List Token) (m : ℕ) (q : Yard) → Joint k op l o r → Means r (binary op e f) (r, binary op e f) → t .kind ≡ k
+  two : (k : ℕ) (op : Binary) (l o r : ℕ) (C : Context) (P : Waiting) (e f : Expr) (t : Token) (us : List Token) (m : ℕ) (q : Yard) → Joint k op l o r → Means r (binary op e f) (r, binary op e f) → t .kind ≡ k
       → Stops l P → l ≤ m → Sim l C o e P q → ((Q : Waiting) → Stops (l + 1) Q → Sim m C o f Q (runs (y-want C Q) us)) → Sim l C r (binary op e f) P (runs q (t ∷ us))
   two k op l o r C P e f t us m _ j w z st h (sim v₁ P₁ v x g) right = on-operator (joint-operator k op l o r j) (joint-tabled k op l o r j)
     where
-      on-operator : Operator k op l o r → Tabled op l o r → Sim l C r (binary op e f) P (runs (y-have C v₁ P₁) (t ∷ us))
+      on-operator : Acting k op l o r → Tabled op l o r → Sim l C r (binary op e f) P (runs (y-have C v₁ P₁) (t ∷ us))
       on-operator (operator-is a b c lev acts) (tabled el eo er) = sim-at l C r (binary op e f) P (runs (y-have C v₁ P₁) (t ∷ us)) (runs (y-want C Q) us) (ap (λ (y : Yard). runs y us) led) (reduced (runs (y-want C Q) us) (right Q (stops-low l (joined op v) P (omega arith))))
         where
           Q : Waiting
@@ -241,9 +245,9 @@ module _ (s : List ℕ) where
           led : yard (y-have C v₁ P₁) t ≡ y-want C Q
           led =
               have-operator C v₁ P₁ t (at Kind.CLOSE a) (at Kind.ARROW b) (at Kind.SEMICOLON c) ∙ ap (λ (y : ℕ). operated C y (reduce (levelOf y) v₁ P₁)) z
-              ∙ ap (λ (y : ℕ). y-want C (pending y (joined (Table.operator (reduce y v₁ P₁ .0 .0) k) (reduce y v₁ P₁ .0)) ∷ reduce y v₁ P₁ .1)) lev
-              ∙ ap (λ (y : Value × Waiting). y-want C (pending l (joined (Table.operator (y .0 .0) k) (y .0)) ∷ y .1)) (g ∙ stops-is l v P st)
-              ∙ ap (λ (y : ℕ). y-want C (pending l (joined y v) ∷ P)) (acts e v x)
+              ∙ ap (λ (y : ℕ). Table.onInfix (Table.operator (reduce y v₁ P₁ .0 .0) k) y-lost y-lost (λ op. y-want C (pending y (joined op (reduce y v₁ P₁ .0)) ∷ reduce y v₁ P₁ .1))) lev
+              ∙ ap (λ (y : Value × Waiting). Table.onInfix (Table.operator (y .0 .0) k) y-lost y-lost (λ op. y-want C (pending l (joined op (y .0)) ∷ y .1))) (g ∙ stops-is l v P st)
+              ∙ ap (λ (y : Table.Infix). Table.onInfix y y-lost y-lost (λ op. y-want C (pending l (joined op v) ∷ P))) (acts e v x)
 
           made : (w : Value) → Means o f w → joined op v w ≡ (r, binary op e f)
           made w y = rw (eo, er) (ap (λ (a : Expr). (r, binary op a (settledTree o (w .0) (w .1)))) (means-settled o e v x) ∙ ap (λ (a : Expr). (r, binary op e a)) (means-settled o f w y))
@@ -273,23 +277,23 @@ module _ (s : List ℕ) where
     module _ (k : ℕ) (z : t .kind ≡ k) (a : eqb k Kind.OPEN ≡ false) (b : eqb k Kind.LITERAL ≡ false) (c : eqb k Kind.NAME ≡ false) (d : eqb k Kind.DIGITS ≡ false) where
       want-mark : yard (y-want C P) t
           ≡ pick (eqb k Kind.OPEN-BRACE) (openBlock C)
-          (pick (eqb k Kind.CLOSE-BRACE) (closeBlock C) (y-want C (pending (pick (eqb k Kind.NOT) 1 6) (prefixed (Table.prefixOperator k)) ∷ P)))
+          (pick (eqb k Kind.CLOSE-BRACE) (closeBlock C) (before C P k))
       unfolding yard
       want-mark =
           rw (at-kind t k Kind.OPEN false z a, at-kind t k Kind.LITERAL false z b, at-kind t k Kind.NAME false z c, at-kind t k Kind.DIGITS false z d)
-          (ap (λ (x : ℕ). pick (eqb x Kind.OPEN-BRACE) (openBlock C) (pick (eqb x Kind.CLOSE-BRACE) (closeBlock C) (y-want C (pending (pick (eqb x Kind.NOT) 1 6) (prefixed (Table.prefixOperator x)) ∷ P)))) z)
+          (ap (λ (x : ℕ). pick (eqb x Kind.OPEN-BRACE) (openBlock C) (pick (eqb x Kind.CLOSE-BRACE) (closeBlock C) (before C P x))) z)
 
   -- a prefix operator of level m
-  module _ (C : Context) (P : Waiting) (t : Token) (us : List Token) (m op o r : ℕ) (f : Expr) (takes : Table.operandOf op ≡ o) (gives : Table.resultOf op ≡ r)
+  module _ (C : Context) (P : Waiting) (t : Token) (us : List Token) (m : ℕ) (op : Unary) (o r : ℕ) (f : Expr) (takes : Table.sortOf (unaryTakes op) ≡ o) (gives : Table.sortOf (unaryGives op) ≡ r)
       (w : Means r (unary op f) (r, unary op f)) (led : yard (y-want C P) t ≡ y-want C (pending m (prefixed op) ∷ P)) where
     made : (v : Value) → Means o f v → prefixed op v ≡ (r, unary op f)
     made v y = rw (takes, gives) (ap (λ (a : Expr). (r, unary op a)) (means-settled o f v y))
 
-    before : (q : Yard) → Sim m C o f (pending m (prefixed op) ∷ P) q → Sim m C r (unary op f) P q
-    before _ (sim w₁ Q₁ v y i) = sim w₁ Q₁ (r, unary op f) w (i ∙ reduce-own m (prefixed op) v P ∙ ap (λ (a : Value). reduce m a P) (made v y))
+    behind : (q : Yard) → Sim m C o f (pending m (prefixed op) ∷ P) q → Sim m C r (unary op f) P q
+    behind _ (sim w₁ Q₁ v y i) = sim w₁ Q₁ (r, unary op f) w (i ∙ reduce-own m (prefixed op) v P ∙ ap (λ (a : Value). reduce m a P) (made v y))
 
     one : Sim m C o f (pending m (prefixed op) ∷ P) (runs (y-want C (pending m (prefixed op) ∷ P)) us) → Sim m C r (unary op f) P (runs (y-want C P) (t ∷ us))
-    one h = sim-at m C r (unary op f) P (runs (y-want C P) (t ∷ us)) (runs (y-want C (pending m (prefixed op) ∷ P)) us) (ap (λ (y : Yard). runs y us) led) (before (runs (y-want C (pending m (prefixed op) ∷ P)) us) h)
+    one h = sim-at m C r (unary op f) P (runs (y-want C P) (t ∷ us)) (runs (y-want C (pending m (prefixed op) ∷ P)) us) (ap (λ (y : Yard). runs y us) led) (behind (runs (y-want C (pending m (prefixed op) ∷ P)) us) h)
 
   -- brackets
   have-close : (C : Context) (v₁ : Value) (P₁ : Waiting) (u : Token) → u .kind ≡ Kind.CLOSE → yard (y-have C v₁ P₁) u ≡ closedIn C (reduce 0 v₁ P₁)
@@ -344,16 +348,16 @@ module _ (s : List ℕ) where
   leaf C o e P t v z x = sim-at 6 C o e P (yard (y-want C P) t) (y-have C v P) z (sim v P v x refl)
 
   str-sim : (c : Class) (ts : List Token) (e : Expr) → StrTree s c ts e → (C : Context) (P : Waiting) → TextRoom P c → Sim (textLevel c) C Table.TEXT e P (runs (y-want C P) ts)
-  unfolding Table.operandOf Table.resultOf Table.prefixOperator
+  unfolding Table.prefixOperator
   str-sim _ _ _ (literal-tree t z) C P h = leaf C Table.TEXT _ P t _ (want-literal C P t z) (means-text _)
   str-sim _ _ _ (name-tree t z) C P h = leaf C Table.TEXT _ P t _ (want-name C P t z) (name-means t _)
   str-sim _ _ _ (lookup-tree t ts e z d) C P h =
-      one C P t ts 6 Op.LOOKUP Table.TEXT Table.TEXT e refl refl (means-text _) (want-mark C P t Kind.DOLLAR z refl refl refl refl) (str-sim operand ts e d C (pending 6 (prefixed Op.LOOKUP) ∷ P) text-any)
+      one C P t ts 6 Operator.lookup Table.TEXT Table.TEXT e refl refl (means-text _) (want-mark C P t Kind.DOLLAR z refl refl refl refl) (str-sim operand ts e d C (pending 6 (prefixed Operator.lookup) ∷ P) text-any)
   str-sim _ _ _ (text-bracket t u ts e y z d) C P h = bracketed 3 Table.TEXT C P e t u ts y z (str-sim whole ts e d C (opening ∷ P) (text-room (stops-open P)))
   str-sim _ _ _ (text-one ts e d) C P h = sim-down 3 6 C Table.TEXT e P (runs (y-want C P) ts) (omega arith) (str-sim operand ts e d C P text-any)
   str-sim _ _ _ (join-tree t ts us e f z d g) C P (text-room st) =
       sim-at 3 C Table.TEXT _ P _ _ (run-append yard (y-want C P) ts (t ∷ us))
-      (two Kind.DOT Op.JOIN 3 Table.TEXT Table.TEXT C P e f t us 6 (runs (y-want C P) ts) j-join (means-text _) z st (omega arith) (str-sim whole ts e d C P (text-room st))
+      (two Kind.DOT Operator.join 3 Table.TEXT Table.TEXT C P e f t us 6 (runs (y-want C P) ts) j-join (means-text _) z st (omega arith) (str-sim whole ts e d C P (text-room st))
       (λ Q sq. str-sim operand us f g C Q text-any))
 
   -- integers
@@ -371,17 +375,17 @@ module _ (s : List ℕ) where
     sum-room : Stops 3 P → NumberRoom P whole
 
   int-sim : (c : Class) (ts : List Token) (e : Expr) → IntTree s c ts e → (C : Context) (P : Waiting) → NumberRoom P c → Sim (numberLevel c) C Table.NUMBER e P (runs (y-want C P) ts)
-  unfolding Table.operandOf Table.resultOf Table.prefixOperator
+  unfolding Table.prefixOperator
   int-sim _ _ _ (number-tree t z) C P h = leaf C Table.NUMBER _ P t _ (want-digits C P t z) (means-number _)
   int-sim _ _ _ (negate-tree t ts e z d) C P h =
-      one C P t ts 6 Op.NEGATE Table.NUMBER Table.NUMBER e refl refl (means-number _) (want-mark C P t Kind.MINUS z refl refl refl refl) (int-sim operand ts e d C (pending 6 (prefixed Op.NEGATE) ∷ P) number-any)
+      one C P t ts 6 Operator.negate Table.NUMBER Table.NUMBER e refl refl (means-number _) (want-mark C P t Kind.MINUS z refl refl refl refl) (int-sim operand ts e d C (pending 6 (prefixed Operator.negate) ∷ P) number-any)
   int-sim _ _ _ (convert-tree t ts e z d) C P h =
-      one C P t ts 6 Op.CONVERT Table.TEXT Table.NUMBER e refl refl (means-number _) (want-mark C P t Kind.AT z refl refl refl refl) (str-sim operand ts e d C (pending 6 (prefixed Op.CONVERT) ∷ P) text-any)
+      one C P t ts 6 Operator.convert Table.TEXT Table.NUMBER e refl refl (means-number _) (want-mark C P t Kind.AT z refl refl refl refl) (str-sim operand ts e d C (pending 6 (prefixed Operator.convert) ∷ P) text-any)
   int-sim _ _ _ (number-bracket t u ts e y z d) C P h = bracketed 3 Table.NUMBER C P e t u ts y z (int-sim whole ts e d C (opening ∷ P) (sum-room (stops-open P)))
   int-sim _ _ _ (number-one ts e d) C P h = sim-down 5 6 C Table.NUMBER e P (runs (y-want C P) ts) (omega arith) (int-sim operand ts e d C P number-any)
   int-sim _ _ _ (power-tree t ts us e f z d g) C P (power-room st) =
       sim-at 5 C Table.NUMBER _ P _ _ (run-append yard (y-want C P) ts (t ∷ us))
-      (two Kind.POWER Op.POWER 5 Table.NUMBER Table.NUMBER C P e f t us 6 (runs (y-want C P) ts) j-power (means-number _) z st (omega arith) (int-sim power ts e d C P (power-room st))
+      (two Kind.POWER Operator.power 5 Table.NUMBER Table.NUMBER C P e f t us 6 (runs (y-want C P) ts) j-power (means-number _) z st (omega arith) (int-sim power ts e d C P (power-room st))
       (λ Q sq. int-sim operand us f g C Q number-any))
   int-sim _ _ _ (number-up ts e d) C P (product-room st) =
       sim-down 4 5 C Table.NUMBER e P (runs (y-want C P) ts) (omega arith) (int-sim power ts e d C P (power-room (stops-up 4 5 P (omega arith) st)))
@@ -410,34 +414,34 @@ module _ (s : List ℕ) where
     or-room : Stops 0 P → TestRoom P whole
 
   test-sim : (c : Class) (ts : List Token) (e : Expr) → TestTree s c ts e → (C : Context) (P : Waiting) → TestRoom P c → Sim (testLevel c) C Table.TEST e P (runs (y-want C P) ts)
-  unfolding Table.operandOf Table.resultOf Table.prefixOperator
+  unfolding Table.prefixOperator
   test-sim _ _ _ (true-tree t z w) C P h = sim-down 1 6 C Table.TEST _ P _ (omega arith) (leaf C Table.TEST _ P t _ (want-name C P t z) (true-means t _ w))
   test-sim _ _ _ (false-tree t z w) C P h = sim-down 1 6 C Table.TEST _ P _ (omega arith) (leaf C Table.TEST _ P t _ (want-name C P t z) (false-means t _ w))
-  test-sim _ _ _ (compare-numbers t ts us e f o p k d g) C P (test-room st) =
+  test-sim _ _ _ (compare-numbers t ts us e f o k d g) C P (test-room st) =
       sim-at 1 C Table.TEST _ P _ _ (run-append yard (y-want C P) ts (t ∷ us))
       (sim-down 1 2 C Table.TEST _ P _ (omega arith)
-      (two (t .kind) p 2 Table.NUMBER Table.TEST C P e f t us 3 (runs (y-want C P) ts) (j-numbers (t .kind) o p k) (means-test _) refl st (omega arith)
+      (two (t .kind) (Operator.comparison Operator.integers o) 2 Table.NUMBER Table.TEST C P e f t us 3 (runs (y-want C P) ts) (j-numbers (t .kind) o k) (means-test _) refl st (omega arith)
       (sim-down 2 3 C Table.NUMBER e P _ (omega arith) (int-sim whole ts e d C P (sum-room (stops-up 2 3 P (omega arith) st)))) (λ Q sq. int-sim whole us f g C Q (sum-room sq))))
-  test-sim _ _ _ (compare-texts t ts us e f o p k d g) C P (test-room st) =
+  test-sim _ _ _ (compare-texts t ts us e f o k d g) C P (test-room st) =
       sim-at 1 C Table.TEST _ P _ _ (run-append yard (y-want C P) ts (t ∷ us))
       (sim-down 1 2 C Table.TEST _ P _ (omega arith)
-      (two (t .kind) o 2 Table.TEXT Table.TEST C P e f t us 3 (runs (y-want C P) ts) (j-texts (t .kind) o p k) (means-test _) refl st (omega arith)
+      (two (t .kind) (Operator.comparison Operator.strings o) 2 Table.TEXT Table.TEST C P e f t us 3 (runs (y-want C P) ts) (j-texts (t .kind) o k) (means-test _) refl st (omega arith)
       (sim-down 2 3 C Table.TEXT e P _ (omega arith) (str-sim whole ts e d C P (text-room (stops-up 2 3 P (omega arith) st)))) (λ Q sq. str-sim whole us f g C Q (text-room sq))))
   test-sim _ _ _ (not-tree t ts e z d) C P h =
-      one C P t ts 1 Op.OPPOSITE Table.TEST Table.TEST e refl refl (means-test _) (want-mark C P t Kind.NOT z refl refl refl refl)
-      (test-sim operand ts e d C (pending 1 (prefixed Op.OPPOSITE) ∷ P) (test-room (stops-low 1 (prefixed Op.OPPOSITE) P (omega arith))))
+      one C P t ts 1 Operator.opposite Table.TEST Table.TEST e refl refl (means-test _) (want-mark C P t Kind.NOT z refl refl refl refl)
+      (test-sim operand ts e d C (pending 1 (prefixed Operator.opposite) ∷ P) (test-room (stops-low 1 (prefixed Operator.opposite) P (omega arith))))
   test-sim _ _ _ (test-bracket-tree t u ts e y z d) C P h =
       sim-down 1 6 C Table.TEST e P _ (omega arith) (bracketed 0 Table.TEST C P e t u ts y z (test-sim whole ts e d C (opening ∷ P) (or-room (stops-open P))))
   test-sim _ _ _ (test-once ts e d) C P (and-room st) = test-sim operand ts e d C P (test-room (stops-up 1 2 P (omega arith) st))
   test-sim _ _ _ (and-tree t ts us e f z d g) C P (and-room st) =
       sim-at 1 C Table.TEST _ P _ _ (run-append yard (y-want C P) ts (t ∷ us))
-      (two Kind.AND Op.BOTH 1 Table.TEST Table.TEST C P e f t us 1 (runs (y-want C P) ts) j-and (means-test _) z st (omega arith) (test-sim conjunction ts e d C P (and-room st))
+      (two Kind.AND Operator.both 1 Table.TEST Table.TEST C P e f t us 1 (runs (y-want C P) ts) j-and (means-test _) z st (omega arith) (test-sim conjunction ts e d C P (and-room st))
       (λ Q sq. test-sim operand us f g C Q (test-room sq)))
   test-sim _ _ _ (test-up ts e d) C P (or-room st) =
       sim-down 0 1 C Table.TEST e P (runs (y-want C P) ts) (omega arith) (test-sim conjunction ts e d C P (and-room (stops-up 0 1 P (omega arith) st)))
   test-sim _ _ _ (or-tree t ts us e f z d g) C P (or-room st) =
       sim-at 0 C Table.TEST _ P _ _ (run-append yard (y-want C P) ts (t ∷ us))
-      (two Kind.OR Op.EITHER 0 Table.TEST Table.TEST C P e f t us 1 (runs (y-want C P) ts) j-or (means-test _) z st (omega arith) (test-sim whole ts e d C P (or-room st))
+      (two Kind.OR Operator.either 0 Table.TEST Table.TEST C P e f t us 1 (runs (y-want C P) ts) j-or (means-test _) z st (omega arith) (test-sim whole ts e d C P (or-room st))
       (λ Q sq. test-sim conjunction us f g C Q (and-room sq)))
 
   -- clauses

@@ -15,39 +15,30 @@ Inv-loop page₀ at count j₀ page j = (length page ≡ length page₀) × (j �
 abbrev μ-loop : tie.MeasureT-loop
 μ-loop page₀ at count j₀ page j = count - j
 
--- src/lib.rt:195:5
 loop-holds : tie.Need-loop-holds Inv-loop μ-loop
 loop-holds c = (search needs, search needs, search store-start)
 
--- src/lib.rt:196:14
 sub-page : tie.Need-sub-page Inv-loop μ-loop
 sub-page c = search needs
 
--- src/lib.rt:196:14
 sub-page-2 : tie.Need-sub-page-2 Inv-loop μ-loop
 sub-page-2 c = search needs
 
--- src/lib.rt:196:9
 slice-write-page : tie.Need-slice-write-page Inv-loop μ-loop
 slice-write-page c = search needs
 
--- src/lib.rt:197:9
 add-j : tie.Need-add-j Inv-loop μ-loop
 add-j c = search needs
 
--- src/lib.rt:195:5
 loop-less : tie.Need-loop-less Inv-loop μ-loop
 loop-less c = search needs
 
--- src/lib.rt:195:5
 loop-again : tie.Need-loop-again Inv-loop μ-loop
 loop-again c = (search needs, search needs, search clear-more)
 
--- src/lib.rt:190:1
 same-length : tie.Need-same-length Inv-loop μ-loop
 same-length c = search needs
 
--- src/lib.rt:190:1
 returns : tie.Need-returns Inv-loop μ-loop
 returns c = search store-end
 

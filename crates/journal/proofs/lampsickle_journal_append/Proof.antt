@@ -6,15 +6,12 @@ use Rattle.journal.proofs.lampsickle_journal_append.Reads as reads
 use Rattle.journal.proofs.lampsickle_journal_append.Lts as lts
 use Rattle.journal.proofs.lampsickle_journal_append_cut.Reads as lampsickle-journal-append-cut-reads
 
--- src/lib.rt:229:5
 lampsickle-journal-append-cut-requires : tie.Need-lampsickle-journal-append-cut-requires
 lampsickle-journal-append-cut-requires c κs = search needs
 
--- src/lib.rt:224:1
 same-length : tie.Need-same-length
 same-length c = search needs
 
--- src/lib.rt:224:1
 returns : tie.Need-returns
 returns c = search append-whole
 

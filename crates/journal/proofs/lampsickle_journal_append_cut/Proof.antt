@@ -9,51 +9,39 @@ use Rattle.journal.proofs.numbered.Reads as numbered-reads
 use Rattle.journal.proofs.room_for.Reads as room-for-reads
 use Rattle.journal.proofs.write_entry.Reads as write-entry-reads
 
--- src/lib.rt:212:11
 room-for-requires : tie.Need-room-for-requires
 room-for-requires c κs = search needs
 
--- src/lib.rt:213:21
 enum-known-number : tie.Need-enum-known-number
 enum-known-number c = search needs
 
--- src/lib.rt:213:33
 numbered-requires : tie.Need-numbered-requires
 numbered-requires c κs = search needs
 
--- src/lib.rt:214:20
 enum-known-place : tie.Need-enum-known-place
 enum-known-place c = search needs
 
--- src/lib.rt:215:25
 add-total : tie.Need-add-total
 add-total c = search needs
 
--- src/lib.rt:216:17
 lesser-requires : tie.Need-lesser-requires
 lesser-requires c κs = search needs
 
--- src/lib.rt:217:13
 write-entry-requires : tie.Need-write-entry-requires
 write-entry-requires c κs = (search append-within, search append-few, search append-short)
 
--- src/lib.rt:218:13
 numbered-requires-2 : tie.Need-numbered-requires-2
 numbered-requires-2 c κs = search needs
 
--- src/lib.rt:208:1
 same-length : tie.Need-same-length
 same-length c = search needs
 
--- src/lib.rt:208:1
 returns : tie.Need-returns
 returns c = search append-not
 
--- src/lib.rt:208:1
 same-length-2 : tie.Need-same-length-2
 same-length-2 c = search needs
 
--- src/lib.rt:208:1
 returns-2 : tie.Need-returns-2
 returns-2 c = search append-done
 

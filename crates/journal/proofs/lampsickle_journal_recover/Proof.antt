@@ -6,15 +6,12 @@ use Rattle.journal.proofs.lampsickle_journal_recover.Reads as reads
 use Rattle.journal.proofs.lampsickle_journal_recover.Lts as lts
 use Rattle.journal.proofs.lampsickle_journal_recover_cut.Reads as lampsickle-journal-recover-cut-reads
 
--- src/lib.rt:254:5
 lampsickle-journal-recover-cut-requires : tie.Need-lampsickle-journal-recover-cut-requires
 lampsickle-journal-recover-cut-requires c κs = search needs
 
--- src/lib.rt:249:1
 same-length : tie.Need-same-length
 same-length c = search needs
 
--- src/lib.rt:249:1
 returns : tie.Need-returns
 returns c = search recover-whole
 

@@ -6,63 +6,48 @@ use Rattle.journal.proofs.next_entry.Reads as reads
 use Rattle.journal.proofs.next_entry.Lts as lts
 use Rattle.text.proofs.pair_at.Reads as pair-at-reads
 
--- src/lib.rt:26:9
 returns : tie.Need-returns
 returns c = search next-past
 
--- src/lib.rt:28:9
 pair-at-requires : tie.Need-pair-at-requires
 pair-at-requires c κs = search needs
 
--- src/lib.rt:30:9
 returns-2 : tie.Need-returns-2
 returns-2 c = search next-empty
 
--- src/lib.rt:32:8
 sub-if3 : tie.Need-sub-if3
 sub-if3 c = search needs
 
--- src/lib.rt:33:9
 returns-3 : tie.Need-returns-3
 returns-3 c = search next-short
 
--- src/lib.rt:35:8
 sub-if4 : tie.Need-sub-if4
 sub-if4 c = search needs
 
--- src/lib.rt:35:8
 sub-if4-2 : tie.Need-sub-if4-2
 sub-if4-2 c = search needs
 
--- src/lib.rt:36:9
 returns-4 : tie.Need-returns-4
 returns-4 c = search next-over
 
--- src/lib.rt:38:13
 add-if5 : tie.Need-add-if5
 add-if5 c = search needs
 
--- src/lib.rt:38:13
 add-if5-2 : tie.Need-add-if5-2
 add-if5-2 c = search needs
 
--- src/lib.rt:38:8
 shared-slice-read-if5 : tie.Need-shared-slice-read-if5
 shared-slice-read-if5 c = search needs
 
--- src/lib.rt:39:9
 returns-5 : tie.Need-returns-5
 returns-5 c = search next-open
 
--- src/lib.rt:41:5
 add-result : tie.Need-add-result
 add-result c = search needs
 
--- src/lib.rt:41:5
 add-result-2 : tie.Need-add-result-2
 add-result-2 c = search needs
 
--- src/lib.rt:21:1
 returns-6 : tie.Need-returns-6
 returns-6 c = search next-closed
 

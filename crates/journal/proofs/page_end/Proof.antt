@@ -6,27 +6,21 @@ use Rattle.journal.proofs.page_end.Reads as reads
 use Rattle.journal.proofs.page_end.Lts as lts
 use Rattle.journal.proofs.entries_end.Reads as entries-end-reads
 
--- src/lib.rt:99:9
 returns : tie.Need-returns
 returns c = search end-small
 
--- src/lib.rt:102:9
 returns-2 : tie.Need-returns-2
 returns-2 c = search end-large
 
--- src/lib.rt:104:8
 shared-slice-read-if3 : tie.Need-shared-slice-read-if3
 shared-slice-read-if3 c = search needs
 
--- src/lib.rt:105:9
 returns-3 : tie.Need-returns-3
 returns-3 c = search end-foreign
 
--- src/lib.rt:110:16
 entries-end-requires : tie.Need-entries-end-requires
 entries-end-requires c κs = search needs
 
--- src/lib.rt:94:1
 returns-4 : tie.Need-returns-4
 returns-4 c = search end-found
 

@@ -6,27 +6,21 @@ use Rattle.journal.proofs.room_at.Reads as reads
 use Rattle.journal.proofs.room_at.Lts as lts
 use Rattle.journal.proofs.zeros_from.Reads as zeros-from-reads
 
--- src/lib.rt:119:8
 zeros-from-requires : tie.Need-zeros-from-requires
 zeros-from-requires c κs = search needs
 
--- src/lib.rt:120:20
 sub-left : tie.Need-sub-left
 sub-left c = search needs
 
--- src/lib.rt:122:13
 returns : tie.Need-returns
 returns c = search at-tiny
 
--- src/lib.rt:125:13
 returns-2 : tie.Need-returns-2
 returns-2 c = search at-over
 
--- src/lib.rt:127:9
 returns-3 : tie.Need-returns-3
 returns-3 c = search at-enough
 
--- src/lib.rt:115:1
 returns-4 : tie.Need-returns-4
 returns-4 c = search at-unclean
 

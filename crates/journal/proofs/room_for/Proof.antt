@@ -7,31 +7,24 @@ use Rattle.journal.proofs.room_for.Lts as lts
 use Rattle.journal.proofs.page_end.Reads as page-end-reads
 use Rattle.journal.proofs.room_at.Reads as room-at-reads
 
--- src/lib.rt:137:9
 returns : tie.Need-returns
 returns c = search room-empty
 
--- src/lib.rt:139:11
 page-end-requires : tie.Need-page-end-requires
 page-end-requires c κs = search needs
 
--- src/lib.rt:140:21
 enum-known-number : tie.Need-enum-known-number
 enum-known-number c = search needs
 
--- src/lib.rt:141:20
 enum-known-place : tie.Need-enum-known-place
 enum-known-place c = search needs
 
--- src/lib.rt:141:31
 room-at-requires : tie.Need-room-at-requires
 room-at-requires c κs = search opened-within
 
--- src/lib.rt:133:1
 returns-2 : tie.Need-returns-2
 returns-2 c = search room-not
 
--- src/lib.rt:133:1
 returns-3 : tie.Need-returns-3
 returns-3 c = search room-there
 

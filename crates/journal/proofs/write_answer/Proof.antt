@@ -15,39 +15,30 @@ Inv-loop page₀ at answer count j₀ page j = (length page ≡ length page₀) 
 abbrev μ-loop : tie.MeasureT-loop
 μ-loop page₀ at answer count j₀ page j = count - j
 
--- src/lib.rt:161:5
 loop-holds : tie.Need-loop-holds Inv-loop μ-loop
 loop-holds c = (search needs, search needs, search store-start)
 
--- src/lib.rt:162:24
 shared-slice-read-page : tie.Need-shared-slice-read-page Inv-loop μ-loop
 shared-slice-read-page c = search needs
 
--- src/lib.rt:162:14
 add-page : tie.Need-add-page Inv-loop μ-loop
 add-page c = search needs
 
--- src/lib.rt:162:9
 slice-write-page : tie.Need-slice-write-page Inv-loop μ-loop
 slice-write-page c = search needs
 
--- src/lib.rt:163:9
 add-j : tie.Need-add-j Inv-loop μ-loop
 add-j c = search needs
 
--- src/lib.rt:161:5
 loop-less : tie.Need-loop-less Inv-loop μ-loop
 loop-less c = search needs
 
--- src/lib.rt:161:5
 loop-again : tie.Need-loop-again Inv-loop μ-loop
 loop-again c = (search needs, search needs, search answer-more)
 
--- src/lib.rt:156:1
 same-length : tie.Need-same-length Inv-loop μ-loop
 same-length c = search needs
 
--- src/lib.rt:156:1
 returns : tie.Need-returns Inv-loop μ-loop
 returns c = search store-end
 

@@ -16,27 +16,21 @@ Inv-loop page from clear₀ at₀ clear at = (clear && zeros (drop at page)) ≡
 abbrev μ-loop : tie.MeasureT-loop
 μ-loop page from clear₀ at₀ clear at = length page - at
 
--- src/lib.rt:86:5
 loop-holds : tie.Need-loop-holds Inv-loop μ-loop
 loop-holds c = search zeros-start
 
--- src/lib.rt:87:26
 shared-slice-read-clear : tie.Need-shared-slice-read-clear Inv-loop μ-loop
 shared-slice-read-clear c = search needs
 
--- src/lib.rt:88:9
 add-at : tie.Need-add-at Inv-loop μ-loop
 add-at c = search needs
 
--- src/lib.rt:86:5
 loop-less : tie.Need-loop-less Inv-loop μ-loop
 loop-less c = search needs
 
--- src/lib.rt:86:5
 loop-again : tie.Need-loop-again Inv-loop μ-loop
 loop-again c = search zeros-more
 
--- src/lib.rt:81:1
 returns : tie.Need-returns Inv-loop μ-loop
 returns c = search zeros-end
 

@@ -11,47 +11,36 @@ use Rattle.judge.proofs.judge_middle.Reads as judge-middle-reads
 use Rattle.judge.proofs.judge_short.Reads as judge-short-reads
 use Rattle.judge.proofs.judge_tiny.Reads as judge-tiny-reads
 
--- src/lib.rt:167:9
 bytes-left-requires : tie.Need-bytes-left-requires
 bytes-left-requires c κs = search needs
 
--- src/lib.rt:169:9
 judge-tiny-requires : tie.Need-judge-tiny-requires
 judge-tiny-requires c κs = search needs
 
--- src/lib.rt:169:9
 returns : tie.Need-returns
 returns c = search here-tiny
 
--- src/lib.rt:172:9
 judge-brief-requires : tie.Need-judge-brief-requires
 judge-brief-requires c κs = search needs
 
--- src/lib.rt:172:9
 returns-2 : tie.Need-returns-2
 returns-2 c = search here-brief
 
--- src/lib.rt:175:9
 judge-short-requires : tie.Need-judge-short-requires
 judge-short-requires c κs = search needs
 
--- src/lib.rt:175:9
 returns-3 : tie.Need-returns-3
 returns-3 c = search here-short
 
--- src/lib.rt:178:9
 judge-middle-requires : tie.Need-judge-middle-requires
 judge-middle-requires c κs = search needs
 
--- src/lib.rt:178:9
 returns-4 : tie.Need-returns-4
 returns-4 c = search here-middle
 
--- src/lib.rt:180:5
 judge-long-requires : tie.Need-judge-long-requires
 judge-long-requires c κs = search needs
 
--- src/lib.rt:156:1
 returns-5 : tie.Need-returns-5
 returns-5 c = search here-long
 

@@ -7,35 +7,27 @@ use Rattle.judge.proofs.judge_in.Lts as lts
 use Rattle.conditions.proofs.program.conditions.Reads as conditions-reads
 use Rattle.judge.proofs.rank_here.Reads as rank-here-reads
 
--- src/lib.rt:140:11
 conditions-requires : tie.Need-conditions-requires
 conditions-requires c κs = search needs
 
--- src/lib.rt:141:22
 enum-known-reason : tie.Need-enum-known-reason
 enum-known-reason c = search needs
 
--- src/lib.rt:145:13
 enum-known-top : tie.Need-enum-known-top
 enum-known-top c = search needs
 
--- src/lib.rt:148:17
 rank-here-requires : tie.Need-rank-here-requires
 rank-here-requires c κs = search needs
 
--- src/lib.rt:128:1
 same-length : tie.Need-same-length
 same-length c = search needs
 
--- src/lib.rt:128:1
 returns : tie.Need-returns
 returns c = search judge-aside
 
--- src/lib.rt:128:1
 same-length-2 : tie.Need-same-length-2
 same-length-2 c = search needs
 
--- src/lib.rt:128:1
 returns-2 : tie.Need-returns-2
 returns-2 c = search judge-on
 

@@ -6,7 +6,7 @@ use Prim.Native.Nat.{ℕ, zero, suc, _+_, _-_, _*_, _<_, _≤_}
 use native.Mathlib.Omega.{arith}
 use lib.Dec.{eqb, ltb, leb}
 use lib.ListN.{length}
-use borrow.Author.Tests.{eqb-true, eqb-false, leb-false}
+use borrow.Author.Tests.{eqb-true, leb-false}
 use Rattle.text.specs.Choice.{pick, split}
 use Rattle.text.specs.Loop.{Step}
 use Rattle.lexical.specs.Kind
@@ -14,12 +14,12 @@ use Rattle.lexical.specs.Bounds.{chosen}
 use Rattle.lexical.specs.Literal.{decodedAt}
 use Rattle.lexical.specs.Number as Number
 use Rattle.lexical.specs.declared.token.Token.{Token}
-use Rattle.syntax.specs.Op
+use Rattle.syntax.specs.Operator.{Unary, Binary, unaryTakes, unaryGives, binaryTakes, binaryGives}
 use Rattle.syntax.specs.Expr.{Expr, name, truth, unary, binary}
 use Rattle.syntax.specs.Code.{nameAt}
 use Rattle.syntax.specs.Parsed.{Parsed, ok, aside, andThen}
 use Rattle.machine.specs.Need.{need, span, room}
-use Rattle.machine.specs.Theorems.Bounds.{need-some, either}
+use Rattle.machine.specs.Theorems.Bounds.{need-some, span-most}
 use Rattle.conditions.specs.Table
 use Rattle.conditions.specs.Word.{nextAt, wordSort}
 use Rattle.conditions.specs.Parsed.{Part, part, onPart}
@@ -27,7 +27,8 @@ use Rattle.conditions.specs.Operand.{readLiteral, readName, readDigits, readFlo
 use Rattle.conditions.specs.Expression.{State, onJoined, chainTurn, closing, readExpression, readOperand, readPrefixed, readBracketed, readChain, readJoined}
 use Rattle.conditions.specs.Working.Keeping.{Kept, kept-next, kept-done, loop-keeps}
 use Rattle.conditions.specs.Working.TieOperand.{name-cases}
-use Rattle.conditions.specs.Working.Reach.{spread, prefix-level, operand-level-most, operand-wanted, inside-most, inside-wanted, level-most, binds-level, Between, operator-between, right-wanted}
+use Rattle.conditions.specs.Working.Cases.{infix-cases, prefix-cases}
+use Rattle.conditions.specs.Working.Reach.{spread, prefix-level, operand-level-most, operand-wanted, inside-most, inside-wanted, level-most, binds-level, right-wanted}
 use Rattle.judge.specs.Working.Steep.{lift, Plain, steep, unary-plain, binary-plain}
 
 -- a fault, or what was read, of which P holds
@@ -101,8 +102,8 @@ inner-under : (want l : ℕ) → (6 - l) * 17 ≤ spread want → inner want ≤
 unfolding spread inner
 inner-under want l = split (eqb want Table.ANY) (λ e. rw e (λ i. omega (arith, i))) (λ e. rw e (λ i. omega (arith, i)))
 
-inner-prefix : (want k : ℕ) → Table.allows want k ≡ true → inner want ≤ Table.operandLevel (Table.prefixOperator k)
-inner-prefix want k h = inner-under want (Table.operandLevel (Table.prefixOperator k)) (prefix-level want k h)
+inner-prefix : (want k : ℕ) (op : Unary) → Table.allows want k ≡ true → Table.prefixOperator k ≡ Table.before op → inner want ≤ Table.operandLevel op
+inner-prefix want k op h e = inner-under want (Table.operandLevel op) (prefix-level want k op h e)
 
 -- brackets hold less than what stands around them may
 inside-deep : (want nest : ℕ) → nest < 16 → deep (Table.insideLevel want) (nest + 1) ≤ deep (inner want) nest
@@ -128,28 +129,29 @@ settled-room wanted x e r h =
 
 -- operators
 module _ (n r : ℕ) where
-  unary-fits : (op x : ℕ) (e : Expr) (t : Token) → need e ≤ n → room e ≤ r → 4096 ≤ r → Holds (Fits n r) (applied (unary op) op x e t)
+  unary-fits : (op : Unary) (x : ℕ) (e : Expr) (t : Token) → need e ≤ n → room e ≤ r → 4096 ≤ r
+      → Holds (Fits n r) (applied (unary op) (unaryTakes op) (unaryGives op) x e t)
   unfolding applied need room
   unary-fits op x e t h k least =
-      chosen (Holds (Fits n r)) (Table.fits (Table.operandOf op) x) _ _
-      (λ i. holds-ok _ t (fit (Table.resultOf op) (unary op f) (settled-need (Table.operandOf op) x e n h)
-      (omega (arith, settled-room (Table.operandOf op) x e r k, either (eqb op Op.LOOKUP), least)) (unary-plain op f)))
+      chosen (Holds (Fits n r)) (Table.fits takes x) _ _
+      (λ i. holds-ok _ t (fit (Table.sortOf (unaryGives op)) (unary op (settledTree takes x e)) (settled-need takes x e n h)
+      (omega (arith, settled-room takes x e r k, span-most (unaryGives op), least)) (unary-plain op (settledTree takes x e))))
       (λ i. holds-aside _ _)
     where
-      f : Expr
-      f = settledTree (Table.operandOf op) x e
+      takes : ℕ
+      takes = Table.sortOf (unaryTakes op)
 
-  binary-fits : (op : ℕ) (l : Expr) (x : ℕ) (e : Expr) (t : Token) (m w : ℕ) → need l ≤ n → room l ≤ r → need e ≤ m → room e ≤ w → 1 + m ≤ n → span l + w ≤ r
-      → Holds (Fits n r) (applied (binary op l) op x e t)
+  binary-fits : (op : Binary) (l : Expr) (x : ℕ) (e : Expr) (t : Token) (m w : ℕ) → need l ≤ n → room l ≤ r → need e ≤ m → room e ≤ w → 1 + m ≤ n → span l + w ≤ r
+      → Holds (Fits n r) (applied (binary op l) (binaryTakes op) (binaryGives op) x e t)
   unfolding applied need room
   binary-fits op l x e t m w h k i j a b =
-      chosen (Holds (Fits n r)) (Table.fits (Table.operandOf op) x) _ _
-      (λ g. holds-ok _ t (fit (Table.resultOf op) (binary op l f) (omega (arith, h, a, settled-need (Table.operandOf op) x e m i))
-      (omega (arith, k, b, settled-room (Table.operandOf op) x e w j)) (binary-plain op l f)))
+      chosen (Holds (Fits n r)) (Table.fits takes x) _ _
+      (λ g. holds-ok _ t (fit (Table.sortOf (binaryGives op)) (binary op l (settledTree takes x e)) (omega (arith, h, a, settled-need takes x e m i))
+      (omega (arith, k, b, settled-room takes x e w j)) (binary-plain op l (settledTree takes x e))))
       (λ g. holds-aside _ _)
     where
-      f : Expr
-      f = settledTree (Table.operandOf op) x e
+      takes : ℕ
+      takes = Table.sortOf (binaryTakes op)
 
 module _ (s : List ℕ) where
   -- operands of one token
@@ -195,12 +197,12 @@ module _ (s : List ℕ) where
   closing-fits n r x e t i j p = chosen (Holds (Fits n r)) (eqb (t .kind) Kind.CLOSE) _ _ (λ h. holds-ok _ _ (fit x e i j p)) (λ h. holds-aside _ _)
 
   module _ (d : ℕ) (expression : Expressions d) where
-    prefixed-fits : (op want row nest : ℕ) (t : Token) → nest ≤ 16 → inner want ≤ Table.operandLevel op → At (inner want) nest (readPrefixed (suc d) s op want row nest t)
+    prefixed-fits : (op : Unary) (want row nest : ℕ) (t : Token) → nest ≤ 16 → inner want ≤ Table.operandLevel op → At (inner want) nest (readPrefixed (suc d) s op want row nest t)
     unfolding readPrefixed
     prefixed-fits op want row nest t few h =
         chosen (At (inner want) nest) (leb 16 row) _ _ (λ k. holds-aside _ _)
         (λ k. on-holds (deep (Table.operandLevel op) nest) (wide (Table.operandLevel op) nest) (Fits (deep (inner want) nest) (wide (inner want) nest))
-        (readExpression d s (Table.operandLevel op) (Table.operandWant op want) (row + 1) nest (nextAt s (t .end))) (λ x e n. applied (unary op) op x e n)
+        (readExpression d s (Table.operandLevel op) (Table.operandWant op want) (row + 1) nest (nextAt s (t .end))) (λ x e n. applied (unary op) (unaryTakes op) (unaryGives op) x e n)
         (λ x e n i j p. unary-fits (deep (inner want) nest) (wide (inner want) nest) op x e n (omega (arith, i, deep-more nest (inner want) (Table.operandLevel op) h))
         (omega (arith, j, wide-more nest (inner want) (Table.operandLevel op) h)) (wide-least nest (inner want) few))
         (expression (Table.operandLevel op) (Table.operandWant op want) (row + 1) nest (nextAt s (t .end)) few (operand-level-most op) (operand-wanted op want)))
@@ -215,20 +217,20 @@ module _ (s : List ℕ) where
         (λ x e n i j p. closing-fits (deep (inner want) nest) (wide (inner want) nest) x e n (omega (arith, i, inside-deep want nest few)) (omega (arith, j, inside-wide want nest few)) p)
         (expression (Table.insideLevel want) want 0 (nest + 1) (nextAt s (t .end)) (omega (arith, few)) (inside-most want) (inside-wanted want)))
 
-    joined-fits : (level nest sort k : ℕ) (e : Expr) (at op : ℕ) → op ≡ Table.operator sort k → (op ≡ 0 → ⊥) → (op ≡ Table.MATCH → ⊥) → level ≤ Table.levelOf op → nest ≤ 16
+    joined-fits : (level nest sort k : ℕ) (e : Expr) (at : ℕ) (op : Binary) → Table.operator sort k ≡ Table.between op → level ≤ Table.levelOf op → nest ≤ 16
         → need e ≤ deep level nest → room e ≤ wide level nest → Plain sort e → At level nest (readJoined (suc d) s op nest sort e at)
     unfolding readJoined Table.rightLevel
-    joined-fits level nest sort k e at op o nz nm l few i j p =
+    joined-fits level nest sort k e at op o l few i j p =
         on-holds (deep (Table.rightLevel op) nest) (wide (Table.rightLevel op) nest) (Fits (deep level nest) (wide level nest))
-        (readExpression d s (Table.rightLevel op) (Table.rightWant op) 0 nest (nextAt s at)) (λ x f n. applied (binary op (settledTree (Table.operandOf op) sort e)) op x f n)
-        (λ x f n i′ j′ q. binary-fits (deep level nest) (wide level nest) op (settledTree (Table.operandOf op) sort e) x f n (deep (Table.rightLevel op) nest) (wide (Table.rightLevel op) nest)
-        (settled-need (Table.operandOf op) sort e (deep level nest) i) (settled-room (Table.operandOf op) sort e (wide level nest) j) i′ j′
+        (readExpression d s (Table.rightLevel op) (Table.rightWant op) 0 nest (nextAt s at)) (λ x f n. applied (binary op (settledTree takes sort e)) (binaryTakes op) (binaryGives op) x f n)
+        (λ x f n i′ j′ q. binary-fits (deep level nest) (wide level nest) op (settledTree takes sort e) x f n (deep (Table.rightLevel op) nest) (wide (Table.rightLevel op) nest)
+        (settled-need takes sort e (deep level nest) i) (settled-room takes sort e (wide level nest) j) i′ j′
         (deep-step (16 - nest) level (Table.levelOf op) l (level-most op))
-        (wide-step (span (settledTree (Table.operandOf op) sort e)) (17 - nest) (lift (Table.levelOf op + 1)) (lift (Table.levelOf op)) (lift level) (steep sort k e p op o nz nm) (lift-more level (Table.levelOf op) l)))
-        (expression (Table.rightLevel op) (Table.rightWant op) 0 nest (nextAt s at) few (omega (arith, level-most op)) (right-wanted op between nz nm))
+        (wide-step (span (settledTree takes sort e)) (17 - nest) (lift (Table.levelOf op + 1)) (lift (Table.levelOf op)) (lift level) (steep sort k e p op o) (lift-more level (Table.levelOf op) l)))
+        (expression (Table.rightLevel op) (Table.rightWant op) 0 nest (nextAt s at) few (omega (arith, level-most op)) (right-wanted op))
       where
-        between : Between op
-        between = rw o (operator-between sort k)
+        takes : ℕ
+        takes = Table.sortOf (binaryTakes op)
 
   -- where a chain stands
   module _ (level nest : ℕ) (few : nest ≤ 16) where
@@ -243,7 +245,7 @@ module _ (s : List ℕ) where
     on-joined t _ (holds-ok _ n (fit x e i j p)) =
         chosen Turned (leb (n .start) (t .start)) _ _ (λ h. kept-done (aside 0 (t .start)) (holds-aside 0 (t .start))) (λ h. kept-next (n, x, e) (fit x e i j p))
 
-    module _ (d : ℕ) (joined : (sort k : ℕ) (e : Expr) (at op : ℕ) → op ≡ Table.operator sort k → (op ≡ 0 → ⊥) → (op ≡ Table.MATCH → ⊥) → level ≤ Table.levelOf op
+    module _ (d : ℕ) (joined : (sort k : ℕ) (e : Expr) (at : ℕ) (op : Binary) → Table.operator sort k ≡ Table.between op → level ≤ Table.levelOf op
         → need e ≤ deep level nest → room e ≤ wide level nest → Plain sort e → At level nest (readJoined d s op nest sort e at)) where
       abbrev turn : State → Step State (Parsed Part)
       turn = chainTurn (λ op nest sort e at. readJoined d s op nest sort e at) s level nest
@@ -252,9 +254,8 @@ module _ (s : List ℕ) where
       turn-at t sort e i j p =
           chosen Turned (leb (length s) (t .start)) _ _ (λ h. kept-done _ (holds-ok _ t (fit sort e i j p)))
           (λ h. chosen Turned (Table.binds level (Table.operator sort (t .kind))) _ _
-          (λ k. chosen Turned (eqb (Table.operator sort (t .kind)) Table.MATCH) _ _ (λ l. kept-done _ (holds-aside _ _))
-          (λ l. let b : (Table.operator sort (t .kind) ≡ 0 → ⊥) × (level ≤ Table.levelOf (Table.operator sort (t .kind))) = binds-level level (Table.operator sort (t .kind)) k in
-          on-joined t _ (joined sort (t .kind) e (t .end) (Table.operator sort (t .kind)) refl (b .0) (eqb-false (Table.operator sort (t .kind)) Table.MATCH l) (b .1) i j p)))
+          (λ k. infix-cases Turned (Table.operator sort (t .kind)) _ _ _ (λ l. kept-done _ (holds-ok _ t (fit sort e i j p))) (λ l. kept-done _ (holds-aside _ _))
+          (λ op l. on-joined t _ (joined sort (t .kind) e (t .end) op l (binds-level level op (rw l at k)) i j p)))
           (λ k. kept-done _ (holds-ok _ t (fit sort e i j p))))
 
       turn-fits : (x : State) → Stands x → Turned (turn x)
@@ -265,16 +266,16 @@ module _ (s : List ℕ) where
       chain-fits sort e t i j p =
           loop-keeps (λ x. length s - x .0 .start) (λ x. aside 0 (x .0 .start)) turn Stands (At level nest) (λ x. holds-aside _ _) turn-fits (t, sort, e) (fit sort e i j p)
 
-  operand-fits : (d : ℕ) → ((op want row nest : ℕ) (t : Token) → nest ≤ 16 → inner want ≤ Table.operandLevel op → At (inner want) nest (readPrefixed d s op want row nest t))
+  operand-fits : (d : ℕ) → ((op : Unary) (want row nest : ℕ) (t : Token) → nest ≤ 16 → inner want ≤ Table.operandLevel op → At (inner want) nest (readPrefixed d s op want row nest t))
       → ((want nest : ℕ) (t : Token) → At (inner want) nest (readBracketed d s want nest t))
       → (want row nest : ℕ) (t : Token) → nest ≤ 16 → At (inner want) nest (readOperand (suc d) s want row nest t)
   unfolding readOperand
   operand-fits d prefixed bracketed want row nest t few =
       chosen (At (inner want) nest) (Table.allows want (t .kind)) _ _
-      (λ h. chosen (At (inner want) nest) (eqb (Table.prefixOperator (t .kind)) Table.NONE) _ _
+      (λ h. prefix-cases (At (inner want) nest) (Table.prefixOperator (t .kind)) _ _
       (λ k. chosen (At (inner want) nest) (eqb (t .kind) Kind.OPEN) _ _ (λ l. bracketed want nest t)
       (λ l. leaf-fits (deep (inner want) nest) (wide (inner want) nest) (omega arith) (wide-least nest (inner want) few) t want row))
-      (λ k. prefixed (Table.prefixOperator (t .kind)) want row nest t few (inner-prefix want (t .kind) h)))
+      (λ op k. prefixed op want row nest t few (inner-prefix want (t .kind) op h k)))
       (λ h. holds-aside _ _)
 
   -- the depths go down by one, as the readers' do
@@ -293,7 +294,7 @@ module _ (s : List ℕ) where
     operand-at zero want row nest t few = holds-aside _ _
     operand-at (suc d) want row nest t few = operand-fits d (λ op want row nest t few h. prefixed-at d op want row nest t few h) (λ want nest t. bracketed-at d want nest t) want row nest t few
 
-    prefixed-at : (d op want row nest : ℕ) (t : Token) → nest ≤ 16 → inner want ≤ Table.operandLevel op → At (inner want) nest (readPrefixed d s op want row nest t)
+    prefixed-at : (d : ℕ) (op : Unary) (want row nest : ℕ) (t : Token) → nest ≤ 16 → inner want ≤ Table.operandLevel op → At (inner want) nest (readPrefixed d s op want row nest t)
     prefixed-at zero op want row nest t few h = holds-aside _ _
     prefixed-at (suc d) op want row nest t few h = prefixed-fits d (λ level want row nest t few h w. expression-fits d level want row nest t few h w) op want row nest t few h
 
@@ -303,9 +304,9 @@ module _ (s : List ℕ) where
 
     chain-at : (d level nest sort : ℕ) (e : Expr) (t : Token) → nest ≤ 16 → need e ≤ deep level nest → room e ≤ wide level nest → Plain sort e → At level nest (readChain d s level nest sort e t)
     chain-at zero level nest sort e t few i j p = holds-aside _ _
-    chain-at (suc d) level nest sort e t few i j p = chain-fits level nest few d (λ sort k e at op o nz nm l i j p. joined-at d level nest sort k e at op o nz nm l few i j p) sort e t i j p
+    chain-at (suc d) level nest sort e t few i j p = chain-fits level nest few d (λ sort k e at op o l i j p. joined-at d level nest sort k e at op o l few i j p) sort e t i j p
 
-    joined-at : (d level nest sort k : ℕ) (e : Expr) (at op : ℕ) → op ≡ Table.operator sort k → (op ≡ 0 → ⊥) → (op ≡ Table.MATCH → ⊥) → level ≤ Table.levelOf op → nest ≤ 16
+    joined-at : (d level nest sort k : ℕ) (e : Expr) (at : ℕ) (op : Binary) → Table.operator sort k ≡ Table.between op → level ≤ Table.levelOf op → nest ≤ 16
         → need e ≤ deep level nest → room e ≤ wide level nest → Plain sort e → At level nest (readJoined d s op nest sort e at)
-    joined-at zero level nest sort k e at op o nz nm l few i j p = holds-aside _ _
-    joined-at (suc d) level nest sort k e at op o nz nm l few i j p = joined-fits d (λ level want row nest t few h w. expression-fits d level want row nest t few h w) level nest sort k e at op o nz nm l few i j p
+    joined-at zero level nest sort k e at op o l few i j p = holds-aside _ _
+    joined-at (suc d) level nest sort k e at op o l few i j p = joined-fits d (λ level want row nest t few h w. expression-fits d level want row nest t few h w) level nest sort k e at op o l few i j p

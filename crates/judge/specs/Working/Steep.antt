@@ -1,17 +1,18 @@
 -- How much room an operator asks for besides its right operand's, by the tables of Conditions. Assumes nothing.
-use mathlib.Core.Path.{_≡_, refl, sym}
+use mathlib.Core.Path.{_≡_, refl, ap}
 use mathlib.Core.Bool.{true, false}
 use Prim.Native.Nat.{ℕ, _+_, _-_, _*_, _<_, _≤_, min}
 use native.Mathlib.Omega.{arith}
 use lib.Dec.{eqb, ltb}
-use borrow.Author.Tests.{eqb-true, eqb-false, ltb-true, lt-ltb, ne-eqb}
+use borrow.Author.Tests.{eqb-true, eqb-false, ltb-true, lt-ltb}
 use Rattle.text.specs.Choice.{pick, clash}
 use Rattle.lexical.specs.Kind
 use Rattle.lexical.specs.Bounds.{chosen}
-use Rattle.syntax.specs.Op
+use Rattle.syntax.specs.Operator.{Unary, Binary, Sort, a-string, an-integer, a-test, binaryTakes, unaryGives, binaryGives, strings}
 use Rattle.syntax.specs.Expr.{Expr, truth, unary, binary}
-use Rattle.machine.specs.Need.{span}
+use Rattle.machine.specs.Need.{spanOf, span}
 use Rattle.machine.specs.Theorems.Bounds.{span-least}
+use Rattle.conditions.specs.Table.{Infix, no-infix, matching, between}
 use Rattle.conditions.specs.Table
 use Rattle.conditions.specs.Operand.{settledTree}
 
@@ -20,53 +21,45 @@ abbrev pub lift : ℕ → ℕ
 lift level = min 2 (4 - level)
 
 -- an operator on strings, which leaves one below its right operand
-abbrev Steep : ℕ → Type 0
-Steep o = (o ≡ 0 → ⊥) → (o ≡ Table.MATCH → ⊥) → 1 + lift (Table.levelOf o + 1) ≤ lift (Table.levelOf o)
-
-comparison-steep : (k : ℕ) → Steep (Table.comparison k)
-unfolding Table.comparison Table.levelOf
-comparison-steep k =
-    chosen Steep (eqb k Kind.EQUAL) _ _ (λ e n m. omega arith)
-    (λ e. chosen Steep (eqb k Kind.UNEQUAL) _ _ (λ e n m. omega arith)
-    (λ e. chosen Steep (eqb k Kind.LESS) _ _ (λ e n m. omega arith)
-    (λ e. chosen Steep (eqb k Kind.GREATER) _ _ (λ e n m. omega arith)
-    (λ e. chosen Steep (eqb k Kind.AT-MOST) _ _ (λ e n m. omega arith)
-    (λ e. chosen Steep (eqb k Kind.AT-LEAST) _ _ (λ e n m. omega arith) (λ e n m. absurd (n refl)))))))
-
-text-steep : (k : ℕ) → Steep (Table.textOperator k)
-unfolding Table.textOperator Table.levelOf
-text-steep k =
-    chosen Steep (eqb k Kind.DOT) _ _ (λ e n m. omega arith)
-    (λ e. chosen Steep (eqb k Kind.MATCHES) _ _ (λ e n m. absurd (m refl)) (λ e. comparison-steep k))
-
-test-high : (k : ℕ) → (Table.testOperator k ≡ 0 → ⊥) → 28 ≤ Table.testOperator k
-unfolding Table.testOperator
-test-high k =
-    chosen (λ (o : ℕ). (o ≡ 0 → ⊥) → 28 ≤ o) (eqb k Kind.AND) _ _ (λ e n. omega arith)
-    (λ e. chosen (λ (o : ℕ). (o ≡ 0 → ⊥) → 28 ≤ o) (eqb k Kind.OR) _ _ (λ f n. omega arith) (λ f n. absurd (n refl)))
+abbrev Steep : Binary → Type 0
+Steep op = 1 + lift (Table.levelOf op + 1) ≤ lift (Table.levelOf op)
 
 -- "Both sides of a comparison have one type": an operator on strings, on integers or on tests
-data Operates (sort o : ℕ) : Type 0 where
-  by-text : Steep o → Operates sort o
-  by-number : sort ≡ Table.NUMBER → Operates sort o
-  by-test : 28 ≤ o → (sort ≡ Table.TEXT → ⊥) → Operates sort o
+data Operates (sort : ℕ) : Infix → Type 0 where
+  by-none : Operates sort no-infix
+  by-match : Operates sort matching
+  by-text : (op : Binary) → Steep op → Operates sort (between op)
+  by-number : (i : Infix) → sort ≡ Table.NUMBER → Operates sort i
+  by-test : (op : Binary) → binaryTakes op ≡ a-test → (sort ≡ Table.TEXT → ⊥) → Operates sort (between op)
+
+comparison-operates : (sort k : ℕ) → Operates sort (Table.comparison strings k)
+unfolding Table.comparison Table.levelOf
+comparison-operates sort k =
+    chosen (Operates sort) (eqb k Kind.EQUAL) _ _ (λ e. by-text _ (omega arith))
+    (λ e. chosen (Operates sort) (eqb k Kind.UNEQUAL) _ _ (λ e. by-text _ (omega arith))
+    (λ e. chosen (Operates sort) (eqb k Kind.LESS) _ _ (λ e. by-text _ (omega arith))
+    (λ e. chosen (Operates sort) (eqb k Kind.GREATER) _ _ (λ e. by-text _ (omega arith))
+    (λ e. chosen (Operates sort) (eqb k Kind.AT-MOST) _ _ (λ e. by-text _ (omega arith))
+    (λ e. chosen (Operates sort) (eqb k Kind.AT-LEAST) _ _ (λ e. by-text _ (omega arith)) (λ e. by-none))))))
+
+text-operates : (sort k : ℕ) → Operates sort (Table.textOperator k)
+unfolding Table.textOperator Table.levelOf
+text-operates sort k =
+    chosen (Operates sort) (eqb k Kind.DOT) _ _ (λ e. by-text _ (omega arith))
+    (λ e. chosen (Operates sort) (eqb k Kind.MATCHES) _ _ (λ e. by-match) (λ e. comparison-operates sort k))
 
 operates : (sort k : ℕ) → Operates sort (Table.operator sort k)
-unfolding Table.operator
+unfolding Table.operator Table.testOperator
 operates sort k =
-    chosen (Operates sort) (eqb sort Table.NUMBER) _ _ (λ e. by-number (eqb-true sort Table.NUMBER e))
-    (λ e. chosen (Operates sort) (eqb sort Table.TEXT) _ _ (λ f. by-text (text-steep k))
-    (λ f. chosen (Operates sort) (eqb (Table.testOperator k) Table.NONE) _ _
-    (λ g. chosen (Operates sort) (eqb sort Table.TEST) _ _ (λ h. by-text (λ n m. absurd (n refl))) (λ h. by-text (text-steep k)))
-    (λ g. by-test (test-high k (eqb-false (Table.testOperator k) Table.NONE g)) (eqb-false sort Table.TEXT f))))
+    chosen (Operates sort) (eqb sort Table.NUMBER) _ _ (λ e. by-number _ (eqb-true sort Table.NUMBER e))
+    (λ e. chosen (Operates sort) (eqb sort Table.TEXT) _ _ (λ f. text-operates sort k)
+    (λ f. chosen (Operates sort) (eqb k Kind.AND) _ _ (λ g. by-test _ refl (eqb-false sort Table.TEXT f))
+    (λ g. chosen (Operates sort) (eqb k Kind.OR) _ _ (λ h. by-test _ refl (eqb-false sort Table.TEXT f))
+    (λ h. chosen (Operates sort) (eqb sort Table.TEST) _ _ (λ i. by-none) (λ i. text-operates sort k)))))
 
 -- what is settled and no string has no bytes
 abbrev pub Plain : ℕ → Expr → Type 0
 Plain x e = x < Table.TRUE → (x ≡ Table.TEXT → ⊥) → span e ≡ 0
-
-takes-tests : (o : ℕ) → 28 ≤ o → Table.operandOf o ≡ Table.TEST
-unfolding Table.operandOf
-takes-tests o h = rw (ne-eqb o 8 (λ z. omega (arith, z, h)), lt-ltb 27 o h)
 
 settled-none : (wanted x : ℕ) (e : Expr) → (wanted ≡ Table.TEXT → ⊥) → (x ≡ Table.TEXT → ⊥) → Plain x e → span (settledTree wanted x e) ≡ 0
 unfolding settledTree span
@@ -81,22 +74,19 @@ settled-number wanted x e n p =
     rw (lt-ltb x Table.TRUE h) (p h (λ z. omega (arith, n, z)))
 
 -- a left operand's bytes and the room above them
-pub steep : (sort k : ℕ) (e : Expr) → Plain sort e → (o : ℕ) → o ≡ Table.operator sort k → (o ≡ 0 → ⊥) → (o ≡ Table.MATCH → ⊥)
-    → span (settledTree (Table.operandOf o) sort e) + 4096 * lift (Table.levelOf o + 1) ≤ 4096 * lift (Table.levelOf o)
-steep sort k e p o i nz nm = by (rw (sym i) at q)
+pub steep : (sort k : ℕ) (e : Expr) → Plain sort e → (op : Binary) → Table.operator sort k ≡ between op
+    → span (settledTree (Table.sortOf (binaryTakes op)) sort e) + 4096 * lift (Table.levelOf op + 1) ≤ 4096 * lift (Table.levelOf op)
+steep sort k e p op i = by op (rw i at q)
   where
     q : Operates sort (Table.operator sort k)
     q = operates sort k
 
-    l : Expr
-    l = settledTree (Table.operandOf o) sort e
-
-    by : Operates sort o → span l + 4096 * lift (Table.levelOf o + 1) ≤ 4096 * lift (Table.levelOf o)
-    by (by-text h) = omega (arith, h nz nm, span-least l)
-    by (by-number h) = omega (arith, settled-number (Table.operandOf o) sort e h p)
-    by (by-test h n) =
-        let w : Table.operandOf o ≡ Table.TEST = takes-tests o h in
-        omega (arith, settled-none (Table.operandOf o) sort e (λ z. omega (arith, w, z)) n p)
+    by : (op : Binary) → Operates sort (between op) → span (settledTree (Table.sortOf (binaryTakes op)) sort e) + 4096 * lift (Table.levelOf op + 1) ≤ 4096 * lift (Table.levelOf op)
+    by op (by-text _ h) = omega (arith, h, span-least (settledTree (Table.sortOf (binaryTakes op)) sort e))
+    by op (by-number _ h) = omega (arith, settled-number (Table.sortOf (binaryTakes op)) sort e h p)
+    by op (by-test _ h n) =
+        let w : Table.sortOf (binaryTakes op) ≡ Table.TEST = ap Table.sortOf h in
+        omega (arith, settled-none (Table.sortOf (binaryTakes op)) sort e (λ z. omega (arith, w, z)) n p)
 
 -- a clause's test is no string
 pub settled-test : (x : ℕ) (e : Expr) → Table.fits Table.TEST x ≡ true → Plain x e → span (settledTree Table.TEST x e) ≡ 0
@@ -106,19 +96,16 @@ settled-test x e h p = settled-none Table.TEST x e (λ z. omega (arith, z)) (λ 
     texts : x ≡ Table.TEXT → pick (eqb x 0) true (pick (ltb x 3) false true) ≡ true → ⊥
     texts z k = clash (rw z at k) refl
 
--- what an operator gives is a string where it says so
-result-text : (o : ℕ) → (o ≡ Op.LOOKUP) → Table.resultOf o ≡ Table.TEXT
-unfolding Table.resultOf
-result-text o e = rw e
+-- what an operator gives has bytes where it is a string
+sort-plain : (x : Sort) → (Table.sortOf x ≡ Table.TEXT → ⊥) → spanOf x ≡ 0
+sort-plain a-string n = absurd (n refl)
+sort-plain an-integer n = refl
+sort-plain a-test n = refl
 
-result-join : (o : ℕ) → (o ≡ Op.JOIN) → Table.resultOf o ≡ Table.TEXT
-unfolding Table.resultOf
-result-join o e = rw e
-
-pub unary-plain : (o : ℕ) (e : Expr) → Plain (Table.resultOf o) (unary o e)
+pub unary-plain : (op : Unary) (e : Expr) → Plain (Table.sortOf (unaryGives op)) (unary op e)
 unfolding span
-unary-plain o e h n = chosen (λ (k : ℕ). k ≡ 0) (eqb o Op.LOOKUP) 4096 0 (λ f. absurd (n (result-text o (eqb-true o Op.LOOKUP f)))) (λ f. refl)
+unary-plain op e h n = sort-plain (unaryGives op) n
 
-pub binary-plain : (o : ℕ) (e f : Expr) → Plain (Table.resultOf o) (binary o e f)
+pub binary-plain : (op : Binary) (e f : Expr) → Plain (Table.sortOf (binaryGives op)) (binary op e f)
 unfolding span
-binary-plain o e f h n = chosen (λ (k : ℕ). k ≡ 0) (eqb o Op.JOIN) 4096 0 (λ g. absurd (n (result-join o (eqb-true o Op.JOIN g)))) (λ g. refl)
+binary-plain op e f h n = sort-plain (binaryGives op) n

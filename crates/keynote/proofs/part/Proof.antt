@@ -5,59 +5,45 @@ use Rattle.keynote.proofs.part.Reads as reads
 use Rattle.keynote.proofs.part.Lts as lts
 use Rattle.keynote.specs.Working.Answering.{part-none, part-past, part-rest}
 
--- src/lib.rt:41:9
 slice-aggregate-result : tie.Need-slice-aggregate-result
 slice-aggregate-result c = search needs
 
--- src/lib.rt:41:9
 returns : tie.Need-returns
 returns c = search part-none
 
--- src/lib.rt:44:9
 slice-aggregate-result-2 : tie.Need-slice-aggregate-result-2
 slice-aggregate-result-2 c = search needs
 
--- src/lib.rt:44:9
 returns-2 : tie.Need-returns-2
 returns-2 c = search part-past
 
--- src/lib.rt:47:16
 mul-result : tie.Need-mul-result
 mul-result c = search needs
 
--- src/lib.rt:47:16
 sub-result : tie.Need-sub-result
 sub-result c = search needs
 
--- src/lib.rt:47:16
 part-result-start : tie.Need-part-result-start
 part-result-start c = search needs
 
--- src/lib.rt:47:16
 part-result-end : tie.Need-part-result-end
 part-result-end c = search needs
 
--- src/lib.rt:47:9
 returns-3 : tie.Need-returns-3
 returns-3 c = search part-rest
 
--- src/lib.rt:49:5
 mul-result-2 : tie.Need-mul-result-2
 mul-result-2 c = search needs
 
--- src/lib.rt:49:5
 sub-result-2 : tie.Need-sub-result-2
 sub-result-2 c = search needs
 
--- src/lib.rt:49:5
 part-result-start-2 : tie.Need-part-result-start-2
 part-result-start-2 c = search needs
 
--- src/lib.rt:49:5
 part-result-end-2 : tie.Need-part-result-end-2
 part-result-end-2 c = search needs
 
--- src/lib.rt:37:1
 returns-4 : tie.Need-returns-4
 returns-4 c = search needs
 

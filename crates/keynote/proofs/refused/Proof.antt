@@ -5,7 +5,6 @@ use Rattle.keynote.proofs.refused.Reads as reads
 use Rattle.keynote.proofs.refused.Lts as lts
 use Rattle.keynote.specs.Working.Answering.{refused-is}
 
--- src/lib.rt:24:1
 returns : tie.Need-returns
 returns c = search refused-is
 

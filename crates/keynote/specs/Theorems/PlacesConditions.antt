@@ -10,9 +10,11 @@ use Rattle.lexical.specs.Kind
 use Rattle.lexical.specs.Literal.{decodedAt}
 use Rattle.lexical.specs.Number as Number
 use Rattle.lexical.specs.declared.token.Token.{Token}
+use Rattle.syntax.specs.Operator.{Unary, Binary, Sort, unaryTakes, unaryGives, binaryTakes, binaryGives}
 use Rattle.syntax.specs.Expr.{Expr, Program, none, also, Clause, nested, unary, binary}
 use Rattle.syntax.specs.Parsed.{Parsed, ok, aside, refusal, unexpected}
 use Rattle.conditions.specs.Table
+use Rattle.conditions.specs.Working.Cases.{infix-cases, prefix-cases}
 use Rattle.conditions.specs.Word.{nextAt}
 use Rattle.conditions.specs.Parsed.{Part, part, onPart}
 use Rattle.conditions.specs.Operand.{readLiteral, readName, readDigits, readFloat, readLeaf, settledTree, applied}
@@ -52,9 +54,9 @@ module _ (s : List ℕ) where
       (placed-pick (eqb (t .kind) Kind.DIGITS) (placed-pick (leb Number.LIMIT (Number.numberAt s (t .start) (t .end))) (at-token 5 t i zero-le (omega arith)) (p-ok _ _ (next-in (t .end))))
       (placed-pick (eqb (t .kind) Kind.AMPERSAND) (placed-pick (leb 16 row) (at-token 7 t i zero-le (omega arith)) (at-token 8 t i zero-le (omega arith))) (at-token 8 t i zero-le (omega arith)))))
 
-  applied-placed : (f : Expr → Expr) (op sort : ℕ) (e : Expr) (t : Token) → In s t → Placed s 0 (applied f op sort e t)
+  applied-placed : (f : Expr → Expr) (takes gives : Sort) (sort : ℕ) (e : Expr) (t : Token) → In s t → Placed s 0 (applied f takes gives sort e t)
   unfolding applied
-  applied-placed f op sort e t i = placed-pick (Table.fits (Table.operandOf op) sort) (p-ok _ t i) (nowhere t i)
+  applied-placed f takes gives sort e t i = placed-pick (Table.fits (Table.sortOf takes) sort) (p-ok _ t i) (nowhere t i)
 
   closing-placed : (sort : ℕ) (e : Expr) (t : Token) → In s t → Placed s 0 (closing s sort e t)
   closing-placed sort e t i = placed-pick (eqb (t .kind) Kind.CLOSE) (p-ok _ _ (next-in (t .end))) (nowhere t i)
@@ -66,13 +68,13 @@ module _ (s : List ℕ) where
   on-joined t i (p-aside r p h g l) = k-done (aside r p) (p-aside r p h g l)
   on-joined t i (p-ok (part x e) n j) = keeps-pick _ _ (leb (n .start) (t .start)) (k-done _ (zero-at t i)) (k-next (n, x, e) j)
 
-  chain-placed : (joined : ℕ → ℕ → ℕ → Expr → ℕ → Parsed Part) → ((op nest sort : ℕ) (e : Expr) (at : ℕ) → at ≤ length s → Placed s 0 (joined op nest sort e at))
+  chain-placed : (joined : Binary → ℕ → ℕ → Expr → ℕ → Parsed Part) → ((op : Binary) (nest sort : ℕ) (e : Expr) (at : ℕ) → at ≤ length s → Placed s 0 (joined op nest sort e at))
       → (level nest sort : ℕ) (e : Expr) (t : Token) → In s t → Placed s 0 (E.chainOf joined s level nest sort e t)
   chain-placed joined g level nest sort e t i = loop-keeps ChainIn (Placed s 0) _ _ (chainTurn joined s level nest) (λ x j. zero-at (x .0) j)
       (λ x j. keeps-pick _ _ (leb (length s) (x .0 .start)) (k-done _ (p-ok _ (x .0) j))
       (keeps-pick _ _ (Table.binds level (Table.operator (x .1) (x .0 .kind)))
-      (keeps-pick _ _ (eqb (Table.operator (x .1) (x .0 .kind)) Table.MATCH) (k-done _ (at-token 8 (x .0) j zero-le (omega arith)))
-      (on-joined (x .0) j (g (Table.operator (x .1) (x .0 .kind)) nest (x .1) (x .2) (x .0 .end) (j .ends))))
+      (infix-cases (Keeps ChainIn (Placed s 0)) (Table.operator (x .1) (x .0 .kind)) _ _ _ (λ z. k-done _ (p-ok _ (x .0) j)) (λ z. k-done _ (at-token 8 (x .0) j zero-le (omega arith)))
+      (λ op z. on-joined (x .0) j (g op nest (x .1) (x .2) (x .0 .end) (j .ends))))
       (k-done _ (p-ok _ (x .0) j)))) (t, sort, e) i
 
   mutual
@@ -86,16 +88,16 @@ module _ (s : List ℕ) where
     operand-placed zero want row nest t i = zero-at t i
     operand-placed (suc d) want row nest t i =
         placed-pick (Table.allows want (t .kind))
-        (placed-pick (eqb (Table.prefixOperator (t .kind)) Table.NONE)
-        (placed-pick (eqb (t .kind) Kind.OPEN) (bracketed-placed d want nest t i) (leaf-placed want row t i))
-        (prefixed-placed d (Table.prefixOperator (t .kind)) want row nest t i))
+        (prefix-cases (Placed s 0) (Table.prefixOperator (t .kind)) _ _
+        (λ z. placed-pick (eqb (t .kind) Kind.OPEN) (bracketed-placed d want nest t i) (leaf-placed want row t i))
+        (λ op z. prefixed-placed d op want row nest t i))
         (nowhere t i)
 
-    prefixed-placed : (d op want row nest : ℕ) (t : Token) → In s t → Placed s 0 (readPrefixed d s op want row nest t)
+    prefixed-placed : (d : ℕ) (op : Unary) (want row nest : ℕ) (t : Token) → In s t → Placed s 0 (readPrefixed d s op want row nest t)
     prefixed-placed zero op want row nest t i = zero-at t i
     prefixed-placed (suc d) op want row nest t i =
         placed-pick (leb 16 row) (at-token 7 t i zero-le (omega arith))
-        (part-placed _ (expression-placed d (Table.operandLevel op) (Table.operandWant op want) (row + 1) nest (nextAt s (t .end)) (next-in (t .end))) (λ sort e n k. applied-placed (unary op) op sort e n k))
+        (part-placed _ (expression-placed d (Table.operandLevel op) (Table.operandWant op want) (row + 1) nest (nextAt s (t .end)) (next-in (t .end))) (λ sort e n k. applied-placed (unary op) (unaryTakes op) (unaryGives op) sort e n k))
 
     bracketed-placed : (d want nest : ℕ) (t : Token) → In s t → Placed s 0 (readBracketed d s want nest t)
     bracketed-placed zero want nest t i = zero-at t i
@@ -107,11 +109,11 @@ module _ (s : List ℕ) where
     chain-in zero level nest sort e t i = zero-at t i
     chain-in (suc d) level nest sort e t i = chain-placed (λ op nest sort e at. readJoined d s op nest sort e at) (λ op nest sort e at h. joined-placed d op nest sort e at h) level nest sort e t i
 
-    joined-placed : (d op nest sort : ℕ) (e : Expr) (at : ℕ) → at ≤ length s → Placed s 0 (readJoined d s op nest sort e at)
+    joined-placed : (d : ℕ) (op : Binary) (nest sort : ℕ) (e : Expr) (at : ℕ) → at ≤ length s → Placed s 0 (readJoined d s op nest sort e at)
     joined-placed zero op nest sort e at h = p-aside 0 at zero-le zero-le h
     joined-placed (suc d) op nest sort e at h =
         part-placed _ (expression-placed d (Table.rightLevel op) (Table.rightWant op) 0 nest (nextAt s at) (next-in at))
-        (λ x f n k. applied-placed (binary op (settledTree (Table.operandOf op) sort e)) op x f n k)
+        (λ x f n k. applied-placed (binary op (settledTree (Table.sortOf (binaryTakes op)) sort e)) (binaryTakes op) (binaryGives op) x f n k)
 
   -- ---- programs
 

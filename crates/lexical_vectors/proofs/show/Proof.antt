@@ -16,47 +16,36 @@ Inv-loop s mode₀ at₀ t5 t6 mode at = Unit {0}
 abbrev μ-loop : tie.MeasureT-loop
 μ-loop s mode₀ at₀ t5 t6 mode at = length s + 1 - at
 
--- src/main.rt:95:5
 loop-holds : tie.Need-loop-holds Inv-loop μ-loop
 loop-holds c = tt
 
--- src/main.rt:96:13
 token-at-requires : tie.Need-token-at-requires Inv-loop μ-loop
 token-at-requires c κs = search needs
 
--- src/main.rt:97:9
 put-token-requires : tie.Need-put-token-requires Inv-loop μ-loop
 put-token-requires c κs = search needs
 
--- src/main.rt:104:13
 slice-aggregate-put : tie.Need-slice-aggregate-put Inv-loop μ-loop
 slice-aggregate-put c = search needs
 
--- src/main.rt:104:9
 put-requires : tie.Need-put-requires Inv-loop μ-loop
 put-requires c κs = search needs
 
--- src/main.rt:105:9
 mode-after-requires : tie.Need-mode-after-requires Inv-loop μ-loop
 mode-after-requires c κs = search needs
 
--- src/main.rt:95:5
 loop-less : tie.Need-loop-less Inv-loop μ-loop
 loop-less c = search needs
 
--- src/main.rt:95:5
 loop-again : tie.Need-loop-again Inv-loop μ-loop
 loop-again c = tt
 
--- src/main.rt:108:9
 slice-aggregate-put-2 : tie.Need-slice-aggregate-put-2 Inv-loop μ-loop
 slice-aggregate-put-2 c = search needs
 
--- src/main.rt:108:5
 put-requires-2 : tie.Need-put-requires-2 Inv-loop μ-loop
 put-requires-2 c κs = search needs
 
--- src/main.rt:92:1
 returns : tie.Need-returns Inv-loop μ-loop
 returns c = search needs
 

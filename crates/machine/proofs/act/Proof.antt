@@ -9,67 +9,51 @@ use Rattle.machine.proofs.lookup_step.Reads as lookup-step-reads
 use Rattle.machine.proofs.operator_step.Reads as operator-step-reads
 use Rattle.machine.proofs.unary_step.Reads as unary-step-reads
 
--- src/lib.rt:647:9
 lookup-step-requires : tie.Need-lookup-step-requires
 lookup-step-requires c κs = search needs
 
--- src/lib.rt:647:9
 same-length : tie.Need-same-length
 same-length c = search needs
 
--- src/lib.rt:647:9
 same-length-2 : tie.Need-same-length-2
 same-length-2 c = search needs
 
--- src/lib.rt:647:9
 returns : tie.Need-returns
 returns c = search act-lookup
 
--- src/lib.rt:650:9
 unary-step-requires : tie.Need-unary-step-requires
 unary-step-requires c κs = search needs
 
--- src/lib.rt:650:9
 same-length-3 : tie.Need-same-length-3
 same-length-3 c = search needs
 
--- src/lib.rt:650:9
 same-length-4 : tie.Need-same-length-4
 same-length-4 c = search needs
 
--- src/lib.rt:650:9
 returns-2 : tie.Need-returns-2
 returns-2 c = search act-unary
 
--- src/lib.rt:653:9
 operator-step-requires : tie.Need-operator-step-requires
 operator-step-requires c κs = search needs
 
--- src/lib.rt:653:9
 same-length-5 : tie.Need-same-length-5
 same-length-5 c = search needs
 
--- src/lib.rt:653:9
 same-length-6 : tie.Need-same-length-6
 same-length-6 c = search needs
 
--- src/lib.rt:653:9
 returns-3 : tie.Need-returns-3
 returns-3 c = search act-binary
 
--- src/lib.rt:655:5
 clause-step-requires : tie.Need-clause-step-requires
 clause-step-requires c κs = search needs
 
--- src/lib.rt:631:1
 same-length-7 : tie.Need-same-length-7
 same-length-7 c = search needs
 
--- src/lib.rt:631:1
 same-length-8 : tie.Need-same-length-8
 same-length-8 c = search needs
 
--- src/lib.rt:631:1
 returns-4 : tie.Need-returns-4
 returns-4 c = search act-clause
 

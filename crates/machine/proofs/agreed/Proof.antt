@@ -5,15 +5,12 @@ use Rattle.machine.proofs.agreed.Tie as tie
 use Rattle.machine.proofs.agreed.Reads as reads
 use Rattle.machine.proofs.agreed.Lts as lts
 
--- src/lib.rt:356:9
 returns : tie.Need-returns
 returns c = search agree-equal
 
--- src/lib.rt:359:9
 returns-2 : tie.Need-returns-2
 returns-2 c = search agree-same
 
--- src/lib.rt:352:1
 returns-3 : tie.Need-returns-3
 returns-3 c = search agree-other
 

@@ -5,27 +5,21 @@ use Rattle.machine.proofs.begun_then.Tie as tie
 use Rattle.machine.proofs.begun_then.Reads as reads
 use Rattle.machine.proofs.begun_then.Lts as lts
 
--- src/lib.rt:745:16
 add-result : tie.Need-add-result
 add-result c = search needs
 
--- src/lib.rt:745:9
 returns : tie.Need-returns
 returns c = search begun-more
 
--- src/lib.rt:748:9
 returns-2 : tie.Need-returns-2
 returns-2 c = search begun-same
 
--- src/lib.rt:751:9
 returns-3 : tie.Need-returns-3
 returns-3 c = search begun-none
 
--- src/lib.rt:753:5
 sub-result : tie.Need-sub-result
 sub-result c = search needs
 
--- src/lib.rt:740:1
 returns-4 : tie.Need-returns-4
 returns-4 c = search begun-fewer
 

@@ -5,15 +5,12 @@ use Rattle.machine.proofs.behind_it.Tie as tie
 use Rattle.machine.proofs.behind_it.Reads as reads
 use Rattle.machine.proofs.behind_it.Lts as lts
 
--- src/lib.rt:591:9
 returns : tie.Need-returns
 returns c = search behind-low
 
--- src/lib.rt:594:9
 returns-2 : tie.Need-returns-2
 returns-2 c = search behind-here
 
--- src/lib.rt:587:1
 returns-3 : tie.Need-returns-3
 returns-3 c = search behind-known
 

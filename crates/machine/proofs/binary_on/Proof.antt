@@ -8,59 +8,45 @@ use Rattle.expression.proofs.operator.combine.Reads as combine-reads
 use Rattle.expression.proofs.value.width_of.Reads as width-of-reads
 use Rattle.machine.proofs.settle.Reads as settle-reads
 
--- src/lib.rt:190:9
 width-of-requires : tie.Need-width-of-requires
 width-of-requires c κs = search needs
 
--- src/lib.rt:191:9
 width-of-requires-2 : tie.Need-width-of-requires-2
 width-of-requires-2 c κs = search needs
 
--- src/lib.rt:193:9
 returns : tie.Need-returns
 returns c = search binary-short
 
--- src/lib.rt:197:9
 returns-2 : tie.Need-returns-2
 returns-2 c = search binary-shorter
 
--- src/lib.rt:200:31
 sub-combine : tie.Need-sub-combine
 sub-combine c = search needs
 
--- src/lib.rt:200:31
 part-combine-start : tie.Need-part-combine-start
 part-combine-start c = search needs
 
--- src/lib.rt:200:31
 part-combine-end : tie.Need-part-combine-end
 part-combine-end c = search needs
 
--- src/lib.rt:200:50
 sub-combine-2 : tie.Need-sub-combine-2
 sub-combine-2 c = search needs
 
--- src/lib.rt:200:50
 part-combine-start-2 : tie.Need-part-combine-start-2
 part-combine-start-2 c = search needs
 
--- src/lib.rt:200:50
 part-combine-end-2 : tie.Need-part-combine-end-2
 part-combine-end-2 c = search needs
 
--- src/lib.rt:200:9
 combine-requires : tie.Need-combine-requires
 combine-requires c κs = search needs
 
--- src/lib.rt:201:5
 settle-requires : tie.Need-settle-requires
 settle-requires c κs = search needs
 
--- src/lib.rt:176:1
 same-length : tie.Need-same-length
 same-length c = search needs
 
--- src/lib.rt:176:1
 returns-3 : tie.Need-returns-3
 returns-3 c = search binary-in
 

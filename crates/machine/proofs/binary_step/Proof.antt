@@ -13,151 +13,114 @@ use Rattle.machine.proofs.land.Reads as land-reads
 use Rattle.machine.proofs.top.Reads as top-reads
 use Rattle.machine.proofs.valued_on.Reads as valued-on-reads
 
--- src/lib.rt:447:9
 returns : tie.Need-returns
 returns c = search binary-none
 
--- src/lib.rt:449:38
 mul-is-rating : tie.Need-mul-is-rating
 mul-is-rating c = search needs
 
--- src/lib.rt:449:38
 slice-read-is-rating : tie.Need-slice-read-is-rating
 slice-read-is-rating c = search needs
 
--- src/lib.rt:449:58
 sub-is-rating : tie.Need-sub-is-rating
 sub-is-rating c = search needs
 
--- src/lib.rt:449:52
 mul-is-rating-2 : tie.Need-mul-is-rating-2
 mul-is-rating-2 c = search needs
 
--- src/lib.rt:449:52
 slice-read-is-rating-2 : tie.Need-slice-read-is-rating-2
 slice-read-is-rating-2 c = search needs
 
--- src/lib.rt:449:8
 is-rating-requires : tie.Need-is-rating-requires
 is-rating-requires c κs = search needs
 
--- src/lib.rt:450:32
 sub-count-of : tie.Need-sub-count-of
 sub-count-of c = search needs
 
--- src/lib.rt:450:26
 mul-count-of : tie.Need-mul-count-of
 mul-count-of c = search needs
 
--- src/lib.rt:450:26
 slice-read-count-of : tie.Need-slice-read-count-of
 slice-read-count-of c = search needs
 
--- src/lib.rt:450:13
 count-of-requires : tie.Need-count-of-requires
 count-of-requires c κs = search needs
 
--- src/lib.rt:451:26
 mul-valued-on : tie.Need-mul-valued-on
 mul-valued-on c = search needs
 
--- src/lib.rt:451:26
 slice-read-valued-on : tie.Need-slice-read-valued-on
 slice-read-valued-on c = search needs
 
--- src/lib.rt:451:9
 valued-on-requires : tie.Need-valued-on-requires
 valued-on-requires c κs = search needs
 
--- src/lib.rt:451:9
 same-length : tie.Need-same-length
 same-length c = search needs
 
--- src/lib.rt:451:9
 returns-2 : tie.Need-returns-2
 returns-2 c = search valued-step
 
--- src/lib.rt:453:38
 mul-is-rating-3 : tie.Need-mul-is-rating-3
 mul-is-rating-3 c = search needs
 
--- src/lib.rt:453:38
 slice-read-is-rating-3 : tie.Need-slice-read-is-rating-3
 slice-read-is-rating-3 c = search needs
 
--- src/lib.rt:453:58
 sub-is-rating-2 : tie.Need-sub-is-rating-2
 sub-is-rating-2 c = search needs
 
--- src/lib.rt:453:52
 mul-is-rating-4 : tie.Need-mul-is-rating-4
 mul-is-rating-4 c = search needs
 
--- src/lib.rt:453:52
 slice-read-is-rating-4 : tie.Need-slice-read-is-rating-4
 slice-read-is-rating-4 c = search needs
 
--- src/lib.rt:453:8
 is-rating-requires-2 : tie.Need-is-rating-requires-2
 is-rating-requires-2 c κs = search needs
 
--- src/lib.rt:454:23
 mul-gated : tie.Need-mul-gated
 mul-gated c = search needs
 
--- src/lib.rt:454:23
 slice-read-gated : tie.Need-slice-read-gated
 slice-read-gated c = search needs
 
--- src/lib.rt:454:43
 sub-gated : tie.Need-sub-gated
 sub-gated c = search needs
 
--- src/lib.rt:454:37
 mul-gated-2 : tie.Need-mul-gated-2
 mul-gated-2 c = search needs
 
--- src/lib.rt:454:37
 slice-read-gated-2 : tie.Need-slice-read-gated-2
 slice-read-gated-2 c = search needs
 
--- src/lib.rt:454:13
 gated-requires : tie.Need-gated-requires
 gated-requires c κs = search needs
 
--- src/lib.rt:455:9
 land-requires : tie.Need-land-requires
 land-requires c κs = search needs
 
--- src/lib.rt:455:9
 same-length-2 : tie.Need-same-length-2
 same-length-2 c = search needs
 
--- src/lib.rt:455:9
 returns-3 : tie.Need-returns-3
 returns-3 c = search nested-step
 
--- src/lib.rt:457:9
 top-requires : tie.Need-top-requires
 top-requires c κs = search needs
 
--- src/lib.rt:458:24
 sub-top : tie.Need-sub-top
 sub-top c = search needs
 
--- src/lib.rt:458:9
 top-requires-2 : tie.Need-top-requires-2
 top-requires-2 c κs = search needs
 
--- src/lib.rt:459:5
 binary-on-requires : tie.Need-binary-on-requires
 binary-on-requires c κs = search needs
 
--- src/lib.rt:434:1
 same-length-3 : tie.Need-same-length-3
 same-length-3 c = search needs
 
--- src/lib.rt:434:1
 returns-4 : tie.Need-returns-4
 returns-4 c = search binary-two
 

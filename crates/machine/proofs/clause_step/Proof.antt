@@ -10,75 +10,57 @@ use Rattle.machine.proofs.plain_step.Reads as plain-step-reads
 use Rattle.machine.proofs.put.Reads as put-reads
 use Rattle.machine.proofs.raise_step.Reads as raise-step-reads
 
--- src/lib.rt:633:9
 put-requires : tie.Need-put-requires
 put-requires c κs = search needs
 
--- src/lib.rt:633:9
 same-length : tie.Need-same-length
 same-length c = search needs
 
--- src/lib.rt:633:9
 returns : tie.Need-returns
 returns c = search clause-begin
 
--- src/lib.rt:636:9
 plain-step-requires : tie.Need-plain-step-requires
 plain-step-requires c κs = search needs
 
--- src/lib.rt:636:9
 same-length-2 : tie.Need-same-length-2
 same-length-2 c = search needs
 
--- src/lib.rt:636:9
 returns-2 : tie.Need-returns-2
 returns-2 c = search clause-plain
 
--- src/lib.rt:638:8
 is-idle-requires : tie.Need-is-idle-requires
 is-idle-requires c κs = search needs
 
--- src/lib.rt:640:22
 sub-t19 : tie.Need-sub-t19
 sub-t19 c = search idle-two
 
--- src/lib.rt:639:9
 same-length-3 : tie.Need-same-length-3
 same-length-3 c = search needs
 
--- src/lib.rt:639:9
 returns-3 : tie.Need-returns-3
 returns-3 c = search clause-idle
 
--- src/lib.rt:644:11
 binary-step-requires : tie.Need-binary-step-requires
 binary-step-requires c κs = search needs
 
--- src/lib.rt:645:24
 enum-told : tie.Need-enum-told
 enum-told c = search needs
 
--- src/lib.rt:646:20
 enum-known-numbers : tie.Need-enum-known-numbers
 enum-known-numbers c = search needs
 
--- src/lib.rt:646:43
 raise-step-requires : tie.Need-raise-step-requires
 raise-step-requires c κs = (search numbers-within, search bytes-within)
 
--- src/lib.rt:620:1
 same-length-4 : tie.Need-same-length-4
 same-length-4 c = search needs
 
--- src/lib.rt:620:1
 returns-4 : tie.Need-returns-4
 returns-4 c = search clause-stuck
 
--- src/lib.rt:620:1
 same-length-5 : tie.Need-same-length-5
 same-length-5 c = search needs
 
--- src/lib.rt:620:1
 returns-5 : tie.Need-returns-5
 returns-5 c = search clause-raised
 

@@ -7,19 +7,15 @@ use Rattle.machine.proofs.concluded.Lts as lts
 use Rattle.expression.proofs.operator.top_rank.Reads as top-rank-reads
 use Rattle.machine.proofs.finished.Reads as finished-reads
 
--- src/lib.rt:777:19
 top-rank-requires : tie.Need-top-rank-requires
 top-rank-requires c κs = search needs
 
--- src/lib.rt:779:9
 returns : tie.Need-returns
 returns c = search concluded-low
 
--- src/lib.rt:781:5
 finished-requires : tie.Need-finished-requires
 finished-requires c κs = search needs
 
--- src/lib.rt:774:1
 returns-2 : tie.Need-returns-2
 returns-2 c = search concluded-high
 

@@ -5,19 +5,15 @@ use Rattle.machine.proofs.decided.Tie as tie
 use Rattle.machine.proofs.decided.Reads as reads
 use Rattle.machine.proofs.decided.Lts as lts
 
--- src/lib.rt:321:13
 returns : tie.Need-returns
 returns c = search both-second
 
--- src/lib.rt:323:9
 returns-2 : tie.Need-returns-2
 returns-2 c = search both-false
 
--- src/lib.rt:326:9
 returns-3 : tie.Need-returns-3
 returns-3 c = search either-true
 
--- src/lib.rt:316:1
 returns-4 : tie.Need-returns-4
 returns-4 c = search either-second
 

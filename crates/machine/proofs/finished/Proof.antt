@@ -17,43 +17,33 @@ Inv-loop code from j₀ k₀ j k = (k ≤ j) × (ended k j (drop j code) ≡ end
 abbrev μ-loop : tie.MeasureT-loop
 μ-loop code from j₀ k₀ j k = length code - j
 
--- src/lib.rt:762:5
 loop-holds : tie.Need-loop-holds Inv-loop μ-loop
 loop-holds c = (search needs, refl)
 
--- src/lib.rt:763:18
 mul-op : tie.Need-mul-op Inv-loop μ-loop
 mul-op c = search needs
 
--- src/lib.rt:763:18
 shared-slice-read-op : tie.Need-shared-slice-read-op Inv-loop μ-loop
 shared-slice-read-op c = search needs
 
--- src/lib.rt:764:12
 is-closing-requires : tie.Need-is-closing-requires Inv-loop μ-loop
 is-closing-requires c κs = search needs
 
--- src/lib.rt:765:13
 returns : tie.Need-returns Inv-loop μ-loop
 returns c = search end-closed
 
--- src/lib.rt:767:9
 add-j : tie.Need-add-j Inv-loop μ-loop
 add-j c = search needs
 
--- src/lib.rt:768:9
 begun-then-requires : tie.Need-begun-then-requires Inv-loop μ-loop
 begun-then-requires c κs = search needs
 
--- src/lib.rt:762:5
 loop-less : tie.Need-loop-less Inv-loop μ-loop
 loop-less c = search needs
 
--- src/lib.rt:762:5
 loop-again : tie.Need-loop-again Inv-loop μ-loop
 loop-again c = (search begun-within, search end-more)
 
--- src/lib.rt:757:1
 returns-2 : tie.Need-returns-2 Inv-loop μ-loop
 returns-2 c = search end-end
 

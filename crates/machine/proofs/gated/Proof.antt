@@ -6,11 +6,9 @@ use Rattle.machine.proofs.gated.Tie as tie
 use Rattle.machine.proofs.gated.Reads as reads
 use Rattle.machine.proofs.gated.Lts as lts
 
--- src/lib.rt:396:9
 returns : tie.Need-returns
 returns c = search gate-open
 
--- src/lib.rt:392:1
 returns-2 : tie.Need-returns-2
 returns-2 c = search rank-unheld
 

@@ -5,19 +5,15 @@ use Rattle.machine.proofs.is_alike.Tie as tie
 use Rattle.machine.proofs.is_alike.Reads as reads
 use Rattle.machine.proofs.is_alike.Lts as lts
 
--- src/lib.rt:340:9
 returns : tie.Need-returns
 returns c = search alike-first
 
--- src/lib.rt:343:9
 returns-2 : tie.Need-returns-2
 returns-2 c = search alike-second
 
--- src/lib.rt:346:9
 returns-3 : tie.Need-returns-3
 returns-3 c = search alike-equal
 
--- src/lib.rt:336:1
 returns-4 : tie.Need-returns-4
 returns-4 c = search alike-unequal
 

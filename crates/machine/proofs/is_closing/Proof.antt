@@ -5,11 +5,9 @@ use Rattle.machine.proofs.is_closing.Tie as tie
 use Rattle.machine.proofs.is_closing.Reads as reads
 use Rattle.machine.proofs.is_closing.Lts as lts
 
--- src/lib.rt:734:9
 returns : tie.Need-returns
 returns c = search closing-none
 
--- src/lib.rt:730:1
 returns-2 : tie.Need-returns-2
 returns-2 c = search closing-nested
 

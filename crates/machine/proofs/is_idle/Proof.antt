@@ -5,35 +5,27 @@ use Rattle.machine.proofs.is_idle.Tie as tie
 use Rattle.machine.proofs.is_idle.Reads as reads
 use Rattle.machine.proofs.is_idle.Lts as lts
 
--- src/lib.rt:611:9
 returns : tie.Need-returns
 returns c = search idle-few
 
--- src/lib.rt:613:14
 sub-if2 : tie.Need-sub-if2
 sub-if2 c = search needs
 
--- src/lib.rt:613:8
 mul-if2 : tie.Need-mul-if2
 mul-if2 c = search needs
 
--- src/lib.rt:613:8
 shared-slice-read-if2 : tie.Need-shared-slice-read-if2
 shared-slice-read-if2 c = search needs
 
--- src/lib.rt:614:16
 mul-result : tie.Need-mul-result
 mul-result c = search needs
 
--- src/lib.rt:614:16
 shared-slice-read-result : tie.Need-shared-slice-read-result
 shared-slice-read-result c = search needs
 
--- src/lib.rt:614:9
 returns-2 : tie.Need-returns-2
 returns-2 c = search idle-false
 
--- src/lib.rt:606:1
 returns-3 : tie.Need-returns-3
 returns-3 c = search idle-other
 

@@ -5,15 +5,12 @@ use Rattle.machine.proofs.is_joining.Tie as tie
 use Rattle.machine.proofs.is_joining.Reads as reads
 use Rattle.machine.proofs.is_joining.Lts as lts
 
--- src/lib.rt:385:9
 returns : tie.Need-returns
 returns c = search joining-other
 
--- src/lib.rt:388:9
 returns-2 : tie.Need-returns-2
 returns-2 c = search joining-first
 
--- src/lib.rt:381:1
 returns-3 : tie.Need-returns-3
 returns-3 c = search joining-second
 

@@ -7,29 +7,23 @@ use Rattle.machine.proofs.is_logical.Reads as reads
 use Rattle.machine.proofs.is_logical.Lts as lts
 use Rattle.machine.proofs.is_told.Reads as is-told-reads
 
--- src/lib.rt:298:9
 returns : tie.Need-returns
 unfolding isLogical
 returns c = search (needs, tests)
 
--- src/lib.rt:301:9
 returns-2 : tie.Need-returns-2
 unfolding isLogical
 returns-2 c = search (needs, tests)
 
--- src/lib.rt:303:8
 is-told-requires : tie.Need-is-told-requires
 is-told-requires c κs = search (needs, tests)
 
--- src/lib.rt:304:9
 is-told-requires-2 : tie.Need-is-told-requires-2
 is-told-requires-2 c κs = search (needs, tests)
 
--- src/lib.rt:304:9
 returns-3 : tie.Need-returns-3
 returns-3 c = search logical-both
 
--- src/lib.rt:294:1
 returns-4 : tie.Need-returns-4
 returns-4 c = search logical-none
 

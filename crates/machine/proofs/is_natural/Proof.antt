@@ -6,32 +6,26 @@ use Rattle.machine.proofs.is_natural.Tie as tie
 use Rattle.machine.proofs.is_natural.Reads as reads
 use Rattle.machine.proofs.is_natural.Lts as lts
 
--- src/lib.rt:266:9
 returns : tie.Need-returns
 unfolding isNatural isIntegral
 returns c = search (needs, tests)
 
--- src/lib.rt:269:9
 returns-2 : tie.Need-returns-2
 unfolding isNatural isIntegral
 returns-2 c = search (needs, tests)
 
--- src/lib.rt:272:9
 returns-3 : tie.Need-returns-3
 unfolding isNatural isIntegral
 returns-3 c = search (needs, tests)
 
--- src/lib.rt:275:9
 returns-4 : tie.Need-returns-4
 unfolding isNatural isIntegral
 returns-4 c = search (needs, tests)
 
--- src/lib.rt:278:9
 returns-5 : tie.Need-returns-5
 unfolding isNatural isIntegral
 returns-5 c = search (needs, tests)
 
--- src/lib.rt:262:1
 returns-6 : tie.Need-returns-6
 unfolding isNatural isIntegral
 returns-6 c = search (needs, tests)

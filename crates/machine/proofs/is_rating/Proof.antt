@@ -6,19 +6,15 @@ use Rattle.machine.proofs.is_rating.Reads as reads
 use Rattle.machine.proofs.is_rating.Lts as lts
 use Rattle.machine.proofs.is_told.Reads as is-told-reads
 
--- src/lib.rt:383:9
 returns : tie.Need-returns
 returns c = search rating-other
 
--- src/lib.rt:385:8
 is-told-requires : tie.Need-is-told-requires
 is-told-requires c κs = search needs
 
--- src/lib.rt:386:9
 returns-2 : tie.Need-returns-2
 returns-2 c = search rating-told
 
--- src/lib.rt:379:1
 returns-3 : tie.Need-returns-3
 returns-3 c = search rating-untold
 

@@ -6,12 +6,10 @@ use Rattle.machine.proofs.is_told.Tie as tie
 use Rattle.machine.proofs.is_told.Reads as reads
 use Rattle.machine.proofs.is_told.Lts as lts
 
--- src/lib.rt:288:9
 returns : tie.Need-returns
 unfolding isTold
 returns c = search (needs, tests)
 
--- src/lib.rt:284:1
 returns-2 : tie.Need-returns-2
 unfolding isTold
 returns-2 c = search (needs, tests)

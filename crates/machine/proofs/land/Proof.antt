@@ -6,35 +6,27 @@ use Rattle.machine.proofs.land.Tie as tie
 use Rattle.machine.proofs.land.Reads as reads
 use Rattle.machine.proofs.land.Lts as lts
 
--- src/lib.rt:253:5
 mul-stack : tie.Need-mul-stack
 mul-stack c = search needs
 
--- src/lib.rt:253:5
 slice-write-stack : tie.Need-slice-write-stack
 slice-write-stack c = search needs
 
--- src/lib.rt:254:11
 add-stack : tie.Need-add-stack
 add-stack c = search needs
 
--- src/lib.rt:254:5
 mul-stack-2 : tie.Need-mul-stack-2
 mul-stack-2 c = search needs
 
--- src/lib.rt:254:5
 slice-write-stack-2 : tie.Need-slice-write-stack-2
 slice-write-stack-2 c = search put-second
 
--- src/lib.rt:256:18
 add-t5 : tie.Need-add-t5
 add-t5 c = search needs
 
--- src/lib.rt:249:1
 same-length : tie.Need-same-length
 same-length c = search needs
 
--- src/lib.rt:249:1
 returns : tie.Need-returns
 returns c = search land-in
 

@@ -11,71 +11,54 @@ use Rattle.machine.proofs.push_text.Reads as push-text-reads
 use Rattle.machine.proofs.put.Reads as put-reads
 use Rattle.machine.proofs.top.Reads as top-reads
 
--- src/lib.rt:147:9
 returns : tie.Need-returns
 returns c = search lookup-none
 
--- src/lib.rt:149:9
 top-requires : tie.Need-top-requires
 top-requires c κs = search needs
 
--- src/lib.rt:150:9
 width-of-requires : tie.Need-width-of-requires
 width-of-requires c κs = search needs
 
--- src/lib.rt:152:9
 same-length : tie.Need-same-length
 same-length c = search needs
 
--- src/lib.rt:152:9
 returns-2 : tie.Need-returns-2
 returns-2 c = search lookup-short
 
--- src/lib.rt:154:8
 is-text-requires : tie.Need-is-text-requires
 is-text-requires c κs = search needs
 
--- src/lib.rt:155:65
 sub-lookup : tie.Need-sub-lookup
 sub-lookup c = search needs
 
--- src/lib.rt:155:65
 part-lookup-start : tie.Need-part-lookup-start
 part-lookup-start c = search needs
 
--- src/lib.rt:155:65
 part-lookup-end : tie.Need-part-lookup-end
 part-lookup-end c = search needs
 
--- src/lib.rt:155:13
 lookup-requires : tie.Need-lookup-requires
 lookup-requires c κs = search needs
 
--- src/lib.rt:156:9
 push-text-requires : tie.Need-push-text-requires
 push-text-requires c κs = search needs
 
--- src/lib.rt:156:9
 same-length-2 : tie.Need-same-length-2
 same-length-2 c = search needs
 
--- src/lib.rt:156:9
 same-length-3 : tie.Need-same-length-3
 same-length-3 c = search needs
 
--- src/lib.rt:156:9
 returns-3 : tie.Need-returns-3
 returns-3 c = search lookup-text
 
--- src/lib.rt:158:5
 put-requires : tie.Need-put-requires
 put-requires c κs = search needs
 
--- src/lib.rt:132:1
 same-length-4 : tie.Need-same-length-4
 same-length-4 c = search needs
 
--- src/lib.rt:132:1
 returns-4 : tie.Need-returns-4
 returns-4 c = search lookup-other
 

@@ -7,55 +7,42 @@ use Rattle.machine.proofs.onward.Lts as lts
 use Rattle.machine.proofs.concluded.Reads as concluded-reads
 use Rattle.machine.proofs.passed.Reads as passed-reads
 
--- src/lib.rt:790:9
 returns : tie.Need-returns
 returns c = search onward-few
 
--- src/lib.rt:792:8
 mul-if2 : tie.Need-mul-if2
 mul-if2 c = search needs
 
--- src/lib.rt:792:8
 shared-slice-read-if2 : tie.Need-shared-slice-read-if2
 shared-slice-read-if2 c = search needs
 
--- src/lib.rt:793:9
 passed-requires : tie.Need-passed-requires
 passed-requires c κs = search needs
 
--- src/lib.rt:793:9
 returns-2 : tie.Need-returns-2
 returns-2 c = search onward-passed
 
--- src/lib.rt:795:8
 mul-if3 : tie.Need-mul-if3
 mul-if3 c = search needs
 
--- src/lib.rt:795:8
 shared-slice-read-if3 : tie.Need-shared-slice-read-if3
 shared-slice-read-if3 c = search needs
 
--- src/lib.rt:796:41
 sub-concluded : tie.Need-sub-concluded
 sub-concluded c = search needs
 
--- src/lib.rt:796:35
 mul-concluded : tie.Need-mul-concluded
 mul-concluded c = search needs
 
--- src/lib.rt:796:35
 shared-slice-read-concluded : tie.Need-shared-slice-read-concluded
 shared-slice-read-concluded c = search needs
 
--- src/lib.rt:796:9
 concluded-requires : tie.Need-concluded-requires
 concluded-requires c κs = search needs
 
--- src/lib.rt:796:9
 returns-3 : tie.Need-returns-3
 returns-3 c = search onward-ranked
 
--- src/lib.rt:785:1
 returns-4 : tie.Need-returns-4
 returns-4 c = search onward-other
 

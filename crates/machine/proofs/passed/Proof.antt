@@ -19,51 +19,39 @@ Inv-loop code from known₀ j₀ k₀ known j k = (k ≤ j) × (goOn k known j (
 abbrev μ-loop : tie.MeasureT-loop
 μ-loop code from known₀ j₀ k₀ known j k = length code - j
 
--- src/lib.rt:750:5
 loop-holds : tie.Need-loop-holds Inv-loop μ-loop
 loop-holds c = (search needs, refl)
 
--- src/lib.rt:751:18
 mul-op : tie.Need-mul-op Inv-loop μ-loop
 mul-op c = search needs
 
--- src/lib.rt:751:18
 shared-slice-read-op : tie.Need-shared-slice-read-op Inv-loop μ-loop
 shared-slice-read-op c = search needs
 
--- src/lib.rt:752:12
 is-outer-requires : tie.Need-is-outer-requires Inv-loop μ-loop
 is-outer-requires c κs = search needs
 
--- src/lib.rt:753:13
 stop-at-requires : tie.Need-stop-at-requires Inv-loop μ-loop
 stop-at-requires c κs = search needs
 
--- src/lib.rt:753:13
 returns : tie.Need-returns Inv-loop μ-loop
 returns c = search pass-outer
 
--- src/lib.rt:755:9
 add-j : tie.Need-add-j Inv-loop μ-loop
 add-j c = search needs
 
--- src/lib.rt:756:9
 behind-it-requires : tie.Need-behind-it-requires Inv-loop μ-loop
 behind-it-requires c κs = search needs
 
--- src/lib.rt:757:9
 above-it-requires : tie.Need-above-it-requires Inv-loop μ-loop
 above-it-requires c κs = search needs
 
--- src/lib.rt:750:5
 loop-less : tie.Need-loop-less Inv-loop μ-loop
 loop-less c = search needs
 
--- src/lib.rt:750:5
 loop-again : tie.Need-loop-again Inv-loop μ-loop
 loop-again c = (search above-within, search pass-more)
 
--- src/lib.rt:744:1
 returns-2 : tie.Need-returns-2 Inv-loop μ-loop
 returns-2 c = search pass-end
 

@@ -12,103 +12,78 @@ use Rattle.machine.proofs.raise_step.Reads as raise-step-reads
 use Rattle.machine.proofs.rank_told.Reads as rank-told-reads
 use Rattle.machine.proofs.unary_step.Reads as unary-step-reads
 
--- src/lib.rt:416:12
 mul-if2 : tie.Need-mul-if2
 mul-if2 c = search needs
 
--- src/lib.rt:416:12
 slice-read-if2 : tie.Need-slice-read-if2
 slice-read-if2 c = search needs
 
--- src/lib.rt:417:30
 sub-is-told : tie.Need-sub-is-told
 sub-is-told c = search needs
 
--- src/lib.rt:417:24
 mul-is-told : tie.Need-mul-is-told
 mul-is-told c = search needs
 
--- src/lib.rt:417:24
 slice-read-is-told : tie.Need-slice-read-is-told
 slice-read-is-told c = search needs
 
--- src/lib.rt:417:16
 is-told-requires : tie.Need-is-told-requires
 is-told-requires c κs = search needs
 
--- src/lib.rt:418:41
 sub-rank-told : tie.Need-sub-rank-told
 sub-rank-told c = search needs
 
--- src/lib.rt:418:35
 mul-rank-told : tie.Need-mul-rank-told
 mul-rank-told c = search needs
 
--- src/lib.rt:418:35
 slice-read-rank-told : tie.Need-slice-read-rank-told
 slice-read-rank-told c = search needs
 
--- src/lib.rt:418:21
 rank-told-requires : tie.Need-rank-told-requires
 rank-told-requires c κs = search needs
 
--- src/lib.rt:419:39
 sub-greater : tie.Need-sub-greater
 sub-greater c = search needs
 
--- src/lib.rt:419:33
 mul-greater : tie.Need-mul-greater
 mul-greater c = search needs
 
--- src/lib.rt:419:33
 slice-read-greater : tie.Need-slice-read-greater
 slice-read-greater c = search needs
 
--- src/lib.rt:419:21
 greater-requires : tie.Need-greater-requires
 greater-requires c κs = search needs
 
--- src/lib.rt:420:17
 land-requires : tie.Need-land-requires
 land-requires c κs = search needs
 
--- src/lib.rt:420:17
 same-length : tie.Need-same-length
 same-length c = search needs
 
--- src/lib.rt:420:17
 returns : tie.Need-returns
 returns c = search plain-quick
 
--- src/lib.rt:424:11
 unary-step-requires : tie.Need-unary-step-requires
 unary-step-requires c κs = search needs
 
--- src/lib.rt:425:24
 enum-told : tie.Need-enum-told
 enum-told c = search needs
 
--- src/lib.rt:426:20
 enum-known-numbers : tie.Need-enum-known-numbers
 enum-known-numbers c = search needs
 
--- src/lib.rt:426:43
 raise-step-requires : tie.Need-raise-step-requires
 raise-step-requires c κs = (search numbers-within, search bytes-within)
 
--- src/lib.rt:404:1
 same-length-2 : tie.Need-same-length-2
 same-length-2 c = search needs
 
--- src/lib.rt:404:1
 returns-2 : tie.Need-returns-2
 returns-2 c = search plain-stuck
 
--- src/lib.rt:404:1
 same-length-3 : tie.Need-same-length-3
 same-length-3 c = search needs
 
--- src/lib.rt:404:1
 returns-3 : tie.Need-returns-3
 returns-3 c = search plain-raised
 

@@ -11,87 +11,66 @@ use Rattle.lexical.proofs.literal.literal_length.Reads as literal-length-reads
 use Rattle.machine.proofs.push_text.Reads as push-text-reads
 use Rattle.machine.proofs.put.Reads as put-reads
 
--- src/lib.rt:107:9
 bare-end-requires : tie.Need-bare-end-requires
 bare-end-requires c κs = search needs
 
--- src/lib.rt:109:49
 add-push-text : tie.Need-add-push-text
 add-push-text c = search bare-fits
 
--- src/lib.rt:109:46
 sub-push-text : tie.Need-sub-push-text
 sub-push-text c = search bare-from
 
--- src/lib.rt:109:46
 part-push-text-start : tie.Need-part-push-text-start
 part-push-text-start c = search bare-from
 
--- src/lib.rt:109:46
 part-push-text-end : tie.Need-part-push-text-end
 part-push-text-end c = search bare-within
 
--- src/lib.rt:109:9
 push-text-requires : tie.Need-push-text-requires
 push-text-requires c κs = search needs
 
--- src/lib.rt:109:9
 same-length : tie.Need-same-length
 same-length c = search needs
 
--- src/lib.rt:109:9
 same-length-2 : tie.Need-same-length-2
 same-length-2 c = search needs
 
--- src/lib.rt:109:9
 returns : tie.Need-returns
 returns c = search literal-bare
 
--- src/lib.rt:111:9
 literal-length-requires : tie.Need-literal-length-requires
 literal-length-requires c κs = search needs
 
--- src/lib.rt:113:9
 put-requires : tie.Need-put-requires
 put-requires c κs = search needs
 
--- src/lib.rt:113:9
 same-length-3 : tie.Need-same-length-3
 same-length-3 c = search needs
 
--- src/lib.rt:113:9
 returns-2 : tie.Need-returns-2
 returns-2 c = search literal-over
 
--- src/lib.rt:115:8
 decode-units-requires : tie.Need-decode-units-requires
 decode-units-requires c κs = search needs
 
--- src/lib.rt:116:30
 add-put : tie.Need-add-put
 add-put c = search needs
 
--- src/lib.rt:116:9
 put-requires-2 : tie.Need-put-requires-2
 put-requires-2 c κs = search needs
 
--- src/lib.rt:116:9
 same-length-4 : tie.Need-same-length-4
 same-length-4 c = search needs
 
--- src/lib.rt:116:9
 same-length-5 : tie.Need-same-length-5
 same-length-5 c = search needs
 
--- src/lib.rt:116:9
 returns-3 : tie.Need-returns-3
 returns-3 c = search literal-in
 
--- src/lib.rt:96:1
 same-length-6 : tie.Need-same-length-6
 same-length-6 c = search needs
 
--- src/lib.rt:96:1
 returns-4 : tie.Need-returns-4
 returns-4 c = search literal-none
 

@@ -13,79 +13,60 @@ use Rattle.machine.proofs.put.Reads as put-reads
 use Rattle.machine.proofs.word_at.Reads as word-at-reads
 use Rattle.text.proofs.number_at.Reads as number-at-reads
 
--- src/lib.rt:455:9
 push-literal-requires : tie.Need-push-literal-requires
 push-literal-requires c κs = search needs
 
--- src/lib.rt:455:9
 same-length : tie.Need-same-length
 same-length c = search needs
 
--- src/lib.rt:455:9
 same-length-2 : tie.Need-same-length-2
 same-length-2 c = search needs
 
--- src/lib.rt:455:9
 returns : tie.Need-returns
 returns c = search push-literal
 
--- src/lib.rt:464:13
 word-at-requires : tie.Need-word-at-requires
 word-at-requires c κs = search needs
 
--- src/lib.rt:458:13
 lookup-requires : tie.Need-lookup-requires
 lookup-requires c κs = search needs
 
--- src/lib.rt:466:9
 push-text-requires : tie.Need-push-text-requires
 push-text-requires c κs = search needs
 
--- src/lib.rt:466:9
 same-length-3 : tie.Need-same-length-3
 same-length-3 c = search needs
 
--- src/lib.rt:466:9
 same-length-4 : tie.Need-same-length-4
 same-length-4 c = search needs
 
--- src/lib.rt:466:9
 returns-2 : tie.Need-returns-2
 returns-2 c = search push-name
 
--- src/lib.rt:469:13
 number-at-requires : tie.Need-number-at-requires
 number-at-requires c κs = search needs
 
--- src/lib.rt:470:33
 in-range-requires : tie.Need-in-range-requires
 in-range-requires c κs = search needs
 
--- src/lib.rt:470:9
 put-requires : tie.Need-put-requires
 put-requires c κs = search needs
 
--- src/lib.rt:470:9
 same-length-5 : tie.Need-same-length-5
 same-length-5 c = search needs
 
--- src/lib.rt:470:9
 returns-3 : tie.Need-returns-3
 returns-3 c = search push-number
 
--- src/lib.rt:472:9
 is-true-requires : tie.Need-is-true-requires
 is-true-requires c κs = search needs
 
--- src/lib.rt:473:5
 put-requires-2 : tie.Need-put-requires-2
 put-requires-2 c κs = search needs
 
--- src/lib.rt:437:1
 same-length-6 : tie.Need-same-length-6
 same-length-6 c = search needs
 
--- src/lib.rt:437:1
 returns-4 : tie.Need-returns-4
 returns-4 c = search push-test
 

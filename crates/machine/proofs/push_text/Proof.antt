@@ -7,47 +7,36 @@ use Rattle.machine.proofs.push_text.Lts as lts
 use Rattle.machine.proofs.put.Reads as put-reads
 use Rattle.text.proofs.copy_long.Reads as copy-long-reads
 
--- src/lib.rt:80:9
 put-requires : tie.Need-put-requires
 put-requires c κs = search needs
 
--- src/lib.rt:80:9
 same-length : tie.Need-same-length
 same-length c = search needs
 
--- src/lib.rt:80:9
 returns : tie.Need-returns
 returns c = search text-over
 
--- src/lib.rt:82:8
 copy-long-requires : tie.Need-copy-long-requires
 copy-long-requires c κs = search needs
 
--- src/lib.rt:83:30
 add-put : tie.Need-add-put
 add-put c = search needs
 
--- src/lib.rt:83:9
 put-requires-2 : tie.Need-put-requires-2
 put-requires-2 c κs = search needs
 
--- src/lib.rt:83:9
 same-length-2 : tie.Need-same-length-2
 same-length-2 c = search needs
 
--- src/lib.rt:83:9
 same-length-3 : tie.Need-same-length-3
 same-length-3 c = search needs
 
--- src/lib.rt:83:9
 returns-2 : tie.Need-returns-2
 returns-2 c = search text-copied
 
--- src/lib.rt:74:1
 same-length-4 : tie.Need-same-length-4
 same-length-4 c = search needs
 
--- src/lib.rt:74:1
 returns-3 : tie.Need-returns-3
 returns-3 c = search text-none
 

@@ -7,51 +7,39 @@ use Rattle.machine.proofs.put.Lts as lts
 use Rattle.expression.proofs.value.kind_of.Reads as kind-of-reads
 use Rattle.expression.proofs.value.size_of.Reads as size-of-reads
 
--- src/lib.rt:69:22
 add-if1 : tie.Need-add-if1
 add-if1 c = search needs
 
--- src/lib.rt:70:9
 returns : tie.Need-returns
 returns c = search put-full
 
--- src/lib.rt:72:9
 kind-of-requires : tie.Need-kind-of-requires
 kind-of-requires c κs = search needs
 
--- src/lib.rt:73:9
 size-of-requires : tie.Need-size-of-requires
 size-of-requires c κs = search needs
 
--- src/lib.rt:74:5
 mul-stack : tie.Need-mul-stack
 mul-stack c = search needs
 
--- src/lib.rt:74:5
 slice-write-stack : tie.Need-slice-write-stack
 slice-write-stack c = search needs
 
--- src/lib.rt:75:11
 add-stack : tie.Need-add-stack
 add-stack c = search needs
 
--- src/lib.rt:75:5
 mul-stack-2 : tie.Need-mul-stack-2
 mul-stack-2 c = search needs
 
--- src/lib.rt:75:5
 slice-write-stack-2 : tie.Need-slice-write-stack-2
 slice-write-stack-2 c = search put-second
 
--- src/lib.rt:77:18
 add-t8 : tie.Need-add-t8
 add-t8 c = search needs
 
--- src/lib.rt:65:1
 same-length : tie.Need-same-length
 same-length c = search needs
 
--- src/lib.rt:65:1
 returns-2 : tie.Need-returns-2
 returns-2 c = search put-in
 

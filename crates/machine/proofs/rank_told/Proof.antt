@@ -6,15 +6,12 @@ use Rattle.machine.proofs.rank_told.Reads as reads
 use Rattle.machine.proofs.rank_told.Lts as lts
 use Rattle.expression.proofs.operator.top_rank.Reads as top-rank-reads
 
--- src/lib.rt:398:16
 top-rank-requires : tie.Need-top-rank-requires
 top-rank-requires c κs = search needs
 
--- src/lib.rt:398:9
 returns : tie.Need-returns
 returns c = search rank-held
 
--- src/lib.rt:394:1
 returns-2 : tie.Need-returns-2
 returns-2 c = search rank-unheld
 

@@ -6,15 +6,12 @@ use Rattle.machine.proofs.rank_valued.Reads as reads
 use Rattle.machine.proofs.rank_valued.Lts as lts
 use Rattle.expression.proofs.name.rank_of.Reads as rank-of-reads
 
--- src/lib.rt:406:16
 rank-of-requires : tie.Need-rank-of-requires
 rank-of-requires c κs = search needs
 
--- src/lib.rt:406:9
 returns : tie.Need-returns
 returns c = search rank-held
 
--- src/lib.rt:402:1
 returns-2 : tie.Need-returns-2
 returns-2 c = search rank-unheld
 

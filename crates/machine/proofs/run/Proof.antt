@@ -23,111 +23,84 @@ Inv-loop code s query consts values names constants stack₀ bytes₀ n₀ t₀ 
 abbrev μ-loop : tie.MeasureT-loop
 μ-loop code s query consts values names constants stack₀ bytes₀ n₀ t₀ i₀ stack bytes n t i = length code - i
 
--- src/lib.rt:819:5
 loop-holds : tie.Need-loop-holds Inv-loop μ-loop
 loop-holds c = (search needs, (search needs, (search needs, (search needs, search exec-start))))
 
--- src/lib.rt:820:17
 mul-e : tie.Need-mul-e Inv-loop μ-loop
 mul-e c = search needs
 
--- src/lib.rt:820:17
 shared-slice-read-e : tie.Need-shared-slice-read-e Inv-loop μ-loop
 shared-slice-read-e c = search needs
 
--- src/lib.rt:822:13
 wide-requires : tie.Need-wide-requires Inv-loop μ-loop
 wide-requires c κs = search needs
 
--- src/lib.rt:824:19
 push-step-requires : tie.Need-push-step-requires Inv-loop μ-loop
 push-step-requires c κs = search needs
 
--- src/lib.rt:839:21
 enum-told : tie.Need-enum-told Inv-loop μ-loop
 enum-told c = search needs
 
--- src/lib.rt:839:21
 same-length : tie.Need-same-length Inv-loop μ-loop
 same-length c = search needs
 
--- src/lib.rt:839:21
 same-length-2 : tie.Need-same-length-2 Inv-loop μ-loop
 same-length-2 c = search needs
 
--- src/lib.rt:839:21
 returns : tie.Need-returns Inv-loop μ-loop
 returns c = search push-fault
 
--- src/lib.rt:841:28
 enum-known-numbers : tie.Need-enum-known-numbers Inv-loop μ-loop
 enum-known-numbers c = search needs
 
--- src/lib.rt:844:21
 add-i : tie.Need-add-i Inv-loop μ-loop
 add-i c = search needs
 
--- src/lib.rt:819:5
 loop-less : tie.Need-loop-less Inv-loop μ-loop
 loop-less c = search needs
 
--- src/lib.rt:819:5
 loop-again : tie.Need-loop-again Inv-loop μ-loop
 loop-again c = (search needs, (search needs, (search numbers-within, (search bytes-within, search push-more))))
 
--- src/lib.rt:848:19
 act-requires : tie.Need-act-requires Inv-loop μ-loop
 act-requires c κs = search needs
 
--- src/lib.rt:861:21
 enum-told-2 : tie.Need-enum-told-2 Inv-loop μ-loop
 enum-told-2 c = search needs
 
--- src/lib.rt:861:21
 same-length-3 : tie.Need-same-length-3 Inv-loop μ-loop
 same-length-3 c = search needs
 
--- src/lib.rt:861:21
 same-length-4 : tie.Need-same-length-4 Inv-loop μ-loop
 same-length-4 c = search needs
 
--- src/lib.rt:861:21
 returns-2 : tie.Need-returns-2 Inv-loop μ-loop
 returns-2 c = search act-fault
 
--- src/lib.rt:863:28
 enum-known-numbers-2 : tie.Need-enum-known-numbers-2 Inv-loop μ-loop
 enum-known-numbers-2 c = search needs
 
--- src/lib.rt:866:38
 add-onward : tie.Need-add-onward Inv-loop μ-loop
 add-onward c = search needs
 
--- src/lib.rt:866:21
 onward-requires : tie.Need-onward-requires Inv-loop μ-loop
 onward-requires c κs = let l : _ = (c .before .before .before .before .before .before .before .before .act .ensures) in search (numbers-within, l)
 
--- src/lib.rt:819:5
 loop-less-2 : tie.Need-loop-less-2 Inv-loop μ-loop
 loop-less-2 c = search exec-less
 
--- src/lib.rt:819:5
 loop-again-2 : tie.Need-loop-again-2 Inv-loop μ-loop
 loop-again-2 c = (search needs, (search needs, (search numbers-within, (search bytes-within, search act-more))))
 
--- src/lib.rt:871:5
 top-requires : tie.Need-top-requires Inv-loop μ-loop
 top-requires c κs = search needs
 
--- src/lib.rt:803:1
 same-length-5 : tie.Need-same-length-5 Inv-loop μ-loop
 same-length-5 c = search needs
 
--- src/lib.rt:803:1
 same-length-6 : tie.Need-same-length-6 Inv-loop μ-loop
 same-length-6 c = search needs
 
--- src/lib.rt:803:1
 returns-3 : tie.Need-returns-3 Inv-loop μ-loop
 returns-3 c = search exec-end
 

@@ -6,19 +6,15 @@ use Rattle.machine.proofs.run_wide.Reads as reads
 use Rattle.machine.proofs.run_wide.Lts as lts
 use Rattle.machine.proofs.run.Reads as run-reads
 
--- src/lib.rt:456:59
 slice-aggregate-run : tie.Need-slice-aggregate-run
 slice-aggregate-run c = search needs
 
--- src/lib.rt:456:71
 slice-aggregate-run-2 : tie.Need-slice-aggregate-run-2
 slice-aggregate-run-2 c = search needs
 
--- src/lib.rt:456:5
 run-requires : tie.Need-run-requires
 run-requires c κs = search needs
 
--- src/lib.rt:443:1
 returns : tie.Need-returns
 returns c = search run-left
 

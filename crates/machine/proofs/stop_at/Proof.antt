@@ -5,15 +5,12 @@ use Rattle.machine.proofs.stop_at.Tie as tie
 use Rattle.machine.proofs.stop_at.Reads as reads
 use Rattle.machine.proofs.stop_at.Lts as lts
 
--- src/lib.rt:735:9
 returns : tie.Need-returns
 returns c = search stop-other
 
--- src/lib.rt:738:9
 returns-2 : tie.Need-returns-2
 returns-2 c = search stop-known
 
--- src/lib.rt:731:1
 returns-3 : tie.Need-returns-3
 returns-3 c = search stop-here
 

@@ -6,35 +6,27 @@ use Rattle.machine.proofs.top.Reads as reads
 use Rattle.machine.proofs.top.Lts as lts
 use Rattle.expression.proofs.value.unpack.Reads as unpack-reads
 
--- src/lib.rt:109:9
 returns : tie.Need-returns
 returns c = search top-none
 
--- src/lib.rt:111:12
 mul-unpack : tie.Need-mul-unpack
 mul-unpack c = search needs
 
--- src/lib.rt:111:12
 shared-slice-read-unpack : tie.Need-shared-slice-read-unpack
 shared-slice-read-unpack c = search needs
 
--- src/lib.rt:111:32
 sub-unpack : tie.Need-sub-unpack
 sub-unpack c = search needs
 
--- src/lib.rt:111:26
 mul-unpack-2 : tie.Need-mul-unpack-2
 mul-unpack-2 c = search needs
 
--- src/lib.rt:111:26
 shared-slice-read-unpack-2 : tie.Need-shared-slice-read-unpack-2
 shared-slice-read-unpack-2 c = search needs
 
--- src/lib.rt:111:5
 unpack-requires : tie.Need-unpack-requires
 unpack-requires c κs = search needs
 
--- src/lib.rt:104:1
 returns-2 : tie.Need-returns-2
 returns-2 c = search top-some
 

@@ -7,35 +7,27 @@ use Rattle.machine.proofs.valued_on.Lts as lts
 use Rattle.machine.proofs.land.Reads as land-reads
 use Rattle.machine.proofs.rank_valued.Reads as rank-valued-reads
 
--- src/lib.rt:426:9
 returns : tie.Need-returns
 returns c = search valued-short
 
--- src/lib.rt:429:46
 sub-rank-valued : tie.Need-sub-rank-valued
 sub-rank-valued c = search needs
 
--- src/lib.rt:429:46
 part-rank-valued-start : tie.Need-part-rank-valued-start
 part-rank-valued-start c = search needs
 
--- src/lib.rt:429:46
 part-rank-valued-end : tie.Need-part-rank-valued-end
 part-rank-valued-end c = search needs
 
--- src/lib.rt:429:9
 rank-valued-requires : tie.Need-rank-valued-requires
 rank-valued-requires c κs = search needs
 
--- src/lib.rt:430:5
 land-requires : tie.Need-land-requires
 land-requires c κs = search needs
 
--- src/lib.rt:412:1
 same-length : tie.Need-same-length
 same-length c = search needs
 
--- src/lib.rt:412:1
 returns-2 : tie.Need-returns-2
 returns-2 c = search valued-in
 

@@ -6,31 +6,24 @@ use Rattle.machine.proofs.word_at.Reads as reads
 use Rattle.machine.proofs.word_at.Lts as lts
 use Rattle.text.proofs.word_end_by_blocks.Reads as word-end-by-blocks-reads
 
--- src/lib.rt:54:9
 slice-aggregate-result : tie.Need-slice-aggregate-result
 slice-aggregate-result c = search needs
 
--- src/lib.rt:54:9
 returns : tie.Need-returns
 returns c = search word-past
 
--- src/lib.rt:56:9
 word-end-by-blocks-requires : tie.Need-word-end-by-blocks-requires
 word-end-by-blocks-requires c κs = search needs
 
--- src/lib.rt:57:5
 sub-result : tie.Need-sub-result
 sub-result c = search word-from
 
--- src/lib.rt:57:5
 part-result-start : tie.Need-part-result-start
 part-result-start c = search word-from
 
--- src/lib.rt:57:5
 part-result-end : tie.Need-part-result-end
 part-result-end c = search word-within
 
--- src/lib.rt:50:1
 returns-2 : tie.Need-returns-2
 returns-2 c = search word-in
 

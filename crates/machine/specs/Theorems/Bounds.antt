@@ -1,22 +1,22 @@
 -- Room that is enough: an operand for each entry of the code, and 4,096 bytes for each operand. Assumes nothing.
 use mathlib.Core.Path.{_≡_}
-use mathlib.Core.Bool.{Bool, true, false}
 use mathlib.Core.List.{List, [], _∷_, _++_}
 use Prim.Native.Nat.{ℕ, _+_, _*_, _≤_}
 use native.Mathlib.Omega.{arith}
-use lib.Dec.{eqb}
 use lib.ListN.{length, length-append}
-use Rattle.text.specs.Choice.{pick}
+use Rattle.syntax.specs.Operator.{Sort, a-string, an-integer, a-test, unaryGives, binaryGives}
+use Rattle.syntax.specs.Operation.{unaryNumber, binaryNumber}
 use Rattle.syntax.specs.Expr.{Expr, literal, name, number, truth, unary, binary, Program, none, also, Clause, plain, valued, nested}
 use Rattle.syntax.specs.Code.{entry, Codes, code-literal, code-name, code-number, code-true, code-false, code-unary, code-binary, ProgramCodes, code-none, code-also, ClauseCodes, code-plain, code-valued, code-nested}
-use Rattle.machine.specs.Need.{need, programNeed, clauseNeed, span, room, programRoom, clauseRoom}
+use Rattle.machine.specs.Need.{need, programNeed, clauseNeed, spanOf, span, room, programRoom, clauseRoom}
 
 append-two : (c d : List ℕ) (x : ℕ) → length (c ++ d ++ (x ∷ [])) ≡ length c + length d + 1
 append-two c d x = rw (length-append (c ++ d) (x ∷ []), length-append c d)
 
-pub either : (t : Bool) → pick t 4096 0 ≤ 4096
-either true = omega arith
-either false = omega arith
+pub span-most : (x : Sort) → spanOf x ≤ 4096
+span-most a-string = omega arith
+span-most an-integer = omega arith
+span-most a-test = omega arith
 
 some-entry : {s : List ℕ} {e : Expr} {c : List ℕ} → Codes s e c → 1 ≤ length c
 some-entry (code-literal at p) = omega arith
@@ -24,8 +24,8 @@ some-entry (code-name at p) = omega arith
 some-entry (code-number at p) = omega arith
 some-entry code-true = omega arith
 some-entry code-false = omega arith
-some-entry (code-unary {op = op} {c = c} i j k) = rw (length-append c (entry op 0 ∷ [])) (omega arith)
-some-entry (code-binary {op = op} {c = c} {d = d} i j k l) = rw (append-two c d (entry op 0)) (omega arith)
+some-entry (code-unary {op = op} {c = c} k) = rw (length-append c (entry (unaryNumber op) 0 ∷ [])) (omega arith)
+some-entry (code-binary {op = op} {c = c} {d = d} k l) = rw (append-two c d (entry (binaryNumber op) 0)) (omega arith)
 
 program-some : {s : List ℕ} (p : Program) {c : List ℕ} → ProgramCodes s p c → 1 ≤ length c
 program-some none code-none = omega arith
@@ -48,8 +48,8 @@ need-code (code-name at p) = omega arith
 need-code (code-number at p) = omega arith
 need-code code-true = omega arith
 need-code code-false = omega arith
-need-code (code-unary {op = op} {c = c} i j k) = rw (length-append c (entry op 0 ∷ [])) (omega (arith, need-code k))
-need-code (code-binary {op = op} {c = c} {d = d} i j k l) = rw (append-two c d (entry op 0)) (omega (arith, need-code k, need-code l, some-entry k))
+need-code (code-unary {op = op} {c = c} k) = rw (length-append c (entry (unaryNumber op) 0 ∷ [])) (omega (arith, need-code k))
+need-code (code-binary {op = op} {c = c} {d = d} k l) = rw (append-two c d (entry (binaryNumber op) 0)) (omega (arith, need-code k, need-code l, some-entry k))
 
 mutual
   unfolding programNeed clauseNeed
@@ -70,8 +70,8 @@ span-least (literal b) = omega arith
 span-least (name n) = omega arith
 span-least (number n) = omega arith
 span-least (truth t) = omega arith
-span-least (unary op e) = either (eqb op 5)
-span-least (binary op e f) = either (eqb op 9)
+span-least (unary op e) = span-most (unaryGives op)
+span-least (binary op e f) = span-most (binaryGives op)
 
 pub room-need : (e : Expr) → room e ≤ 4096 * need e
 unfolding room need
@@ -79,7 +79,7 @@ room-need (literal b) = omega arith
 room-need (name n) = omega arith
 room-need (number n) = omega arith
 room-need (truth t) = omega arith
-room-need (unary op e) = omega (arith, room-need e, either (eqb op 5), need-some e)
+room-need (unary op e) = omega (arith, room-need e, span-most (unaryGives op), need-some e)
 room-need (binary op e f) = omega (arith, room-need e, room-need f, span-least e)
 
 mutual

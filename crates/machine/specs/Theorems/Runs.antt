@@ -10,21 +10,27 @@ use borrow.Author.Tests.{le-leb, lt-leb, eq-eqb, ne-eqb, eqb-true, eqb-false, lt
 use Rattle.text.specs.Choice.{split, clash}
 use Rattle.text.specs.Counted.{counted}
 use Rattle.lexical.specs.Literal.{decodedAt}
+use Rattle.syntax.specs.Operator.{Unary, Binary, unaryGives}
+use Rattle.syntax.specs.Operator as Operator
+use Rattle.syntax.specs.Operation.{unaryNumber, binaryNumber}
+use Rattle.syntax.specs.Theorems.Numbers.{unary-between, binary-between}
 use Rattle.syntax.specs.Expr.{Expr, literal, name, number, truth, unary, binary, Program, none, also, Clause, plain, valued, nested}
 use Rattle.syntax.specs.Code.{entry, nameAt, numberAt, Codes, code-literal, code-name, code-number, code-true, code-false, code-unary, code-binary, ProgramCodes, code-none, code-also, ClauseCodes, code-plain, code-valued, code-nested}
 use Rattle.expression.specs.Value.{Value, text, integer, rank, test, fault, operand, bytesOf}
 use Rattle.expression.specs.Operands.{rankIn, kindOf, sizeOf}
 use Rattle.expression.specs.Integers.{ranged}
 use Rattle.expression.specs.Names.{Environment, lookup}
-use Rattle.expression.specs.Operations.{held, unaryOf, isTextual, ofTests, logical, binaryOf}
+use Rattle.expression.specs.Operations.{held, unaryOf, binaryOf}
+use Rattle.expression.specs.Working.Numbered.{isTextual, ofTests, logical, binaryBy}
 use Rattle.expression.specs.Conditions.{evaluate, conditions, clause, gate, top, rankOf}
-use Rattle.expression.specs.Clauses.{applied, combined}
+use Rattle.expression.specs.Working.Clauses.{applied, combined}
 use Rattle.expression.specs.Tables.{lookupIn, Shows}
+use Rattle.expression.specs.Theorems.Numbered.{unary-number, binary-number}
 use Rattle.expression.specs.Theorems.Topmost.{conditions-most}
 use Rattle.expression.specs.Theorems.Shown.{values-are, lookup-is as shown-is}
 use Rattle.expression.specs.declared.value.Operand.the-variants.{Rank}
 use Rattle.machine.specs.Machine.{State, on, raised, runAt, pushStep, isIdle, clauseStep, actOf, stepOf, stepped, isFalse, stopAt, goOn, isHighest, ended, needless, ahead, execBehind, exec, resultOf}
-use Rattle.machine.specs.Need.{need, programNeed, clauseNeed, room, programRoom, clauseRoom}
+use Rattle.machine.specs.Need.{need, programNeed, clauseNeed, spanOf, room, programRoom, clauseRoom}
 use Rattle.machine.specs.Theorems.Bounds.{need-some}
 use Rattle.machine.specs.Working.Kinds.{unranked}
 use Rattle.machine.specs.Working.Widths.{plain-rank, plain-ranged, within-span}
@@ -32,21 +38,9 @@ use Rattle.machine.specs.Working.Passing.{exec-pass, on-clause, on-none,
 use Rattle.machine.specs.Working.Ending.{end-here, across-clause, end-shift}
 use Rattle.machine.specs.Working.Stacking.{pair, topped, count-is, top-is, false-top, high-top, below-is, idle-top, idle-not, place-is, text-is, unary-is, lookup-is, binary-is}
 
--- an operator on one operand is the machine's operation, but for "$"
-applied-is : (vals : List (List ℕ)) (look : List ℕ → List ℕ) (op : ℕ) (v : Value) → 5 ≤ op → op ≤ 8 → eqb op 5 ≡ false → applied vals op v ≡ unaryOf look op v
-unfolding applied unaryOf
-applied-is vals look op v l h f =
-    split (eqb op 6) (λ a. rw (f, a))
-    (λ a. split (eqb op 7) (λ b. rw (f, a, b))
-    (λ b. let n5 : op ≡ 5 → ⊥ = eqb-false op 5 f in
-    let n6 : op ≡ 6 → ⊥ = eqb-false op 6 a in
-    let n7 : op ≡ 7 → ⊥ = eqb-false op 7 b in
-    let e : op ≡ 8 = omega arith in
-    rw (f, a, b, eq-eqb op 8 e)))
-
-combined-is : (vals : List (List ℕ)) (op : ℕ) (v w : Value) → op ≤ 29 → combined vals op v w ≡ binaryOf op v w
+combined-is : (vals : List (List ℕ)) (op : Binary) (v w : Value) → combined vals (binaryNumber op) v w ≡ binaryOf op v w
 unfolding combined
-combined-is vals op v w h = rw (le-leb op 29 h)
+combined-is vals op v w = rw (le-leb (binaryNumber op) 29 (binary-between op .1)) (binary-number op v w)
 
 -- a test that fails, and what "&&" makes of it
 failing : (v : Value) → eqb (kindOf (operand v)) 3 ≡ true → v ≡ test false
@@ -58,9 +52,9 @@ failing (test false) h = refl
 failing (rank n) h = clash h refl
 failing fault h = clash h refl
 
-both-false : (w : Value) → binaryOf 28 (test false) w ≡ test false
-unfolding binaryOf isTextual ofTests logical
-both-false w = refl
+both-false : (op : Binary) (w : Value) → binaryNumber op ≡ 28 → binaryOf op (test false) w ≡ test false
+unfolding binaryBy isTextual ofTests logical
+both-false op w o = sym (binary-number op (test false) w) ∙ ap (λ (n : ℕ). binaryBy n (test false) w) o
 
 -- what the machine makes of a clause
 module _ (vals : List (List ℕ)) where
@@ -86,8 +80,8 @@ lastOf (literal b) = 0
 lastOf (name n) = 1
 lastOf (number n) = 2
 lastOf (truth t) = 3
-lastOf (unary op e) = op
-lastOf (binary op e f) = op
+lastOf (unary op e) = unaryNumber op
+lastOf (binary op e f) = binaryNumber op
 
 module _ (depth space : ℕ) (s : List ℕ) (look : List ℕ → List ℕ) (env : Environment) (same : (n : List ℕ) → look n ≡ lookup env n) where
   abbrev run : List ℕ → State → State
@@ -227,21 +221,22 @@ module _ (depth space : ℕ) (s : List ℕ) (look : List ℕ → List ℕ) (env 
     unfolding stepOf actOf clauseStep operand bytesOf
     begin-step = place-is depth vs h bs (rank 0) refl
 
-    unary-step : (op : ℕ) (v : Value) → 5 ≤ op → op ≤ 8 → (op ≡ 5 → length bs + 4096 ≤ space)
-        → stepOf depth space s look (env .values) op 0 (vs ++ pair v) (bs ++ bytesOf v) ≡ topped vs bs (unaryOf (lookup env) op v)
+    unary-step : (op : Unary) (v : Value) → length bs + spanOf (unaryGives op) ≤ space
+        → stepOf depth space s look (env .values) (unaryNumber op) 0 (vs ++ pair v) (bs ++ bytesOf v) ≡ topped vs bs (unaryOf (lookup env) op v)
     unfolding stepOf actOf
-    unary-step op v l u k =
-        split (eqb op 5)
-        (λ f. let o : op ≡ 5 = eqb-true op 5 f in rw (lt-leb op 4 (omega arith), f) (lookup-is depth vs h space look (lookup env) same op bs v o (k o)))
-        (λ f. rw (lt-leb op 4 (omega arith), f, le-leb op 8 u)
-        (unary-is depth vs h (env .values) op bs v ∙ ap (topped vs bs) (applied-is (env .values) (lookup env) op v l u f)))
+    unary-step Operator.lookup v k = lookup-is depth vs h space look (lookup env) same bs v k
+    unary-step Operator.convert v k = unary-is depth vs h (env .values) 6 bs v ∙ ap (topped vs bs) (unary-number (env .values) (lookup env) Operator.convert v refl)
+    unary-step Operator.negate v k = unary-is depth vs h (env .values) 7 bs v ∙ ap (topped vs bs) (unary-number (env .values) (lookup env) Operator.negate v refl)
+    unary-step Operator.opposite v k = unary-is depth vs h (env .values) 8 bs v ∙ ap (topped vs bs) (unary-number (env .values) (lookup env) Operator.opposite v refl)
 
-    binary-step : (op : ℕ) (v w : Value) → 9 ≤ op → op ≤ 29
-        → stepOf depth space s look (env .values) op 0 ((vs ++ pair v) ++ pair w) ((bs ++ bytesOf v) ++ bytesOf w) ≡ topped vs bs (binaryOf op v w)
+    binary-step : (op : Binary) (v w : Value)
+        → stepOf depth space s look (env .values) (binaryNumber op) 0 ((vs ++ pair v) ++ pair w) ((bs ++ bytesOf v) ++ bytesOf w) ≡ topped vs bs (binaryOf op v w)
     unfolding stepOf actOf
-    binary-step op v w l u =
-        rw (lt-leb op 4 (omega arith), ne-eqb op 5 (λ z. omega arith), lt-leb op 8 (omega arith), le-leb op 29 u)
-        (binary-is depth vs h (env .values) op bs v w ∙ ap (topped vs bs) (combined-is (env .values) op v w u))
+    binary-step op v w =
+        let n : ℕ = binaryNumber op in
+        let b : (9 ≤ n) × (n ≤ 29) = binary-between op in
+        rw (lt-leb n 4 (omega (arith, b .0)), ne-eqb n 5 (λ z. omega (arith, z, b .0)), lt-leb n 8 (omega (arith, b .0)), le-leb n 29 (b .1))
+        (binary-is depth vs h (env .values) n bs v w ∙ ap (topped vs bs) (combined-is (env .values) op v w))
 
     -- a clause's rank is brought to its program's
     raise-step : (r m : ℕ) → raised depth (env .values) (topped (vs ++ pair (rank r)) (bs ++ bytesOf (rank r)) (rank m)) ≡ topped vs bs (rank (max r m))
@@ -249,18 +244,21 @@ module _ (depth space : ℕ) (s : List ℕ) (look : List ℕ → List ℕ) (env 
     raise-step r m = binary-is depth vs h (env .values) 34 bs (rank r) (rank m) ∙ ap (topped vs bs) (raise-is (env .values) r m)
 
   -- a right side that a test decides, or one that is run
-  decide : (x op : ℕ) → 9 ≤ op → op ≤ 29 → (v w : Value) → eqb (kindOf (operand v)) 5 ≡ false → {f : Expr} {d : List ℕ} → Codes s f d → (rest vs bs : List ℕ)
-      → (after x (d ++ (entry op 0 ∷ rest)) (topped vs bs v) ≡ run (d ++ (entry op 0 ∷ rest)) (topped vs bs v)
-      → after x (d ++ (entry op 0 ∷ rest)) (topped vs bs v) ≡ after op rest (topped vs bs (binaryOf op v w)))
-      → after x (d ++ (entry op 0 ∷ rest)) (topped vs bs v) ≡ after op rest (topped vs bs (binaryOf op v w))
-  decide x op low high v w other {d = d} k rest vs bs go =
-      split (leb x 4) (λ a. go (pushed x a (d ++ (entry op 0 ∷ rest)) vs bs v))
+  decide : (x : ℕ) (op : Binary) (v w : Value) → eqb (kindOf (operand v)) 5 ≡ false → {f : Expr} {d : List ℕ} → Codes s f d → (rest vs bs : List ℕ)
+      → (after x (d ++ (entry (binaryNumber op) 0 ∷ rest)) (topped vs bs v) ≡ run (d ++ (entry (binaryNumber op) 0 ∷ rest)) (topped vs bs v)
+      → after x (d ++ (entry (binaryNumber op) 0 ∷ rest)) (topped vs bs v) ≡ after (binaryNumber op) rest (topped vs bs (binaryOf op v w)))
+      → after x (d ++ (entry (binaryNumber op) 0 ∷ rest)) (topped vs bs v) ≡ after (binaryNumber op) rest (topped vs bs (binaryOf op v w))
+  decide x op v w other {d = d} k rest vs bs go =
+      let n : ℕ = binaryNumber op in
+      let low : 9 ≤ n = binary-between op .0 in
+      let high : n ≤ 29 = binary-between op .1 in
+      split (leb x 4) (λ a. go (pushed x a (d ++ (entry n 0 ∷ rest)) vs bs v))
       (λ a. split (isFalse (vs ++ pair v))
-      (λ t. split (eqb op 28)
-      (λ b. let o : op ≡ 28 = eqb-true op 28 b in let e : v ≡ test false = failing v (sym (false-top vs v) ∙ t) in
-      rw (o, e, both-false w) (decided x a k rest vs bs))
-      (λ b. go (undecided x vs bs v other op low high k rest (λ y o. eqb-false op 28 b o))))
-      (λ t. go (undecided x vs bs v other op low high k rest (λ y o. clash y t))))
+      (λ t. split (eqb n 28)
+      (λ b. let o : n ≡ 28 = eqb-true n 28 b in let e : v ≡ test false = failing v (sym (false-top vs v) ∙ t) in
+      rw (o, e, both-false op w o) (decided x a k rest vs bs))
+      (λ b. go (undecided x vs bs v other n low high k rest (λ y o. eqb-false n 28 b o))))
+      (λ t. go (undecided x vs bs v other n low high k rest (λ y o. clash y t))))
 
   -- an expression's code leaves its value on top
   pub run-expression : {e : Expr} {c : List ℕ} → Codes s e c → (rest vs bs : List ℕ) → length vs + 2 * need e ≤ depth → length bs + room e ≤ space
@@ -271,24 +269,27 @@ module _ (depth space : ℕ) (s : List ℕ) (look : List ℕ → List ℕ) (env 
   run-expression (code-number at p) rest vs bs h k = enter 2 at p rest vs bs _ (number-step vs bs (omega arith) at)
   run-expression code-true rest vs bs h k = enter 3 0 (omega arith) rest vs bs _ (true-step vs bs (omega arith))
   run-expression code-false rest vs bs h k = enter 4 0 (omega arith) rest vs bs _ (false-step vs bs (omega arith))
-  run-expression (code-unary {op = op} {e = e} {c = c} low high k) rest vs bs h m =
+  run-expression (code-unary {op = op} {e = e} {c = c} k) rest vs bs h m =
       let v : Value = evaluate env e in
-      let q : op ≡ 5 → length bs + 4096 ≤ space = λ o. (let m′ : length bs + max (room e) 4096 ≤ space = rw (eq-eqb op 5 o) at m in omega arith) in
-      ap (λ (l : List ℕ). run l (on vs bs)) (append-assoc c (entry op 0 ∷ []) rest)
-      ∙ run-expression k (entry op 0 ∷ rest) vs bs h (omega arith)
-      ∙ stays (lastOf e) vs bs v (unranked env e) op (omega arith) rest
-      ∙ enter op 0 (omega arith) rest (vs ++ pair v) (bs ++ bytesOf v) _ (unary-step vs bs (omega (arith, need-some e)) op v low high q)
-  run-expression (code-binary {op = op} {e = e} {f = f} {c = c} {d = d} low high k l) rest vs bs h m =
+      let n : ℕ = unaryNumber op in
+      let low : 5 ≤ n = unary-between op .0 in
+      ap (λ (l : List ℕ). run l (on vs bs)) (append-assoc c (entry n 0 ∷ []) rest)
+      ∙ run-expression k (entry n 0 ∷ rest) vs bs h (omega arith)
+      ∙ stays (lastOf e) vs bs v (unranked env e) n (omega arith) rest
+      ∙ enter n 0 (omega arith) rest (vs ++ pair v) (bs ++ bytesOf v) _ (unary-step vs bs (omega (arith, need-some e)) op v (omega arith))
+  run-expression (code-binary {op = op} {e = e} {f = f} {c = c} {d = d} k l) rest vs bs h m =
       let v : Value = evaluate env e in
       let w : Value = evaluate env f in
-      ap (λ (l : List ℕ). run l (on vs bs)) (append-assoc (c ++ d) (entry op 0 ∷ []) rest ∙ append-assoc c d (entry op 0 ∷ rest))
-      ∙ run-expression k (d ++ (entry op 0 ∷ rest)) vs bs (omega arith) (omega arith)
-      ∙ decide (lastOf e) op low high v w (unranked env e) l rest vs bs
+      let n : ℕ = binaryNumber op in
+      let low : 9 ≤ n = binary-between op .0 in
+      ap (λ (l : List ℕ). run l (on vs bs)) (append-assoc (c ++ d) (entry n 0 ∷ []) rest ∙ append-assoc c d (entry n 0 ∷ rest))
+      ∙ run-expression k (d ++ (entry n 0 ∷ rest)) vs bs (omega arith) (omega arith)
+      ∙ decide (lastOf e) op v w (unranked env e) l rest vs bs
       (λ still. still
-      ∙ run-expression l (entry op 0 ∷ rest) (vs ++ pair v) (bs ++ bytesOf v) (rw (count-is vs v) (omega arith))
+      ∙ run-expression l (entry n 0 ∷ rest) (vs ++ pair v) (bs ++ bytesOf v) (rw (count-is vs v) (omega arith))
       (rw (length-append bs (bytesOf v)) (omega (arith, within-span env e)))
-      ∙ stays (lastOf f) (vs ++ pair v) (bs ++ bytesOf v) w (unranked env f) op (omega arith) rest
-      ∙ enter op 0 (omega arith) rest ((vs ++ pair v) ++ pair w) ((bs ++ bytesOf v) ++ bytesOf w) _ (binary-step vs bs (omega (arith, need-some e)) op v w low high))
+      ∙ stays (lastOf f) (vs ++ pair v) (bs ++ bytesOf v) w (unranked env f) n (omega arith) rest
+      ∙ enter n 0 (omega arith) rest ((vs ++ pair v) ++ pair w) ((bs ++ bytesOf v) ++ bytesOf w) _ (binary-step vs bs (omega (arith, need-some e)) op v w))
 
   -- the entries that end a clause, above the rank r of the program so far
   module _ (vs bs : List ℕ) (h : length vs + 4 ≤ depth) (r : ℕ) where

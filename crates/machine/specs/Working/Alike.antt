@@ -13,8 +13,8 @@ use Rattle.text.specs.Choice.{pick, split, clash}
 use Rattle.text.specs.Equal.{equal}
 use Rattle.expression.specs.Value.{text, operand}
 use Rattle.expression.specs.Operands.{kindOf, sizeOf, pack, unpacked, width, valueOf}
-use Rattle.expression.specs.Operations.{textual, ofTexts, isTextual, binaryOf}
-use Rattle.expression.specs.Clauses.{combined}
+use Rattle.expression.specs.Working.Numbered.{textual, ofTexts, isTextual, binaryBy}
+use Rattle.expression.specs.Working.Clauses.{combined}
 use Rattle.expression.specs.Working.Operating.{does-equal, does-differ}
 use Rattle.expression.specs.declared.value.Operand.{Operand}
 use Rattle.expression.specs.declared.value.Operand.the-variants.{Text, Test}
@@ -106,7 +106,7 @@ module _ (op : ℕ) (st m : List ℕ) (n t : ℕ) (two : n + 2 ≤ length st) (h
 
 -- what the operation gives
 told-texts : (vals : List (List ℕ)) (op : ℕ) (a b : List ℕ) → pick (eqb op 16) true (eqb op 17) ≡ true → operand (combined vals op (text a) (text b)) ≡ Test (agrees op (equal a b))
-unfolding combined binaryOf isTextual ofTexts agrees
+unfolding combined binaryBy isTextual ofTexts agrees
 told-texts vals op a b h =
     split (eqb op 16)
     (λ e. let o : op ≡ 16 = eqb-true op 16 e in rw o (sym (does-equal 16 a b (λ z. omega (arith, z)) refl (equal a b) refl)))

@@ -11,6 +11,8 @@ use lib.Seq.{drop-cons, getD-take, length-take-le}
 use borrow.Author.Tests.{le-leb, lt-leb, lt-ltb, le-ltb, eq-eqb, ne-eqb}
 use Rattle.text.specs.Choice.{pick, split}
 use Rattle.syntax.specs.Expr.{Expr, Program, none, also, Clause, plain, valued, nested}
+use Rattle.syntax.specs.Operation.{unaryNumber, binaryNumber}
+use Rattle.syntax.specs.Theorems.Numbers.{unary-between, binary-between}
 use Rattle.syntax.specs.Code.{entry, Codes, code-literal, code-name, code-number, code-true, code-false, code-unary, code-binary, ProgramCodes, code-none, code-also, ClauseCodes, code-plain, code-valued, code-nested}
 use Rattle.machine.specs.Machine.{isFalse, goOn, isHighest, closing, begun, ended, needless}
 use Rattle.machine.specs.Working.Passing.{entry-op, on-shift}
@@ -51,10 +53,14 @@ across-code (code-name at p) k = across-entry k 1 at p (λ z. omega arith) (λ z
 across-code (code-number at p) k = across-entry k 2 at p (λ z. omega arith) (λ z. omega arith)
 across-code code-true k = across-entry k 3 0 (omega arith) (λ z. omega arith) (λ z. omega arith)
 across-code code-false k = across-entry k 4 0 (omega arith) (λ z. omega arith) (λ z. omega arith)
-across-code (code-unary {op = op} {c = c} low high l) k =
-    across k k k c (entry op 0 ∷ []) (across-code l k) (across-entry k op 0 (omega arith) (λ z. omega arith) (λ z. omega arith))
-across-code (code-binary {op = op} {c = c} {d = d} low high l m) k =
-    across k k k (c ++ d) (entry op 0 ∷ []) (across k k k c d (across-code l k) (across-code m k)) (across-entry k op 0 (omega arith) (λ z. omega arith) (λ z. omega arith))
+across-code (code-unary {op = o} {c = c} l) k =
+    let op : ℕ = unaryNumber o in
+    let b : (5 ≤ op) × (op ≤ 8) = unary-between o in
+    across k k k c (entry op 0 ∷ []) (across-code l k) (across-entry k op 0 (omega arith) (λ z. omega (arith, z, b .1)) (λ z. omega (arith, z, b .1)))
+across-code (code-binary {op = o} {c = c} {d = d} l m) k =
+    let op : ℕ = binaryNumber o in
+    let b : (9 ≤ op) × (op ≤ 29) = binary-between o in
+    across k k k (c ++ d) (entry op 0 ∷ []) (across k k k c d (across-code l k) (across-code m k)) (across-entry k op 0 (omega arith) (λ z. omega (arith, z, b .1)) (λ z. omega (arith, z, b .1)))
 
 mutual
   across-program : {s : List ℕ} (p : Program) {c : List ℕ} → ProgramCodes s p c → (k : ℕ) → Across k (k + 1) c

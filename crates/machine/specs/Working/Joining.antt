@@ -12,8 +12,9 @@ use borrow.Author.Tests.{lt-ltb, le-ltb, ltb-true, ltb-false, eq-eqb, ne-eqb, eq
 use Rattle.text.specs.Choice.{pick, split}
 use Rattle.expression.specs.Value.{text, operand}
 use Rattle.expression.specs.Operands.{width, valueOf}
-use Rattle.expression.specs.Operations.{textual, held, ofTexts, isTextual, binaryOf}
-use Rattle.expression.specs.Clauses.{combined}
+use Rattle.expression.specs.Operations.{held}
+use Rattle.expression.specs.Working.Numbered.{textual, ofTexts, isTextual, binaryBy}
+use Rattle.expression.specs.Working.Clauses.{combined}
 use Rattle.expression.specs.Working.Operating.{join-over, join-in}
 use Rattle.expression.specs.declared.value.Operand.{Operand}
 use Rattle.expression.specs.declared.value.Operand.the-variants.{Text, Fault}
@@ -77,7 +78,7 @@ module _ (st m : List ℕ) (n t : ℕ) (two : n + 2 ≤ length st) (ht : t ≤ l
 
 -- what the operation gives
 made : (vals : List (List ℕ)) (a b : List ℕ) (v : Operand) → v ≡ operand (held (a ++ b)) → operand (combined vals 9 (text a) (text b)) ≡ v
-unfolding combined binaryOf isTextual ofTexts textual
+unfolding combined binaryBy isTextual ofTexts textual
 made vals a b v e = sym e
 
 module _ (vals : List (List ℕ)) (depth wx wy : ℕ) (vs bs : List ℕ) (up : wy ≤ length bs) (in-bytes : wx ≤ length bs - wy) where

@@ -8,13 +8,18 @@ use lib.ListN.{length}
 use Rattle.text.specs.Choice.{pick, split}
 use Rattle.text.specs.Decimal.{integer as signed, decimal}
 use Rattle.text.specs.declared.Integer.{Integer}
+use Rattle.syntax.specs.Operator.{Unary}
+use Rattle.syntax.specs.Operator as Operator
+use Rattle.syntax.specs.Operation.{binaryNumber}
 use Rattle.syntax.specs.Expr.{Expr, literal, name, number, truth, unary, binary}
 use Rattle.expression.specs.Value.{Value, text, integer, test, rank, fault, operand, onText, onInteger, onTest}
 use Rattle.expression.specs.Operands.{kindOf}
 use Rattle.expression.specs.Integers.{ranged, apart, plus, minus, times, over, remainder, power, negated}
 use Rattle.expression.specs.Names.{Environment, lookup}
-use Rattle.expression.specs.Operations.{held, arithmetic, textual, logical, ofTexts, ofIntegers, ofTests, isTextual, binaryOf, converted, negative, opposite, unaryOf}
+use Rattle.expression.specs.Operations.{held, converted, negative, opposite, unaryOf}
+use Rattle.expression.specs.Working.Numbered.{arithmetic, textual, logical, ofTexts, ofIntegers, ofTests, isTextual, binaryBy}
 use Rattle.expression.specs.Conditions.{evaluate}
+use Rattle.expression.specs.Theorems.Numbered.{binary-number}
 
 module _ (P : Value → Type 0) where
   pub of-pick : (t : Bool) {a b : Value} → P a → P b → P (pick t a b)
@@ -111,13 +116,12 @@ held-unranked : (b : List ℕ) → Unranked (held b)
 unfolding held
 held-unranked b = of-pick Unranked (ltb 4096 (length b)) fault-unranked (text-unranked b)
 
-unary-unranked : (look : List ℕ → List ℕ) (op : ℕ) (v : Value) → Unranked (unaryOf look op v)
+unary-unranked : (look : List ℕ → List ℕ) (op : Unary) (v : Value) → Unranked (unaryOf look op v)
 unfolding unaryOf
-unary-unranked look op v =
-    of-pick Unranked (eqb op 5) (of-text Unranked fault-unranked (λ a. held (look a)) v (λ b. held-unranked (look b)))
-    (of-pick Unranked (eqb op 6) (of-converted Unranked fault-unranked integer-unranked test-unranked v)
-    (of-pick Unranked (eqb op 7) (of-negative Unranked fault-unranked integer-unranked test-unranked v)
-    (of-pick Unranked (eqb op 8) (of-opposite Unranked fault-unranked integer-unranked test-unranked v) fault-unranked)))
+unary-unranked look Operator.lookup v = of-text Unranked fault-unranked (λ a. held (look a)) v (λ b. held-unranked (look b))
+unary-unranked look Operator.convert v = of-converted Unranked fault-unranked integer-unranked test-unranked v
+unary-unranked look Operator.negate v = of-negative Unranked fault-unranked integer-unranked test-unranked v
+unary-unranked look Operator.opposite v = of-opposite Unranked fault-unranked integer-unranked test-unranked v
 
 texts-unranked : (op : ℕ) (v w : Value) → Unranked (ofTexts op v w)
 unfolding ofTexts textual
@@ -125,8 +129,8 @@ texts-unranked op v w =
     of-text Unranked fault-unranked (λ a. onText (λ b. textual op a b) w) v
     (λ a. of-text Unranked fault-unranked (λ b. textual op a b) w (λ b. of-pick Unranked (eqb op 9) (held-unranked (a ++ b)) (test-unranked _)))
 
-binary-unranked : (op : ℕ) (v w : Value) → Unranked (binaryOf op v w)
-unfolding binaryOf
+binary-unranked : (op : ℕ) (v w : Value) → Unranked (binaryBy op v w)
+unfolding binaryBy
 binary-unranked op v w =
     of-pick Unranked (isTextual op) (texts-unranked op v w)
     (of-pick Unranked (leb op 27) (of-integers Unranked fault-unranked integer-unranked test-unranked op v w)
@@ -139,7 +143,8 @@ value-unranked env (name n) = held-unranked (lookup env n)
 value-unranked env (number n) = of-ranged Unranked fault-unranked integer-unranked test-unranked false n
 value-unranked env (truth t) = test-unranked t
 value-unranked env (unary op e) = unary-unranked (lookup env) op (evaluate env e)
-value-unranked env (binary op e f) = binary-unranked op (evaluate env e) (evaluate env f)
+value-unranked env (binary op e f) =
+    rw (← binary-number op (evaluate env e) (evaluate env f)) (binary-unranked (binaryNumber op) (evaluate env e) (evaluate env f))
 
 -- an expression's value is no rank
 pub unranked : (env : Environment) (e : Expr) → eqb (kindOf (operand (evaluate env e))) 5 ≡ false

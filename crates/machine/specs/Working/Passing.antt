@@ -11,6 +11,8 @@ use lib.Seq.{drop-cons, getD-take, length-take-le}
 use borrow.Author.Tests.{le-leb, lt-leb, lt-ltb, le-ltb, eq-eqb, ne-eqb}
 use Rattle.text.specs.Choice.{pick, split}
 use Rattle.syntax.specs.Expr.{Expr, Program}
+use Rattle.syntax.specs.Operation.{unaryNumber, binaryNumber}
+use Rattle.syntax.specs.Theorems.Numbers.{unary-between, binary-between}
 use Rattle.syntax.specs.Code.{entry, Codes, code-literal, code-name, code-number, code-true, code-false, code-unary, code-binary, ProgramCodes, code-none, code-also}
 use Rattle.expression.specs.Conditions.{top}
 use Rattle.machine.specs.Machine.{State, on, stuck, isFalse, outer, above, behindOf, stopAt, goOn, ahead, stepped, execBehind}
@@ -80,12 +82,18 @@ on-code (code-name at p) k known j rest = on-push k known j (entry 1 at) rest 1 
 on-code (code-number at p) k known j rest = on-push k known j (entry 2 at) rest 2 (entry-op 2 at p) (omega arith)
 on-code code-true k known j rest = on-push k known j (entry 3 0) rest 3 (entry-op 3 0 (omega arith)) (omega arith)
 on-code code-false k known j rest = on-push k known j (entry 4 0) rest 4 (entry-op 4 0 (omega arith)) (omega arith)
-on-code (code-unary {op = op} {c = c} low high l) k known j rest =
+on-code (code-unary {op = o} {c = c} l) k known j rest =
+    let op : ℕ = unaryNumber o in
+    let low : 5 ≤ op = unary-between o .0 in
+    let high : op ≤ 8 = unary-between o .1 in
     let z : j + length c + 1 ≡ j + length (c ++ (entry op 0 ∷ [])) = rw (length-append c (entry op 0 ∷ [])) (omega arith) in
     ap (goOn k known j) (append-assoc c (entry op 0 ∷ []) rest) ∙ on-code l k known j (entry op 0 ∷ rest)
     ∙ on-unary (k + 1) known (j + length c) (entry op 0) rest op (entry-op op 0 (omega arith)) (omega arith) (omega arith) (λ z. omega arith) high
     ∙ ap (λ (x : ℕ). goOn (k + 1) known x rest) z
-on-code (code-binary {op = op} {c = c} {d = d} low high l m) k known j rest =
+on-code (code-binary {op = o} {c = c} {d = d} l m) k known j rest =
+    let op : ℕ = binaryNumber o in
+    let low : 9 ≤ op = binary-between o .0 in
+    let high : op ≤ 29 = binary-between o .1 in
     let x : List ℕ = entry op 0 ∷ [] in
     let z : j + length c + length d + 1 ≡ j + length ((c ++ d) ++ x) = rw (length-append (c ++ d) x, length-append c d) (omega arith) in
     let y : k + 1 + 1 - 1 ≡ k + 1 = omega arith in

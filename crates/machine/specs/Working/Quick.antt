@@ -15,9 +15,9 @@ use Rattle.text.specs.Decimal.{integer as signed}
 use Rattle.text.specs.declared.Integer.{Integer}
 use Rattle.expression.specs.Value.{Value, integer, test, rank, operand, bytesOf}
 use Rattle.expression.specs.Operands.{kindOf, sizeOf, pack, unpacked, width, valueOf, holdsIn, rankIn}
-use Rattle.expression.specs.Operations.{arithmetic, logical, ofIntegers, ofTests, isTextual, binaryOf}
+use Rattle.expression.specs.Working.Numbered.{arithmetic, logical, ofIntegers, ofTests, isTextual, binaryBy}
 use Rattle.expression.specs.Conditions.{gate, top}
-use Rattle.expression.specs.Clauses.{applied, combined}
+use Rattle.expression.specs.Working.Clauses.{applied, combined}
 use Rattle.expression.specs.declared.value.Operand.{Operand}
 use Rattle.expression.specs.declared.value.Operand.the-variants.{Number, Test, Rank}
 use Rattle.expression.specs.declared.value.Packed.{Packed}
@@ -189,7 +189,7 @@ pick-neither false b h = (refl, h)
 
 -- what the operations give
 integral-is : (vals : List (List ℕ)) (op : ℕ) (a b : Integer) → isIntegral op ≡ true → combined vals op (integer a) (integer b) ≡ arithmetic op a b
-unfolding combined binaryOf isTextual ofIntegers isIntegral
+unfolding combined binaryBy isTextual ofIntegers isIntegral
 integral-is vals op a b h =
     let p : (ltb op 10 ≡ false) × (pick (leb op 15) true (pick (ltb op 22) false (leb op 27)) ≡ true) = pick-neither _ _ h in
     let low : 10 ≤ op = ltb-false op 10 (p .0) in
@@ -202,7 +202,7 @@ integral-is vals op a b h =
     rw (le-leb op 29 (omega (arith, high)), ne-eqb op 9 (λ z. omega (arith, low, z)), e, lt-leb op 21 (omega (arith, up)), q .1))
 
 logical-is : (vals : List (List ℕ)) (op : ℕ) (s u : Bool) → ltb op 28 ≡ false → ltb 29 op ≡ false → combined vals op (test s) (test u) ≡ test (decides op s u)
-unfolding combined binaryOf isTextual ofTests logical decides
+unfolding combined binaryBy isTextual ofTests logical decides
 logical-is vals op s u f g =
     let low : 28 ≤ op = ltb-false op 28 f in
     let high : op ≤ 29 = ltb-false 29 op g in

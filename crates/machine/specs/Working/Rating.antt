@@ -13,7 +13,7 @@ use Rattle.text.specs.Choice.{pick}
 use Rattle.expression.specs.Value.{operand}
 use Rattle.expression.specs.Operands.{kindOf, sizeOf, width, valueOf, rankIn}
 use Rattle.expression.specs.Conditions.{indexFrom, rankOf}
-use Rattle.expression.specs.Clauses.{combined}
+use Rattle.expression.specs.Working.Clauses.{combined}
 use Rattle.expression.specs.declared.value.Operand.{Operand}
 use Rattle.expression.specs.declared.value.Operand.the-variants.{Text, Test, Rank}
 use Rattle.machine.specs.Machine.{State, on, stuck, placed, settledOn, binaryOn, binaryStep}

@@ -9,10 +9,11 @@ use lib.ListN.{length, take, drop, length-append}
 use lib.Seq.{take-at, drop-at, getD-append-add, take-append-add}
 use borrow.Author.Tests.{le-ltb, le-leb, eq-eqb, ltb-false}
 use Rattle.text.specs.Choice.{pick, split}
+use Rattle.syntax.specs.Operator as Operator
 use Rattle.expression.specs.Value.{Value, text, integer, test, rank, fault, operand, bytesOf, onText}
 use Rattle.expression.specs.Operands.{kindOf, sizeOf, unpacked, width, valueOf, isText}
 use Rattle.expression.specs.Operations.{held, unaryOf}
-use Rattle.expression.specs.Clauses.{applied, combined}
+use Rattle.expression.specs.Working.Clauses.{applied, combined}
 use Rattle.expression.specs.declared.value.Operand.{Operand}
 use Rattle.expression.specs.declared.value.Operand.the-variants.{Text, Number, Test, Rank, Fault}
 use Rattle.machine.specs.Machine.{State, on, placed, textStep, topOf, below, isFalse, isHighest, isIdle, unaryOn, unaryStep, lookupOn, lookupStep, settledOn, binaryOn, binaryStep}
@@ -167,11 +168,11 @@ module _ (depth : ℕ) (vs : List ℕ) (h : length vs + 2 ≤ depth) where
     lookup-on bs (rank n) k = place-fault bs
     lookup-on bs fault k = place-fault bs
 
-    pub lookup-is : (op : ℕ) (bs : List ℕ) (v : Value) → op ≡ 5 → length bs + 4096 ≤ room
-        → lookupStep depth room look (vs ++ pair v) (bs ++ bytesOf v) ≡ topped vs bs (unaryOf look′ op v)
+    pub lookup-is : (bs : List ℕ) (v : Value) → length bs + 4096 ≤ room
+        → lookupStep depth room look (vs ++ pair v) (bs ++ bytesOf v) ≡ topped vs bs (unaryOf look′ Operator.lookup v)
     unfolding lookupStep lookupOn unaryOf
-    lookup-is op bs v o k =
-        rw (count-is vs v, le-ltb (length vs + 2) 2 (omega arith), top-is vs v, below-is vs v, width-is v, long-is bs (bytesOf v), front-is bs (bytesOf v), back-is bs (bytesOf v), eq-eqb op 5 o)
+    lookup-is bs v k =
+        rw (count-is vs v, le-ltb (length vs + 2) 2 (omega arith), top-is vs v, below-is vs v, width-is v, long-is bs (bytesOf v), front-is bs (bytesOf v), back-is bs (bytesOf v))
         (lookup-on bs v k)
 
   -- two operands

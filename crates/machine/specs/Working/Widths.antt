@@ -7,18 +7,24 @@ use native.Mathlib.Omega.{arith}
 use lib.Dec.{eqb, leb, ltb}
 use lib.ListN.{length, take}
 use lib.Seq.{take-length}
-use borrow.Author.Tests.{ltb-false}
+use borrow.Author.Tests.{ltb-false, ne-eqb}
 use Rattle.text.specs.Choice.{pick, split}
 use Rattle.text.specs.Decimal.{integer as signed, decimal}
 use Rattle.text.specs.declared.Integer.{Integer}
+use Rattle.syntax.specs.Operator.{Unary, Binary, unaryGives, binaryGives}
+use Rattle.syntax.specs.Operator as Operator
+use Rattle.syntax.specs.Operation.{comparisonNumber, binaryNumber}
+use Rattle.syntax.specs.Theorems.Numbers.{comparison-between}
 use Rattle.syntax.specs.Expr.{Expr, literal, name, number, truth, unary, binary}
 use Rattle.expression.specs.Value.{Value, text, integer, test, rank, fault, bytesOf, onText, onInteger, onTest}
 use Rattle.expression.specs.Integers.{ranged}
 use Rattle.expression.specs.Names.{Environment, lookup}
-use Rattle.expression.specs.Operations.{held, arithmetic, textual, logical, ofTexts, ofIntegers, ofTests, isTextual, binaryOf, converted, negative, opposite, unaryOf}
+use Rattle.expression.specs.Operations.{held, converted, negative, opposite, unaryOf}
+use Rattle.expression.specs.Working.Numbered.{arithmetic, textual, logical, ofTexts, ofIntegers, ofTests, isTextual, binaryBy}
 use Rattle.expression.specs.Conditions.{evaluate}
-use Rattle.expression.specs.Clauses.{applied, combined}
-use Rattle.machine.specs.Need.{span}
+use Rattle.expression.specs.Working.Clauses.{applied, combined}
+use Rattle.expression.specs.Theorems.Numbered.{binary-number}
+use Rattle.machine.specs.Need.{spanOf, span}
 use Rattle.machine.specs.Working.Kinds.{of-pick, of-text, of-ranged, of-integers, of-tests, of-converted, of-negative, of-opposite}
 
 -- a value without bytes
@@ -109,9 +115,9 @@ front-texts op fault w = front-plain fault _ plain-fault
 
 -- a string that two operands leave is made of theirs
 pub front-combined : (vals : List (List ℕ)) (op : ℕ) (v w : Value) → Front (combined vals op v w) (bytesOf v ++ bytesOf w)
-unfolding combined binaryOf
+unfolding combined binaryBy
 front-combined vals op v w =
-    front-pick (leb op 29) {a = binaryOf op v w}
+    front-pick (leb op 29) {a = binaryBy op v w}
     (front-pick (isTextual op) {a = ofTexts op v w} (front-texts op v w) (front-plain _ _ (plain-pick (leb op 27) (plain-integers op v w) (plain-pick (leb op 29) (plain-tests op v w) plain-fault))))
     (front-plain _ _ (plain-pick (eqb op 32) (plain-rank _) (plain-pick (eqb op 33) (plain-rank _) (plain-rank _))))
 
@@ -139,8 +145,8 @@ short-texts op v w =
     short-on-text (λ a. onText (λ b. textual op a b) w) v
     (λ a. short-on-text (λ b. textual op a b) w (λ b. short-pick (eqb op 9) {a = held (a ++ b)} (short-held (a ++ b)) (short-plain (test _) (plain-test _))))
 
-short-binary : (op : ℕ) (v w : Value) → Short (binaryOf op v w)
-unfolding binaryOf
+short-binary : (op : ℕ) (v w : Value) → Short (binaryBy op v w)
+unfolding binaryBy
 short-binary op v w =
     short-pick (isTextual op) {a = ofTexts op v w} (short-texts op v w)
     (short-plain _ (plain-pick (leb op 27) (plain-integers op v w) (plain-pick (leb op 29) (plain-tests op v w) plain-fault)))
@@ -150,19 +156,30 @@ unfolding ofTexts textual
 plain-texts op v w h =
     plain-on-text (λ a. onText (λ b. textual op a b) w) v (λ a. plain-on-text (λ b. textual op a b) w (λ b. rw h (plain-test _)))
 
-plain-binary : (op : ℕ) (v w : Value) → eqb op 9 ≡ false → Plain (binaryOf op v w)
-unfolding binaryOf
+plain-binary : (op : ℕ) (v w : Value) → eqb op 9 ≡ false → Plain (binaryBy op v w)
+unfolding binaryBy
 plain-binary op v w h =
     plain-pick (isTextual op) (plain-texts op v w h) (plain-pick (leb op 27) (plain-integers op v w) (plain-pick (leb op 29) (plain-tests op v w) plain-fault))
 
-plain-unary : (look : List ℕ → List ℕ) (op : ℕ) (v : Value) → eqb op 5 ≡ false → Plain (unaryOf look op v)
+-- a value has at most the span of what its operator gives
+span-unary : (look : List ℕ → List ℕ) (op : Unary) (v : Value) → length (bytesOf (unaryOf look op v)) ≤ spanOf (unaryGives op)
 unfolding unaryOf
-plain-unary look op v h =
-    rw h (plain-pick (eqb op 6) (plain-converted v) (plain-pick (eqb op 7) (plain-negative v) (plain-pick (eqb op 8) (plain-opposite v) plain-fault)))
+span-unary look Operator.lookup v = short-on-text (λ a. held (look a)) v (λ b. short-held (look b)) .most
+span-unary look Operator.convert v = rw (plain-converted v .none) (omega arith)
+span-unary look Operator.negate v = rw (plain-negative v .none) (omega arith)
+span-unary look Operator.opposite v = rw (plain-opposite v .none) (omega arith)
 
-short-lookup : (look : List ℕ → List ℕ) (op : ℕ) (v : Value) → eqb op 5 ≡ true → Short (unaryOf look op v)
-unfolding unaryOf
-short-lookup look op v h = rw h (short-on-text (λ a. held (look a)) v (λ b. short-held (look b)))
+span-binary : (op : Binary) (v w : Value) → length (bytesOf (binaryBy (binaryNumber op) v w)) ≤ spanOf (binaryGives op)
+span-binary Operator.join v w = short-binary 9 v w .most
+span-binary Operator.power v w = rw (plain-binary 10 v w refl .none) (omega arith)
+span-binary Operator.times v w = rw (plain-binary 11 v w refl .none) (omega arith)
+span-binary Operator.over v w = rw (plain-binary 12 v w refl .none) (omega arith)
+span-binary Operator.remainder v w = rw (plain-binary 13 v w refl .none) (omega arith)
+span-binary Operator.plus v w = rw (plain-binary 14 v w refl .none) (omega arith)
+span-binary Operator.minus v w = rw (plain-binary 15 v w refl .none) (omega arith)
+span-binary (Operator.comparison side r) v w = rw (plain-binary (comparisonNumber side r) v w (ne-eqb (comparisonNumber side r) 9 (λ z. omega (arith, z, comparison-between side r .0))) .none) (omega arith)
+span-binary Operator.both v w = rw (plain-binary 28 v w refl .none) (omega arith)
+span-binary Operator.either v w = rw (plain-binary 29 v w refl .none) (omega arith)
 
 -- an expression's value has at most its span
 pub within-span : (env : Environment) (e : Expr) → length (bytesOf (evaluate env e)) ≤ span e
@@ -171,11 +188,5 @@ within-span env (literal b) = short-held b .most
 within-span env (name n) = short-held (lookup env n) .most
 within-span env (number n) = rw (plain-ranged false n .none) (omega arith)
 within-span env (truth t) = rw (plain-test t .none) (omega arith)
-within-span env (unary op e) =
-    split (eqb op 5)
-    (λ h. rw h (short-lookup (lookup env) op (evaluate env e) h .most))
-    (λ h. rw (h, plain-unary (lookup env) op (evaluate env e) h .none) (omega arith))
-within-span env (binary op e f) =
-    split (eqb op 9)
-    (λ h. rw h (short-binary op (evaluate env e) (evaluate env f) .most))
-    (λ h. rw (h, plain-binary op (evaluate env e) (evaluate env f) h .none) (omega arith))
+within-span env (unary op e) = span-unary (lookup env) op (evaluate env e)
+within-span env (binary op e f) = rw (← binary-number op (evaluate env e) (evaluate env f)) (span-binary op (evaluate env e) (evaluate env f))

@@ -22,118 +22,8 @@ abbrev add-number-below : ℕ → In 1 add-number-kinds.ps
 add-number-below t =
     and 1 add-number-kinds.ps (falls 1 add-number-kinds.ps _<_ μ-add-number t) add-number.Pre
 
--- src/lib.rt:49:17
-add-number-digit-requires : (t : ℕ) → add-number-lts.Need-digit-requires (
-  digit-reads.Asked,
-  digit-reads.Learnt,
-  add-reads.Asked,
-  add-reads.Learnt,
-  add-number-below t,
-  add-number.Post,
-) (add-number-at t) add-number.Post
-add-number-digit-requires t c κs = search needs
-
--- src/lib.rt:51:29
-add-number-slice-aggregate-add : (t : ℕ) → add-number-lts.Need-slice-aggregate-add (
-  digit-reads.Asked,
-  digit-reads.Learnt,
-  add-reads.Asked,
-  add-reads.Learnt,
-  add-number-below t,
-  add-number.Post,
-) (add-number-at t) add-number.Post
-add-number-slice-aggregate-add t c = search needs
-
--- src/lib.rt:51:9
-add-number-add-requires : (t : ℕ) → add-number-lts.Need-add-requires (
-  digit-reads.Asked,
-  digit-reads.Learnt,
-  add-reads.Asked,
-  add-reads.Learnt,
-  add-number-below t,
-  add-number.Post,
-) (add-number-at t) add-number.Post
-add-number-add-requires t c κs = search needs
-
--- src/lib.rt:51:9
-add-number-same-length : (t : ℕ) → add-number-lts.Need-same-length (
-  digit-reads.Asked,
-  digit-reads.Learnt,
-  add-reads.Asked,
-  add-reads.Learnt,
-  add-number-below t,
-  add-number.Post,
-) (add-number-at t) add-number.Post
-add-number-same-length t c = search needs
-
--- src/lib.rt:51:9
-add-number-returns : (t : ℕ) → add-number-lts.Need-returns (
-  digit-reads.Asked,
-  digit-reads.Learnt,
-  add-reads.Asked,
-  add-reads.Learnt,
-  add-number-below t,
-  add-number.Post,
-) (add-number-at t) add-number.Post
-add-number-returns t c = search number-low
-
--- src/lib.rt:53:9
-add-number-add-number-requires : (t : ℕ) → add-number-lts.Need-add-number-requires (
-  digit-reads.Asked,
-  digit-reads.Learnt,
-  add-reads.Asked,
-  add-reads.Learnt,
-  add-number-below t,
-  add-number.Post,
-) (add-number-at t) add-number.Post
-add-number-add-number-requires t c κs = search needs
-
--- src/lib.rt:54:20
-add-number-slice-aggregate-add-2 : (t : ℕ) → add-number-lts.Need-slice-aggregate-add-2 (
-  digit-reads.Asked,
-  digit-reads.Learnt,
-  add-reads.Asked,
-  add-reads.Learnt,
-  add-number-below t,
-  add-number.Post,
-) (add-number-at t) add-number.Post
-add-number-slice-aggregate-add-2 t c = search needs
-
--- src/lib.rt:54:5
-add-number-add-requires-2 : (t : ℕ) → add-number-lts.Need-add-requires-2 (
-  digit-reads.Asked,
-  digit-reads.Learnt,
-  add-reads.Asked,
-  add-reads.Learnt,
-  add-number-below t,
-  add-number.Post,
-) (add-number-at t) add-number.Post
-add-number-add-requires-2 t c κs = search needs
-
--- src/lib.rt:46:1
-add-number-same-length-2 : (t : ℕ) → add-number-lts.Need-same-length-2 (
-  digit-reads.Asked,
-  digit-reads.Learnt,
-  add-reads.Asked,
-  add-reads.Learnt,
-  add-number-below t,
-  add-number.Post,
-) (add-number-at t) add-number.Post
-add-number-same-length-2 t c = search needs
-
--- src/lib.rt:46:1
-add-number-returns-2 : (t : ℕ) → add-number-lts.Need-returns-2 (
-  digit-reads.Asked,
-  digit-reads.Learnt,
-  add-reads.Asked,
-  add-reads.Learnt,
-  add-number-below t,
-  add-number.Post,
-) (add-number-at t) add-number.Post
-add-number-returns-2 t c = search number-high
-
-pub +add-number-spec : {M : Type 1} → statement M
-+add-number-spec = close μ-add-number λ t. add-number-lts.spec (
+abbrev add-number-claims : ℕ → add-number-lts.Claims
+add-number-claims t = (
   digit-reads.Asked,
   digit-reads.Learnt,
   add-reads.Asked,
@@ -141,6 +31,39 @@ pub +add-number-spec : {M : Type 1} → statement M
   add-number-below t,
   add-number.Post,
 )
+
+add-number-digit-requires : (t : ℕ) → add-number-lts.Need-digit-requires (add-number-claims t) (add-number-at t) add-number.Post
+add-number-digit-requires t c κs = search needs
+
+add-number-slice-aggregate-add : (t : ℕ) → add-number-lts.Need-slice-aggregate-add (add-number-claims t) (add-number-at t) add-number.Post
+add-number-slice-aggregate-add t c = search needs
+
+add-number-add-requires : (t : ℕ) → add-number-lts.Need-add-requires (add-number-claims t) (add-number-at t) add-number.Post
+add-number-add-requires t c κs = search needs
+
+add-number-same-length : (t : ℕ) → add-number-lts.Need-same-length (add-number-claims t) (add-number-at t) add-number.Post
+add-number-same-length t c = search needs
+
+add-number-returns : (t : ℕ) → add-number-lts.Need-returns (add-number-claims t) (add-number-at t) add-number.Post
+add-number-returns t c = search number-low
+
+add-number-add-number-requires : (t : ℕ) → add-number-lts.Need-add-number-requires (add-number-claims t) (add-number-at t) add-number.Post
+add-number-add-number-requires t c κs = search needs
+
+add-number-slice-aggregate-add-2 : (t : ℕ) → add-number-lts.Need-slice-aggregate-add-2 (add-number-claims t) (add-number-at t) add-number.Post
+add-number-slice-aggregate-add-2 t c = search needs
+
+add-number-add-requires-2 : (t : ℕ) → add-number-lts.Need-add-requires-2 (add-number-claims t) (add-number-at t) add-number.Post
+add-number-add-requires-2 t c κs = search needs
+
+add-number-same-length-2 : (t : ℕ) → add-number-lts.Need-same-length-2 (add-number-claims t) (add-number-at t) add-number.Post
+add-number-same-length-2 t c = search needs
+
+add-number-returns-2 : (t : ℕ) → add-number-lts.Need-returns-2 (add-number-claims t) (add-number-at t) add-number.Post
+add-number-returns-2 t c = search number-high
+
+pub +add-number-spec : {M : Type 1} → statement M
++add-number-spec = close μ-add-number λ t. add-number-lts.spec (add-number-claims t)
     (add-number-at t)
     add-number.Post
     (add-number-digit-requires t)

@@ -9,39 +9,30 @@ use Rattle.printed.proofs.place_at.Reads as place-at-reads
 use Rattle.printed.proofs.reason_at.Reads as reason-at-reads
 use Rattle.printed.proofs.say.Reads as say-reads
 
--- src/lib.rt:129:9
 reason-at-requires : tie.Need-reason-at-requires
 reason-at-requires c κs = search needs
 
--- src/lib.rt:130:9
 place-at-requires : tie.Need-place-at-requires
 place-at-requires c κs = search needs
 
--- src/lib.rt:131:29
 slice-aggregate-say : tie.Need-slice-aggregate-say
 slice-aggregate-say c = search needs
 
--- src/lib.rt:131:9
 say-requires : tie.Need-say-requires
 say-requires c κs = search needs
 
--- src/lib.rt:132:25
 slice-aggregate-add-pair : tie.Need-slice-aggregate-add-pair
 slice-aggregate-add-pair c = search needs
 
--- src/lib.rt:132:46
 slice-aggregate-add-pair-2 : tie.Need-slice-aggregate-add-pair-2
 slice-aggregate-add-pair-2 c = search needs
 
--- src/lib.rt:132:5
 add-pair-requires : tie.Need-add-pair-requires
 add-pair-requires c κs = search needs
 
--- src/lib.rt:126:1
 same-length : tie.Need-same-length
 same-length c = search needs
 
--- src/lib.rt:126:1
 returns : tie.Need-returns
 returns c = search assertion-added
 

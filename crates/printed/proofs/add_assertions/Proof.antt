@@ -17,31 +17,24 @@ Inv-loop out₀ at page end n to₀ i₀ out to i = (filled to out ≡ fillAt ou
 abbrev μ-loop : tie.MeasureT-loop
 μ-loop out₀ at page end n to₀ i₀ out to i = n - i
 
--- src/lib.rt:117:5
 loop-holds : tie.Need-loop-holds Inv-loop μ-loop
 loop-holds c = (search assertions-none, search needs, search needs)
 
--- src/lib.rt:118:9
 add-assertion-requires : tie.Need-add-assertion-requires Inv-loop μ-loop
 add-assertion-requires c κs = search needs
 
--- src/lib.rt:119:9
 add-i : tie.Need-add-i Inv-loop μ-loop
 add-i c = search needs
 
--- src/lib.rt:117:5
 loop-less : tie.Need-loop-less Inv-loop μ-loop
 loop-less c = search needs
 
--- src/lib.rt:117:5
 loop-again : tie.Need-loop-again Inv-loop μ-loop
 loop-again c = (search assertions-more, search needs, search needs)
 
--- src/lib.rt:112:1
 same-length : tie.Need-same-length Inv-loop μ-loop
 same-length c = search needs
 
--- src/lib.rt:112:1
 returns : tie.Need-returns Inv-loop μ-loop
 returns c = search assertions-all
 

@@ -8,43 +8,33 @@ use Rattle.printed.proofs.add_line.Reads as add-line-reads
 use Rattle.printed.proofs.add_pair.Reads as add-pair-reads
 use Rattle.printed.proofs.wide.Reads as wide-reads
 
--- src/lib.rt:151:9
 wide-requires : tie.Need-wide-requires
 wide-requires c κs = search needs
 
--- src/lib.rt:152:30
 slice-aggregate-add-pair : tie.Need-slice-aggregate-add-pair
 slice-aggregate-add-pair c = search needs
 
--- src/lib.rt:152:46
 slice-aggregate-add-pair-2 : tie.Need-slice-aggregate-add-pair-2
 slice-aggregate-add-pair-2 c = search needs
 
--- src/lib.rt:152:9
 add-pair-requires : tie.Need-add-pair-requires
 add-pair-requires c κs = search needs
 
--- src/lib.rt:153:30
 slice-aggregate-add-line : tie.Need-slice-aggregate-add-line
 slice-aggregate-add-line c = search needs
 
--- src/lib.rt:153:9
 add-line-requires : tie.Need-add-line-requires
 add-line-requires c κs = search needs
 
--- src/lib.rt:154:22
 slice-aggregate-add-line-2 : tie.Need-slice-aggregate-add-line-2
 slice-aggregate-add-line-2 c = search needs
 
--- src/lib.rt:154:5
 add-line-requires-2 : tie.Need-add-line-requires-2
 add-line-requires-2 c κs = search needs
 
--- src/lib.rt:148:1
 same-length : tie.Need-same-length
 same-length c = search needs
 
--- src/lib.rt:148:1
 returns : tie.Need-returns
 returns c = search head-added
 

@@ -7,19 +7,15 @@ use Rattle.printed.proofs.add_line.Lts as lts
 use Rattle.printed.proofs.add.Reads as add-reads
 use Rattle.printed.proofs.say.Reads as say-reads
 
--- src/lib.rt:69:9
 say-requires : tie.Need-say-requires
 say-requires c κs = search needs
 
--- src/lib.rt:70:5
 add-requires : tie.Need-add-requires
 add-requires c κs = search needs
 
--- src/lib.rt:66:1
 same-length : tie.Need-same-length
 same-length c = search needs
 
--- src/lib.rt:66:1
 returns : tie.Need-returns
 returns c = search line-added
 

@@ -7,27 +7,21 @@ use Rattle.printed.proofs.add_refusal.Lts as lts
 use Rattle.printed.proofs.add_pair.Reads as add-pair-reads
 use Rattle.printed.proofs.wide.Reads as wide-reads
 
--- src/lib.rt:160:9
 wide-requires : tie.Need-wide-requires
 wide-requires c κs = search needs
 
--- src/lib.rt:161:22
 slice-aggregate-add-pair : tie.Need-slice-aggregate-add-pair
 slice-aggregate-add-pair c = search needs
 
--- src/lib.rt:161:43
 slice-aggregate-add-pair-2 : tie.Need-slice-aggregate-add-pair-2
 slice-aggregate-add-pair-2 c = search needs
 
--- src/lib.rt:161:5
 add-pair-requires : tie.Need-add-pair-requires
 add-pair-requires c κs = search needs
 
--- src/lib.rt:157:1
 same-length : tie.Need-same-length
 same-length c = search needs
 
--- src/lib.rt:157:1
 returns : tie.Need-returns
 returns c = search refusal-added
 

@@ -11,55 +11,42 @@ use Rattle.printed.proofs.add_refusal.Reads as add-refusal-reads
 use Rattle.printed.proofs.byte_at.Reads as byte-at-reads
 use Rattle.text.proofs.pair_at.Reads as pair-at-reads
 
--- src/lib.rt:169:43
 slice-aggregate-lampsickle-answer : tie.Need-slice-aggregate-lampsickle-answer
 slice-aggregate-lampsickle-answer c = search needs
 
--- src/lib.rt:169:9
 lampsickle-answer-requires : tie.Need-lampsickle-answer-requires
 lampsickle-answer-requires c κs = search needs
 
--- src/lib.rt:171:9
 add-refusal-requires : tie.Need-add-refusal-requires
 add-refusal-requires c κs = search needs
 
--- src/lib.rt:171:9
 same-length : tie.Need-same-length
 same-length c = search needs
 
--- src/lib.rt:171:9
 returns : tie.Need-returns
 returns c = search refused-lines
 
--- src/lib.rt:173:9
 byte-at-requires : tie.Need-byte-at-requires
 byte-at-requires c κs = search needs
 
--- src/lib.rt:174:9
 add-head-requires : tie.Need-add-head-requires
 add-head-requires c κs = search needs
 
--- src/lib.rt:175:21
 slice-aggregate-pair-at : tie.Need-slice-aggregate-pair-at
 slice-aggregate-pair-at c = search needs
 
--- src/lib.rt:175:13
 pair-at-requires : tie.Need-pair-at-requires
 pair-at-requires c κs = search needs
 
--- src/lib.rt:176:31
 slice-aggregate-add-assertions : tie.Need-slice-aggregate-add-assertions
 slice-aggregate-add-assertions c = search needs
 
--- src/lib.rt:176:5
 add-assertions-requires : tie.Need-add-assertions-requires
 add-assertions-requires c κs = search needs
 
--- src/lib.rt:165:1
 same-length-2 : tie.Need-same-length-2
 same-length-2 c = search needs
 
--- src/lib.rt:165:1
 returns-2 : tie.Need-returns-2
 returns-2 c = search answered-lines
 

@@ -6,19 +6,15 @@ use Rattle.printed.proofs.byte_at.Reads as reads
 use Rattle.printed.proofs.byte_at.Lts as lts
 use Rattle.printed.proofs.wide.Reads as wide-reads
 
--- src/lib.rt:76:9
 returns : tie.Need-returns
 returns c = search byte-past
 
--- src/lib.rt:78:10
 shared-slice-read-wide : tie.Need-shared-slice-read-wide
 shared-slice-read-wide c = search needs
 
--- src/lib.rt:78:5
 wide-requires : tie.Need-wide-requires
 wide-requires c κs = search needs
 
--- src/lib.rt:72:1
 returns-2 : tie.Need-returns-2
 returns-2 c = search needs
 

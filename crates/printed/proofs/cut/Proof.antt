@@ -5,15 +5,12 @@ use Rattle.printed.proofs.cut.Tie as tie
 use Rattle.printed.proofs.cut.Reads as reads
 use Rattle.printed.proofs.cut.Lts as lts
 
--- src/lib.rt:23:9
 returns : tie.Need-returns
 returns c = search cut-all
 
--- src/lib.rt:25:5
 slice-aggregate-result : tie.Need-slice-aggregate-result
 slice-aggregate-result c = search (needs, cut-short)
 
--- src/lib.rt:19:1
 returns-2 : tie.Need-returns-2
 returns-2 c = search needs
 

@@ -6,23 +6,18 @@ use Rattle.printed.proofs.reason_at.Reads as reads
 use Rattle.printed.proofs.reason_at.Lts as lts
 use Rattle.printed.proofs.byte_at.Reads as byte-at-reads
 
--- src/lib.rt:86:9
 returns : tie.Need-returns
 returns c = search reason-past
 
--- src/lib.rt:88:23
 mul-byte-at : tie.Need-mul-byte-at
 mul-byte-at c = search needs
 
--- src/lib.rt:88:19
 add-byte-at : tie.Need-add-byte-at
 add-byte-at c = search needs
 
--- src/lib.rt:88:5
 byte-at-requires : tie.Need-byte-at-requires
 byte-at-requires c κs = search needs
 
--- src/lib.rt:82:1
 returns-2 : tie.Need-returns-2
 returns-2 c = search needs
 

@@ -7,19 +7,15 @@ use Rattle.printed.proofs.say.Lts as lts
 use Rattle.printed.proofs.add.Reads as add-reads
 use Rattle.printed.proofs.add_number.Reads as add-number-reads
 
--- src/lib.rt:61:9
 add-requires : tie.Need-add-requires
 add-requires c κs = search needs
 
--- src/lib.rt:62:5
 add-number-requires : tie.Need-add-number-requires
 add-number-requires c κs = search needs
 
--- src/lib.rt:58:1
 same-length : tie.Need-same-length
 same-length c = search needs
 
--- src/lib.rt:58:1
 returns : tie.Need-returns
 returns c = search say-both
 

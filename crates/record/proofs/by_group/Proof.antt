@@ -6,22 +6,18 @@ use Rattle.record.proofs.by_group.Tie as tie
 use Rattle.record.proofs.by_group.Reads as reads
 use Rattle.record.proofs.by_group.Lts as lts
 
--- src/lib.rt:279:9
 returns : tie.Need-returns
 unfolding byGroup
 returns c = search (needs, tests)
 
--- src/lib.rt:282:9
 returns-2 : tie.Need-returns-2
 unfolding byGroup
 returns-2 c = search (needs, tests)
 
--- src/lib.rt:285:9
 returns-3 : tie.Need-returns-3
 unfolding byGroup
 returns-3 c = search (needs, tests)
 
--- src/lib.rt:275:1
 returns-4 : tie.Need-returns-4
 unfolding byGroup
 returns-4 c = search (needs, tests)

@@ -8,39 +8,30 @@ use Rattle.record.proofs.Cursor.count.Reads as count-reads
 use Rattle.record.proofs.by_group.Reads as by-group-reads
 use Rattle.record.proofs.items.Reads as items-reads
 
--- src/lib.rt:324:9
 by-group-requires : tie.Need-by-group-requires
 by-group-requires c κs = search needs
 
--- src/lib.rt:325:9
 by-group-requires-2 : tie.Need-by-group-requires-2
 by-group-requires-2 c κs = search needs
 
--- src/lib.rt:326:11
 count-requires : tie.Need-count-requires
 count-requires c κs = search needs
 
--- src/lib.rt:327:26
 enum-known-number : tie.Need-enum-known-number
 enum-known-number c = search needs
 
--- src/lib.rt:328:21
 enum-known-value : tie.Need-enum-known-value
 enum-known-value c = search needs
 
--- src/lib.rt:328:38
 items-requires : tie.Need-items-requires
 items-requires c κs = search needs
 
--- src/lib.rt:321:1
 returns : tie.Need-returns
 returns c = search group-count
 
--- src/lib.rt:321:1
 same-length : tie.Need-same-length
 same-length c = search needs
 
--- src/lib.rt:321:1
 returns-2 : tie.Need-returns-2
 returns-2 c = search group-items
 

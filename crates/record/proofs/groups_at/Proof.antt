@@ -6,51 +6,39 @@ use Rattle.record.proofs.groups_at.Reads as reads
 use Rattle.record.proofs.groups_at.Lts as lts
 use Rattle.record.proofs.group_at.Reads as group-at-reads
 
--- src/lib.rt:336:11
 group-at-requires : tie.Need-group-at-requires
 group-at-requires c κs = search needs
 
--- src/lib.rt:337:26
 enum-known-number : tie.Need-enum-known-number
 enum-known-number c = search needs
 
--- src/lib.rt:338:21
 enum-known-value : tie.Need-enum-known-value
 enum-known-value c = search needs
 
--- src/lib.rt:338:44
 group-at-requires-2 : tie.Need-group-at-requires-2
 group-at-requires-2 c κs = search needs
 
--- src/lib.rt:339:30
 enum-known-number-2 : tie.Need-enum-known-number-2
 enum-known-number-2 c = search needs
 
--- src/lib.rt:340:32
 enum-known-end : tie.Need-enum-known-end
 enum-known-end c = search needs
 
--- src/lib.rt:333:1
 same-length : tie.Need-same-length
 same-length c = search needs
 
--- src/lib.rt:333:1
 returns : tie.Need-returns
 returns c = search groups-first
 
--- src/lib.rt:333:1
 same-length-2 : tie.Need-same-length-2
 same-length-2 c = search needs
 
--- src/lib.rt:333:1
 returns-2 : tie.Need-returns-2
 returns-2 c = search groups-second
 
--- src/lib.rt:333:1
 same-length-3 : tie.Need-same-length-3
 same-length-3 c = search needs
 
--- src/lib.rt:333:1
 returns-3 : tie.Need-returns-3
 returns-3 c = search groups-ends
 

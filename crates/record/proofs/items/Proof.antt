@@ -14,67 +14,51 @@ Inv-loop s group n table₀ from at₀ left₀ i₀ table at left i = (length ta
 abbrev μ-loop : tie.MeasureT-loop
 μ-loop s group n table₀ from at₀ left₀ i₀ table at left i = left
 
--- src/lib.rt:297:5
 loop-holds : tie.Need-loop-holds Inv-loop μ-loop
 loop-holds c = search needs
 
--- src/lib.rt:299:13
 same-length : tie.Need-same-length Inv-loop μ-loop
 same-length c = search needs
 
--- src/lib.rt:299:13
 returns : tie.Need-returns Inv-loop μ-loop
 returns c = search items-room
 
--- src/lib.rt:302:15
 item-requires : tie.Need-item-requires Inv-loop μ-loop
 item-requires c κs = search needs
 
--- src/lib.rt:303:30
 enum-known-number : tie.Need-enum-known-number Inv-loop μ-loop
 enum-known-number c = search needs
 
--- src/lib.rt:304:17
 same-length-2 : tie.Need-same-length-2 Inv-loop μ-loop
 same-length-2 c = search needs
 
--- src/lib.rt:304:17
 returns-2 : tie.Need-returns-2 Inv-loop μ-loop
 returns-2 c = search items-refused
 
--- src/lib.rt:306:25
 enum-known-value : tie.Need-enum-known-value Inv-loop μ-loop
 enum-known-value c = search needs
 
--- src/lib.rt:307:17
 mul-table : tie.Need-mul-table Inv-loop μ-loop
 mul-table c = search needs
 
--- src/lib.rt:307:17
 slice-write-table : tie.Need-slice-write-table Inv-loop μ-loop
 slice-write-table c = search needs
 
--- src/lib.rt:309:17
 add-i : tie.Need-add-i Inv-loop μ-loop
 add-i c = search needs
 
--- src/lib.rt:310:17
 sub-left : tie.Need-sub-left Inv-loop μ-loop
 sub-left c = search needs
 
--- src/lib.rt:297:5
 loop-less : tie.Need-loop-less Inv-loop μ-loop
 loop-less c = search needs
 
--- src/lib.rt:297:5
 loop-again : tie.Need-loop-again Inv-loop μ-loop
 loop-again c = (search needs, search items-more)
 
--- src/lib.rt:291:1
 same-length-3 : tie.Need-same-length-3 Inv-loop μ-loop
 same-length-3 c = search needs
 
--- src/lib.rt:291:1
 returns-3 : tie.Need-returns-3 Inv-loop μ-loop
 returns-3 c = search items-done
 

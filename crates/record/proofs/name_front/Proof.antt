@@ -7,27 +7,21 @@ use Rattle.record.proofs.name_front.Lts as lts
 use Rattle.text.proofs.front.Reads as front-reads
 use Rattle.text.proofs.is_letter.Reads as is-letter-reads
 
--- src/lib.rt:37:9
 returns : tie.Need-returns
 returns c = search name-empty
 
--- src/lib.rt:39:24
 shared-slice-read-is-letter : tie.Need-shared-slice-read-is-letter
 shared-slice-read-is-letter c = search needs
 
--- src/lib.rt:39:8
 is-letter-requires : tie.Need-is-letter-requires
 is-letter-requires c κs = search needs
 
--- src/lib.rt:40:9
 front-requires : tie.Need-front-requires
 front-requires c κs = search needs
 
--- src/lib.rt:40:9
 returns-2 : tie.Need-returns-2
 returns-2 c = search name-letter
 
--- src/lib.rt:33:1
 returns-3 : tie.Need-returns-3
 returns-3 c = search name-other
 

@@ -7,35 +7,27 @@ use Rattle.record.proofs.read.Lts as lts
 use Rattle.record.proofs.copy_entries.Reads as copy-entries-reads
 use Rattle.record.proofs.record_at.Reads as record-at-reads
 
--- src/lib.rt:447:24
 slice-aggregate-record-at : tie.Need-slice-aggregate-record-at
 slice-aggregate-record-at c = search needs
 
--- src/lib.rt:447:11
 record-at-requires : tie.Need-record-at-requires
 record-at-requires c κs = search needs
 
--- src/lib.rt:448:28
 enum-known-number : tie.Need-enum-known-number
 enum-known-number c = search needs
 
--- src/lib.rt:450:13
 enum-known-values : tie.Need-enum-known-values
 enum-known-values c = search needs
 
--- src/lib.rt:455:33
 slice-aggregate-copy-entries : tie.Need-slice-aggregate-copy-entries
 slice-aggregate-copy-entries c = search needs
 
--- src/lib.rt:455:13
 copy-entries-requires : tie.Need-copy-entries-requires
 copy-entries-requires c κs = (search read-found, search read-table)
 
--- src/lib.rt:442:1
 returns : tie.Need-returns
 returns c = (search read-refused, search tabled-refused)
 
--- src/lib.rt:442:1
 returns-2 : tie.Need-returns-2
 returns-2 c = (search read-accepted, search tabled-accepted)
 

@@ -7,51 +7,39 @@ use Rattle.record.proofs.record_at.Lts as lts
 use Rattle.record.proofs.groups_at.Reads as groups-at-reads
 use Rattle.record.proofs.rest_at.Reads as rest-at-reads
 
--- src/lib.rt:379:9
 returns : tie.Need-returns
 returns c = search table-long
 
--- src/lib.rt:382:9
 returns-2 : tie.Need-returns-2
 returns-2 c = search table-empty
 
--- src/lib.rt:384:8
 shared-slice-read-if3 : tie.Need-shared-slice-read-if3
 shared-slice-read-if3 c = search needs
 
--- src/lib.rt:385:9
 returns-3 : tie.Need-returns-3
 returns-3 c = search table-version
 
--- src/lib.rt:387:11
 groups-at-requires : tie.Need-groups-at-requires
 groups-at-requires c κs = search needs
 
--- src/lib.rt:388:27
 enum-known-number : tie.Need-enum-known-number
 enum-known-number c = search needs
 
--- src/lib.rt:390:13
 enum-known-first : tie.Need-enum-known-first
 enum-known-first c = search needs
 
--- src/lib.rt:393:14
 rest-at-requires : tie.Need-rest-at-requires
 rest-at-requires c κs = search needs
 
--- src/lib.rt:375:1
 same-length : tie.Need-same-length
 same-length c = search needs
 
--- src/lib.rt:375:1
 returns-4 : tie.Need-returns-4
 returns-4 c = search table-refused
 
--- src/lib.rt:375:1
 same-length-2 : tie.Need-same-length-2
 same-length-2 c = search needs
 
--- src/lib.rt:375:1
 returns-5 : tie.Need-returns-5
 returns-5 c = search table-rest
 

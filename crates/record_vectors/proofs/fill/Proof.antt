@@ -6,27 +6,21 @@ use Rattle.record_vectors.proofs.fill.Reads as reads
 use Rattle.record_vectors.proofs.fill.Lts as lts
 use Rattle.io.proofs.read_full.Reads as read-full-reads
 
--- src/main.rt:48:9
 returns : tie.Need-returns
 returns c = search (needs, front-length)
 
--- src/main.rt:50:23
 slice-relend-prefix-read-full : tie.Need-slice-relend-prefix-read-full
 slice-relend-prefix-read-full c = search (needs, front-length)
 
--- src/main.rt:50:23
 slice-aggregate-read-full : tie.Need-slice-aggregate-read-full
 slice-aggregate-read-full c = search (needs, front-length)
 
--- src/main.rt:50:5
 read-full-requires : tie.Need-read-full-requires
 read-full-requires c κs = search (needs, front-length)
 
--- src/main.rt:46:1
 same-length : tie.Need-same-length
 same-length c = search (needs, front-length)
 
--- src/main.rt:46:1
 returns-2 : tie.Need-returns-2
 returns-2 c = search (needs, front-length)
 

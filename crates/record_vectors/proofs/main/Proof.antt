@@ -14,71 +14,54 @@ Inv-loop fd left₀ t7 left = Unit {0}
 abbrev μ-loop : tie.MeasureT-loop
 μ-loop fd left₀ t7 left = left
 
--- src/main.rt:134:28
 slice-aggregate-open-read : tie.Need-slice-aggregate-open-read Inv-loop μ-loop
 slice-aggregate-open-read c = search needs
 
--- src/main.rt:134:9
 open-read-requires : tie.Need-open-read-requires Inv-loop μ-loop
 open-read-requires c κs = search needs
 
--- src/main.rt:136:5
 loop-holds : tie.Need-loop-holds Inv-loop μ-loop
 loop-holds c = search needs
 
--- src/main.rt:137:12
 next-vector-requires : tie.Need-next-vector-requires Inv-loop μ-loop
 next-vector-requires c κs = search needs
 
--- src/main.rt:138:13
 sub-left : tie.Need-sub-left Inv-loop μ-loop
 sub-left c = search needs
 
--- src/main.rt:136:5
 loop-less : tie.Need-loop-less Inv-loop μ-loop
 loop-less c = search needs
 
--- src/main.rt:136:5
 loop-again : tie.Need-loop-again Inv-loop μ-loop
 loop-again c = search needs
 
--- src/main.rt:136:5
 loop-less-2 : tie.Need-loop-less-2 Inv-loop μ-loop
 loop-less-2 c = search needs
 
--- src/main.rt:136:5
 loop-again-2 : tie.Need-loop-again-2 Inv-loop μ-loop
 loop-again-2 c = search needs
 
--- src/main.rt:143:30
 slice-aggregate-open-read-2 : tie.Need-slice-aggregate-open-read-2 Inv-loop μ-loop
 slice-aggregate-open-read-2 c = search needs
 
--- src/main.rt:143:9
 open-read-requires-2 : tie.Need-open-read-requires-2 Inv-loop μ-loop
 open-read-requires-2 c κs = search needs
 
--- src/main.rt:145:33
 slice-aggregate-read-full : tie.Need-slice-aggregate-read-full Inv-loop μ-loop
 slice-aggregate-read-full c = search needs
 
--- src/main.rt:145:9
 read-full-requires : tie.Need-read-full-requires Inv-loop μ-loop
 read-full-requires c κs = search needs
 
--- src/main.rt:146:16
 array-share-prefix-bytes : tie.Need-array-share-prefix-bytes Inv-loop μ-loop
 array-share-prefix-bytes c = search needs
 
--- src/main.rt:146:16
 slice-aggregate-try-fronts : tie.Need-slice-aggregate-try-fronts Inv-loop μ-loop
 slice-aggregate-try-fronts c = search needs
 
--- src/main.rt:146:5
 try-fronts-requires : tie.Need-try-fronts-requires Inv-loop μ-loop
 try-fronts-requires c κs = search needs
 
--- src/main.rt:133:1
 returns : tie.Need-returns Inv-loop μ-loop
 returns c = search needs
 

@@ -18,47 +18,36 @@ Inv-loop bytes number₀ place₀ n₀ number place n = Unit {0}
 abbrev μ-loop : tie.MeasureT-loop
 μ-loop bytes number₀ place₀ n₀ number place n = length bytes + 1 - n
 
--- src/main.rt:109:5
 loop-holds : tie.Need-loop-holds Inv-loop μ-loop
 loop-holds c = search (needs, front-length)
 
--- src/main.rt:111:30
 slice-aggregate-read : tie.Need-slice-aggregate-read Inv-loop μ-loop
 slice-aggregate-read c = search (needs, front-length)
 
--- src/main.rt:111:13
 read-requires : tie.Need-read-requires Inv-loop μ-loop
 read-requires c κs = search (needs, front-length)
 
--- src/main.rt:112:13
 number-of-requires : tie.Need-number-of-requires Inv-loop μ-loop
 number-of-requires c κs = search (needs, front-length)
 
--- src/main.rt:113:13
 place-of-requires : tie.Need-place-of-requires Inv-loop μ-loop
 place-of-requires c κs = search (needs, front-length)
 
--- src/main.rt:115:13
 print-front-requires : tie.Need-print-front-requires Inv-loop μ-loop
 print-front-requires c κs = search (needs, front-length)
 
--- src/main.rt:118:17
 print-front-requires-2 : tie.Need-print-front-requires-2 Inv-loop μ-loop
 print-front-requires-2 c κs = search (needs, front-length)
 
--- src/main.rt:123:9
 add-n : tie.Need-add-n Inv-loop μ-loop
 add-n c = search (needs, front-length)
 
--- src/main.rt:109:5
 loop-less : tie.Need-loop-less Inv-loop μ-loop
 loop-less c = search (needs, front-length)
 
--- src/main.rt:109:5
 loop-again : tie.Need-loop-again Inv-loop μ-loop
 loop-again c = search (needs, front-length)
 
--- src/main.rt:105:1
 returns : tie.Need-returns Inv-loop μ-loop
 returns c = search (needs, front-length)
 

@@ -6,27 +6,21 @@ use Rattle.record_vectors.proofs.try_fronts_of.Reads as reads
 use Rattle.record_vectors.proofs.try_fronts_of.Lts as lts
 use Rattle.record_vectors.proofs.try_record.Reads as try-record-reads
 
--- src/main.rt:56:9
 returns : tie.Need-returns
 returns c = search (needs, front-length)
 
--- src/main.rt:59:9
 returns-2 : tie.Need-returns-2
 returns-2 c = search (needs, front-length)
 
--- src/main.rt:61:16
 slice-aggregate-try-record : tie.Need-slice-aggregate-try-record
 slice-aggregate-try-record c = search (needs, front-length)
 
--- src/main.rt:61:28
 slice-aggregate-try-record-2 : tie.Need-slice-aggregate-try-record-2
 slice-aggregate-try-record-2 c = search (needs, front-length)
 
--- src/main.rt:61:5
 try-record-requires : tie.Need-try-record-requires
 try-record-requires c κs = search (needs, front-length)
 
--- src/main.rt:54:1
 returns-3 : tie.Need-returns-3
 returns-3 c = search (needs, front-length)
 

@@ -15,43 +15,33 @@ Inv-loop file at₀ at = Unit {0}
 abbrev μ-loop : tie.MeasureT-loop
 μ-loop file at₀ at = length file - at
 
--- src/main.rt:34:5
 loop-holds : tie.Need-loop-holds Inv-loop μ-loop
 loop-holds c = search needs
 
--- src/main.rt:35:13
 counted-at-requires : tie.Need-counted-at-requires Inv-loop μ-loop
 counted-at-requires c κs = search needs
 
--- src/main.rt:36:13
 next-string-requires : tie.Need-next-string-requires Inv-loop μ-loop
 next-string-requires c κs = search needs
 
--- src/main.rt:37:13
 counted-at-requires-2 : tie.Need-counted-at-requires-2 Inv-loop μ-loop
 counted-at-requires-2 c κs = search needs
 
--- src/main.rt:38:9
 put-ruling-requires : tie.Need-put-ruling-requires Inv-loop μ-loop
 put-ruling-requires c κs = search needs
 
--- src/main.rt:39:13
 next-string-requires-2 : tie.Need-next-string-requires-2 Inv-loop μ-loop
 next-string-requires-2 c κs = search needs
 
--- src/main.rt:41:13
 returns : tie.Need-returns Inv-loop μ-loop
 returns c = search needs
 
--- src/main.rt:34:5
 loop-less : tie.Need-loop-less Inv-loop μ-loop
 loop-less c = search needs
 
--- src/main.rt:34:5
 loop-again : tie.Need-loop-again Inv-loop μ-loop
 loop-again c = search needs
 
--- src/main.rt:32:1
 returns-2 : tie.Need-returns-2 Inv-loop μ-loop
 returns-2 c = search needs
 

@@ -15,43 +15,33 @@ Inv-loop a b i₀ i = commonFrom a b i ≡ common a b
 abbrev μ-loop : tie.MeasureT-loop
 μ-loop a b i₀ i = length a - i
 
--- src/lib.rt:87:9
 same-blocks-requires : tie.Need-same-blocks-requires Inv-loop μ-loop
 same-blocks-requires c κs = search needs
 
--- src/lib.rt:88:5
 loop-holds : tie.Need-loop-holds Inv-loop μ-loop
 loop-holds c = search needs
 
--- src/lib.rt:90:13
 returns : tie.Need-returns Inv-loop μ-loop
 returns c = search common-short
 
--- src/lib.rt:92:12
 shared-slice-read-if2 : tie.Need-shared-slice-read-if2 Inv-loop μ-loop
 shared-slice-read-if2 c = search needs
 
--- src/lib.rt:92:20
 shared-slice-read-if2-2 : tie.Need-shared-slice-read-if2-2 Inv-loop μ-loop
 shared-slice-read-if2-2 c = search needs
 
--- src/lib.rt:93:13
 returns-2 : tie.Need-returns-2 Inv-loop μ-loop
 returns-2 c = search common-stop
 
--- src/lib.rt:95:9
 add-i : tie.Need-add-i Inv-loop μ-loop
 add-i c = search needs
 
--- src/lib.rt:88:5
 loop-less : tie.Need-loop-less Inv-loop μ-loop
 loop-less c = search needs
 
--- src/lib.rt:88:5
 loop-again : tie.Need-loop-again Inv-loop μ-loop
 loop-again c = search common-more
 
--- src/lib.rt:84:1
 returns-3 : tie.Need-returns-3 Inv-loop μ-loop
 returns-3 c = search common-end
 

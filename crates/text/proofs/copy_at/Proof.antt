@@ -6,27 +6,21 @@ use Rattle.text.proofs.copy_at.Reads as reads
 use Rattle.text.proofs.copy_at.Lts as lts
 use Rattle.text.proofs.paste.Reads as paste-reads
 
--- src/lib.rt:190:9
 returns : tie.Need-returns
 returns c = search past-end
 
--- src/lib.rt:192:8
 sub-if2 : tie.Need-sub-if2
 sub-if2 c = search needs
 
--- src/lib.rt:193:9
 returns-2 : tie.Need-returns-2
 returns-2 c = search no-room
 
--- src/lib.rt:195:5
 paste-requires : tie.Need-paste-requires
 paste-requires c κs = search needs
 
--- src/lib.rt:186:1
 same-length : tie.Need-same-length
 same-length c = search needs
 
--- src/lib.rt:186:1
 returns-3 : tie.Need-returns-3
 returns-3 c = search copy-done
 

@@ -7,51 +7,39 @@ use Rattle.text.proofs.copy_long.Lts as lts
 use Rattle.text.proofs.paste.Reads as paste-reads
 use Rattle.text.proofs.transfer.Reads as transfer-reads
 
--- src/lib.rt:215:9
 returns : tie.Need-returns
 returns c = search past-end
 
--- src/lib.rt:217:8
 sub-if2 : tie.Need-sub-if2
 sub-if2 c = search needs
 
--- src/lib.rt:218:9
 returns-2 : tie.Need-returns-2
 returns-2 c = search no-room
 
--- src/lib.rt:221:9
 paste-requires : tie.Need-paste-requires
 paste-requires c κs = search needs
 
--- src/lib.rt:222:9
 same-length : tie.Need-same-length
 same-length c = search needs
 
--- src/lib.rt:222:9
 returns-3 : tie.Need-returns-3
 returns-3 c = search copy-done
 
--- src/lib.rt:225:9
 paste-requires-2 : tie.Need-paste-requires-2
 paste-requires-2 c κs = search needs
 
--- src/lib.rt:226:9
 same-length-2 : tie.Need-same-length-2
 same-length-2 c = search needs
 
--- src/lib.rt:226:9
 returns-4 : tie.Need-returns-4
 returns-4 c = search copy-done
 
--- src/lib.rt:228:5
 transfer-requires : tie.Need-transfer-requires
 transfer-requires c κs = search needs
 
--- src/lib.rt:211:1
 same-length-3 : tie.Need-same-length-3
 same-length-3 c = search needs
 
--- src/lib.rt:211:1
 returns-5 : tie.Need-returns-5
 returns-5 c = search copy-done
 

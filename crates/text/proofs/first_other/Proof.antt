@@ -19,51 +19,39 @@ Inv-loop s i n e₀ j₀ e j = (j ≤ n) × (e ≡ firstOther isWord s i j)
 abbrev μ-loop : tie.MeasureT-loop
 μ-loop s i n e₀ j₀ e j = n - j
 
--- src/lib.rt:357:5
 loop-holds : tie.Need-loop-holds Inv-loop μ-loop
 loop-holds c = (search needs, search first-none)
 
--- src/lib.rt:358:37
 add-is-word-flat : tie.Need-add-is-word-flat Inv-loop μ-loop
 add-is-word-flat c = search needs
 
--- src/lib.rt:358:35
 shared-slice-read-is-word-flat : tie.Need-shared-slice-read-is-word-flat Inv-loop μ-loop
 shared-slice-read-is-word-flat c = search needs
 
--- src/lib.rt:358:22
 is-word-flat-requires : tie.Need-is-word-flat-requires Inv-loop μ-loop
 is-word-flat-requires c κs = search needs
 
--- src/lib.rt:358:46
 byte-requires : tie.Need-byte-requires Inv-loop μ-loop
 byte-requires c κs = search needs
 
--- src/lib.rt:358:13
 mark-requires : tie.Need-mark-requires Inv-loop μ-loop
 mark-requires c κs = search needs
 
--- src/lib.rt:359:9
 lesser-requires : tie.Need-lesser-requires Inv-loop μ-loop
 lesser-requires c κs = search needs
 
--- src/lib.rt:360:9
 add-j : tie.Need-add-j Inv-loop μ-loop
 add-j c = search needs
 
--- src/lib.rt:357:5
 loop-less : tie.Need-loop-less Inv-loop μ-loop
 loop-less c = search needs
 
--- src/lib.rt:357:5
 loop-again : tie.Need-loop-again Inv-loop μ-loop
 loop-again c = (search needs, search first-more)
 
--- src/lib.rt:362:5
 wide-requires : tie.Need-wide-requires Inv-loop μ-loop
 wide-requires c κs = search needs
 
--- src/lib.rt:351:1
 returns : tie.Need-returns Inv-loop μ-loop
 returns c = search first-done
 

@@ -6,35 +6,27 @@ use Rattle.text.proofs.hold_digit.Reads as reads
 use Rattle.text.proofs.hold_digit.Lts as lts
 use Rattle.text.proofs.digit_value.Reads as digit-value-reads
 
--- src/lib.rt:313:9
 returns : tie.Need-returns
 returns c = search hold-high
 
--- src/lib.rt:315:9
 digit-value-requires : tie.Need-digit-value-requires
 digit-value-requires c κs = search needs
 
--- src/lib.rt:316:16
 mul-if2 : tie.Need-mul-if2
 mul-if2 c = search needs
 
--- src/lib.rt:316:16
 add-if2 : tie.Need-add-if2
 add-if2 c = search needs
 
--- src/lib.rt:317:9
 returns-2 : tie.Need-returns-2
 returns-2 c = search hold-over
 
--- src/lib.rt:319:5
 mul-result : tie.Need-mul-result
 mul-result c = search needs
 
--- src/lib.rt:319:5
 add-result : tie.Need-add-result
 add-result c = search needs
 
--- src/lib.rt:309:1
 returns-3 : tie.Need-returns-3
 returns-3 c = search hold-in
 

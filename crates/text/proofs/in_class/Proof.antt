@@ -7,23 +7,18 @@ use Rattle.text.proofs.in_class.Lts as lts
 use Rattle.text.proofs.is_digit.Reads as is-digit-reads
 use Rattle.text.proofs.is_word.Reads as is-word-reads
 
--- src/lib.rt:152:9
 returns : tie.Need-returns
 returns c = search class-plain
 
--- src/lib.rt:155:9
 is-digit-requires : tie.Need-is-digit-requires
 is-digit-requires c κs = search needs
 
--- src/lib.rt:155:9
 returns-2 : tie.Need-returns-2
 returns-2 c = search class-digit
 
--- src/lib.rt:157:5
 is-word-requires : tie.Need-is-word-requires
 is-word-requires c κs = search needs
 
--- src/lib.rt:148:1
 returns-3 : tie.Need-returns-3
 returns-3 c = search class-word
 

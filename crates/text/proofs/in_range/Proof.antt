@@ -5,23 +5,18 @@ use Rattle.text.proofs.in_range.Tie as tie
 use Rattle.text.proofs.in_range.Reads as reads
 use Rattle.text.proofs.in_range.Lts as lts
 
--- src/lib.rt:340:9
 returns : tie.Need-returns
 returns c = search range-zero
 
--- src/lib.rt:344:13
 returns-2 : tie.Need-returns-2
 returns-2 c = search range-below
 
--- src/lib.rt:346:9
 returns-3 : tie.Need-returns-3
 returns-3 c = search range-negative
 
--- src/lib.rt:349:9
 returns-4 : tie.Need-returns-4
 returns-4 c = search range-above
 
--- src/lib.rt:336:1
 returns-5 : tie.Need-returns-5
 returns-5 c = search range-positive
 

@@ -6,12 +6,10 @@ use Rattle.text.proofs.is_digit.Tie as tie
 use Rattle.text.proofs.is_digit.Reads as reads
 use Rattle.text.proofs.is_digit.Lts as lts
 
--- src/lib.rt:119:9
 returns : tie.Need-returns
 unfolding isDigit
 returns c = search (needs, tests)
 
--- src/lib.rt:115:1
 returns-2 : tie.Need-returns-2
 unfolding isDigit
 returns-2 c = search (needs, tests)

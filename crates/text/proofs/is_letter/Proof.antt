@@ -6,17 +6,14 @@ use Rattle.text.proofs.is_letter.Tie as tie
 use Rattle.text.proofs.is_letter.Reads as reads
 use Rattle.text.proofs.is_letter.Lts as lts
 
--- src/lib.rt:128:9
 returns : tie.Need-returns
 unfolding isLetter
 returns c = search (needs, tests)
 
--- src/lib.rt:131:9
 returns-2 : tie.Need-returns-2
 unfolding isLetter
 returns-2 c = search (needs, tests)
 
--- src/lib.rt:124:1
 returns-3 : tie.Need-returns-3
 unfolding isLetter
 returns-3 c = search (needs, tests)

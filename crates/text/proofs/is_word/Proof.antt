@@ -6,23 +6,18 @@ use Rattle.text.proofs.is_word.Reads as reads
 use Rattle.text.proofs.is_word.Lts as lts
 use Rattle.text.proofs.is_letter.Reads as is-letter-reads
 
--- src/lib.rt:198:9
 returns : tie.Need-returns
 returns c = search word-small
 
--- src/lib.rt:201:9
 returns-2 : tie.Need-returns-2
 returns-2 c = search word-digit
 
--- src/lib.rt:204:9
 returns-3 : tie.Need-returns-3
 returns-3 c = search word-mark
 
--- src/lib.rt:206:5
 is-letter-requires : tie.Need-is-letter-requires
 is-letter-requires c κs = search needs
 
--- src/lib.rt:194:1
 returns-4 : tie.Need-returns-4
 returns-4 c = search word-letter
 

@@ -5,7 +5,6 @@ use Rattle.text.proofs.is_word_flat.Tie as tie
 use Rattle.text.proofs.is_word_flat.Reads as reads
 use Rattle.text.proofs.is_word_flat.Lts as lts
 
--- src/lib.rt:314:1
 returns : tie.Need-returns
 returns c = search word-flat
 

@@ -7,31 +7,24 @@ use Rattle.text.proofs.join_at.Lts as lts
 use Rattle.text.proofs.joined_fits.Reads as joined-fits-reads
 use Rattle.text.proofs.write_joined.Reads as write-joined-reads
 
--- src/lib.rt:290:9
 returns : tie.Need-returns
 returns c = search join-past
 
--- src/lib.rt:292:31
 sub-joined-fits : tie.Need-sub-joined-fits
 sub-joined-fits c = search needs
 
--- src/lib.rt:292:8
 joined-fits-requires : tie.Need-joined-fits-requires
 joined-fits-requires c κs = search needs
 
--- src/lib.rt:293:9
 write-joined-requires : tie.Need-write-joined-requires
 write-joined-requires c κs = search join-room
 
--- src/lib.rt:294:9
 same-length : tie.Need-same-length
 same-length c = search needs
 
--- src/lib.rt:294:9
 returns-2 : tie.Need-returns-2
 returns-2 c = search join-put
 
--- src/lib.rt:286:1
 returns-3 : tie.Need-returns-3
 returns-3 c = search join-none
 

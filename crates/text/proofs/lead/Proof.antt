@@ -5,11 +5,9 @@ use Rattle.text.proofs.lead.Tie as tie
 use Rattle.text.proofs.lead.Reads as reads
 use Rattle.text.proofs.lead.Lts as lts
 
--- src/lib.rt:224:9
 returns : tie.Need-returns
 returns c = search lead-first
 
--- src/lib.rt:220:1
 returns-2 : tie.Need-returns-2
 returns-2 c = search lead-other
 

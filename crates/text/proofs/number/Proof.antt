@@ -16,31 +16,24 @@ Inv-loop digits v₀ i₀ v i = holdRest digits i v ≡ min (value digits) limit
 abbrev μ-loop : tie.MeasureT-loop
 μ-loop digits v₀ i₀ v i = length digits - i
 
--- src/lib.rt:328:5
 loop-holds : tie.Need-loop-holds Inv-loop μ-loop
 loop-holds c = search hold-start
 
--- src/lib.rt:329:27
 shared-slice-read-hold-digit : tie.Need-shared-slice-read-hold-digit Inv-loop μ-loop
 shared-slice-read-hold-digit c = search needs
 
--- src/lib.rt:329:9
 hold-digit-requires : tie.Need-hold-digit-requires Inv-loop μ-loop
 hold-digit-requires c κs = search needs
 
--- src/lib.rt:330:9
 add-i : tie.Need-add-i Inv-loop μ-loop
 add-i c = search needs
 
--- src/lib.rt:328:5
 loop-less : tie.Need-loop-less Inv-loop μ-loop
 loop-less c = search needs
 
--- src/lib.rt:328:5
 loop-again : tie.Need-loop-again Inv-loop μ-loop
 loop-again c = search hold-more
 
--- src/lib.rt:323:1
 returns : tie.Need-returns Inv-loop μ-loop
 returns c = search hold-end
 

@@ -17,43 +17,33 @@ Inv-loop s at v₀ i₀ v i = holdDigits s i v ≡ min (value (digitsAt s at)) l
 abbrev μ-loop : tie.MeasureT-loop
 μ-loop s at v₀ i₀ v i = length s - i
 
--- src/lib.rt:392:5
 loop-holds : tie.Need-loop-holds Inv-loop μ-loop
 loop-holds c = search digits-start
 
--- src/lib.rt:393:21
 shared-slice-read-is-digit : tie.Need-shared-slice-read-is-digit Inv-loop μ-loop
 shared-slice-read-is-digit c = search needs
 
--- src/lib.rt:393:12
 is-digit-requires : tie.Need-is-digit-requires Inv-loop μ-loop
 is-digit-requires c κs = search needs
 
--- src/lib.rt:394:31
 shared-slice-read-hold-digit : tie.Need-shared-slice-read-hold-digit Inv-loop μ-loop
 shared-slice-read-hold-digit c = search needs
 
--- src/lib.rt:394:13
 hold-digit-requires : tie.Need-hold-digit-requires Inv-loop μ-loop
 hold-digit-requires c κs = search needs
 
--- src/lib.rt:395:13
 add-i : tie.Need-add-i Inv-loop μ-loop
 add-i c = search needs
 
--- src/lib.rt:392:5
 loop-less : tie.Need-loop-less Inv-loop μ-loop
 loop-less c = search needs
 
--- src/lib.rt:392:5
 loop-again : tie.Need-loop-again Inv-loop μ-loop
 loop-again c = search digits-more
 
--- src/lib.rt:397:13
 returns : tie.Need-returns Inv-loop μ-loop
 returns c = search digits-stop
 
--- src/lib.rt:387:1
 returns-2 : tie.Need-returns-2 Inv-loop μ-loop
 returns-2 c = search digits-end
 

@@ -6,35 +6,27 @@ use Rattle.text.proofs.rounded_down.Reads as reads
 use Rattle.text.proofs.rounded_down.Lts as lts
 use Rattle.text.proofs.in_range.Reads as in-range-reads
 
--- src/lib.rt:359:13
 in-range-requires : tie.Need-in-range-requires
 in-range-requires c κs = search needs
 
--- src/lib.rt:359:13
 returns : tie.Need-returns
 returns c = search down-whole
 
--- src/lib.rt:362:13
 returns-2 : tie.Need-returns-2
 returns-2 c = search down-out
 
--- src/lib.rt:364:35
 add-in-range : tie.Need-add-in-range
 add-in-range c = search needs
 
--- src/lib.rt:364:9
 in-range-requires-2 : tie.Need-in-range-requires-2
 in-range-requires-2 c κs = search needs
 
--- src/lib.rt:364:9
 returns-3 : tie.Need-returns-3
 returns-3 c = search down-part
 
--- src/lib.rt:366:5
 in-range-requires-3 : tie.Need-in-range-requires-3
 in-range-requires-3 c κs = search needs
 
--- src/lib.rt:354:1
 returns-4 : tie.Need-returns-4
 returns-4 c = search down-plain
 

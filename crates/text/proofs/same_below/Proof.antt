@@ -16,39 +16,30 @@ Inv-loop a b n k₀ k = (k * 64 ≤ length a) × (k * 64 ≤ length b) × (equal
 abbrev μ-loop : tie.MeasureT-loop
 μ-loop a b n k₀ k = k
 
--- src/lib.rt:106:5
 loop-holds : tie.Need-loop-holds Inv-loop μ-loop
 loop-holds c = search needs
 
--- src/lib.rt:107:30
 sub-same-part : tie.Need-sub-same-part Inv-loop μ-loop
 sub-same-part c = search needs
 
--- src/lib.rt:107:29
 mul-same-part : tie.Need-mul-same-part Inv-loop μ-loop
 mul-same-part c = search needs
 
--- src/lib.rt:107:12
 same-part-requires : tie.Need-same-part-requires Inv-loop μ-loop
 same-part-requires c κs = search needs
 
--- src/lib.rt:108:13
 sub-k : tie.Need-sub-k Inv-loop μ-loop
 sub-k c = search needs
 
--- src/lib.rt:106:5
 loop-less : tie.Need-loop-less Inv-loop μ-loop
 loop-less c = search needs
 
--- src/lib.rt:106:5
 loop-again : tie.Need-loop-again Inv-loop μ-loop
 loop-again c = (search needs, search needs, search below-like)
 
--- src/lib.rt:110:13
 returns : tie.Need-returns Inv-loop μ-loop
 returns c = search below-unlike
 
--- src/lib.rt:101:1
 returns-2 : tie.Need-returns-2 Inv-loop μ-loop
 returns-2 c = search below-none
 

@@ -16,55 +16,42 @@ Inv-loop a b k i₀ i = (k * 64 ≤ i) × (i ≤ length a) × (length a ≡ leng
 abbrev μ-loop : tie.MeasureT-loop
 μ-loop a b k i₀ i = i
 
--- src/lib.rt:121:9
 returns : tie.Need-returns Inv-loop μ-loop
 returns c = search same-apart
 
--- src/lib.rt:125:5
 loop-holds : tie.Need-loop-holds Inv-loop μ-loop
 loop-holds c = search (needs, same-start)
 
--- src/lib.rt:125:11
 mul-loop : tie.Need-mul-loop Inv-loop μ-loop
 mul-loop c = search needs
 
--- src/lib.rt:126:14
 sub-if2 : tie.Need-sub-if2 Inv-loop μ-loop
 sub-if2 c = search needs
 
--- src/lib.rt:126:12
 shared-slice-read-if2 : tie.Need-shared-slice-read-if2 Inv-loop μ-loop
 shared-slice-read-if2 c = search needs
 
--- src/lib.rt:126:26
 sub-if2-2 : tie.Need-sub-if2-2 Inv-loop μ-loop
 sub-if2-2 c = search needs
 
--- src/lib.rt:126:24
 shared-slice-read-if2-2 : tie.Need-shared-slice-read-if2-2 Inv-loop μ-loop
 shared-slice-read-if2-2 c = search needs
 
--- src/lib.rt:127:13
 returns-2 : tie.Need-returns-2 Inv-loop μ-loop
 returns-2 c = search same-unlike
 
--- src/lib.rt:129:9
 sub-i : tie.Need-sub-i Inv-loop μ-loop
 sub-i c = search needs
 
--- src/lib.rt:125:5
 loop-less : tie.Need-loop-less Inv-loop μ-loop
 loop-less c = search needs
 
--- src/lib.rt:125:5
 loop-again : tie.Need-loop-again Inv-loop μ-loop
 loop-again c = search (needs, same-like)
 
--- src/lib.rt:131:5
 same-below-requires : tie.Need-same-below-requires Inv-loop μ-loop
 same-below-requires c κs = search needs
 
--- src/lib.rt:117:1
 returns-3 : tie.Need-returns-3 Inv-loop μ-loop
 returns-3 c = search same-rest
 

@@ -18,67 +18,51 @@ Inv-loop a b i₀ i = (i ≤ length a) × (length a ≡ length b) × (equal (dro
 abbrev μ-loop : tie.MeasureT-loop
 μ-loop a b i₀ i = length a - i
 
--- src/lib.rt:140:9
 returns : tie.Need-returns Inv-loop μ-loop
 returns c = search same-apart
 
--- src/lib.rt:143:5
 loop-holds : tie.Need-loop-holds Inv-loop μ-loop
 loop-holds c = search needs
 
--- src/lib.rt:143:19
 sub-loop : tie.Need-sub-loop Inv-loop μ-loop
 sub-loop c = search needs
 
--- src/lib.rt:144:12
 same-part-requires : tie.Need-same-part-requires Inv-loop μ-loop
 same-part-requires c κs = search needs
 
--- src/lib.rt:145:13
 add-i : tie.Need-add-i Inv-loop μ-loop
 add-i c = search needs
 
--- src/lib.rt:143:5
 loop-less : tie.Need-loop-less Inv-loop μ-loop
 loop-less c = search needs
 
--- src/lib.rt:143:5
 loop-again : tie.Need-loop-again Inv-loop μ-loop
 loop-again c = (search needs, search needs, search long-like)
 
--- src/lib.rt:147:13
 returns-2 : tie.Need-returns-2 Inv-loop μ-loop
 returns-2 c = search long-unlike
 
--- src/lib.rt:150:16
 sub-same-bytes : tie.Need-sub-same-bytes Inv-loop μ-loop
 sub-same-bytes c = search needs
 
--- src/lib.rt:150:16
 part-same-bytes-start : tie.Need-part-same-bytes-start Inv-loop μ-loop
 part-same-bytes-start c = search needs
 
--- src/lib.rt:150:16
 part-same-bytes-end : tie.Need-part-same-bytes-end Inv-loop μ-loop
 part-same-bytes-end c = search needs
 
--- src/lib.rt:150:25
 sub-same-bytes-2 : tie.Need-sub-same-bytes-2 Inv-loop μ-loop
 sub-same-bytes-2 c = search needs
 
--- src/lib.rt:150:25
 part-same-bytes-start-2 : tie.Need-part-same-bytes-start-2 Inv-loop μ-loop
 part-same-bytes-start-2 c = search needs
 
--- src/lib.rt:150:25
 part-same-bytes-end-2 : tie.Need-part-same-bytes-end-2 Inv-loop μ-loop
 part-same-bytes-end-2 c = search needs
 
--- src/lib.rt:150:5
 same-bytes-requires : tie.Need-same-bytes-requires Inv-loop μ-loop
 same-bytes-requires c κs = search needs
 
--- src/lib.rt:136:1
 returns-3 : tie.Need-returns-3 Inv-loop μ-loop
 returns-3 c = search long-rest
 

@@ -13,39 +13,30 @@ Inv-loop a b i n same₀ j₀ same j = (j ≤ n) × (same ≡ alike a b i j)
 abbrev μ-loop : tie.MeasureT-loop
 μ-loop a b i n same₀ j₀ same j = n - j
 
--- src/lib.rt:59:5
 loop-holds : tie.Need-loop-holds Inv-loop μ-loop
 loop-holds c = (search needs, search alike-none)
 
--- src/lib.rt:60:26
 add-same : tie.Need-add-same Inv-loop μ-loop
 add-same c = search needs
 
--- src/lib.rt:60:24
 shared-slice-read-same : tie.Need-shared-slice-read-same Inv-loop μ-loop
 shared-slice-read-same c = search needs
 
--- src/lib.rt:60:38
 add-same-2 : tie.Need-add-same-2 Inv-loop μ-loop
 add-same-2 c = search needs
 
--- src/lib.rt:60:36
 shared-slice-read-same-2 : tie.Need-shared-slice-read-same-2 Inv-loop μ-loop
 shared-slice-read-same-2 c = search needs
 
--- src/lib.rt:61:9
 add-j : tie.Need-add-j Inv-loop μ-loop
 add-j c = search needs
 
--- src/lib.rt:59:5
 loop-less : tie.Need-loop-less Inv-loop μ-loop
 loop-less c = search needs
 
--- src/lib.rt:59:5
 loop-again : tie.Need-loop-again Inv-loop μ-loop
 loop-again c = (search needs, search alike-more)
 
--- src/lib.rt:53:1
 returns : tie.Need-returns Inv-loop μ-loop
 returns c = search alike-done
 

@@ -6,39 +6,30 @@ use Rattle.text.proofs.to_integer.Reads as reads
 use Rattle.text.proofs.to_integer.Lts as lts
 use Rattle.text.proofs.without_sign.Reads as without-sign-reads
 
--- src/lib.rt:406:9
 returns : tie.Need-returns
 returns c = search decimal-none
 
--- src/lib.rt:408:8
 shared-slice-read-if2 : tie.Need-shared-slice-read-if2
 shared-slice-read-if2 c = search needs
 
--- src/lib.rt:409:35
 sub-without-sign : tie.Need-sub-without-sign
 sub-without-sign c = search needs
 
--- src/lib.rt:409:35
 part-without-sign-start : tie.Need-part-without-sign-start
 part-without-sign-start c = search needs
 
--- src/lib.rt:409:35
 part-without-sign-end : tie.Need-part-without-sign-end
 part-without-sign-end c = search needs
 
--- src/lib.rt:409:9
 without-sign-requires : tie.Need-without-sign-requires
 without-sign-requires c κs = search needs
 
--- src/lib.rt:409:9
 returns-2 : tie.Need-returns-2
 returns-2 c = search decimal-minus
 
--- src/lib.rt:411:5
 without-sign-requires-2 : tie.Need-without-sign-requires-2
 without-sign-requires-2 c κs = search needs
 
--- src/lib.rt:402:1
 returns-3 : tie.Need-returns-3
 returns-3 c = search decimal-plain
 

@@ -6,31 +6,24 @@ use Rattle.text.proofs.transfer.Reads as reads
 use Rattle.text.proofs.transfer.Lts as lts
 use Rattle.text.proofs.paste.Reads as paste-reads
 
--- src/lib.rt:206:11
 slice-aggregate-paste : tie.Need-slice-aggregate-paste
 slice-aggregate-paste c = search needs
 
--- src/lib.rt:206:5
 paste-requires : tie.Need-paste-requires
 paste-requires c κs = search needs
 
--- src/lib.rt:207:20
 array-share-prefix-block : tie.Need-array-share-prefix-block
 array-share-prefix-block c = search needs
 
--- src/lib.rt:207:20
 slice-aggregate-paste-2 : tie.Need-slice-aggregate-paste-2
 slice-aggregate-paste-2 c = search (needs, front-long)
 
--- src/lib.rt:207:5
 paste-requires-2 : tie.Need-paste-requires-2
 paste-requires-2 c κs = search (needs, front-fits)
 
--- src/lib.rt:201:1
 same-length : tie.Need-same-length
 same-length c = search needs
 
--- src/lib.rt:201:1
 returns : tie.Need-returns
 returns c = search transfer-done
 

@@ -9,63 +9,48 @@ use Rattle.text.proofs.number.Reads as number-reads
 use Rattle.text.proofs.rounded_down.Reads as rounded-down-reads
 use Rattle.text.proofs.with_fraction.Reads as with-fraction-reads
 
--- src/lib.rt:386:9
 front-requires : tie.Need-front-requires
 front-requires c κs = search needs
 
--- src/lib.rt:388:9
 returns : tie.Need-returns
 returns c = search unsigned-none
 
--- src/lib.rt:391:13
 number-requires : tie.Need-number-requires
 number-requires c κs = search needs
 
--- src/lib.rt:392:9
 rounded-down-requires : tie.Need-rounded-down-requires
 rounded-down-requires c κs = search needs
 
--- src/lib.rt:392:9
 returns-2 : tie.Need-returns-2
 returns-2 c = search unsigned-all
 
--- src/lib.rt:394:8
 shared-slice-read-if3 : tie.Need-shared-slice-read-if3
 shared-slice-read-if3 c = search needs
 
--- src/lib.rt:395:9
 returns-3 : tie.Need-returns-3
 returns-3 c = search unsigned-other
 
--- src/lib.rt:397:20
 slice-aggregate-number : tie.Need-slice-aggregate-number
 slice-aggregate-number c = search (needs, front-room)
 
--- src/lib.rt:397:9
 number-requires-2 : tie.Need-number-requires-2
 number-requires-2 c κs = search needs
 
--- src/lib.rt:398:35
 add-with-fraction : tie.Need-add-with-fraction
 add-with-fraction c = search needs
 
--- src/lib.rt:398:32
 sub-with-fraction : tie.Need-sub-with-fraction
 sub-with-fraction c = search needs
 
--- src/lib.rt:398:32
 part-with-fraction-start : tie.Need-part-with-fraction-start
 part-with-fraction-start c = search needs
 
--- src/lib.rt:398:32
 part-with-fraction-end : tie.Need-part-with-fraction-end
 part-with-fraction-end c = search needs
 
--- src/lib.rt:398:5
 with-fraction-requires : tie.Need-with-fraction-requires
 with-fraction-requires c κs = search needs
 
--- src/lib.rt:383:1
 returns-4 : tie.Need-returns-4
 returns-4 c = search unsigned-point
 

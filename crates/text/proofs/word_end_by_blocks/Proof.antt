@@ -18,39 +18,30 @@ Inv-loop s at i₀ i = past isWord s i ≡ past isWord s at
 abbrev μ-loop : tie.MeasureT-loop
 μ-loop s at i₀ i = length s - i
 
--- src/lib.rt:381:5
 loop-holds : tie.Need-loop-holds Inv-loop μ-loop
 loop-holds c = search needs
 
--- src/lib.rt:382:13
 block-at-requires : tie.Need-block-at-requires Inv-loop μ-loop
 block-at-requires c κs = search needs
 
--- src/lib.rt:383:13
 first-other-requires : tie.Need-first-other-requires Inv-loop μ-loop
 first-other-requires c κs = search needs
 
--- src/lib.rt:385:20
 add-result : tie.Need-add-result Inv-loop μ-loop
 add-result c = search needs
 
--- src/lib.rt:385:13
 returns : tie.Need-returns Inv-loop μ-loop
 returns c = search block-stop
 
--- src/lib.rt:387:9
 add-i : tie.Need-add-i Inv-loop μ-loop
 add-i c = search needs
 
--- src/lib.rt:381:5
 loop-less : tie.Need-loop-less Inv-loop μ-loop
 loop-less c = search needs
 
--- src/lib.rt:381:5
 loop-again : tie.Need-loop-again Inv-loop μ-loop
 loop-again c = search block-more
 
--- src/lib.rt:377:1
 returns-2 : tie.Need-returns-2 Inv-loop μ-loop
 returns-2 c = search scan-end
 

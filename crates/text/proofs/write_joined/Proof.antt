@@ -17,55 +17,42 @@ Inv-loop dst₀ at s places to₀ i₀ dst to i = (length dst ≡ length dst₀)
 abbrev μ-loop : tie.MeasureT-loop
 μ-loop dst₀ at s places to₀ i₀ dst to i = length places - i
 
--- src/lib.rt:270:5
 loop-holds : tie.Need-loop-holds Inv-loop μ-loop
 loop-holds c = (search needs, search joins-start)
 
--- src/lib.rt:271:17
 mul-p : tie.Need-mul-p Inv-loop μ-loop
 mul-p c = search needs
 
--- src/lib.rt:271:17
 shared-slice-read-p : tie.Need-shared-slice-read-p Inv-loop μ-loop
 shared-slice-read-p c = search needs
 
--- src/lib.rt:272:13
 lead-requires : tie.Need-lead-requires Inv-loop μ-loop
 lead-requires c κs = search needs
 
--- src/lib.rt:273:13
 counted-at-requires : tie.Need-counted-at-requires Inv-loop μ-loop
 counted-at-requires c κs = search needs
 
--- src/lib.rt:275:9
 copy-item-requires : tie.Need-copy-item-requires Inv-loop μ-loop
 copy-item-requires c κs = search needs
 
--- src/lib.rt:276:14
 add-to : tie.Need-add-to Inv-loop μ-loop
 add-to c = let w = joins-room _ _ _ _ _ _ _ (c .before .before .before .before .before .before .before .before .loop .inv .1) (c .before .before .before .before .before .before .before .loop-test .taken) _ (c .before .before .before .before .before .lead .ensures) _ (c .before .before .before .before .counted-at .ensures) in search needs
 
--- src/lib.rt:276:14
 add-to-2 : tie.Need-add-to-2 Inv-loop μ-loop
 add-to-2 c = let w = joins-room _ _ _ _ _ _ _ (c .before .before .before .before .before .before .before .before .loop .inv .1) (c .before .before .before .before .before .before .before .loop-test .taken) _ (c .before .before .before .before .before .lead .ensures) _ (c .before .before .before .before .counted-at .ensures) in search needs
 
--- src/lib.rt:277:9
 add-i : tie.Need-add-i Inv-loop μ-loop
 add-i c = search needs
 
--- src/lib.rt:270:5
 loop-less : tie.Need-loop-less Inv-loop μ-loop
 loop-less c = search needs
 
--- src/lib.rt:270:5
 loop-again : tie.Need-loop-again Inv-loop μ-loop
 loop-again c = (search needs, search joins-more)
 
--- src/lib.rt:264:1
 same-length : tie.Need-same-length Inv-loop μ-loop
 same-length c = search needs
 
--- src/lib.rt:264:1
 returns : tie.Need-returns Inv-loop μ-loop
 returns c = search joins-end
 

@@ -7,43 +7,33 @@ use Rattle.assertion.proofs.field.front.Reads as front-reads
 use Rattle.fields.proofs.authorizer.authorizer.Reads as authorizer-reads
 use Rattle.assertion.specs.Working.FieldWays.{author-on, author-not}
 
--- src/field.rt:110:9
 front-requires : tie.Need-front-requires
 front-requires c κs = search needs
 
--- src/field.rt:106:11
 authorizer-requires : tie.Need-authorizer-requires
 authorizer-requires c κs = search needs
 
--- src/field.rt:117:25
 enum-known-reason : tie.Need-enum-known-reason
 enum-known-reason c = search needs
 
--- src/field.rt:119:13
 enum-known-number : tie.Need-enum-known-number
 enum-known-number c = search needs
 
--- src/field.rt:94:1
 same-length : tie.Need-same-length
 same-length c = search needs
 
--- src/field.rt:94:1
 same-length-2 : tie.Need-same-length-2
 same-length-2 c = search needs
 
--- src/field.rt:94:1
 returns : tie.Need-returns
 returns c = search author-not
 
--- src/field.rt:94:1
 same-length-3 : tie.Need-same-length-3
 same-length-3 c = search needs
 
--- src/field.rt:94:1
 same-length-4 : tie.Need-same-length-4
 same-length-4 c = search needs
 
--- src/field.rt:94:1
 returns-2 : tie.Need-returns-2
 returns-2 c = search author-on
 

@@ -7,27 +7,21 @@ use Rattle.assertion.proofs.field.conditions_field.Lts as lts
 use Rattle.assertion.proofs.field.front.Reads as front-reads
 use Rattle.judge.proofs.judge_field.Reads as judge-field-reads
 
--- src/field.rt:199:9
 front-requires : tie.Need-front-requires
 front-requires c κs = search needs
 
--- src/field.rt:192:11
 judge-field-requires : tie.Need-judge-field-requires
 judge-field-requires c κs = search needs
 
--- src/field.rt:201:25
 enum-known-reason : tie.Need-enum-known-reason
 enum-known-reason c = search needs
 
--- src/field.rt:202:22
 enum-known-rank : tie.Need-enum-known-rank
 enum-known-rank c = search needs
 
--- src/field.rt:180:1
 returns : tie.Need-returns
 returns c = search judged-not
 
--- src/field.rt:180:1
 returns-2 : tie.Need-returns-2
 returns-2 c = search judged-on
 

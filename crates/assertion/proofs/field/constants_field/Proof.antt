@@ -6,39 +6,30 @@ use Rattle.assertion.proofs.field.constants_field.Lts as lts
 use Rattle.fields.proofs.constants.constants.Reads as constants-reads
 use Rattle.assertion.specs.Working.FieldWays.{settings-on, settings-not}
 
--- src/field.rt:72:11
 constants-requires : tie.Need-constants-requires
 constants-requires c κs = search needs
 
--- src/field.rt:73:27
 enum-known-reason : tie.Need-enum-known-reason
 enum-known-reason c = search needs
 
--- src/field.rt:75:13
 enum-known-count : tie.Need-enum-known-count
 enum-known-count c = search needs
 
--- src/field.rt:62:1
 same-length : tie.Need-same-length
 same-length c = search needs
 
--- src/field.rt:62:1
 same-length-2 : tie.Need-same-length-2
 same-length-2 c = search needs
 
--- src/field.rt:62:1
 returns : tie.Need-returns
 returns c = search settings-not
 
--- src/field.rt:62:1
 same-length-3 : tie.Need-same-length-3
 same-length-3 c = search needs
 
--- src/field.rt:62:1
 same-length-4 : tie.Need-same-length-4
 same-length-4 c = search needs
 
--- src/field.rt:62:1
 returns-2 : tie.Need-returns-2
 returns-2 c = search settings-on
 

@@ -12,111 +12,84 @@ use Rattle.assertion.proofs.field.passed.Reads as passed-reads
 use Rattle.fields.proofs.out.ended.Reads as ended-reads
 use Rattle.fields.proofs.version.version.Reads as version-reads
 
--- src/field.rt:238:26
 version-requires : tie.Need-version-requires
 version-requires c κs = search needs
 
--- src/field.rt:238:9
 passed-requires : tie.Need-passed-requires
 passed-requires c κs = search needs
 
--- src/field.rt:238:9
 returns : tie.Need-returns
 returns c = search field-version
 
--- src/field.rt:241:9
 constants-field-requires : tie.Need-constants-field-requires
 constants-field-requires c κs = search needs
 
--- src/field.rt:241:9
 same-length : tie.Need-same-length
 same-length c = search needs
 
--- src/field.rt:241:9
 same-length-2 : tie.Need-same-length-2
 same-length-2 c = search needs
 
--- src/field.rt:241:9
 returns-2 : tie.Need-returns-2
 returns-2 c = search field-constants
 
--- src/field.rt:244:9
 authorizer-field-requires : tie.Need-authorizer-field-requires
 authorizer-field-requires c κs = search needs
 
--- src/field.rt:244:9
 same-length-3 : tie.Need-same-length-3
 same-length-3 c = search needs
 
--- src/field.rt:244:9
 same-length-4 : tie.Need-same-length-4
 same-length-4 c = search needs
 
--- src/field.rt:244:9
 same-length-5 : tie.Need-same-length-5
 same-length-5 c = search needs
 
--- src/field.rt:244:9
 same-length-6 : tie.Need-same-length-6
 same-length-6 c = search needs
 
--- src/field.rt:244:9
 returns-3 : tie.Need-returns-3
 returns-3 c = search field-authorizer
 
--- src/field.rt:247:9
 licensees-field-requires : tie.Need-licensees-field-requires
 licensees-field-requires c κs = search needs
 
--- src/field.rt:247:9
 same-length-7 : tie.Need-same-length-7
 same-length-7 c = search needs
 
--- src/field.rt:247:9
 same-length-8 : tie.Need-same-length-8
 same-length-8 c = search needs
 
--- src/field.rt:247:9
 same-length-9 : tie.Need-same-length-9
 same-length-9 c = search needs
 
--- src/field.rt:247:9
 same-length-10 : tie.Need-same-length-10
 same-length-10 c = search needs
 
--- src/field.rt:247:9
 same-length-11 : tie.Need-same-length-11
 same-length-11 c = search needs
 
--- src/field.rt:247:9
 returns-4 : tie.Need-returns-4
 returns-4 c = search field-licensees
 
--- src/field.rt:250:9
 conditions-field-requires : tie.Need-conditions-field-requires
 conditions-field-requires c κs = search needs
 
--- src/field.rt:250:9
 same-length-12 : tie.Need-same-length-12
 same-length-12 c = search needs
 
--- src/field.rt:250:9
 same-length-13 : tie.Need-same-length-13
 same-length-13 c = search needs
 
--- src/field.rt:250:9
 returns-5 : tie.Need-returns-5
 returns-5 c = search field-conditions
 
--- src/field.rt:261:15
 ended-requires : tie.Need-ended-requires
 ended-requires c κs = search needs
 
--- src/field.rt:261:5
 passed-requires-2 : tie.Need-passed-requires-2
 passed-requires-2 c κs = search needs
 
--- src/field.rt:219:1
 returns-6 : tie.Need-returns-6
 returns-6 c = search field-comment
 

@@ -7,15 +7,12 @@ use Rattle.assertion.specs.Working.FieldWays.{front-all}
 use Rattle.fields.specs.Working.Identifying.{front-length}
 use Rattle.assertion.specs.Working.FieldWays.{front-short}
 
--- src/field.rt:57:9
 returns : tie.Need-returns
 returns c = search front-all
 
--- src/field.rt:59:5
 slice-aggregate-result : tie.Need-slice-aggregate-result
 slice-aggregate-result c = search (needs, front-short)
 
--- src/field.rt:53:1
 returns-2 : tie.Need-returns-2
 returns-2 c = search needs
 

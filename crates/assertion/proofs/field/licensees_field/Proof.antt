@@ -7,51 +7,39 @@ use Rattle.assertion.proofs.field.front.Reads as front-reads
 use Rattle.fields.proofs.licensees.licensees.Reads as licensees-reads
 use Rattle.assertion.specs.Working.FieldWays.{listed-on, listed-not}
 
--- src/field.rt:154:9
 front-requires : tie.Need-front-requires
 front-requires c κs = search needs
 
--- src/field.rt:151:11
 licensees-requires : tie.Need-licensees-requires
 licensees-requires c κs = search needs
 
--- src/field.rt:163:27
 enum-known-reason : tie.Need-enum-known-reason
 enum-known-reason c = search needs
 
--- src/field.rt:164:24
 enum-known-state : tie.Need-enum-known-state
 enum-known-state c = search needs
 
--- src/field.rt:139:1
 same-length : tie.Need-same-length
 same-length c = search needs
 
--- src/field.rt:139:1
 same-length-2 : tie.Need-same-length-2
 same-length-2 c = search needs
 
--- src/field.rt:139:1
 same-length-3 : tie.Need-same-length-3
 same-length-3 c = search needs
 
--- src/field.rt:139:1
 returns : tie.Need-returns
 returns c = search listed-not
 
--- src/field.rt:139:1
 same-length-4 : tie.Need-same-length-4
 same-length-4 c = search needs
 
--- src/field.rt:139:1
 same-length-5 : tie.Need-same-length-5
 same-length-5 c = search needs
 
--- src/field.rt:139:1
 same-length-6 : tie.Need-same-length-6
 same-length-6 c = search needs
 
--- src/field.rt:139:1
 returns-2 : tie.Need-returns-2
 returns-2 c = search listed-on
 

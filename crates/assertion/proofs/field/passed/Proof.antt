@@ -5,19 +5,15 @@ use Rattle.assertion.proofs.field.passed.Reads as reads
 use Rattle.assertion.proofs.field.passed.Lts as lts
 use Rattle.assertion.specs.Working.FieldWays.{passed-on, passed-not}
 
--- src/field.rt:47:22
 enum-known-o : tie.Need-enum-known-o
 enum-known-o c = search needs
 
--- src/field.rt:48:19
 enum-known-o-2 : tie.Need-enum-known-o-2
 enum-known-o-2 c = search needs
 
--- src/field.rt:43:1
 returns : tie.Need-returns
 returns c = search passed-not
 
--- src/field.rt:43:1
 returns-2 : tie.Need-returns-2
 returns-2 c = search passed-on
 

@@ -5,19 +5,15 @@ use Rattle.assertion.proofs.label.clear.Reads as reads
 use Rattle.assertion.proofs.label.clear.Lts as lts
 use Rattle.assertion.specs.Working.FieldWays.{clear-past}
 
--- src/label.rt:29:9
 returns : tie.Need-returns
 returns c = search clear-past
 
--- src/label.rt:31:5
 slice-write-free : tie.Need-slice-write-free
 slice-write-free c = search needs
 
--- src/label.rt:24:1
 same-length : tie.Need-same-length
 same-length c = search needs
 
--- src/label.rt:24:1
 returns-2 : tie.Need-returns-2
 returns-2 c = search needs
 

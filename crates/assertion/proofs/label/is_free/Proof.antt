@@ -5,15 +5,12 @@ use Rattle.assertion.proofs.label.is_free.Reads as reads
 use Rattle.assertion.proofs.label.is_free.Lts as lts
 use Rattle.assertion.specs.Working.FieldWays.{free-past}
 
--- src/label.rt:19:9
 returns : tie.Need-returns
 returns c = search free-past
 
--- src/label.rt:21:5
 shared-slice-read-result : tie.Need-shared-slice-read-result
 shared-slice-read-result c = search needs
 
--- src/label.rt:14:1
 returns-2 : tie.Need-returns-2
 returns-2 c = search needs
 

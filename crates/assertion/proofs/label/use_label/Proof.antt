@@ -6,19 +6,15 @@ use Rattle.assertion.proofs.label.use_label.Lts as lts
 use Rattle.assertion.proofs.label.clear.Reads as clear-reads
 use Rattle.assertion.specs.Working.FieldWays.{used}
 
--- src/label.rt:38:5
 clear-requires : tie.Need-clear-requires
 clear-requires c κs = search needs
 
--- src/label.rt:39:5
 clear-requires-2 : tie.Need-clear-requires-2
 clear-requires-2 c κs = search needs
 
--- src/label.rt:35:1
 same-length : tie.Need-same-length
 same-length c = search needs
 
--- src/label.rt:35:1
 returns : tie.Need-returns
 returns c = search used
 

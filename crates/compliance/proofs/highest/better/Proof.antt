@@ -7,19 +7,15 @@ use Rattle.compliance.proofs.highest.better.Lts as lts
 use Rattle.compliance.proofs.highest.candidate.Reads as candidate-reads
 use Rattle.compliance.proofs.highest.greater.Reads as greater-reads
 
--- src/highest.rt:60:9
 returns : tie.Need-returns
 returns c = search better-no
 
--- src/highest.rt:62:19
 candidate-requires : tie.Need-candidate-requires
 candidate-requires c κs = search needs
 
--- src/highest.rt:62:5
 greater-requires : tie.Need-greater-requires
 greater-requires c κs = search needs
 
--- src/highest.rt:56:1
 returns-2 : tie.Need-returns-2
 returns-2 c = search better-yes
 

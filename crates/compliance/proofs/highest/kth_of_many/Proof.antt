@@ -16,35 +16,27 @@ Inv-loop values k best₀ i₀ best i = bestFrom k values i best ≡ highest k v
 abbrev μ-loop : tie.MeasureT-loop
 μ-loop values k best₀ i₀ best i = length values - i
 
--- src/highest.rt:83:9
 returns : tie.Need-returns Inv-loop μ-loop
 returns c = search best-none
 
--- src/highest.rt:87:5
 loop-holds : tie.Need-loop-holds Inv-loop μ-loop
 loop-holds c = search best-begin
 
--- src/highest.rt:88:40
 shared-slice-read-better : tie.Need-shared-slice-read-better Inv-loop μ-loop
 shared-slice-read-better c = search needs
 
--- src/highest.rt:88:9
 better-requires : tie.Need-better-requires Inv-loop μ-loop
 better-requires c κs = search needs
 
--- src/highest.rt:89:9
 add-i : tie.Need-add-i Inv-loop μ-loop
 add-i c = search needs
 
--- src/highest.rt:87:5
 loop-less : tie.Need-loop-less Inv-loop μ-loop
 loop-less c = search needs
 
--- src/highest.rt:87:5
 loop-again : tie.Need-loop-again Inv-loop μ-loop
 loop-again c = search best-more
 
--- src/highest.rt:79:1
 returns-2 : tie.Need-returns-2 Inv-loop μ-loop
 returns-2 c = search best-end
 

@@ -16,43 +16,33 @@ Inv-loop ranks₀ next same₀ i₀ ranks same i = (length ranks ≡ length rank
 abbrev μ-loop : tie.MeasureT-loop
 μ-loop ranks₀ next same₀ i₀ ranks same i = length ranks₀ - i
 
--- src/rounds.rt:128:5
 loop-holds : tie.Need-loop-holds Inv-loop μ-loop
 loop-holds c = (search needs, search adopt-start, search still-start)
 
--- src/rounds.rt:129:24
 slice-read-same : tie.Need-slice-read-same Inv-loop μ-loop
 slice-read-same c = search needs
 
--- src/rounds.rt:129:36
 shared-slice-read-same : tie.Need-shared-slice-read-same Inv-loop μ-loop
 shared-slice-read-same c = search needs
 
--- src/rounds.rt:130:20
 shared-slice-read-ranks : tie.Need-shared-slice-read-ranks Inv-loop μ-loop
 shared-slice-read-ranks c = search needs
 
--- src/rounds.rt:130:9
 slice-write-ranks : tie.Need-slice-write-ranks Inv-loop μ-loop
 slice-write-ranks c = search needs
 
--- src/rounds.rt:131:9
 add-i : tie.Need-add-i Inv-loop μ-loop
 add-i c = search needs
 
--- src/rounds.rt:128:5
 loop-less : tie.Need-loop-less Inv-loop μ-loop
 loop-less c = search needs
 
--- src/rounds.rt:128:5
 loop-again : tie.Need-loop-again Inv-loop μ-loop
 loop-again c = (search needs, search adopt-more, search still-more)
 
--- src/rounds.rt:122:1
 same-length : tie.Need-same-length Inv-loop μ-loop
 same-length c = search needs
 
--- src/rounds.rt:122:1
 returns : tie.Need-returns Inv-loop μ-loop
 returns c = search adopt-end
 

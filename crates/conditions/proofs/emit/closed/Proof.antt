@@ -7,19 +7,15 @@ use Rattle.conditions.proofs.emit.closed.Lts as lts
 use Rattle.conditions.proofs.emit.unexpected.Reads as unexpected-reads
 use Rattle.lexical.proofs.line.token_at.Reads as token-at-reads
 
--- src/emit.rt:143:9
 unexpected-requires : tie.Need-unexpected-requires
 unexpected-requires c κs = search needs
 
--- src/emit.rt:143:9
 returns : tie.Need-returns
 returns c = search closed-not
 
--- src/emit.rt:145:9
 token-at-requires : tie.Need-token-at-requires
 token-at-requires c κs = search needs
 
--- src/emit.rt:139:1
 returns-2 : tie.Need-returns-2
 returns-2 c = search closed-made
 

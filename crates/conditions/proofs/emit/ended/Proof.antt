@@ -8,27 +8,21 @@ use Rattle.conditions.proofs.emit.push.Reads as push-reads
 use Rattle.conditions.proofs.emit.unexpected.Reads as unexpected-reads
 use Rattle.lexical.proofs.line.token_at.Reads as token-at-reads
 
--- src/emit.rt:115:9
 unexpected-requires : tie.Need-unexpected-requires
 unexpected-requires c κs = search needs
 
--- src/emit.rt:115:9
 returns : tie.Need-returns
 returns c = search ended-not
 
--- src/emit.rt:117:9
 push-requires : tie.Need-push-requires
 push-requires c κs = search needs
 
--- src/emit.rt:118:9
 token-at-requires : tie.Need-token-at-requires
 token-at-requires c κs = search needs
 
--- src/emit.rt:111:1
 same-length : tie.Need-same-length
 same-length c = search needs
 
--- src/emit.rt:111:1
 returns-2 : tie.Need-returns-2
 returns-2 c = search ended-made
 

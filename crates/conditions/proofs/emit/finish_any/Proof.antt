@@ -11,39 +11,30 @@ use Rattle.conditions.proofs.table.is_fit.Reads as is-fit-reads
 use Rattle.conditions.proofs.table.operand_of.Reads as operand-of-reads
 use Rattle.conditions.proofs.table.result_of.Reads as result-of-reads
 
--- src/emit.rt:109:9
 operand-of-requires : tie.Need-operand-of-requires
 operand-of-requires c κs = search needs
 
--- src/emit.rt:110:8
 is-fit-requires : tie.Need-is-fit-requires
 is-fit-requires c κs = search needs
 
--- src/emit.rt:111:13
 settle-for-requires : tie.Need-settle-for-requires
 settle-for-requires c κs = search needs
 
--- src/emit.rt:112:13
 push-requires : tie.Need-push-requires
 push-requires c κs = search needs
 
--- src/emit.rt:114:19
 result-of-requires : tie.Need-result-of-requires
 result-of-requires c κs = search needs
 
--- src/emit.rt:113:9
 same-length : tie.Need-same-length
 same-length c = search needs
 
--- src/emit.rt:113:9
 returns : tie.Need-returns
 returns c = search finish-made
 
--- src/emit.rt:120:5
 unexpected-requires : tie.Need-unexpected-requires
 unexpected-requires c κs = search needs
 
--- src/emit.rt:106:1
 returns-2 : tie.Need-returns-2
 returns-2 c = search finish-not
 

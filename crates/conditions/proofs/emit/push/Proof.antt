@@ -6,31 +6,24 @@ use Rattle.conditions.proofs.emit.push.Reads as reads
 use Rattle.conditions.proofs.emit.push.Lts as lts
 use Rattle.conditions.proofs.emit.slot.Reads as slot-reads
 
--- src/emit.rt:59:9
 returns : tie.Need-returns
 returns c = (search push-full, search push-kept)
 
--- src/emit.rt:61:17
 slot-requires : tie.Need-slot-requires
 slot-requires c κs = search needs
 
--- src/emit.rt:61:5
 mul-code : tie.Need-mul-code
 mul-code c = search needs
 
--- src/emit.rt:61:5
 slice-write-code : tie.Need-slice-write-code
 slice-write-code c = search needs
 
--- src/emit.rt:62:5
 add-result : tie.Need-add-result
 add-result c = search needs
 
--- src/emit.rt:54:1
 same-length : tie.Need-same-length
 same-length c = search needs
 
--- src/emit.rt:54:1
 returns-2 : tie.Need-returns-2
 returns-2 c = (search push-top, search push-set)
 

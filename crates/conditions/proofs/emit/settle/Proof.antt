@@ -6,43 +6,33 @@ use Rattle.conditions.proofs.emit.settle.Reads as reads
 use Rattle.conditions.proofs.emit.settle.Lts as lts
 use Rattle.conditions.proofs.emit.push.Reads as push-reads
 
--- src/emit.rt:71:9
 returns : tie.Need-returns
 returns c = (search settle-top, search settle-kept)
 
--- src/emit.rt:74:9
 push-requires : tie.Need-push-requires
 push-requires c κs = search needs
 
--- src/emit.rt:74:9
 same-length : tie.Need-same-length
 same-length c = search needs
 
--- src/emit.rt:74:9
 returns-2 : tie.Need-returns-2
 returns-2 c = (search settle-above, search settle-name)
 
--- src/emit.rt:77:9
 push-requires-2 : tie.Need-push-requires-2
 push-requires-2 c κs = search needs
 
--- src/emit.rt:77:9
 same-length-2 : tie.Need-same-length-2
 same-length-2 c = search needs
 
--- src/emit.rt:77:9
 returns-3 : tie.Need-returns-3
 returns-3 c = (search settle-above, search settle-true)
 
--- src/emit.rt:79:5
 push-requires-3 : tie.Need-push-requires-3
 push-requires-3 c κs = search needs
 
--- src/emit.rt:66:1
 same-length-3 : tie.Need-same-length-3
 same-length-3 c = search needs
 
--- src/emit.rt:66:1
 returns-4 : tie.Need-returns-4
 returns-4 c = (search settle-above, search settle-false)
 

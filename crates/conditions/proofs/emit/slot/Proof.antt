@@ -6,27 +6,21 @@ use Rattle.conditions.proofs.emit.slot.Reads as reads
 use Rattle.conditions.proofs.emit.slot.Lts as lts
 use Rattle.conditions.proofs.emit.narrow.Reads as narrow-reads
 
--- src/emit.rt:45:9
 returns : tie.Need-returns
 returns c = search slot-far
 
--- src/emit.rt:48:9
 returns-2 : tie.Need-returns-2
 returns-2 c = search slot-no
 
--- src/emit.rt:50:5
 mul-result : tie.Need-mul-result
 mul-result c = search needs
 
--- src/emit.rt:50:18
 narrow-requires : tie.Need-narrow-requires
 narrow-requires c κs = search needs
 
--- src/emit.rt:50:5
 add-result : tie.Need-add-result
 add-result c = search needs
 
--- src/emit.rt:41:1
 returns-3 : tie.Need-returns-3
 returns-3 c = search slot-made
 

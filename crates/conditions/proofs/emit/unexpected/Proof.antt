@@ -6,11 +6,9 @@ use Rattle.conditions.proofs.emit.unexpected.Reads as reads
 use Rattle.conditions.proofs.emit.unexpected.Lts as lts
 use Rattle.conditions.proofs.table.refusal_of.Reads as refusal-of-reads
 
--- src/emit.rt:87:17
 refusal-of-requires : tie.Need-refusal-of-requires
 refusal-of-requires c κs = search needs
 
--- src/emit.rt:83:1
 returns : tie.Need-returns
 returns c = search unexpected-made
 

@@ -9,31 +9,24 @@ use Rattle.conditions.proofs.emit.settle.Reads as settle-reads
 use Rattle.conditions.proofs.emit.unexpected.Reads as unexpected-reads
 use Rattle.conditions.proofs.table.is_fit.Reads as is-fit-reads
 
--- src/emit.rt:131:8
 is-fit-requires : tie.Need-is-fit-requires
 is-fit-requires c κs = search needs
 
--- src/emit.rt:132:13
 settle-requires : tie.Need-settle-requires
 settle-requires c κs = search needs
 
--- src/emit.rt:133:9
 ended-requires : tie.Need-ended-requires
 ended-requires c κs = search needs
 
--- src/emit.rt:133:9
 same-length : tie.Need-same-length
 same-length c = search needs
 
--- src/emit.rt:133:9
 returns : tie.Need-returns
 returns c = search valued-made
 
--- src/emit.rt:135:5
 unexpected-requires : tie.Need-unexpected-requires
 unexpected-requires c κs = search needs
 
--- src/emit.rt:128:1
 returns-2 : tie.Need-returns-2
 returns-2 c = search valued-not
 

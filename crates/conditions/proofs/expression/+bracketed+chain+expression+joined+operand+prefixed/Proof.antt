@@ -106,8 +106,8 @@ abbrev prefixed-below : ℕ → In 2 prefixed-kinds.ps
 prefixed-below t =
     and 2 prefixed-kinds.ps (falls 2 prefixed-kinds.ps _<_ μ-prefixed t) prefixed.Pre
 
--- src/expression.rt:146:9
-bracketed-returns : (t : ℕ) → bracketed-lts.Need-returns (
+abbrev bracketed-claims : ℕ → bracketed-lts.Claims
+bracketed-claims t = (
   token-at-reads.Asked,
   token-at-reads.Learnt,
   inside-level-reads.Asked,
@@ -116,176 +116,112 @@ bracketed-returns : (t : ℕ) → bracketed-lts.Need-returns (
   expression.Post,
   closed-reads.Asked,
   closed-reads.Learnt,
-) (bracketed-at t) bracketed.Post
+)
+
+abbrev chain-claims : ℕ → chain-lts.Claims
+chain-claims t = (
+  operator-of-reads.Asked,
+  operator-of-reads.Learnt,
+  is-loose-reads.Asked,
+  is-loose-reads.Learnt,
+  joined-below t,
+  joined.Post,
+)
+
+abbrev expression-claims : ℕ → expression-lts.Claims
+expression-claims t = (
+  operand-below t,
+  operand.Post,
+  chain-below t,
+  chain.Post,
+)
+
+abbrev joined-claims : ℕ → joined-lts.Claims
+joined-claims t = (
+  settle-for-reads.Asked,
+  settle-for-reads.Learnt,
+  token-at-reads.Asked,
+  token-at-reads.Learnt,
+  right-level-reads.Asked,
+  right-level-reads.Learnt,
+  right-want-reads.Asked,
+  right-want-reads.Learnt,
+  expression-below t,
+  expression.Post,
+  finish-reads.Asked,
+  finish-reads.Learnt,
+)
+
+abbrev operand-claims : ℕ → operand-lts.Claims
+operand-claims t = (
+  is-allowed-reads.Asked,
+  is-allowed-reads.Learnt,
+  prefix-operator-reads.Asked,
+  prefix-operator-reads.Learnt,
+  prefixed-below t,
+  prefixed.Post,
+  bracketed-below t,
+  bracketed.Post,
+  leaf-reads.Asked,
+  leaf-reads.Learnt,
+  unexpected-reads.Asked,
+  unexpected-reads.Learnt,
+)
+
+abbrev prefixed-claims : ℕ → prefixed-lts.Claims
+prefixed-claims t = (
+  token-at-reads.Asked,
+  token-at-reads.Learnt,
+  operand-level-reads.Asked,
+  operand-level-reads.Learnt,
+  operand-want-reads.Asked,
+  operand-want-reads.Learnt,
+  expression-below t,
+  expression.Post,
+  finish-any-reads.Asked,
+  finish-any-reads.Learnt,
+)
+
+bracketed-returns : (t : ℕ) → bracketed-lts.Need-returns (bracketed-claims t) (bracketed-at t) bracketed.Post
 bracketed-returns t c = search bracketed-0
 
--- src/expression.rt:152:9
-bracketed-returns-2 : (t : ℕ) → bracketed-lts.Need-returns-2 (
-  token-at-reads.Asked,
-  token-at-reads.Learnt,
-  inside-level-reads.Asked,
-  inside-level-reads.Learnt,
-  expression-below t,
-  expression.Post,
-  closed-reads.Asked,
-  closed-reads.Learnt,
-) (bracketed-at t) bracketed.Post
+bracketed-returns-2 : (t : ℕ) → bracketed-lts.Need-returns-2 (bracketed-claims t) (bracketed-at t) bracketed.Post
 bracketed-returns-2 t c = search bracketed-full
 
--- src/expression.rt:157:9
-bracketed-token-at-requires : (t : ℕ) → bracketed-lts.Need-token-at-requires (
-  token-at-reads.Asked,
-  token-at-reads.Learnt,
-  inside-level-reads.Asked,
-  inside-level-reads.Learnt,
-  expression-below t,
-  expression.Post,
-  closed-reads.Asked,
-  closed-reads.Learnt,
-) (bracketed-at t) bracketed.Post
+bracketed-token-at-requires : (t : ℕ) → bracketed-lts.Need-token-at-requires (bracketed-claims t) (bracketed-at t) bracketed.Post
 bracketed-token-at-requires t c κs = search needs
 
--- src/expression.rt:158:9
-bracketed-inside-level-requires : (t : ℕ) → bracketed-lts.Need-inside-level-requires (
-  token-at-reads.Asked,
-  token-at-reads.Learnt,
-  inside-level-reads.Asked,
-  inside-level-reads.Learnt,
-  expression-below t,
-  expression.Post,
-  closed-reads.Asked,
-  closed-reads.Learnt,
-) (bracketed-at t) bracketed.Post
+bracketed-inside-level-requires : (t : ℕ) → bracketed-lts.Need-inside-level-requires (bracketed-claims t) (bracketed-at t) bracketed.Post
 bracketed-inside-level-requires t c κs = search needs
 
--- src/expression.rt:159:48
-bracketed-add-expression : (t : ℕ) → bracketed-lts.Need-add-expression (
-  token-at-reads.Asked,
-  token-at-reads.Learnt,
-  inside-level-reads.Asked,
-  inside-level-reads.Learnt,
-  expression-below t,
-  expression.Post,
-  closed-reads.Asked,
-  closed-reads.Learnt,
-) (bracketed-at t) bracketed.Post
+bracketed-add-expression : (t : ℕ) → bracketed-lts.Need-add-expression (bracketed-claims t) (bracketed-at t) bracketed.Post
 bracketed-add-expression t c = search needs
 
--- src/expression.rt:159:61
-bracketed-sub-expression : (t : ℕ) → bracketed-lts.Need-sub-expression (
-  token-at-reads.Asked,
-  token-at-reads.Learnt,
-  inside-level-reads.Asked,
-  inside-level-reads.Learnt,
-  expression-below t,
-  expression.Post,
-  closed-reads.Asked,
-  closed-reads.Learnt,
-) (bracketed-at t) bracketed.Post
+bracketed-sub-expression : (t : ℕ) → bracketed-lts.Need-sub-expression (bracketed-claims t) (bracketed-at t) bracketed.Post
 bracketed-sub-expression t c = search needs
 
--- src/expression.rt:159:11
-bracketed-expression-requires : (t : ℕ) → bracketed-lts.Need-expression-requires (
-  token-at-reads.Asked,
-  token-at-reads.Learnt,
-  inside-level-reads.Asked,
-  inside-level-reads.Learnt,
-  expression-below t,
-  expression.Post,
-  closed-reads.Asked,
-  closed-reads.Learnt,
-) (bracketed-at t) bracketed.Post
+bracketed-expression-requires : (t : ℕ) → bracketed-lts.Need-expression-requires (bracketed-claims t) (bracketed-at t) bracketed.Post
 bracketed-expression-requires t c κs = search needs
 
--- src/expression.rt:160:22
-bracketed-enum-known-reason : (t : ℕ) → bracketed-lts.Need-enum-known-reason (
-  token-at-reads.Asked,
-  token-at-reads.Learnt,
-  inside-level-reads.Asked,
-  inside-level-reads.Learnt,
-  expression-below t,
-  expression.Post,
-  closed-reads.Asked,
-  closed-reads.Learnt,
-) (bracketed-at t) bracketed.Post
+bracketed-enum-known-reason : (t : ℕ) → bracketed-lts.Need-enum-known-reason (bracketed-claims t) (bracketed-at t) bracketed.Post
 bracketed-enum-known-reason t c = search needs
 
--- src/expression.rt:162:13
-bracketed-enum-known-sort : (t : ℕ) → bracketed-lts.Need-enum-known-sort (
-  token-at-reads.Asked,
-  token-at-reads.Learnt,
-  inside-level-reads.Asked,
-  inside-level-reads.Learnt,
-  expression-below t,
-  expression.Post,
-  closed-reads.Asked,
-  closed-reads.Learnt,
-) (bracketed-at t) bracketed.Post
+bracketed-enum-known-sort : (t : ℕ) → bracketed-lts.Need-enum-known-sort (bracketed-claims t) (bracketed-at t) bracketed.Post
 bracketed-enum-known-sort t c = search needs
 
--- src/expression.rt:166:14
-bracketed-closed-requires : (t : ℕ) → bracketed-lts.Need-closed-requires (
-  token-at-reads.Asked,
-  token-at-reads.Learnt,
-  inside-level-reads.Asked,
-  inside-level-reads.Learnt,
-  expression-below t,
-  expression.Post,
-  closed-reads.Asked,
-  closed-reads.Learnt,
-) (bracketed-at t) bracketed.Post
+bracketed-closed-requires : (t : ℕ) → bracketed-lts.Need-closed-requires (bracketed-claims t) (bracketed-at t) bracketed.Post
 bracketed-closed-requires t c κs = search needs
 
--- src/expression.rt:134:1
-bracketed-same-length : (t : ℕ) → bracketed-lts.Need-same-length (
-  token-at-reads.Asked,
-  token-at-reads.Learnt,
-  inside-level-reads.Asked,
-  inside-level-reads.Learnt,
-  expression-below t,
-  expression.Post,
-  closed-reads.Asked,
-  closed-reads.Learnt,
-) (bracketed-at t) bracketed.Post
+bracketed-same-length : (t : ℕ) → bracketed-lts.Need-same-length (bracketed-claims t) (bracketed-at t) bracketed.Post
 bracketed-same-length t c = search needs
 
--- src/expression.rt:134:1
-bracketed-returns-3 : (t : ℕ) → bracketed-lts.Need-returns-3 (
-  token-at-reads.Asked,
-  token-at-reads.Learnt,
-  inside-level-reads.Asked,
-  inside-level-reads.Learnt,
-  expression-below t,
-  expression.Post,
-  closed-reads.Asked,
-  closed-reads.Learnt,
-) (bracketed-at t) bracketed.Post
+bracketed-returns-3 : (t : ℕ) → bracketed-lts.Need-returns-3 (bracketed-claims t) (bracketed-at t) bracketed.Post
 bracketed-returns-3 t c = search bracketed-aside
 
--- src/expression.rt:134:1
-bracketed-same-length-2 : (t : ℕ) → bracketed-lts.Need-same-length-2 (
-  token-at-reads.Asked,
-  token-at-reads.Learnt,
-  inside-level-reads.Asked,
-  inside-level-reads.Learnt,
-  expression-below t,
-  expression.Post,
-  closed-reads.Asked,
-  closed-reads.Learnt,
-) (bracketed-at t) bracketed.Post
+bracketed-same-length-2 : (t : ℕ) → bracketed-lts.Need-same-length-2 (bracketed-claims t) (bracketed-at t) bracketed.Post
 bracketed-same-length-2 t c = search needs
 
--- src/expression.rt:134:1
-bracketed-returns-4 : (t : ℕ) → bracketed-lts.Need-returns-4 (
-  token-at-reads.Asked,
-  token-at-reads.Learnt,
-  inside-level-reads.Asked,
-  inside-level-reads.Learnt,
-  expression-below t,
-  expression.Post,
-  closed-reads.Asked,
-  closed-reads.Learnt,
-) (bracketed-at t) bracketed.Post
+bracketed-returns-4 : (t : ℕ) → bracketed-lts.Need-returns-4 (bracketed-claims t) (bracketed-at t) bracketed.Post
 bracketed-returns-4 t c = search bracketed-found
 
 abbrev chain-Inv-loop : chain-lts.InvT-loop
@@ -295,1058 +231,232 @@ chain-Inv-loop s code₀ from level nest before spot d sort₀ place₀ top₀ t
 abbrev chain-μ-loop : chain-lts.MeasureT-loop
 chain-μ-loop s code₀ from level nest before spot d sort₀ place₀ top₀ t₀ code sort place top t = length s - t .start
 
--- src/expression.rt:185:9
-chain-returns : (t : ℕ) → chain-lts.Need-returns (
-  operator-of-reads.Asked,
-  operator-of-reads.Learnt,
-  is-loose-reads.Asked,
-  is-loose-reads.Learnt,
-  joined-below t,
-  joined.Post,
-) (chain-at t) chain.Post chain-Inv-loop chain-μ-loop
+chain-returns : (t : ℕ) → chain-lts.Need-returns (chain-claims t) (chain-at t) chain.Post chain-Inv-loop chain-μ-loop
 chain-returns t c = search chain-0
 
--- src/expression.rt:194:5
-chain-loop-holds : (t : ℕ) → chain-lts.Need-loop-holds (
-  operator-of-reads.Asked,
-  operator-of-reads.Learnt,
-  is-loose-reads.Asked,
-  is-loose-reads.Learnt,
-  joined-below t,
-  joined.Post,
-) (chain-at t) chain.Post chain-Inv-loop chain-μ-loop
+chain-loop-holds : (t : ℕ) → chain-lts.Need-loop-holds (chain-claims t) (chain-at t) chain.Post chain-Inv-loop chain-μ-loop
 chain-loop-holds t c = (search needs, search chain-start)
 
--- src/expression.rt:195:13
-chain-operator-of-requires : (t : ℕ) → chain-lts.Need-operator-of-requires (
-  operator-of-reads.Asked,
-  operator-of-reads.Learnt,
-  is-loose-reads.Asked,
-  is-loose-reads.Learnt,
-  joined-below t,
-  joined.Post,
-) (chain-at t) chain.Post chain-Inv-loop chain-μ-loop
+chain-operator-of-requires : (t : ℕ) → chain-lts.Need-operator-of-requires (chain-claims t) (chain-at t) chain.Post chain-Inv-loop chain-μ-loop
 chain-operator-of-requires t c κs = search needs
 
--- src/expression.rt:196:12
-chain-is-loose-requires : (t : ℕ) → chain-lts.Need-is-loose-requires (
-  operator-of-reads.Asked,
-  operator-of-reads.Learnt,
-  is-loose-reads.Asked,
-  is-loose-reads.Learnt,
-  joined-below t,
-  joined.Post,
-) (chain-at t) chain.Post chain-Inv-loop chain-μ-loop
+chain-is-loose-requires : (t : ℕ) → chain-lts.Need-is-loose-requires (chain-claims t) (chain-at t) chain.Post chain-Inv-loop chain-μ-loop
 chain-is-loose-requires t c κs = search needs
 
--- src/expression.rt:197:13
-chain-same-length : (t : ℕ) → chain-lts.Need-same-length (
-  operator-of-reads.Asked,
-  operator-of-reads.Learnt,
-  is-loose-reads.Asked,
-  is-loose-reads.Learnt,
-  joined-below t,
-  joined.Post,
-) (chain-at t) chain.Post chain-Inv-loop chain-μ-loop
+chain-same-length : (t : ℕ) → chain-lts.Need-same-length (chain-claims t) (chain-at t) chain.Post chain-Inv-loop chain-μ-loop
 chain-same-length t c = search needs
 
--- src/expression.rt:197:13
-chain-returns-2 : (t : ℕ) → chain-lts.Need-returns-2 (
-  operator-of-reads.Asked,
-  operator-of-reads.Learnt,
-  is-loose-reads.Asked,
-  is-loose-reads.Learnt,
-  joined-below t,
-  joined.Post,
-) (chain-at t) chain.Post chain-Inv-loop chain-μ-loop
+chain-returns-2 : (t : ℕ) → chain-lts.Need-returns-2 (chain-claims t) (chain-at t) chain.Post chain-Inv-loop chain-μ-loop
 chain-returns-2 t c = search chain-other
 
--- src/expression.rt:205:13
-chain-same-length-2 : (t : ℕ) → chain-lts.Need-same-length-2 (
-  operator-of-reads.Asked,
-  operator-of-reads.Learnt,
-  is-loose-reads.Asked,
-  is-loose-reads.Learnt,
-  joined-below t,
-  joined.Post,
-) (chain-at t) chain.Post chain-Inv-loop chain-μ-loop
+chain-same-length-2 : (t : ℕ) → chain-lts.Need-same-length-2 (chain-claims t) (chain-at t) chain.Post chain-Inv-loop chain-μ-loop
 chain-same-length-2 t c = search needs
 
--- src/expression.rt:205:13
-chain-returns-3 : (t : ℕ) → chain-lts.Need-returns-3 (
-  operator-of-reads.Asked,
-  operator-of-reads.Learnt,
-  is-loose-reads.Asked,
-  is-loose-reads.Learnt,
-  joined-below t,
-  joined.Post,
-) (chain-at t) chain.Post chain-Inv-loop chain-μ-loop
+chain-returns-3 : (t : ℕ) → chain-lts.Need-returns-3 (chain-claims t) (chain-at t) chain.Post chain-Inv-loop chain-μ-loop
 chain-returns-3 t c = search chain-match
 
--- src/expression.rt:210:65
-chain-sub-joined : (t : ℕ) → chain-lts.Need-sub-joined (
-  operator-of-reads.Asked,
-  operator-of-reads.Learnt,
-  is-loose-reads.Asked,
-  is-loose-reads.Learnt,
-  joined-below t,
-  joined.Post,
-) (chain-at t) chain.Post chain-Inv-loop chain-μ-loop
+chain-sub-joined : (t : ℕ) → chain-lts.Need-sub-joined (chain-claims t) (chain-at t) chain.Post chain-Inv-loop chain-μ-loop
 chain-sub-joined t c = search needs
 
--- src/expression.rt:210:15
-chain-joined-requires : (t : ℕ) → chain-lts.Need-joined-requires (
-  operator-of-reads.Asked,
-  operator-of-reads.Learnt,
-  is-loose-reads.Asked,
-  is-loose-reads.Learnt,
-  joined-below t,
-  joined.Post,
-) (chain-at t) chain.Post chain-Inv-loop chain-μ-loop
+chain-joined-requires : (t : ℕ) → chain-lts.Need-joined-requires (chain-claims t) (chain-at t) chain.Post chain-Inv-loop chain-μ-loop
 chain-joined-requires t c κs = search needs
 
--- src/expression.rt:211:26
-chain-enum-known-reason : (t : ℕ) → chain-lts.Need-enum-known-reason (
-  operator-of-reads.Asked,
-  operator-of-reads.Learnt,
-  is-loose-reads.Asked,
-  is-loose-reads.Learnt,
-  joined-below t,
-  joined.Post,
-) (chain-at t) chain.Post chain-Inv-loop chain-μ-loop
+chain-enum-known-reason : (t : ℕ) → chain-lts.Need-enum-known-reason (chain-claims t) (chain-at t) chain.Post chain-Inv-loop chain-μ-loop
 chain-enum-known-reason t c = search needs
 
--- src/expression.rt:212:17
-chain-same-length-3 : (t : ℕ) → chain-lts.Need-same-length-3 (
-  operator-of-reads.Asked,
-  operator-of-reads.Learnt,
-  is-loose-reads.Asked,
-  is-loose-reads.Learnt,
-  joined-below t,
-  joined.Post,
-) (chain-at t) chain.Post chain-Inv-loop chain-μ-loop
+chain-same-length-3 : (t : ℕ) → chain-lts.Need-same-length-3 (chain-claims t) (chain-at t) chain.Post chain-Inv-loop chain-μ-loop
 chain-same-length-3 t c = search needs
 
--- src/expression.rt:212:17
-chain-returns-4 : (t : ℕ) → chain-lts.Need-returns-4 (
-  operator-of-reads.Asked,
-  operator-of-reads.Learnt,
-  is-loose-reads.Asked,
-  is-loose-reads.Learnt,
-  joined-below t,
-  joined.Post,
-) (chain-at t) chain.Post chain-Inv-loop chain-μ-loop
+chain-returns-4 : (t : ℕ) → chain-lts.Need-returns-4 (chain-claims t) (chain-at t) chain.Post chain-Inv-loop chain-μ-loop
 chain-returns-4 t c = search chain-aside
 
--- src/expression.rt:215:23
-chain-enum-known-x : (t : ℕ) → chain-lts.Need-enum-known-x (
-  operator-of-reads.Asked,
-  operator-of-reads.Learnt,
-  is-loose-reads.Asked,
-  is-loose-reads.Learnt,
-  joined-below t,
-  joined.Post,
-) (chain-at t) chain.Post chain-Inv-loop chain-μ-loop
+chain-enum-known-x : (t : ℕ) → chain-lts.Need-enum-known-x (chain-claims t) (chain-at t) chain.Post chain-Inv-loop chain-μ-loop
 chain-enum-known-x t c = search needs
 
--- src/expression.rt:221:21
-chain-same-length-4 : (t : ℕ) → chain-lts.Need-same-length-4 (
-  operator-of-reads.Asked,
-  operator-of-reads.Learnt,
-  is-loose-reads.Asked,
-  is-loose-reads.Learnt,
-  joined-below t,
-  joined.Post,
-) (chain-at t) chain.Post chain-Inv-loop chain-μ-loop
+chain-same-length-4 : (t : ℕ) → chain-lts.Need-same-length-4 (chain-claims t) (chain-at t) chain.Post chain-Inv-loop chain-μ-loop
 chain-same-length-4 t c = search needs
 
--- src/expression.rt:221:21
-chain-returns-5 : (t : ℕ) → chain-lts.Need-returns-5 (
-  operator-of-reads.Asked,
-  operator-of-reads.Learnt,
-  is-loose-reads.Asked,
-  is-loose-reads.Learnt,
-  joined-below t,
-  joined.Post,
-) (chain-at t) chain.Post chain-Inv-loop chain-μ-loop
+chain-returns-5 : (t : ℕ) → chain-lts.Need-returns-5 (chain-claims t) (chain-at t) chain.Post chain-Inv-loop chain-μ-loop
 chain-returns-5 t c = search chain-stuck
 
--- src/expression.rt:194:5
-chain-loop-less : (t : ℕ) → chain-lts.Need-loop-less (
-  operator-of-reads.Asked,
-  operator-of-reads.Learnt,
-  is-loose-reads.Asked,
-  is-loose-reads.Learnt,
-  joined-below t,
-  joined.Post,
-) (chain-at t) chain.Post chain-Inv-loop chain-μ-loop
+chain-loop-less : (t : ℕ) → chain-lts.Need-loop-less (chain-claims t) (chain-at t) chain.Post chain-Inv-loop chain-μ-loop
 chain-loop-less t c = search needs
 
--- src/expression.rt:194:5
-chain-loop-again : (t : ℕ) → chain-lts.Need-loop-again (
-  operator-of-reads.Asked,
-  operator-of-reads.Learnt,
-  is-loose-reads.Asked,
-  is-loose-reads.Learnt,
-  joined-below t,
-  joined.Post,
-) (chain-at t) chain.Post chain-Inv-loop chain-μ-loop
+chain-loop-again : (t : ℕ) → chain-lts.Need-loop-again (chain-claims t) (chain-at t) chain.Post chain-Inv-loop chain-μ-loop
 chain-loop-again t c = (search needs, search chain-more)
 
--- src/expression.rt:171:1
-chain-same-length-5 : (t : ℕ) → chain-lts.Need-same-length-5 (
-  operator-of-reads.Asked,
-  operator-of-reads.Learnt,
-  is-loose-reads.Asked,
-  is-loose-reads.Learnt,
-  joined-below t,
-  joined.Post,
-) (chain-at t) chain.Post chain-Inv-loop chain-μ-loop
+chain-same-length-5 : (t : ℕ) → chain-lts.Need-same-length-5 (chain-claims t) (chain-at t) chain.Post chain-Inv-loop chain-μ-loop
 chain-same-length-5 t c = search needs
 
--- src/expression.rt:171:1
-chain-returns-6 : (t : ℕ) → chain-lts.Need-returns-6 (
-  operator-of-reads.Asked,
-  operator-of-reads.Learnt,
-  is-loose-reads.Asked,
-  is-loose-reads.Learnt,
-  joined-below t,
-  joined.Post,
-) (chain-at t) chain.Post chain-Inv-loop chain-μ-loop
+chain-returns-6 : (t : ℕ) → chain-lts.Need-returns-6 (chain-claims t) (chain-at t) chain.Post chain-Inv-loop chain-μ-loop
 chain-returns-6 t c = search chain-end
 
--- src/expression.rt:45:9
-expression-returns : (t : ℕ) → expression-lts.Need-returns (
-  operand-below t,
-  operand.Post,
-  chain-below t,
-  chain.Post,
-) (expression-at t) expression.Post
+expression-returns : (t : ℕ) → expression-lts.Need-returns (expression-claims t) (expression-at t) expression.Post
 expression-returns t c = search expr-0
 
--- src/expression.rt:50:53
-expression-sub-operand : (t : ℕ) → expression-lts.Need-sub-operand (
-  operand-below t,
-  operand.Post,
-  chain-below t,
-  chain.Post,
-) (expression-at t) expression.Post
+expression-sub-operand : (t : ℕ) → expression-lts.Need-sub-operand (expression-claims t) (expression-at t) expression.Post
 expression-sub-operand t c = search needs
 
--- src/expression.rt:50:11
-expression-operand-requires : (t : ℕ) → expression-lts.Need-operand-requires (
-  operand-below t,
-  operand.Post,
-  chain-below t,
-  chain.Post,
-) (expression-at t) expression.Post
+expression-operand-requires : (t : ℕ) → expression-lts.Need-operand-requires (expression-claims t) (expression-at t) expression.Post
 expression-operand-requires t c κs = search needs
 
--- src/expression.rt:51:22
-expression-enum-known-reason : (t : ℕ) → expression-lts.Need-enum-known-reason (
-  operand-below t,
-  operand.Post,
-  chain-below t,
-  chain.Post,
-) (expression-at t) expression.Post
+expression-enum-known-reason : (t : ℕ) → expression-lts.Need-enum-known-reason (expression-claims t) (expression-at t) expression.Post
 expression-enum-known-reason t c = search needs
 
--- src/expression.rt:53:13
-expression-enum-known-sort : (t : ℕ) → expression-lts.Need-enum-known-sort (
-  operand-below t,
-  operand.Post,
-  chain-below t,
-  chain.Post,
-) (expression-at t) expression.Post
+expression-enum-known-sort : (t : ℕ) → expression-lts.Need-enum-known-sort (expression-claims t) (expression-at t) expression.Post
 expression-enum-known-sort t c = search needs
 
--- src/expression.rt:57:64
-expression-sub-chain : (t : ℕ) → expression-lts.Need-sub-chain (
-  operand-below t,
-  operand.Post,
-  chain-below t,
-  chain.Post,
-) (expression-at t) expression.Post
+expression-sub-chain : (t : ℕ) → expression-lts.Need-sub-chain (expression-claims t) (expression-at t) expression.Post
 expression-sub-chain t c = search needs
 
--- src/expression.rt:57:14
-expression-chain-requires : (t : ℕ) → expression-lts.Need-chain-requires (
-  operand-below t,
-  operand.Post,
-  chain-below t,
-  chain.Post,
-) (expression-at t) expression.Post
+expression-chain-requires : (t : ℕ) → expression-lts.Need-chain-requires (expression-claims t) (expression-at t) expression.Post
 expression-chain-requires t c κs = search needs
 
--- src/expression.rt:31:1
-expression-same-length : (t : ℕ) → expression-lts.Need-same-length (
-  operand-below t,
-  operand.Post,
-  chain-below t,
-  chain.Post,
-) (expression-at t) expression.Post
+expression-same-length : (t : ℕ) → expression-lts.Need-same-length (expression-claims t) (expression-at t) expression.Post
 expression-same-length t c = search needs
 
--- src/expression.rt:31:1
-expression-returns-2 : (t : ℕ) → expression-lts.Need-returns-2 (
-  operand-below t,
-  operand.Post,
-  chain-below t,
-  chain.Post,
-) (expression-at t) expression.Post
+expression-returns-2 : (t : ℕ) → expression-lts.Need-returns-2 (expression-claims t) (expression-at t) expression.Post
 expression-returns-2 t c = search expr-aside
 
--- src/expression.rt:31:1
-expression-same-length-2 : (t : ℕ) → expression-lts.Need-same-length-2 (
-  operand-below t,
-  operand.Post,
-  chain-below t,
-  chain.Post,
-) (expression-at t) expression.Post
+expression-same-length-2 : (t : ℕ) → expression-lts.Need-same-length-2 (expression-claims t) (expression-at t) expression.Post
 expression-same-length-2 t c = search needs
 
--- src/expression.rt:31:1
-expression-returns-3 : (t : ℕ) → expression-lts.Need-returns-3 (
-  operand-below t,
-  operand.Post,
-  chain-below t,
-  chain.Post,
-) (expression-at t) expression.Post
+expression-returns-3 : (t : ℕ) → expression-lts.Need-returns-3 (expression-claims t) (expression-at t) expression.Post
 expression-returns-3 t c = search expr-found
 
--- src/expression.rt:256:9
-joined-returns : (t : ℕ) → joined-lts.Need-returns (
-  settle-for-reads.Asked,
-  settle-for-reads.Learnt,
-  token-at-reads.Asked,
-  token-at-reads.Learnt,
-  right-level-reads.Asked,
-  right-level-reads.Learnt,
-  right-want-reads.Asked,
-  right-want-reads.Learnt,
-  expression-below t,
-  expression.Post,
-  finish-reads.Asked,
-  finish-reads.Learnt,
-) (joined-at t) joined.Post
+joined-returns : (t : ℕ) → joined-lts.Need-returns (joined-claims t) (joined-at t) joined.Post
 joined-returns t c = search joined-0
 
--- src/expression.rt:258:9
-joined-settle-for-requires : (t : ℕ) → joined-lts.Need-settle-for-requires (
-  settle-for-reads.Asked,
-  settle-for-reads.Learnt,
-  token-at-reads.Asked,
-  token-at-reads.Learnt,
-  right-level-reads.Asked,
-  right-level-reads.Learnt,
-  right-want-reads.Asked,
-  right-want-reads.Learnt,
-  expression-below t,
-  expression.Post,
-  finish-reads.Asked,
-  finish-reads.Learnt,
-) (joined-at t) joined.Post
+joined-settle-for-requires : (t : ℕ) → joined-lts.Need-settle-for-requires (joined-claims t) (joined-at t) joined.Post
 joined-settle-for-requires t c κs = search needs
 
--- src/expression.rt:259:9
-joined-token-at-requires : (t : ℕ) → joined-lts.Need-token-at-requires (
-  settle-for-reads.Asked,
-  settle-for-reads.Learnt,
-  token-at-reads.Asked,
-  token-at-reads.Learnt,
-  right-level-reads.Asked,
-  right-level-reads.Learnt,
-  right-want-reads.Asked,
-  right-want-reads.Learnt,
-  expression-below t,
-  expression.Post,
-  finish-reads.Asked,
-  finish-reads.Learnt,
-) (joined-at t) joined.Post
+joined-token-at-requires : (t : ℕ) → joined-lts.Need-token-at-requires (joined-claims t) (joined-at t) joined.Post
 joined-token-at-requires t c κs = search needs
 
--- src/expression.rt:260:9
-joined-right-level-requires : (t : ℕ) → joined-lts.Need-right-level-requires (
-  settle-for-reads.Asked,
-  settle-for-reads.Learnt,
-  token-at-reads.Asked,
-  token-at-reads.Learnt,
-  right-level-reads.Asked,
-  right-level-reads.Learnt,
-  right-want-reads.Asked,
-  right-want-reads.Learnt,
-  expression-below t,
-  expression.Post,
-  finish-reads.Asked,
-  finish-reads.Learnt,
-) (joined-at t) joined.Post
+joined-right-level-requires : (t : ℕ) → joined-lts.Need-right-level-requires (joined-claims t) (joined-at t) joined.Post
 joined-right-level-requires t c κs = search needs
 
--- src/expression.rt:261:9
-joined-right-want-requires : (t : ℕ) → joined-lts.Need-right-want-requires (
-  settle-for-reads.Asked,
-  settle-for-reads.Learnt,
-  token-at-reads.Asked,
-  token-at-reads.Learnt,
-  right-level-reads.Asked,
-  right-level-reads.Learnt,
-  right-want-reads.Asked,
-  right-want-reads.Learnt,
-  expression-below t,
-  expression.Post,
-  finish-reads.Asked,
-  finish-reads.Learnt,
-) (joined-at t) joined.Post
+joined-right-want-requires : (t : ℕ) → joined-lts.Need-right-want-requires (joined-claims t) (joined-at t) joined.Post
 joined-right-want-requires t c κs = search needs
 
--- src/expression.rt:262:52
-joined-sub-expression : (t : ℕ) → joined-lts.Need-sub-expression (
-  settle-for-reads.Asked,
-  settle-for-reads.Learnt,
-  token-at-reads.Asked,
-  token-at-reads.Learnt,
-  right-level-reads.Asked,
-  right-level-reads.Learnt,
-  right-want-reads.Asked,
-  right-want-reads.Learnt,
-  expression-below t,
-  expression.Post,
-  finish-reads.Asked,
-  finish-reads.Learnt,
-) (joined-at t) joined.Post
+joined-sub-expression : (t : ℕ) → joined-lts.Need-sub-expression (joined-claims t) (joined-at t) joined.Post
 joined-sub-expression t c = search needs
 
--- src/expression.rt:262:11
-joined-expression-requires : (t : ℕ) → joined-lts.Need-expression-requires (
-  settle-for-reads.Asked,
-  settle-for-reads.Learnt,
-  token-at-reads.Asked,
-  token-at-reads.Learnt,
-  right-level-reads.Asked,
-  right-level-reads.Learnt,
-  right-want-reads.Asked,
-  right-want-reads.Learnt,
-  expression-below t,
-  expression.Post,
-  finish-reads.Asked,
-  finish-reads.Learnt,
-) (joined-at t) joined.Post
+joined-expression-requires : (t : ℕ) → joined-lts.Need-expression-requires (joined-claims t) (joined-at t) joined.Post
 joined-expression-requires t c κs = search needs
 
--- src/expression.rt:263:22
-joined-enum-known-reason : (t : ℕ) → joined-lts.Need-enum-known-reason (
-  settle-for-reads.Asked,
-  settle-for-reads.Learnt,
-  token-at-reads.Asked,
-  token-at-reads.Learnt,
-  right-level-reads.Asked,
-  right-level-reads.Learnt,
-  right-want-reads.Asked,
-  right-want-reads.Learnt,
-  expression-below t,
-  expression.Post,
-  finish-reads.Asked,
-  finish-reads.Learnt,
-) (joined-at t) joined.Post
+joined-enum-known-reason : (t : ℕ) → joined-lts.Need-enum-known-reason (joined-claims t) (joined-at t) joined.Post
 joined-enum-known-reason t c = search needs
 
--- src/expression.rt:265:19
-joined-enum-known-x : (t : ℕ) → joined-lts.Need-enum-known-x (
-  settle-for-reads.Asked,
-  settle-for-reads.Learnt,
-  token-at-reads.Asked,
-  token-at-reads.Learnt,
-  right-level-reads.Asked,
-  right-level-reads.Learnt,
-  right-want-reads.Asked,
-  right-want-reads.Learnt,
-  expression-below t,
-  expression.Post,
-  finish-reads.Asked,
-  finish-reads.Learnt,
-) (joined-at t) joined.Post
+joined-enum-known-x : (t : ℕ) → joined-lts.Need-enum-known-x (joined-claims t) (joined-at t) joined.Post
 joined-enum-known-x t c = search needs
 
--- src/expression.rt:269:14
-joined-finish-requires : (t : ℕ) → joined-lts.Need-finish-requires (
-  settle-for-reads.Asked,
-  settle-for-reads.Learnt,
-  token-at-reads.Asked,
-  token-at-reads.Learnt,
-  right-level-reads.Asked,
-  right-level-reads.Learnt,
-  right-want-reads.Asked,
-  right-want-reads.Learnt,
-  expression-below t,
-  expression.Post,
-  finish-reads.Asked,
-  finish-reads.Learnt,
-) (joined-at t) joined.Post
+joined-finish-requires : (t : ℕ) → joined-lts.Need-finish-requires (joined-claims t) (joined-at t) joined.Post
 joined-finish-requires t c κs = search needs
 
--- src/expression.rt:242:1
-joined-same-length : (t : ℕ) → joined-lts.Need-same-length (
-  settle-for-reads.Asked,
-  settle-for-reads.Learnt,
-  token-at-reads.Asked,
-  token-at-reads.Learnt,
-  right-level-reads.Asked,
-  right-level-reads.Learnt,
-  right-want-reads.Asked,
-  right-want-reads.Learnt,
-  expression-below t,
-  expression.Post,
-  finish-reads.Asked,
-  finish-reads.Learnt,
-) (joined-at t) joined.Post
+joined-same-length : (t : ℕ) → joined-lts.Need-same-length (joined-claims t) (joined-at t) joined.Post
 joined-same-length t c = search needs
 
--- src/expression.rt:242:1
-joined-returns-2 : (t : ℕ) → joined-lts.Need-returns-2 (
-  settle-for-reads.Asked,
-  settle-for-reads.Learnt,
-  token-at-reads.Asked,
-  token-at-reads.Learnt,
-  right-level-reads.Asked,
-  right-level-reads.Learnt,
-  right-want-reads.Asked,
-  right-want-reads.Learnt,
-  expression-below t,
-  expression.Post,
-  finish-reads.Asked,
-  finish-reads.Learnt,
-) (joined-at t) joined.Post
+joined-returns-2 : (t : ℕ) → joined-lts.Need-returns-2 (joined-claims t) (joined-at t) joined.Post
 joined-returns-2 t c = search joined-aside
 
--- src/expression.rt:242:1
-joined-same-length-2 : (t : ℕ) → joined-lts.Need-same-length-2 (
-  settle-for-reads.Asked,
-  settle-for-reads.Learnt,
-  token-at-reads.Asked,
-  token-at-reads.Learnt,
-  right-level-reads.Asked,
-  right-level-reads.Learnt,
-  right-want-reads.Asked,
-  right-want-reads.Learnt,
-  expression-below t,
-  expression.Post,
-  finish-reads.Asked,
-  finish-reads.Learnt,
-) (joined-at t) joined.Post
+joined-same-length-2 : (t : ℕ) → joined-lts.Need-same-length-2 (joined-claims t) (joined-at t) joined.Post
 joined-same-length-2 t c = search needs
 
--- src/expression.rt:242:1
-joined-returns-3 : (t : ℕ) → joined-lts.Need-returns-3 (
-  settle-for-reads.Asked,
-  settle-for-reads.Learnt,
-  token-at-reads.Asked,
-  token-at-reads.Learnt,
-  right-level-reads.Asked,
-  right-level-reads.Learnt,
-  right-want-reads.Asked,
-  right-want-reads.Learnt,
-  expression-below t,
-  expression.Post,
-  finish-reads.Asked,
-  finish-reads.Learnt,
-) (joined-at t) joined.Post
+joined-returns-3 : (t : ℕ) → joined-lts.Need-returns-3 (joined-claims t) (joined-at t) joined.Post
 joined-returns-3 t c = search joined-found
 
--- src/expression.rt:75:9
-operand-returns : (t : ℕ) → operand-lts.Need-returns (
-  is-allowed-reads.Asked,
-  is-allowed-reads.Learnt,
-  prefix-operator-reads.Asked,
-  prefix-operator-reads.Learnt,
-  prefixed-below t,
-  prefixed.Post,
-  bracketed-below t,
-  bracketed.Post,
-  leaf-reads.Asked,
-  leaf-reads.Learnt,
-  unexpected-reads.Asked,
-  unexpected-reads.Learnt,
-) (operand-at t) operand.Post
+operand-returns : (t : ℕ) → operand-lts.Need-returns (operand-claims t) (operand-at t) operand.Post
 operand-returns t c = search operand-0
 
--- src/expression.rt:80:8
-operand-is-allowed-requires : (t : ℕ) → operand-lts.Need-is-allowed-requires (
-  is-allowed-reads.Asked,
-  is-allowed-reads.Learnt,
-  prefix-operator-reads.Asked,
-  prefix-operator-reads.Learnt,
-  prefixed-below t,
-  prefixed.Post,
-  bracketed-below t,
-  bracketed.Post,
-  leaf-reads.Asked,
-  leaf-reads.Learnt,
-  unexpected-reads.Asked,
-  unexpected-reads.Learnt,
-) (operand-at t) operand.Post
+operand-is-allowed-requires : (t : ℕ) → operand-lts.Need-is-allowed-requires (operand-claims t) (operand-at t) operand.Post
 operand-is-allowed-requires t c κs = search needs
 
--- src/expression.rt:81:13
-operand-prefix-operator-requires : (t : ℕ) → operand-lts.Need-prefix-operator-requires (
-  is-allowed-reads.Asked,
-  is-allowed-reads.Learnt,
-  prefix-operator-reads.Asked,
-  prefix-operator-reads.Learnt,
-  prefixed-below t,
-  prefixed.Post,
-  bracketed-below t,
-  bracketed.Post,
-  leaf-reads.Asked,
-  leaf-reads.Learnt,
-  unexpected-reads.Asked,
-  unexpected-reads.Learnt,
-) (operand-at t) operand.Post
+operand-prefix-operator-requires : (t : ℕ) → operand-lts.Need-prefix-operator-requires (operand-claims t) (operand-at t) operand.Post
 operand-prefix-operator-requires t c κs = search needs
 
--- src/expression.rt:83:66
-operand-sub-prefixed : (t : ℕ) → operand-lts.Need-sub-prefixed (
-  is-allowed-reads.Asked,
-  is-allowed-reads.Learnt,
-  prefix-operator-reads.Asked,
-  prefix-operator-reads.Learnt,
-  prefixed-below t,
-  prefixed.Post,
-  bracketed-below t,
-  bracketed.Post,
-  leaf-reads.Asked,
-  leaf-reads.Learnt,
-  unexpected-reads.Asked,
-  unexpected-reads.Learnt,
-) (operand-at t) operand.Post
+operand-sub-prefixed : (t : ℕ) → operand-lts.Need-sub-prefixed (operand-claims t) (operand-at t) operand.Post
 operand-sub-prefixed t c = search needs
 
--- src/expression.rt:83:13
-operand-prefixed-requires : (t : ℕ) → operand-lts.Need-prefixed-requires (
-  is-allowed-reads.Asked,
-  is-allowed-reads.Learnt,
-  prefix-operator-reads.Asked,
-  prefix-operator-reads.Learnt,
-  prefixed-below t,
-  prefixed.Post,
-  bracketed-below t,
-  bracketed.Post,
-  leaf-reads.Asked,
-  leaf-reads.Learnt,
-  unexpected-reads.Asked,
-  unexpected-reads.Learnt,
-) (operand-at t) operand.Post
+operand-prefixed-requires : (t : ℕ) → operand-lts.Need-prefixed-requires (operand-claims t) (operand-at t) operand.Post
 operand-prefixed-requires t c κs = search needs
 
--- src/expression.rt:83:13
-operand-same-length : (t : ℕ) → operand-lts.Need-same-length (
-  is-allowed-reads.Asked,
-  is-allowed-reads.Learnt,
-  prefix-operator-reads.Asked,
-  prefix-operator-reads.Learnt,
-  prefixed-below t,
-  prefixed.Post,
-  bracketed-below t,
-  bracketed.Post,
-  leaf-reads.Asked,
-  leaf-reads.Learnt,
-  unexpected-reads.Asked,
-  unexpected-reads.Learnt,
-) (operand-at t) operand.Post
+operand-same-length : (t : ℕ) → operand-lts.Need-same-length (operand-claims t) (operand-at t) operand.Post
 operand-same-length t c = search needs
 
--- src/expression.rt:83:13
-operand-returns-2 : (t : ℕ) → operand-lts.Need-returns-2 (
-  is-allowed-reads.Asked,
-  is-allowed-reads.Learnt,
-  prefix-operator-reads.Asked,
-  prefix-operator-reads.Learnt,
-  prefixed-below t,
-  prefixed.Post,
-  bracketed-below t,
-  bracketed.Post,
-  leaf-reads.Asked,
-  leaf-reads.Learnt,
-  unexpected-reads.Asked,
-  unexpected-reads.Learnt,
-) (operand-at t) operand.Post
+operand-returns-2 : (t : ℕ) → operand-lts.Need-returns-2 (operand-claims t) (operand-at t) operand.Post
 operand-returns-2 t c = search operand-prefixed
 
--- src/expression.rt:86:59
-operand-sub-bracketed : (t : ℕ) → operand-lts.Need-sub-bracketed (
-  is-allowed-reads.Asked,
-  is-allowed-reads.Learnt,
-  prefix-operator-reads.Asked,
-  prefix-operator-reads.Learnt,
-  prefixed-below t,
-  prefixed.Post,
-  bracketed-below t,
-  bracketed.Post,
-  leaf-reads.Asked,
-  leaf-reads.Learnt,
-  unexpected-reads.Asked,
-  unexpected-reads.Learnt,
-) (operand-at t) operand.Post
+operand-sub-bracketed : (t : ℕ) → operand-lts.Need-sub-bracketed (operand-claims t) (operand-at t) operand.Post
 operand-sub-bracketed t c = search needs
 
--- src/expression.rt:86:13
-operand-bracketed-requires : (t : ℕ) → operand-lts.Need-bracketed-requires (
-  is-allowed-reads.Asked,
-  is-allowed-reads.Learnt,
-  prefix-operator-reads.Asked,
-  prefix-operator-reads.Learnt,
-  prefixed-below t,
-  prefixed.Post,
-  bracketed-below t,
-  bracketed.Post,
-  leaf-reads.Asked,
-  leaf-reads.Learnt,
-  unexpected-reads.Asked,
-  unexpected-reads.Learnt,
-) (operand-at t) operand.Post
+operand-bracketed-requires : (t : ℕ) → operand-lts.Need-bracketed-requires (operand-claims t) (operand-at t) operand.Post
 operand-bracketed-requires t c κs = search needs
 
--- src/expression.rt:86:13
-operand-same-length-2 : (t : ℕ) → operand-lts.Need-same-length-2 (
-  is-allowed-reads.Asked,
-  is-allowed-reads.Learnt,
-  prefix-operator-reads.Asked,
-  prefix-operator-reads.Learnt,
-  prefixed-below t,
-  prefixed.Post,
-  bracketed-below t,
-  bracketed.Post,
-  leaf-reads.Asked,
-  leaf-reads.Learnt,
-  unexpected-reads.Asked,
-  unexpected-reads.Learnt,
-) (operand-at t) operand.Post
+operand-same-length-2 : (t : ℕ) → operand-lts.Need-same-length-2 (operand-claims t) (operand-at t) operand.Post
 operand-same-length-2 t c = search needs
 
--- src/expression.rt:86:13
-operand-returns-3 : (t : ℕ) → operand-lts.Need-returns-3 (
-  is-allowed-reads.Asked,
-  is-allowed-reads.Learnt,
-  prefix-operator-reads.Asked,
-  prefix-operator-reads.Learnt,
-  prefixed-below t,
-  prefixed.Post,
-  bracketed-below t,
-  bracketed.Post,
-  leaf-reads.Asked,
-  leaf-reads.Learnt,
-  unexpected-reads.Asked,
-  unexpected-reads.Learnt,
-) (operand-at t) operand.Post
+operand-returns-3 : (t : ℕ) → operand-lts.Need-returns-3 (operand-claims t) (operand-at t) operand.Post
 operand-returns-3 t c = search operand-bracketed
 
--- src/expression.rt:88:9
-operand-leaf-requires : (t : ℕ) → operand-lts.Need-leaf-requires (
-  is-allowed-reads.Asked,
-  is-allowed-reads.Learnt,
-  prefix-operator-reads.Asked,
-  prefix-operator-reads.Learnt,
-  prefixed-below t,
-  prefixed.Post,
-  bracketed-below t,
-  bracketed.Post,
-  leaf-reads.Asked,
-  leaf-reads.Learnt,
-  unexpected-reads.Asked,
-  unexpected-reads.Learnt,
-) (operand-at t) operand.Post
+operand-leaf-requires : (t : ℕ) → operand-lts.Need-leaf-requires (operand-claims t) (operand-at t) operand.Post
 operand-leaf-requires t c κs = search needs
 
--- src/expression.rt:88:9
-operand-same-length-3 : (t : ℕ) → operand-lts.Need-same-length-3 (
-  is-allowed-reads.Asked,
-  is-allowed-reads.Learnt,
-  prefix-operator-reads.Asked,
-  prefix-operator-reads.Learnt,
-  prefixed-below t,
-  prefixed.Post,
-  bracketed-below t,
-  bracketed.Post,
-  leaf-reads.Asked,
-  leaf-reads.Learnt,
-  unexpected-reads.Asked,
-  unexpected-reads.Learnt,
-) (operand-at t) operand.Post
+operand-same-length-3 : (t : ℕ) → operand-lts.Need-same-length-3 (operand-claims t) (operand-at t) operand.Post
 operand-same-length-3 t c = search needs
 
--- src/expression.rt:88:9
-operand-returns-4 : (t : ℕ) → operand-lts.Need-returns-4 (
-  is-allowed-reads.Asked,
-  is-allowed-reads.Learnt,
-  prefix-operator-reads.Asked,
-  prefix-operator-reads.Learnt,
-  prefixed-below t,
-  prefixed.Post,
-  bracketed-below t,
-  bracketed.Post,
-  leaf-reads.Asked,
-  leaf-reads.Learnt,
-  unexpected-reads.Asked,
-  unexpected-reads.Learnt,
-) (operand-at t) operand.Post
+operand-returns-4 : (t : ℕ) → operand-lts.Need-returns-4 (operand-claims t) (operand-at t) operand.Post
 operand-returns-4 t c = search operand-leaf
 
--- src/expression.rt:90:5
-operand-unexpected-requires : (t : ℕ) → operand-lts.Need-unexpected-requires (
-  is-allowed-reads.Asked,
-  is-allowed-reads.Learnt,
-  prefix-operator-reads.Asked,
-  prefix-operator-reads.Learnt,
-  prefixed-below t,
-  prefixed.Post,
-  bracketed-below t,
-  bracketed.Post,
-  leaf-reads.Asked,
-  leaf-reads.Learnt,
-  unexpected-reads.Asked,
-  unexpected-reads.Learnt,
-) (operand-at t) operand.Post
+operand-unexpected-requires : (t : ℕ) → operand-lts.Need-unexpected-requires (operand-claims t) (operand-at t) operand.Post
 operand-unexpected-requires t c κs = search needs
 
--- src/expression.rt:62:1
-operand-returns-5 : (t : ℕ) → operand-lts.Need-returns-5 (
-  is-allowed-reads.Asked,
-  is-allowed-reads.Learnt,
-  prefix-operator-reads.Asked,
-  prefix-operator-reads.Learnt,
-  prefixed-below t,
-  prefixed.Post,
-  bracketed-below t,
-  bracketed.Post,
-  leaf-reads.Asked,
-  leaf-reads.Learnt,
-  unexpected-reads.Asked,
-  unexpected-reads.Learnt,
-) (operand-at t) operand.Post
+operand-returns-5 : (t : ℕ) → operand-lts.Need-returns-5 (operand-claims t) (operand-at t) operand.Post
 operand-returns-5 t c = search operand-not
 
--- src/expression.rt:108:9
-prefixed-returns : (t : ℕ) → prefixed-lts.Need-returns (
-  token-at-reads.Asked,
-  token-at-reads.Learnt,
-  operand-level-reads.Asked,
-  operand-level-reads.Learnt,
-  operand-want-reads.Asked,
-  operand-want-reads.Learnt,
-  expression-below t,
-  expression.Post,
-  finish-any-reads.Asked,
-  finish-any-reads.Learnt,
-) (prefixed-at t) prefixed.Post
+prefixed-returns : (t : ℕ) → prefixed-lts.Need-returns (prefixed-claims t) (prefixed-at t) prefixed.Post
 prefixed-returns t c = search prefixed-0
 
--- src/expression.rt:114:9
-prefixed-returns-2 : (t : ℕ) → prefixed-lts.Need-returns-2 (
-  token-at-reads.Asked,
-  token-at-reads.Learnt,
-  operand-level-reads.Asked,
-  operand-level-reads.Learnt,
-  operand-want-reads.Asked,
-  operand-want-reads.Learnt,
-  expression-below t,
-  expression.Post,
-  finish-any-reads.Asked,
-  finish-any-reads.Learnt,
-) (prefixed-at t) prefixed.Post
+prefixed-returns-2 : (t : ℕ) → prefixed-lts.Need-returns-2 (prefixed-claims t) (prefixed-at t) prefixed.Post
 prefixed-returns-2 t c = search prefixed-row
 
--- src/expression.rt:119:9
-prefixed-token-at-requires : (t : ℕ) → prefixed-lts.Need-token-at-requires (
-  token-at-reads.Asked,
-  token-at-reads.Learnt,
-  operand-level-reads.Asked,
-  operand-level-reads.Learnt,
-  operand-want-reads.Asked,
-  operand-want-reads.Learnt,
-  expression-below t,
-  expression.Post,
-  finish-any-reads.Asked,
-  finish-any-reads.Learnt,
-) (prefixed-at t) prefixed.Post
+prefixed-token-at-requires : (t : ℕ) → prefixed-lts.Need-token-at-requires (prefixed-claims t) (prefixed-at t) prefixed.Post
 prefixed-token-at-requires t c κs = search needs
 
--- src/expression.rt:120:9
-prefixed-operand-level-requires : (t : ℕ) → prefixed-lts.Need-operand-level-requires (
-  token-at-reads.Asked,
-  token-at-reads.Learnt,
-  operand-level-reads.Asked,
-  operand-level-reads.Learnt,
-  operand-want-reads.Asked,
-  operand-want-reads.Learnt,
-  expression-below t,
-  expression.Post,
-  finish-any-reads.Asked,
-  finish-any-reads.Learnt,
-) (prefixed-at t) prefixed.Post
+prefixed-operand-level-requires : (t : ℕ) → prefixed-lts.Need-operand-level-requires (prefixed-claims t) (prefixed-at t) prefixed.Post
 prefixed-operand-level-requires t c κs = search needs
 
--- src/expression.rt:121:9
-prefixed-operand-want-requires : (t : ℕ) → prefixed-lts.Need-operand-want-requires (
-  token-at-reads.Asked,
-  token-at-reads.Learnt,
-  operand-level-reads.Asked,
-  operand-level-reads.Learnt,
-  operand-want-reads.Asked,
-  operand-want-reads.Learnt,
-  expression-below t,
-  expression.Post,
-  finish-any-reads.Asked,
-  finish-any-reads.Learnt,
-) (prefixed-at t) prefixed.Post
+prefixed-operand-want-requires : (t : ℕ) → prefixed-lts.Need-operand-want-requires (prefixed-claims t) (prefixed-at t) prefixed.Post
 prefixed-operand-want-requires t c κs = search needs
 
--- src/expression.rt:122:42
-prefixed-add-expression : (t : ℕ) → prefixed-lts.Need-add-expression (
-  token-at-reads.Asked,
-  token-at-reads.Learnt,
-  operand-level-reads.Asked,
-  operand-level-reads.Learnt,
-  operand-want-reads.Asked,
-  operand-want-reads.Learnt,
-  expression-below t,
-  expression.Post,
-  finish-any-reads.Asked,
-  finish-any-reads.Learnt,
-) (prefixed-at t) prefixed.Post
+prefixed-add-expression : (t : ℕ) → prefixed-lts.Need-add-expression (prefixed-claims t) (prefixed-at t) prefixed.Post
 prefixed-add-expression t c = search needs
 
--- src/expression.rt:122:60
-prefixed-sub-expression : (t : ℕ) → prefixed-lts.Need-sub-expression (
-  token-at-reads.Asked,
-  token-at-reads.Learnt,
-  operand-level-reads.Asked,
-  operand-level-reads.Learnt,
-  operand-want-reads.Asked,
-  operand-want-reads.Learnt,
-  expression-below t,
-  expression.Post,
-  finish-any-reads.Asked,
-  finish-any-reads.Learnt,
-) (prefixed-at t) prefixed.Post
+prefixed-sub-expression : (t : ℕ) → prefixed-lts.Need-sub-expression (prefixed-claims t) (prefixed-at t) prefixed.Post
 prefixed-sub-expression t c = search needs
 
--- src/expression.rt:122:11
-prefixed-expression-requires : (t : ℕ) → prefixed-lts.Need-expression-requires (
-  token-at-reads.Asked,
-  token-at-reads.Learnt,
-  operand-level-reads.Asked,
-  operand-level-reads.Learnt,
-  operand-want-reads.Asked,
-  operand-want-reads.Learnt,
-  expression-below t,
-  expression.Post,
-  finish-any-reads.Asked,
-  finish-any-reads.Learnt,
-) (prefixed-at t) prefixed.Post
+prefixed-expression-requires : (t : ℕ) → prefixed-lts.Need-expression-requires (prefixed-claims t) (prefixed-at t) prefixed.Post
 prefixed-expression-requires t c κs = search needs
 
--- src/expression.rt:123:22
-prefixed-enum-known-reason : (t : ℕ) → prefixed-lts.Need-enum-known-reason (
-  token-at-reads.Asked,
-  token-at-reads.Learnt,
-  operand-level-reads.Asked,
-  operand-level-reads.Learnt,
-  operand-want-reads.Asked,
-  operand-want-reads.Learnt,
-  expression-below t,
-  expression.Post,
-  finish-any-reads.Asked,
-  finish-any-reads.Learnt,
-) (prefixed-at t) prefixed.Post
+prefixed-enum-known-reason : (t : ℕ) → prefixed-lts.Need-enum-known-reason (prefixed-claims t) (prefixed-at t) prefixed.Post
 prefixed-enum-known-reason t c = search needs
 
--- src/expression.rt:125:13
-prefixed-enum-known-sort : (t : ℕ) → prefixed-lts.Need-enum-known-sort (
-  token-at-reads.Asked,
-  token-at-reads.Learnt,
-  operand-level-reads.Asked,
-  operand-level-reads.Learnt,
-  operand-want-reads.Asked,
-  operand-want-reads.Learnt,
-  expression-below t,
-  expression.Post,
-  finish-any-reads.Asked,
-  finish-any-reads.Learnt,
-) (prefixed-at t) prefixed.Post
+prefixed-enum-known-sort : (t : ℕ) → prefixed-lts.Need-enum-known-sort (prefixed-claims t) (prefixed-at t) prefixed.Post
 prefixed-enum-known-sort t c = search needs
 
--- src/expression.rt:129:14
-prefixed-finish-any-requires : (t : ℕ) → prefixed-lts.Need-finish-any-requires (
-  token-at-reads.Asked,
-  token-at-reads.Learnt,
-  operand-level-reads.Asked,
-  operand-level-reads.Learnt,
-  operand-want-reads.Asked,
-  operand-want-reads.Learnt,
-  expression-below t,
-  expression.Post,
-  finish-any-reads.Asked,
-  finish-any-reads.Learnt,
-) (prefixed-at t) prefixed.Post
+prefixed-finish-any-requires : (t : ℕ) → prefixed-lts.Need-finish-any-requires (prefixed-claims t) (prefixed-at t) prefixed.Post
 prefixed-finish-any-requires t c κs = search needs
 
--- src/expression.rt:94:1
-prefixed-same-length : (t : ℕ) → prefixed-lts.Need-same-length (
-  token-at-reads.Asked,
-  token-at-reads.Learnt,
-  operand-level-reads.Asked,
-  operand-level-reads.Learnt,
-  operand-want-reads.Asked,
-  operand-want-reads.Learnt,
-  expression-below t,
-  expression.Post,
-  finish-any-reads.Asked,
-  finish-any-reads.Learnt,
-) (prefixed-at t) prefixed.Post
+prefixed-same-length : (t : ℕ) → prefixed-lts.Need-same-length (prefixed-claims t) (prefixed-at t) prefixed.Post
 prefixed-same-length t c = search needs
 
--- src/expression.rt:94:1
-prefixed-returns-3 : (t : ℕ) → prefixed-lts.Need-returns-3 (
-  token-at-reads.Asked,
-  token-at-reads.Learnt,
-  operand-level-reads.Asked,
-  operand-level-reads.Learnt,
-  operand-want-reads.Asked,
-  operand-want-reads.Learnt,
-  expression-below t,
-  expression.Post,
-  finish-any-reads.Asked,
-  finish-any-reads.Learnt,
-) (prefixed-at t) prefixed.Post
+prefixed-returns-3 : (t : ℕ) → prefixed-lts.Need-returns-3 (prefixed-claims t) (prefixed-at t) prefixed.Post
 prefixed-returns-3 t c = search prefixed-aside
 
--- src/expression.rt:94:1
-prefixed-same-length-2 : (t : ℕ) → prefixed-lts.Need-same-length-2 (
-  token-at-reads.Asked,
-  token-at-reads.Learnt,
-  operand-level-reads.Asked,
-  operand-level-reads.Learnt,
-  operand-want-reads.Asked,
-  operand-want-reads.Learnt,
-  expression-below t,
-  expression.Post,
-  finish-any-reads.Asked,
-  finish-any-reads.Learnt,
-) (prefixed-at t) prefixed.Post
+prefixed-same-length-2 : (t : ℕ) → prefixed-lts.Need-same-length-2 (prefixed-claims t) (prefixed-at t) prefixed.Post
 prefixed-same-length-2 t c = search needs
 
--- src/expression.rt:94:1
-prefixed-returns-4 : (t : ℕ) → prefixed-lts.Need-returns-4 (
-  token-at-reads.Asked,
-  token-at-reads.Learnt,
-  operand-level-reads.Asked,
-  operand-level-reads.Learnt,
-  operand-want-reads.Asked,
-  operand-want-reads.Learnt,
-  expression-below t,
-  expression.Post,
-  finish-any-reads.Asked,
-  finish-any-reads.Learnt,
-) (prefixed-at t) prefixed.Post
+prefixed-returns-4 : (t : ℕ) → prefixed-lts.Need-returns-4 (prefixed-claims t) (prefixed-at t) prefixed.Post
 prefixed-returns-4 t c = search prefixed-found
 
 pub +bracketed+chain+expression+joined+operand+prefixed-spec : {M : Type 1} → statement M

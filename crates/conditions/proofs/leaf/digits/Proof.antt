@@ -8,27 +8,21 @@ use Rattle.conditions.proofs.emit.push.Reads as push-reads
 use Rattle.lexical.proofs.token_at.Reads as token-at-reads
 use Rattle.lexical.proofs.number.is_large.Reads as is-large-reads
 
--- src/leaf.rt:90:8
 is-large-requires : tie.Need-is-large-requires
 is-large-requires c κs = search needs
 
--- src/leaf.rt:91:9
 returns : tie.Need-returns
 returns c = search digits-large
 
--- src/leaf.rt:96:9
 push-requires : tie.Need-push-requires
 push-requires c κs = search needs
 
--- src/leaf.rt:97:9
 token-at-requires : tie.Need-token-at-requires
 token-at-requires c κs = search needs
 
--- src/leaf.rt:87:1
 same-length : tie.Need-same-length
 same-length c = search needs
 
--- src/leaf.rt:87:1
 returns-2 : tie.Need-returns-2
 returns-2 c = search digits-made
 

@@ -5,15 +5,12 @@ use Rattle.conditions.proofs.leaf.float.Tie as tie
 use Rattle.conditions.proofs.leaf.float.Reads as reads
 use Rattle.conditions.proofs.leaf.float.Lts as lts
 
--- src/leaf.rt:115:13
 returns : tie.Need-returns
 returns c = search float-row
 
--- src/leaf.rt:110:1
 returns-2 : tie.Need-returns-2
 returns-2 c = search float-sign
 
--- src/leaf.rt:110:1
 returns-3 : tie.Need-returns-3
 returns-3 c = search float-made
 

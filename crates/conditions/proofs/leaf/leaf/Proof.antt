@@ -9,47 +9,36 @@ use Rattle.conditions.proofs.leaf.float.Reads as float-reads
 use Rattle.conditions.proofs.leaf.literal.Reads as literal-reads
 use Rattle.conditions.proofs.leaf.name.Reads as name-reads
 
--- src/leaf.rt:132:9
 literal-requires : tie.Need-literal-requires
 literal-requires c κs = search needs
 
--- src/leaf.rt:132:9
 same-length : tie.Need-same-length
 same-length c = search needs
 
--- src/leaf.rt:132:9
 returns : tie.Need-returns
 returns c = search leaf-literal
 
--- src/leaf.rt:135:9
 name-requires : tie.Need-name-requires
 name-requires c κs = search needs
 
--- src/leaf.rt:135:9
 same-length-2 : tie.Need-same-length-2
 same-length-2 c = search needs
 
--- src/leaf.rt:135:9
 returns-2 : tie.Need-returns-2
 returns-2 c = search leaf-name
 
--- src/leaf.rt:138:9
 digits-requires : tie.Need-digits-requires
 digits-requires c κs = search needs
 
--- src/leaf.rt:138:9
 same-length-3 : tie.Need-same-length-3
 same-length-3 c = search needs
 
--- src/leaf.rt:138:9
 returns-3 : tie.Need-returns-3
 returns-3 c = search leaf-digits
 
--- src/leaf.rt:140:5
 float-requires : tie.Need-float-requires
 float-requires c κs = search needs
 
--- src/leaf.rt:128:1
 returns-4 : tie.Need-returns-4
 returns-4 c = search leaf-float
 

@@ -8,27 +8,21 @@ use Rattle.conditions.proofs.emit.push.Reads as push-reads
 use Rattle.lexical.proofs.token_at.Reads as token-at-reads
 use Rattle.lexical.proofs.is_short.Reads as is-short-reads
 
--- src/leaf.rt:32:8
 is-short-requires : tie.Need-is-short-requires
 is-short-requires c κs = search needs
 
--- src/leaf.rt:33:13
 push-requires : tie.Need-push-requires
 push-requires c κs = search needs
 
--- src/leaf.rt:34:13
 token-at-requires : tie.Need-token-at-requires
 token-at-requires c κs = search needs
 
--- src/leaf.rt:35:9
 same-length : tie.Need-same-length
 same-length c = search needs
 
--- src/leaf.rt:35:9
 returns : tie.Need-returns
 returns c = search literal-made
 
--- src/leaf.rt:29:1
 returns-2 : tie.Need-returns-2
 returns-2 c = search literal-long
 

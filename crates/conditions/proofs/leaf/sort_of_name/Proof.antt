@@ -7,27 +7,21 @@ use Rattle.conditions.proofs.leaf.sort_of_name.Lts as lts
 use Rattle.lexical.proofs.word.is_false.Reads as is-false-reads
 use Rattle.lexical.proofs.word.is_true.Reads as is-true-reads
 
--- src/leaf.rt:54:9
 returns : tie.Need-returns
 returns c = search word-settled
 
--- src/leaf.rt:56:8
 is-true-requires : tie.Need-is-true-requires
 is-true-requires c κs = search needs
 
--- src/leaf.rt:57:9
 returns-2 : tie.Need-returns-2
 returns-2 c = search word-is-true
 
--- src/leaf.rt:59:8
 is-false-requires : tie.Need-is-false-requires
 is-false-requires c κs = search needs
 
--- src/leaf.rt:60:9
 returns-3 : tie.Need-returns-3
 returns-3 c = search word-is-false
 
--- src/leaf.rt:50:1
 returns-4 : tie.Need-returns-4
 returns-4 c = search word-other
 

@@ -96,103 +96,99 @@ value-at t = and 2 value-kinds.ps (is 2 value-kinds.ps μ-value t) value.Pre
 abbrev value-below : ℕ → In 2 value-kinds.ps
 value-below t = and 2 value-kinds.ps (falls 2 value-kinds.ps _<_ μ-value t) value.Pre
 
--- src/program.rt:31:9
-clause-returns : (t : ℕ) → clause-lts.Need-returns (
+abbrev clause-claims : ℕ → clause-lts.Claims
+clause-claims t = (
   expression-reads.Asked,
   expression-reads.Learnt,
   tested-below t,
   tested.Post,
-) (clause-at t) clause.Post
+)
+
+abbrev clauses-claims : ℕ → clauses-lts.Claims
+clauses-claims t = (
+  is-stop-reads.Asked,
+  is-stop-reads.Learnt,
+  clause-below t,
+  clause.Post,
+  last-reads.Asked,
+  last-reads.Learnt,
+)
+
+abbrev nested-claims : ℕ → nested-lts.Claims
+nested-claims t = (
+  token-at-reads.Asked,
+  token-at-reads.Learnt,
+  program-below t,
+  program.Post,
+  ended-reads.Asked,
+  ended-reads.Learnt,
+)
+
+abbrev program-claims : ℕ → program-lts.Claims
+program-claims t = (
+  push-reads.Asked,
+  push-reads.Learnt,
+  clauses-below t,
+  clauses.Post,
+)
+
+abbrev tested-claims : ℕ → tested-lts.Claims
+tested-claims t = (
+  is-fit-reads.Asked,
+  is-fit-reads.Learnt,
+  settle-reads.Asked,
+  settle-reads.Learnt,
+  token-at-reads.Asked,
+  token-at-reads.Learnt,
+  value-below t,
+  value.Post,
+  ended-reads.Asked,
+  ended-reads.Learnt,
+  unexpected-reads.Asked,
+  unexpected-reads.Learnt,
+)
+
+abbrev value-claims : ℕ → value-lts.Claims
+value-claims t = (
+  nested-below t,
+  nested.Post,
+  expression-reads.Asked,
+  expression-reads.Learnt,
+  valued-reads.Asked,
+  valued-reads.Learnt,
+)
+
+clause-returns : (t : ℕ) → clause-lts.Need-returns (clause-claims t) (clause-at t) clause.Post
 clause-returns t c = search clause-0
 
--- src/program.rt:36:56
-clause-sub-expression : (t : ℕ) → clause-lts.Need-sub-expression (
-  expression-reads.Asked,
-  expression-reads.Learnt,
-  tested-below t,
-  tested.Post,
-) (clause-at t) clause.Post
+clause-sub-expression : (t : ℕ) → clause-lts.Need-sub-expression (clause-claims t) (clause-at t) clause.Post
 clause-sub-expression t c = search needs
 
--- src/program.rt:36:11
-clause-expression-requires : (t : ℕ) → clause-lts.Need-expression-requires (
-  expression-reads.Asked,
-  expression-reads.Learnt,
-  tested-below t,
-  tested.Post,
-) (clause-at t) clause.Post
+clause-expression-requires : (t : ℕ) → clause-lts.Need-expression-requires (clause-claims t) (clause-at t) clause.Post
 clause-expression-requires t c κs = search needs
 
--- src/program.rt:37:22
-clause-enum-known-reason : (t : ℕ) → clause-lts.Need-enum-known-reason (
-  expression-reads.Asked,
-  expression-reads.Learnt,
-  tested-below t,
-  tested.Post,
-) (clause-at t) clause.Post
+clause-enum-known-reason : (t : ℕ) → clause-lts.Need-enum-known-reason (clause-claims t) (clause-at t) clause.Post
 clause-enum-known-reason t c = search needs
 
--- src/program.rt:39:13
-clause-enum-known-sort : (t : ℕ) → clause-lts.Need-enum-known-sort (
-  expression-reads.Asked,
-  expression-reads.Learnt,
-  tested-below t,
-  tested.Post,
-) (clause-at t) clause.Post
+clause-enum-known-sort : (t : ℕ) → clause-lts.Need-enum-known-sort (clause-claims t) (clause-at t) clause.Post
 clause-enum-known-sort t c = search needs
 
--- src/program.rt:43:58
-clause-sub-tested : (t : ℕ) → clause-lts.Need-sub-tested (
-  expression-reads.Asked,
-  expression-reads.Learnt,
-  tested-below t,
-  tested.Post,
-) (clause-at t) clause.Post
+clause-sub-tested : (t : ℕ) → clause-lts.Need-sub-tested (clause-claims t) (clause-at t) clause.Post
 clause-sub-tested t c = search needs
 
--- src/program.rt:43:14
-clause-tested-requires : (t : ℕ) → clause-lts.Need-tested-requires (
-  expression-reads.Asked,
-  expression-reads.Learnt,
-  tested-below t,
-  tested.Post,
-) (clause-at t) clause.Post
+clause-tested-requires : (t : ℕ) → clause-lts.Need-tested-requires (clause-claims t) (clause-at t) clause.Post
 clause-tested-requires t c κs = search needs
 
--- src/program.rt:27:1
-clause-same-length : (t : ℕ) → clause-lts.Need-same-length (
-  expression-reads.Asked,
-  expression-reads.Learnt,
-  tested-below t,
-  tested.Post,
-) (clause-at t) clause.Post
+clause-same-length : (t : ℕ) → clause-lts.Need-same-length (clause-claims t) (clause-at t) clause.Post
 clause-same-length t c = search needs
 
--- src/program.rt:27:1
-clause-returns-2 : (t : ℕ) → clause-lts.Need-returns-2 (
-  expression-reads.Asked,
-  expression-reads.Learnt,
-  tested-below t,
-  tested.Post,
-) (clause-at t) clause.Post
+clause-returns-2 : (t : ℕ) → clause-lts.Need-returns-2 (clause-claims t) (clause-at t) clause.Post
 clause-returns-2 t c = search clause-aside
 
--- src/program.rt:27:1
-clause-same-length-2 : (t : ℕ) → clause-lts.Need-same-length-2 (
-  expression-reads.Asked,
-  expression-reads.Learnt,
-  tested-below t,
-  tested.Post,
-) (clause-at t) clause.Post
+clause-same-length-2 : (t : ℕ) → clause-lts.Need-same-length-2 (clause-claims t) (clause-at t) clause.Post
 clause-same-length-2 t c = search needs
 
--- src/program.rt:27:1
-clause-returns-3 : (t : ℕ) → clause-lts.Need-returns-3 (
-  expression-reads.Asked,
-  expression-reads.Learnt,
-  tested-below t,
-  tested.Post,
-) (clause-at t) clause.Post
+clause-returns-3 : (t : ℕ) → clause-lts.Need-returns-3 (clause-claims t) (clause-at t) clause.Post
 clause-returns-3 t c = search clause-found
 
 abbrev clauses-Inv-loop : clauses-lts.InvT-loop
@@ -202,785 +198,199 @@ clauses-Inv-loop s code₀ from nest d top₀ t₀ code top t =
 abbrev clauses-μ-loop : clauses-lts.MeasureT-loop
 clauses-μ-loop s code₀ from nest d top₀ t₀ code top t = length s - t .start
 
--- src/program.rt:157:9
-clauses-returns : (t : ℕ) → clauses-lts.Need-returns (
-  is-stop-reads.Asked,
-  is-stop-reads.Learnt,
-  clause-below t,
-  clause.Post,
-  last-reads.Asked,
-  last-reads.Learnt,
-) (clauses-at t) clauses.Post clauses-Inv-loop clauses-μ-loop
+clauses-returns : (t : ℕ) → clauses-lts.Need-returns (clauses-claims t) (clauses-at t) clauses.Post clauses-Inv-loop clauses-μ-loop
 clauses-returns t c = search clauses-0
 
--- src/program.rt:164:5
-clauses-loop-holds : (t : ℕ) → clauses-lts.Need-loop-holds (
-  is-stop-reads.Asked,
-  is-stop-reads.Learnt,
-  clause-below t,
-  clause.Post,
-  last-reads.Asked,
-  last-reads.Learnt,
-) (clauses-at t) clauses.Post clauses-Inv-loop clauses-μ-loop
+clauses-loop-holds : (t : ℕ) → clauses-lts.Need-loop-holds (clauses-claims t) (clauses-at t) clauses.Post clauses-Inv-loop clauses-μ-loop
 clauses-loop-holds t c = (search needs, search clauses-start)
 
--- src/program.rt:165:12
-clauses-is-stop-requires : (t : ℕ) → clauses-lts.Need-is-stop-requires (
-  is-stop-reads.Asked,
-  is-stop-reads.Learnt,
-  clause-below t,
-  clause.Post,
-  last-reads.Asked,
-  last-reads.Learnt,
-) (clauses-at t) clauses.Post clauses-Inv-loop clauses-μ-loop
+clauses-is-stop-requires : (t : ℕ) → clauses-lts.Need-is-stop-requires (clauses-claims t) (clauses-at t) clauses.Post clauses-Inv-loop clauses-μ-loop
 clauses-is-stop-requires t c κs = search needs
 
--- src/program.rt:166:13
-clauses-same-length : (t : ℕ) → clauses-lts.Need-same-length (
-  is-stop-reads.Asked,
-  is-stop-reads.Learnt,
-  clause-below t,
-  clause.Post,
-  last-reads.Asked,
-  last-reads.Learnt,
-) (clauses-at t) clauses.Post clauses-Inv-loop clauses-μ-loop
+clauses-same-length : (t : ℕ) → clauses-lts.Need-same-length (clauses-claims t) (clauses-at t) clauses.Post clauses-Inv-loop clauses-μ-loop
 clauses-same-length t c = search needs
 
--- src/program.rt:166:13
-clauses-returns-2 : (t : ℕ) → clauses-lts.Need-returns-2 (
-  is-stop-reads.Asked,
-  is-stop-reads.Learnt,
-  clause-below t,
-  clause.Post,
-  last-reads.Asked,
-  last-reads.Learnt,
-) (clauses-at t) clauses.Post clauses-Inv-loop clauses-μ-loop
+clauses-returns-2 : (t : ℕ) → clauses-lts.Need-returns-2 (clauses-claims t) (clauses-at t) clauses.Post clauses-Inv-loop clauses-μ-loop
 clauses-returns-2 t c = search clauses-stop
 
--- src/program.rt:173:45
-clauses-sub-clause : (t : ℕ) → clauses-lts.Need-sub-clause (
-  is-stop-reads.Asked,
-  is-stop-reads.Learnt,
-  clause-below t,
-  clause.Post,
-  last-reads.Asked,
-  last-reads.Learnt,
-) (clauses-at t) clauses.Post clauses-Inv-loop clauses-μ-loop
+clauses-sub-clause : (t : ℕ) → clauses-lts.Need-sub-clause (clauses-claims t) (clauses-at t) clauses.Post clauses-Inv-loop clauses-μ-loop
 clauses-sub-clause t c = search needs
 
--- src/program.rt:173:15
-clauses-clause-requires : (t : ℕ) → clauses-lts.Need-clause-requires (
-  is-stop-reads.Asked,
-  is-stop-reads.Learnt,
-  clause-below t,
-  clause.Post,
-  last-reads.Asked,
-  last-reads.Learnt,
-) (clauses-at t) clauses.Post clauses-Inv-loop clauses-μ-loop
+clauses-clause-requires : (t : ℕ) → clauses-lts.Need-clause-requires (clauses-claims t) (clauses-at t) clauses.Post clauses-Inv-loop clauses-μ-loop
 clauses-clause-requires t c κs = search needs
 
--- src/program.rt:174:26
-clauses-enum-known-reason : (t : ℕ) → clauses-lts.Need-enum-known-reason (
-  is-stop-reads.Asked,
-  is-stop-reads.Learnt,
-  clause-below t,
-  clause.Post,
-  last-reads.Asked,
-  last-reads.Learnt,
-) (clauses-at t) clauses.Post clauses-Inv-loop clauses-μ-loop
+clauses-enum-known-reason : (t : ℕ) → clauses-lts.Need-enum-known-reason (clauses-claims t) (clauses-at t) clauses.Post clauses-Inv-loop clauses-μ-loop
 clauses-enum-known-reason t c = search needs
 
--- src/program.rt:175:17
-clauses-same-length-2 : (t : ℕ) → clauses-lts.Need-same-length-2 (
-  is-stop-reads.Asked,
-  is-stop-reads.Learnt,
-  clause-below t,
-  clause.Post,
-  last-reads.Asked,
-  last-reads.Learnt,
-) (clauses-at t) clauses.Post clauses-Inv-loop clauses-μ-loop
+clauses-same-length-2 : (t : ℕ) → clauses-lts.Need-same-length-2 (clauses-claims t) (clauses-at t) clauses.Post clauses-Inv-loop clauses-μ-loop
 clauses-same-length-2 t c = search needs
 
--- src/program.rt:175:17
-clauses-returns-3 : (t : ℕ) → clauses-lts.Need-returns-3 (
-  is-stop-reads.Asked,
-  is-stop-reads.Learnt,
-  clause-below t,
-  clause.Post,
-  last-reads.Asked,
-  last-reads.Learnt,
-) (clauses-at t) clauses.Post clauses-Inv-loop clauses-μ-loop
+clauses-returns-3 : (t : ℕ) → clauses-lts.Need-returns-3 (clauses-claims t) (clauses-at t) clauses.Post clauses-Inv-loop clauses-μ-loop
 clauses-returns-3 t c = search clauses-aside
 
--- src/program.rt:180:22
-clauses-enum-known-u : (t : ℕ) → clauses-lts.Need-enum-known-u (
-  is-stop-reads.Asked,
-  is-stop-reads.Learnt,
-  clause-below t,
-  clause.Post,
-  last-reads.Asked,
-  last-reads.Learnt,
-) (clauses-at t) clauses.Post clauses-Inv-loop clauses-μ-loop
+clauses-enum-known-u : (t : ℕ) → clauses-lts.Need-enum-known-u (clauses-claims t) (clauses-at t) clauses.Post clauses-Inv-loop clauses-μ-loop
 clauses-enum-known-u t c = search needs
 
--- src/program.rt:184:21
-clauses-same-length-3 : (t : ℕ) → clauses-lts.Need-same-length-3 (
-  is-stop-reads.Asked,
-  is-stop-reads.Learnt,
-  clause-below t,
-  clause.Post,
-  last-reads.Asked,
-  last-reads.Learnt,
-) (clauses-at t) clauses.Post clauses-Inv-loop clauses-μ-loop
+clauses-same-length-3 : (t : ℕ) → clauses-lts.Need-same-length-3 (clauses-claims t) (clauses-at t) clauses.Post clauses-Inv-loop clauses-μ-loop
 clauses-same-length-3 t c = search needs
 
--- src/program.rt:184:21
-clauses-returns-4 : (t : ℕ) → clauses-lts.Need-returns-4 (
-  is-stop-reads.Asked,
-  is-stop-reads.Learnt,
-  clause-below t,
-  clause.Post,
-  last-reads.Asked,
-  last-reads.Learnt,
-) (clauses-at t) clauses.Post clauses-Inv-loop clauses-μ-loop
+clauses-returns-4 : (t : ℕ) → clauses-lts.Need-returns-4 (clauses-claims t) (clauses-at t) clauses.Post clauses-Inv-loop clauses-μ-loop
 clauses-returns-4 t c = search clauses-stuck
 
--- src/program.rt:164:5
-clauses-loop-less : (t : ℕ) → clauses-lts.Need-loop-less (
-  is-stop-reads.Asked,
-  is-stop-reads.Learnt,
-  clause-below t,
-  clause.Post,
-  last-reads.Asked,
-  last-reads.Learnt,
-) (clauses-at t) clauses.Post clauses-Inv-loop clauses-μ-loop
+clauses-loop-less : (t : ℕ) → clauses-lts.Need-loop-less (clauses-claims t) (clauses-at t) clauses.Post clauses-Inv-loop clauses-μ-loop
 clauses-loop-less t c = search needs
 
--- src/program.rt:164:5
-clauses-loop-again : (t : ℕ) → clauses-lts.Need-loop-again (
-  is-stop-reads.Asked,
-  is-stop-reads.Learnt,
-  clause-below t,
-  clause.Post,
-  last-reads.Asked,
-  last-reads.Learnt,
-) (clauses-at t) clauses.Post clauses-Inv-loop clauses-μ-loop
+clauses-loop-again : (t : ℕ) → clauses-lts.Need-loop-again (clauses-claims t) (clauses-at t) clauses.Post clauses-Inv-loop clauses-μ-loop
 clauses-loop-again t c = (search needs, search clauses-more)
 
--- src/program.rt:194:5
-clauses-last-requires : (t : ℕ) → clauses-lts.Need-last-requires (
-  is-stop-reads.Asked,
-  is-stop-reads.Learnt,
-  clause-below t,
-  clause.Post,
-  last-reads.Asked,
-  last-reads.Learnt,
-) (clauses-at t) clauses.Post clauses-Inv-loop clauses-μ-loop
+clauses-last-requires : (t : ℕ) → clauses-lts.Need-last-requires (clauses-claims t) (clauses-at t) clauses.Post clauses-Inv-loop clauses-μ-loop
 clauses-last-requires t c κs = search needs
 
--- src/program.rt:153:1
-clauses-same-length-4 : (t : ℕ) → clauses-lts.Need-same-length-4 (
-  is-stop-reads.Asked,
-  is-stop-reads.Learnt,
-  clause-below t,
-  clause.Post,
-  last-reads.Asked,
-  last-reads.Learnt,
-) (clauses-at t) clauses.Post clauses-Inv-loop clauses-μ-loop
+clauses-same-length-4 : (t : ℕ) → clauses-lts.Need-same-length-4 (clauses-claims t) (clauses-at t) clauses.Post clauses-Inv-loop clauses-μ-loop
 clauses-same-length-4 t c = search needs
 
--- src/program.rt:153:1
-clauses-returns-5 : (t : ℕ) → clauses-lts.Need-returns-5 (
-  is-stop-reads.Asked,
-  is-stop-reads.Learnt,
-  clause-below t,
-  clause.Post,
-  last-reads.Asked,
-  last-reads.Learnt,
-) (clauses-at t) clauses.Post clauses-Inv-loop clauses-μ-loop
+clauses-returns-5 : (t : ℕ) → clauses-lts.Need-returns-5 (clauses-claims t) (clauses-at t) clauses.Post clauses-Inv-loop clauses-μ-loop
 clauses-returns-5 t c = search clauses-end
 
--- src/program.rt:97:9
-nested-returns : (t : ℕ) → nested-lts.Need-returns (
-  token-at-reads.Asked,
-  token-at-reads.Learnt,
-  program-below t,
-  program.Post,
-  ended-reads.Asked,
-  ended-reads.Learnt,
-) (nested-at t) nested.Post
+nested-returns : (t : ℕ) → nested-lts.Need-returns (nested-claims t) (nested-at t) nested.Post
 nested-returns t c = search nested-0
 
--- src/program.rt:103:9
-nested-returns-2 : (t : ℕ) → nested-lts.Need-returns-2 (
-  token-at-reads.Asked,
-  token-at-reads.Learnt,
-  program-below t,
-  program.Post,
-  ended-reads.Asked,
-  ended-reads.Learnt,
-) (nested-at t) nested.Post
+nested-returns-2 : (t : ℕ) → nested-lts.Need-returns-2 (nested-claims t) (nested-at t) nested.Post
 nested-returns-2 t c = search nested-full
 
--- src/program.rt:108:9
-nested-token-at-requires : (t : ℕ) → nested-lts.Need-token-at-requires (
-  token-at-reads.Asked,
-  token-at-reads.Learnt,
-  program-below t,
-  program.Post,
-  ended-reads.Asked,
-  ended-reads.Learnt,
-) (nested-at t) nested.Post
+nested-token-at-requires : (t : ℕ) → nested-lts.Need-token-at-requires (nested-claims t) (nested-at t) nested.Post
 nested-token-at-requires t c κs = search needs
 
--- src/program.rt:109:33
-nested-add-program : (t : ℕ) → nested-lts.Need-add-program (
-  token-at-reads.Asked,
-  token-at-reads.Learnt,
-  program-below t,
-  program.Post,
-  ended-reads.Asked,
-  ended-reads.Learnt,
-) (nested-at t) nested.Post
+nested-add-program : (t : ℕ) → nested-lts.Need-add-program (nested-claims t) (nested-at t) nested.Post
 nested-add-program t c = search needs
 
--- src/program.rt:109:46
-nested-sub-program : (t : ℕ) → nested-lts.Need-sub-program (
-  token-at-reads.Asked,
-  token-at-reads.Learnt,
-  program-below t,
-  program.Post,
-  ended-reads.Asked,
-  ended-reads.Learnt,
-) (nested-at t) nested.Post
+nested-sub-program : (t : ℕ) → nested-lts.Need-sub-program (nested-claims t) (nested-at t) nested.Post
 nested-sub-program t c = search needs
 
--- src/program.rt:109:11
-nested-program-requires : (t : ℕ) → nested-lts.Need-program-requires (
-  token-at-reads.Asked,
-  token-at-reads.Learnt,
-  program-below t,
-  program.Post,
-  ended-reads.Asked,
-  ended-reads.Learnt,
-) (nested-at t) nested.Post
+nested-program-requires : (t : ℕ) → nested-lts.Need-program-requires (nested-claims t) (nested-at t) nested.Post
 nested-program-requires t c κs = search needs
 
--- src/program.rt:110:22
-nested-enum-known-reason : (t : ℕ) → nested-lts.Need-enum-known-reason (
-  token-at-reads.Asked,
-  token-at-reads.Learnt,
-  program-below t,
-  program.Post,
-  ended-reads.Asked,
-  ended-reads.Learnt,
-) (nested-at t) nested.Post
+nested-enum-known-reason : (t : ℕ) → nested-lts.Need-enum-known-reason (nested-claims t) (nested-at t) nested.Post
 nested-enum-known-reason t c = search needs
 
--- src/program.rt:114:18
-nested-enum-known-u : (t : ℕ) → nested-lts.Need-enum-known-u (
-  token-at-reads.Asked,
-  token-at-reads.Learnt,
-  program-below t,
-  program.Post,
-  ended-reads.Asked,
-  ended-reads.Learnt,
-) (nested-at t) nested.Post
+nested-enum-known-u : (t : ℕ) → nested-lts.Need-enum-known-u (nested-claims t) (nested-at t) nested.Post
 nested-enum-known-u t c = search needs
 
--- src/program.rt:117:17
-nested-token-at-requires-2 : (t : ℕ) → nested-lts.Need-token-at-requires-2 (
-  token-at-reads.Asked,
-  token-at-reads.Learnt,
-  program-below t,
-  program.Post,
-  ended-reads.Asked,
-  ended-reads.Learnt,
-) (nested-at t) nested.Post
+nested-token-at-requires-2 : (t : ℕ) → nested-lts.Need-token-at-requires-2 (nested-claims t) (nested-at t) nested.Post
 nested-token-at-requires-2 t c κs = search needs
 
--- src/program.rt:118:13
-nested-ended-requires : (t : ℕ) → nested-lts.Need-ended-requires (
-  token-at-reads.Asked,
-  token-at-reads.Learnt,
-  program-below t,
-  program.Post,
-  ended-reads.Asked,
-  ended-reads.Learnt,
-) (nested-at t) nested.Post
+nested-ended-requires : (t : ℕ) → nested-lts.Need-ended-requires (nested-claims t) (nested-at t) nested.Post
 nested-ended-requires t c κs = search needs
 
--- src/program.rt:93:1
-nested-same-length : (t : ℕ) → nested-lts.Need-same-length (
-  token-at-reads.Asked,
-  token-at-reads.Learnt,
-  program-below t,
-  program.Post,
-  ended-reads.Asked,
-  ended-reads.Learnt,
-) (nested-at t) nested.Post
+nested-same-length : (t : ℕ) → nested-lts.Need-same-length (nested-claims t) (nested-at t) nested.Post
 nested-same-length t c = search needs
 
--- src/program.rt:93:1
-nested-returns-3 : (t : ℕ) → nested-lts.Need-returns-3 (
-  token-at-reads.Asked,
-  token-at-reads.Learnt,
-  program-below t,
-  program.Post,
-  ended-reads.Asked,
-  ended-reads.Learnt,
-) (nested-at t) nested.Post
+nested-returns-3 : (t : ℕ) → nested-lts.Need-returns-3 (nested-claims t) (nested-at t) nested.Post
 nested-returns-3 t c = search nested-aside
 
--- src/program.rt:93:1
-nested-same-length-2 : (t : ℕ) → nested-lts.Need-same-length-2 (
-  token-at-reads.Asked,
-  token-at-reads.Learnt,
-  program-below t,
-  program.Post,
-  ended-reads.Asked,
-  ended-reads.Learnt,
-) (nested-at t) nested.Post
+nested-same-length-2 : (t : ℕ) → nested-lts.Need-same-length-2 (nested-claims t) (nested-at t) nested.Post
 nested-same-length-2 t c = search needs
 
--- src/program.rt:93:1
-nested-returns-4 : (t : ℕ) → nested-lts.Need-returns-4 (
-  token-at-reads.Asked,
-  token-at-reads.Learnt,
-  program-below t,
-  program.Post,
-  ended-reads.Asked,
-  ended-reads.Learnt,
-) (nested-at t) nested.Post
+nested-returns-4 : (t : ℕ) → nested-lts.Need-returns-4 (nested-claims t) (nested-at t) nested.Post
 nested-returns-4 t c = search nested-found
 
--- src/program.rt:143:9
-program-returns : (t : ℕ) → program-lts.Need-returns (
-  push-reads.Asked,
-  push-reads.Learnt,
-  clauses-below t,
-  clauses.Post,
-) (program-at t) program.Post
+program-returns : (t : ℕ) → program-lts.Need-returns (program-claims t) (program-at t) program.Post
 program-returns t c = search program-0
 
--- src/program.rt:148:9
-program-push-requires : (t : ℕ) → program-lts.Need-push-requires (
-  push-reads.Asked,
-  push-reads.Learnt,
-  clauses-below t,
-  clauses.Post,
-) (program-at t) program.Post
+program-push-requires : (t : ℕ) → program-lts.Need-push-requires (program-claims t) (program-at t) program.Post
 program-push-requires t c κs = search needs
 
--- src/program.rt:149:34
-program-sub-clauses : (t : ℕ) → program-lts.Need-sub-clauses (
-  push-reads.Asked,
-  push-reads.Learnt,
-  clauses-below t,
-  clauses.Post,
-) (program-at t) program.Post
+program-sub-clauses : (t : ℕ) → program-lts.Need-sub-clauses (program-claims t) (program-at t) program.Post
 program-sub-clauses t c = search needs
 
--- src/program.rt:149:5
-program-clauses-requires : (t : ℕ) → program-lts.Need-clauses-requires (
-  push-reads.Asked,
-  push-reads.Learnt,
-  clauses-below t,
-  clauses.Post,
-) (program-at t) program.Post
+program-clauses-requires : (t : ℕ) → program-lts.Need-clauses-requires (program-claims t) (program-at t) program.Post
 program-clauses-requires t c κs = search needs
 
--- src/program.rt:139:1
-program-same-length : (t : ℕ) → program-lts.Need-same-length (
-  push-reads.Asked,
-  push-reads.Learnt,
-  clauses-below t,
-  clauses.Post,
-) (program-at t) program.Post
+program-same-length : (t : ℕ) → program-lts.Need-same-length (program-claims t) (program-at t) program.Post
 program-same-length t c = search needs
 
--- src/program.rt:139:1
-program-returns-2 : (t : ℕ) → program-lts.Need-returns-2 (
-  push-reads.Asked,
-  push-reads.Learnt,
-  clauses-below t,
-  clauses.Post,
-) (program-at t) program.Post
+program-returns-2 : (t : ℕ) → program-lts.Need-returns-2 (program-claims t) (program-at t) program.Post
 program-returns-2 t c = search program-made
 
--- src/program.rt:52:9
-tested-returns : (t : ℕ) → tested-lts.Need-returns (
-  is-fit-reads.Asked,
-  is-fit-reads.Learnt,
-  settle-reads.Asked,
-  settle-reads.Learnt,
-  token-at-reads.Asked,
-  token-at-reads.Learnt,
-  value-below t,
-  value.Post,
-  ended-reads.Asked,
-  ended-reads.Learnt,
-  unexpected-reads.Asked,
-  unexpected-reads.Learnt,
-) (tested-at t) tested.Post
+tested-returns : (t : ℕ) → tested-lts.Need-returns (tested-claims t) (tested-at t) tested.Post
 tested-returns t c = search tested-0
 
--- src/program.rt:57:8
-tested-is-fit-requires : (t : ℕ) → tested-lts.Need-is-fit-requires (
-  is-fit-reads.Asked,
-  is-fit-reads.Learnt,
-  settle-reads.Asked,
-  settle-reads.Learnt,
-  token-at-reads.Asked,
-  token-at-reads.Learnt,
-  value-below t,
-  value.Post,
-  ended-reads.Asked,
-  ended-reads.Learnt,
-  unexpected-reads.Asked,
-  unexpected-reads.Learnt,
-) (tested-at t) tested.Post
+tested-is-fit-requires : (t : ℕ) → tested-lts.Need-is-fit-requires (tested-claims t) (tested-at t) tested.Post
 tested-is-fit-requires t c κs = search needs
 
--- src/program.rt:58:13
-tested-settle-requires : (t : ℕ) → tested-lts.Need-settle-requires (
-  is-fit-reads.Asked,
-  is-fit-reads.Learnt,
-  settle-reads.Asked,
-  settle-reads.Learnt,
-  token-at-reads.Asked,
-  token-at-reads.Learnt,
-  value-below t,
-  value.Post,
-  ended-reads.Asked,
-  ended-reads.Learnt,
-  unexpected-reads.Asked,
-  unexpected-reads.Learnt,
-) (tested-at t) tested.Post
+tested-settle-requires : (t : ℕ) → tested-lts.Need-settle-requires (tested-claims t) (tested-at t) tested.Post
 tested-settle-requires t c κs = search needs
 
--- src/program.rt:60:17
-tested-token-at-requires : (t : ℕ) → tested-lts.Need-token-at-requires (
-  is-fit-reads.Asked,
-  is-fit-reads.Learnt,
-  settle-reads.Asked,
-  settle-reads.Learnt,
-  token-at-reads.Asked,
-  token-at-reads.Learnt,
-  value-below t,
-  value.Post,
-  ended-reads.Asked,
-  ended-reads.Learnt,
-  unexpected-reads.Asked,
-  unexpected-reads.Learnt,
-) (tested-at t) tested.Post
+tested-token-at-requires : (t : ℕ) → tested-lts.Need-token-at-requires (tested-claims t) (tested-at t) tested.Post
 tested-token-at-requires t c κs = search needs
 
--- src/program.rt:61:47
-tested-sub-value : (t : ℕ) → tested-lts.Need-sub-value (
-  is-fit-reads.Asked,
-  is-fit-reads.Learnt,
-  settle-reads.Asked,
-  settle-reads.Learnt,
-  token-at-reads.Asked,
-  token-at-reads.Learnt,
-  value-below t,
-  value.Post,
-  ended-reads.Asked,
-  ended-reads.Learnt,
-  unexpected-reads.Asked,
-  unexpected-reads.Learnt,
-) (tested-at t) tested.Post
+tested-sub-value : (t : ℕ) → tested-lts.Need-sub-value (tested-claims t) (tested-at t) tested.Post
 tested-sub-value t c = search needs
 
--- src/program.rt:61:13
-tested-value-requires : (t : ℕ) → tested-lts.Need-value-requires (
-  is-fit-reads.Asked,
-  is-fit-reads.Learnt,
-  settle-reads.Asked,
-  settle-reads.Learnt,
-  token-at-reads.Asked,
-  token-at-reads.Learnt,
-  value-below t,
-  value.Post,
-  ended-reads.Asked,
-  ended-reads.Learnt,
-  unexpected-reads.Asked,
-  unexpected-reads.Learnt,
-) (tested-at t) tested.Post
+tested-value-requires : (t : ℕ) → tested-lts.Need-value-requires (tested-claims t) (tested-at t) tested.Post
 tested-value-requires t c κs = search needs
 
--- src/program.rt:61:13
-tested-same-length : (t : ℕ) → tested-lts.Need-same-length (
-  is-fit-reads.Asked,
-  is-fit-reads.Learnt,
-  settle-reads.Asked,
-  settle-reads.Learnt,
-  token-at-reads.Asked,
-  token-at-reads.Learnt,
-  value-below t,
-  value.Post,
-  ended-reads.Asked,
-  ended-reads.Learnt,
-  unexpected-reads.Asked,
-  unexpected-reads.Learnt,
-) (tested-at t) tested.Post
+tested-same-length : (t : ℕ) → tested-lts.Need-same-length (tested-claims t) (tested-at t) tested.Post
 tested-same-length t c = search needs
 
--- src/program.rt:61:13
-tested-returns-2 : (t : ℕ) → tested-lts.Need-returns-2 (
-  is-fit-reads.Asked,
-  is-fit-reads.Learnt,
-  settle-reads.Asked,
-  settle-reads.Learnt,
-  token-at-reads.Asked,
-  token-at-reads.Learnt,
-  value-below t,
-  value.Post,
-  ended-reads.Asked,
-  ended-reads.Learnt,
-  unexpected-reads.Asked,
-  unexpected-reads.Learnt,
-) (tested-at t) tested.Post
+tested-returns-2 : (t : ℕ) → tested-lts.Need-returns-2 (tested-claims t) (tested-at t) tested.Post
 tested-returns-2 t c = search tested-value
 
--- src/program.rt:63:9
-tested-ended-requires : (t : ℕ) → tested-lts.Need-ended-requires (
-  is-fit-reads.Asked,
-  is-fit-reads.Learnt,
-  settle-reads.Asked,
-  settle-reads.Learnt,
-  token-at-reads.Asked,
-  token-at-reads.Learnt,
-  value-below t,
-  value.Post,
-  ended-reads.Asked,
-  ended-reads.Learnt,
-  unexpected-reads.Asked,
-  unexpected-reads.Learnt,
-) (tested-at t) tested.Post
+tested-ended-requires : (t : ℕ) → tested-lts.Need-ended-requires (tested-claims t) (tested-at t) tested.Post
 tested-ended-requires t c κs = search needs
 
--- src/program.rt:63:9
-tested-same-length-2 : (t : ℕ) → tested-lts.Need-same-length-2 (
-  is-fit-reads.Asked,
-  is-fit-reads.Learnt,
-  settle-reads.Asked,
-  settle-reads.Learnt,
-  token-at-reads.Asked,
-  token-at-reads.Learnt,
-  value-below t,
-  value.Post,
-  ended-reads.Asked,
-  ended-reads.Learnt,
-  unexpected-reads.Asked,
-  unexpected-reads.Learnt,
-) (tested-at t) tested.Post
+tested-same-length-2 : (t : ℕ) → tested-lts.Need-same-length-2 (tested-claims t) (tested-at t) tested.Post
 tested-same-length-2 t c = search needs
 
--- src/program.rt:63:9
-tested-returns-3 : (t : ℕ) → tested-lts.Need-returns-3 (
-  is-fit-reads.Asked,
-  is-fit-reads.Learnt,
-  settle-reads.Asked,
-  settle-reads.Learnt,
-  token-at-reads.Asked,
-  token-at-reads.Learnt,
-  value-below t,
-  value.Post,
-  ended-reads.Asked,
-  ended-reads.Learnt,
-  unexpected-reads.Asked,
-  unexpected-reads.Learnt,
-) (tested-at t) tested.Post
+tested-returns-3 : (t : ℕ) → tested-lts.Need-returns-3 (tested-claims t) (tested-at t) tested.Post
 tested-returns-3 t c = search tested-plain
 
--- src/program.rt:65:5
-tested-unexpected-requires : (t : ℕ) → tested-lts.Need-unexpected-requires (
-  is-fit-reads.Asked,
-  is-fit-reads.Learnt,
-  settle-reads.Asked,
-  settle-reads.Learnt,
-  token-at-reads.Asked,
-  token-at-reads.Learnt,
-  value-below t,
-  value.Post,
-  ended-reads.Asked,
-  ended-reads.Learnt,
-  unexpected-reads.Asked,
-  unexpected-reads.Learnt,
-) (tested-at t) tested.Post
+tested-unexpected-requires : (t : ℕ) → tested-lts.Need-unexpected-requires (tested-claims t) (tested-at t) tested.Post
 tested-unexpected-requires t c κs = search needs
 
--- src/program.rt:48:1
-tested-returns-4 : (t : ℕ) → tested-lts.Need-returns-4 (
-  is-fit-reads.Asked,
-  is-fit-reads.Learnt,
-  settle-reads.Asked,
-  settle-reads.Learnt,
-  token-at-reads.Asked,
-  token-at-reads.Learnt,
-  value-below t,
-  value.Post,
-  ended-reads.Asked,
-  ended-reads.Learnt,
-  unexpected-reads.Asked,
-  unexpected-reads.Learnt,
-) (tested-at t) tested.Post
+tested-returns-4 : (t : ℕ) → tested-lts.Need-returns-4 (tested-claims t) (tested-at t) tested.Post
 tested-returns-4 t c = search tested-not
 
--- src/program.rt:73:9
-value-returns : (t : ℕ) → value-lts.Need-returns (
-  nested-below t,
-  nested.Post,
-  expression-reads.Asked,
-  expression-reads.Learnt,
-  valued-reads.Asked,
-  valued-reads.Learnt,
-) (value-at t) value.Post
+value-returns : (t : ℕ) → value-lts.Need-returns (value-claims t) (value-at t) value.Post
 value-returns t c = search value-0
 
--- src/program.rt:79:46
-value-sub-nested : (t : ℕ) → value-lts.Need-sub-nested (
-  nested-below t,
-  nested.Post,
-  expression-reads.Asked,
-  expression-reads.Learnt,
-  valued-reads.Asked,
-  valued-reads.Learnt,
-) (value-at t) value.Post
+value-sub-nested : (t : ℕ) → value-lts.Need-sub-nested (value-claims t) (value-at t) value.Post
 value-sub-nested t c = search needs
 
--- src/program.rt:79:9
-value-nested-requires : (t : ℕ) → value-lts.Need-nested-requires (
-  nested-below t,
-  nested.Post,
-  expression-reads.Asked,
-  expression-reads.Learnt,
-  valued-reads.Asked,
-  valued-reads.Learnt,
-) (value-at t) value.Post
+value-nested-requires : (t : ℕ) → value-lts.Need-nested-requires (value-claims t) (value-at t) value.Post
 value-nested-requires t c κs = search needs
 
--- src/program.rt:79:9
-value-same-length : (t : ℕ) → value-lts.Need-same-length (
-  nested-below t,
-  nested.Post,
-  expression-reads.Asked,
-  expression-reads.Learnt,
-  valued-reads.Asked,
-  valued-reads.Learnt,
-) (value-at t) value.Post
+value-same-length : (t : ℕ) → value-lts.Need-same-length (value-claims t) (value-at t) value.Post
 value-same-length t c = search needs
 
--- src/program.rt:79:9
-value-returns-2 : (t : ℕ) → value-lts.Need-returns-2 (
-  nested-below t,
-  nested.Post,
-  expression-reads.Asked,
-  expression-reads.Learnt,
-  valued-reads.Asked,
-  valued-reads.Learnt,
-) (value-at t) value.Post
+value-returns-2 : (t : ℕ) → value-lts.Need-returns-2 (value-claims t) (value-at t) value.Post
 value-returns-2 t c = search value-nested
 
--- src/program.rt:81:57
-value-sub-expression : (t : ℕ) → value-lts.Need-sub-expression (
-  nested-below t,
-  nested.Post,
-  expression-reads.Asked,
-  expression-reads.Learnt,
-  valued-reads.Asked,
-  valued-reads.Learnt,
-) (value-at t) value.Post
+value-sub-expression : (t : ℕ) → value-lts.Need-sub-expression (value-claims t) (value-at t) value.Post
 value-sub-expression t c = search needs
 
--- src/program.rt:81:11
-value-expression-requires : (t : ℕ) → value-lts.Need-expression-requires (
-  nested-below t,
-  nested.Post,
-  expression-reads.Asked,
-  expression-reads.Learnt,
-  valued-reads.Asked,
-  valued-reads.Learnt,
-) (value-at t) value.Post
+value-expression-requires : (t : ℕ) → value-lts.Need-expression-requires (value-claims t) (value-at t) value.Post
 value-expression-requires t c κs = search needs
 
--- src/program.rt:82:22
-value-enum-known-reason : (t : ℕ) → value-lts.Need-enum-known-reason (
-  nested-below t,
-  nested.Post,
-  expression-reads.Asked,
-  expression-reads.Learnt,
-  valued-reads.Asked,
-  valued-reads.Learnt,
-) (value-at t) value.Post
+value-enum-known-reason : (t : ℕ) → value-lts.Need-enum-known-reason (value-claims t) (value-at t) value.Post
 value-enum-known-reason t c = search needs
 
--- src/program.rt:84:13
-value-enum-known-sort : (t : ℕ) → value-lts.Need-enum-known-sort (
-  nested-below t,
-  nested.Post,
-  expression-reads.Asked,
-  expression-reads.Learnt,
-  valued-reads.Asked,
-  valued-reads.Learnt,
-) (value-at t) value.Post
+value-enum-known-sort : (t : ℕ) → value-lts.Need-enum-known-sort (value-claims t) (value-at t) value.Post
 value-enum-known-sort t c = search needs
 
--- src/program.rt:88:14
-value-valued-requires : (t : ℕ) → value-lts.Need-valued-requires (
-  nested-below t,
-  nested.Post,
-  expression-reads.Asked,
-  expression-reads.Learnt,
-  valued-reads.Asked,
-  valued-reads.Learnt,
-) (value-at t) value.Post
+value-valued-requires : (t : ℕ) → value-lts.Need-valued-requires (value-claims t) (value-at t) value.Post
 value-valued-requires t c κs = search needs
 
--- src/program.rt:69:1
-value-same-length-2 : (t : ℕ) → value-lts.Need-same-length-2 (
-  nested-below t,
-  nested.Post,
-  expression-reads.Asked,
-  expression-reads.Learnt,
-  valued-reads.Asked,
-  valued-reads.Learnt,
-) (value-at t) value.Post
+value-same-length-2 : (t : ℕ) → value-lts.Need-same-length-2 (value-claims t) (value-at t) value.Post
 value-same-length-2 t c = search needs
 
--- src/program.rt:69:1
-value-returns-3 : (t : ℕ) → value-lts.Need-returns-3 (
-  nested-below t,
-  nested.Post,
-  expression-reads.Asked,
-  expression-reads.Learnt,
-  valued-reads.Asked,
-  valued-reads.Learnt,
-) (value-at t) value.Post
+value-returns-3 : (t : ℕ) → value-lts.Need-returns-3 (value-claims t) (value-at t) value.Post
 value-returns-3 t c = search value-aside
 
--- src/program.rt:69:1
-value-same-length-3 : (t : ℕ) → value-lts.Need-same-length-3 (
-  nested-below t,
-  nested.Post,
-  expression-reads.Asked,
-  expression-reads.Learnt,
-  valued-reads.Asked,
-  valued-reads.Learnt,
-) (value-at t) value.Post
+value-same-length-3 : (t : ℕ) → value-lts.Need-same-length-3 (value-claims t) (value-at t) value.Post
 value-same-length-3 t c = search needs
 
--- src/program.rt:69:1
-value-returns-4 : (t : ℕ) → value-lts.Need-returns-4 (
-  nested-below t,
-  nested.Post,
-  expression-reads.Asked,
-  expression-reads.Learnt,
-  valued-reads.Asked,
-  valued-reads.Learnt,
-) (value-at t) value.Post
+value-returns-4 : (t : ℕ) → value-lts.Need-returns-4 (value-claims t) (value-at t) value.Post
 value-returns-4 t c = search value-found
 
 pub +clause+clauses+nested+program+tested+value-spec : {M : Type 1} → statement M

@@ -1,4 +1,4 @@
-use Rattle.conditions.specs.Table.{comparison}
+use Rattle.conditions.specs.Working.Numbered.{comparison}
 use borrow.Author.Needs.{needs}
 use Rattle.text.specs.Choice.{tests}
 use Rattle.conditions.proofs.table.comparison_of.Statement.{statement}
@@ -6,37 +6,30 @@ use Rattle.conditions.proofs.table.comparison_of.Tie as tie
 use Rattle.conditions.proofs.table.comparison_of.Reads as reads
 use Rattle.conditions.proofs.table.comparison_of.Lts as lts
 
--- src/table.rt:109:9
 returns : tie.Need-returns
 unfolding comparison
 returns c = search (needs, tests)
 
--- src/table.rt:112:9
 returns-2 : tie.Need-returns-2
 unfolding comparison
 returns-2 c = search (needs, tests)
 
--- src/table.rt:115:9
 returns-3 : tie.Need-returns-3
 unfolding comparison
 returns-3 c = search (needs, tests)
 
--- src/table.rt:118:9
 returns-4 : tie.Need-returns-4
 unfolding comparison
 returns-4 c = search (needs, tests)
 
--- src/table.rt:121:9
 returns-5 : tie.Need-returns-5
 unfolding comparison
 returns-5 c = search (needs, tests)
 
--- src/table.rt:124:9
 returns-6 : tie.Need-returns-6
 unfolding comparison
 returns-6 c = search (needs, tests)
 
--- src/table.rt:104:1
 returns-7 : tie.Need-returns-7
 unfolding comparison
 returns-7 c = search (needs, tests)

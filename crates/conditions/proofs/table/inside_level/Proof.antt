@@ -6,12 +6,10 @@ use Rattle.conditions.proofs.table.inside_level.Tie as tie
 use Rattle.conditions.proofs.table.inside_level.Reads as reads
 use Rattle.conditions.proofs.table.inside_level.Lts as lts
 
--- src/table.rt:338:9
 returns : tie.Need-returns
 unfolding insideLevel
 returns c = search (needs, tests)
 
--- src/table.rt:334:1
 returns-2 : tie.Need-returns-2
 unfolding insideLevel
 returns-2 c = search (needs, tests)

@@ -10,54 +10,42 @@ use Rattle.conditions.proofs.table.is_float.Reads as is-float-reads
 use Rattle.conditions.proofs.table.is_number.Reads as is-number-reads
 use Rattle.conditions.proofs.table.is_string.Reads as is-string-reads
 
--- src/table.rt:31:9
 returns : tie.Need-returns
 unfolding allows
 returns c = search (needs, tests)
 
--- src/table.rt:34:9
 returns-2 : tie.Need-returns-2
 unfolding allows
 returns-2 c = search (needs, tests)
 
--- src/table.rt:37:9
 is-string-requires : tie.Need-is-string-requires
 is-string-requires c κs = search (needs, tests)
 
--- src/table.rt:37:9
 returns-3 : tie.Need-returns-3
 unfolding allows
 returns-3 c = search (needs, tests)
 
--- src/table.rt:39:8
 is-number-requires : tie.Need-is-number-requires
 is-number-requires c κs = search (needs, tests)
 
--- src/table.rt:40:9
 returns-4 : tie.Need-returns-4
 returns-4 c = search allows-number
 
--- src/table.rt:43:9
 returns-5 : tie.Need-returns-5
 returns-5 c = search allows-integer
 
--- src/table.rt:45:8
 is-float-requires : tie.Need-is-float-requires
 is-float-requires c κs = search (needs, tests)
 
--- src/table.rt:46:9
 returns-6 : tie.Need-returns-6
 returns-6 c = search allows-float
 
--- src/table.rt:49:9
 returns-7 : tie.Need-returns-7
 returns-7 c = search allows-not
 
--- src/table.rt:51:5
 is-string-requires-2 : tie.Need-is-string-requires-2
 is-string-requires-2 c κs = search (needs, tests)
 
--- src/table.rt:27:1
 returns-8 : tie.Need-returns-8
 returns-8 c = search allows-string
 

@@ -6,22 +6,18 @@ use Rattle.conditions.proofs.table.is_fit.Tie as tie
 use Rattle.conditions.proofs.table.is_fit.Reads as reads
 use Rattle.conditions.proofs.table.is_fit.Lts as lts
 
--- src/table.rt:348:9
 returns : tie.Need-returns
 unfolding fits
 returns c = search (needs, tests)
 
--- src/table.rt:351:9
 returns-2 : tie.Need-returns-2
 unfolding fits
 returns-2 c = search (needs, tests)
 
--- src/table.rt:354:9
 returns-3 : tie.Need-returns-3
 unfolding fits
 returns-3 c = search (needs, tests)
 
--- src/table.rt:344:1
 returns-4 : tie.Need-returns-4
 unfolding fits
 returns-4 c = search (needs, tests)

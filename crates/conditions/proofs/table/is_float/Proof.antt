@@ -6,12 +6,10 @@ use Rattle.conditions.proofs.table.is_float.Tie as tie
 use Rattle.conditions.proofs.table.is_float.Reads as reads
 use Rattle.conditions.proofs.table.is_float.Lts as lts
 
--- src/table.rt:85:9
 returns : tie.Need-returns
 unfolding beginsFloat
 returns c = search (needs, tests)
 
--- src/table.rt:81:1
 returns-2 : tie.Need-returns-2
 unfolding beginsFloat
 returns-2 c = search (needs, tests)

@@ -6,15 +6,12 @@ use Rattle.conditions.proofs.table.is_loose.Reads as reads
 use Rattle.conditions.proofs.table.is_loose.Lts as lts
 use Rattle.conditions.proofs.table.level_of.Reads as level-of-reads
 
--- src/table.rt:347:9
 returns : tie.Need-returns
 returns c = search loose-none
 
--- src/table.rt:349:5
 level-of-requires : tie.Need-level-of-requires
 level-of-requires c κs = search needs
 
--- src/table.rt:343:1
 returns-2 : tie.Need-returns-2
 returns-2 c = search loose-level
 

@@ -6,17 +6,14 @@ use Rattle.conditions.proofs.table.is_number.Tie as tie
 use Rattle.conditions.proofs.table.is_number.Reads as reads
 use Rattle.conditions.proofs.table.is_number.Lts as lts
 
--- src/table.rt:72:9
 returns : tie.Need-returns
 unfolding beginsNumber
 returns c = search (needs, tests)
 
--- src/table.rt:75:9
 returns-2 : tie.Need-returns-2
 unfolding beginsNumber
 returns-2 c = search (needs, tests)
 
--- src/table.rt:68:1
 returns-3 : tie.Need-returns-3
 unfolding beginsNumber
 returns-3 c = search (needs, tests)

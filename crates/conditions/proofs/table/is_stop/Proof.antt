@@ -6,22 +6,18 @@ use Rattle.conditions.proofs.table.is_stop.Tie as tie
 use Rattle.conditions.proofs.table.is_stop.Reads as reads
 use Rattle.conditions.proofs.table.is_stop.Lts as lts
 
--- src/table.rt:364:9
 returns : tie.Need-returns
 unfolding stops
 returns c = search (needs, tests)
 
--- src/table.rt:367:9
 returns-2 : tie.Need-returns-2
 unfolding stops
 returns-2 c = search (needs, tests)
 
--- src/table.rt:370:9
 returns-3 : tie.Need-returns-3
 unfolding stops
 returns-3 c = search (needs, tests)
 
--- src/table.rt:360:1
 returns-4 : tie.Need-returns-4
 unfolding stops
 returns-4 c = search (needs, tests)

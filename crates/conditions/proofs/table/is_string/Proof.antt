@@ -6,17 +6,14 @@ use Rattle.conditions.proofs.table.is_string.Tie as tie
 use Rattle.conditions.proofs.table.is_string.Reads as reads
 use Rattle.conditions.proofs.table.is_string.Lts as lts
 
--- src/table.rt:59:9
 returns : tie.Need-returns
 unfolding beginsString
 returns c = search (needs, tests)
 
--- src/table.rt:62:9
 returns-2 : tie.Need-returns-2
 unfolding beginsString
 returns-2 c = search (needs, tests)
 
--- src/table.rt:55:1
 returns-3 : tie.Need-returns-3
 unfolding beginsString
 returns-3 c = search (needs, tests)

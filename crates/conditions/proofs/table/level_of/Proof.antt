@@ -1,44 +1,36 @@
 use Rattle.conditions.proofs.TableWays.{level-comparison, level-other, level-sum, level-product, level-known}
-use Rattle.conditions.specs.Table.{levelOf}
+use Rattle.conditions.specs.Working.Numbered.{levelOf}
 use borrow.Author.Needs.{needs}
 use Rattle.conditions.proofs.table.level_of.Statement.{statement}
 use Rattle.conditions.proofs.table.level_of.Tie as tie
 use Rattle.conditions.proofs.table.level_of.Reads as reads
 use Rattle.conditions.proofs.table.level_of.Lts as lts
 
--- src/table.rt:233:13
 returns : tie.Need-returns
 returns c = (search level-comparison, search needs)
 
--- src/table.rt:236:13
 returns-2 : tie.Need-returns-2
 unfolding levelOf
 returns-2 c = (search (level-known 28), search needs)
 
--- src/table.rt:239:13
 returns-3 : tie.Need-returns-3
 unfolding levelOf
 returns-3 c = (search (level-known 29), search needs)
 
--- src/table.rt:241:9
 returns-4 : tie.Need-returns-4
 returns-4 c = (search level-other, search needs)
 
--- src/table.rt:244:9
 returns-5 : tie.Need-returns-5
 returns-5 c = (search level-sum, search needs)
 
--- src/table.rt:247:9
 returns-6 : tie.Need-returns-6
 unfolding levelOf
 returns-6 c = (search (level-known 10), search needs)
 
--- src/table.rt:250:9
 returns-7 : tie.Need-returns-7
 unfolding levelOf
 returns-7 c = (search (level-known 9), search needs)
 
--- src/table.rt:227:1
 returns-8 : tie.Need-returns-8
 returns-8 c = (search level-product, search needs)
 

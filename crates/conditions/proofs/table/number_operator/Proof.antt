@@ -1,5 +1,5 @@
 use Rattle.conditions.proofs.TableWays.{number-none, number-compared}
-use Rattle.conditions.specs.Table.{numberOperator}
+use Rattle.conditions.specs.Working.Numbered.{numberOperator}
 use Rattle.text.specs.Choice.{tests}
 use borrow.Author.Needs.{needs}
 use Rattle.conditions.proofs.table.number_operator.Statement.{statement}
@@ -8,49 +8,39 @@ use Rattle.conditions.proofs.table.number_operator.Reads as reads
 use Rattle.conditions.proofs.table.number_operator.Lts as lts
 use Rattle.conditions.proofs.table.comparison_of.Reads as comparison-of-reads
 
--- src/table.rt:134:9
 returns : tie.Need-returns
 unfolding numberOperator
 returns c = search (needs, tests)
 
--- src/table.rt:137:9
 returns-2 : tie.Need-returns-2
 unfolding numberOperator
 returns-2 c = search (needs, tests)
 
--- src/table.rt:140:9
 returns-3 : tie.Need-returns-3
 unfolding numberOperator
 returns-3 c = search (needs, tests)
 
--- src/table.rt:143:9
 returns-4 : tie.Need-returns-4
 unfolding numberOperator
 returns-4 c = search (needs, tests)
 
--- src/table.rt:146:9
 returns-5 : tie.Need-returns-5
 unfolding numberOperator
 returns-5 c = search (needs, tests)
 
--- src/table.rt:149:9
 returns-6 : tie.Need-returns-6
 unfolding numberOperator
 returns-6 c = search (needs, tests)
 
--- src/table.rt:151:9
 comparison-of-requires : tie.Need-comparison-of-requires
 comparison-of-requires c κs = search (needs, tests)
 
--- src/table.rt:153:9
 returns-7 : tie.Need-returns-7
 returns-7 c = search number-none
 
--- src/table.rt:155:5
 add-result : tie.Need-add-result
 add-result c = search (needs, tests)
 
--- src/table.rt:130:1
 returns-8 : tie.Need-returns-8
 returns-8 c = search number-compared
 

@@ -1,4 +1,4 @@
-use Rattle.conditions.specs.Table.{operandLevel}
+use Rattle.conditions.specs.Working.Numbered.{operandLevel}
 use borrow.Author.Needs.{needs}
 use Rattle.text.specs.Choice.{tests}
 use Rattle.conditions.proofs.table.operand_level.Statement.{statement}
@@ -6,12 +6,10 @@ use Rattle.conditions.proofs.table.operand_level.Tie as tie
 use Rattle.conditions.proofs.table.operand_level.Reads as reads
 use Rattle.conditions.proofs.table.operand_level.Lts as lts
 
--- src/table.rt:298:9
 returns : tie.Need-returns
 unfolding operandLevel
 returns c = search (needs, tests)
 
--- src/table.rt:294:1
 returns-2 : tie.Need-returns-2
 unfolding operandLevel
 returns-2 c = search (needs, tests)

@@ -1,38 +1,31 @@
 use Rattle.conditions.proofs.TableWays.{operand-test, operand-compared, operand-matched, operand-sum, operand-plain, operand-known}
-use Rattle.conditions.specs.Table.{operandOf}
+use Rattle.conditions.specs.Working.Numbered.{operandOf}
 use borrow.Author.Needs.{needs}
 use Rattle.conditions.proofs.table.operand_of.Statement.{statement}
 use Rattle.conditions.proofs.table.operand_of.Tie as tie
 use Rattle.conditions.proofs.table.operand_of.Reads as reads
 use Rattle.conditions.proofs.table.operand_of.Lts as lts
 
--- src/table.rt:261:13
 returns : tie.Need-returns
 returns c = search operand-test
 
--- src/table.rt:264:13
 returns-2 : tie.Need-returns-2
 returns-2 c = search operand-compared
 
--- src/table.rt:266:9
 returns-3 : tie.Need-returns-3
 returns-3 c = search operand-matched
 
--- src/table.rt:269:9
 returns-4 : tie.Need-returns-4
 returns-4 c = search operand-sum
 
--- src/table.rt:272:9
 returns-5 : tie.Need-returns-5
 unfolding operandOf
 returns-5 c = search (operand-known 7)
 
--- src/table.rt:275:9
 returns-6 : tie.Need-returns-6
 unfolding operandOf
 returns-6 c = search (operand-known 8)
 
--- src/table.rt:256:1
 returns-7 : tie.Need-returns-7
 returns-7 c = search operand-plain
 

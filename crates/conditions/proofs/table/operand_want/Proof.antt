@@ -1,4 +1,4 @@
-use Rattle.conditions.specs.Table.{operandWant}
+use Rattle.conditions.specs.Working.Numbered.{operandWant}
 use borrow.Author.Needs.{needs}
 use Rattle.text.specs.Choice.{tests}
 use Rattle.conditions.proofs.table.operand_want.Statement.{statement}
@@ -6,22 +6,18 @@ use Rattle.conditions.proofs.table.operand_want.Tie as tie
 use Rattle.conditions.proofs.table.operand_want.Reads as reads
 use Rattle.conditions.proofs.table.operand_want.Lts as lts
 
--- src/table.rt:308:9
 returns : tie.Need-returns
 unfolding operandWant
 returns c = search (needs, tests)
 
--- src/table.rt:311:9
 returns-2 : tie.Need-returns-2
 unfolding operandWant
 returns-2 c = search (needs, tests)
 
--- src/table.rt:314:9
 returns-3 : tie.Need-returns-3
 unfolding operandWant
 returns-3 c = search (needs, tests)
 
--- src/table.rt:304:1
 returns-4 : tie.Need-returns-4
 unfolding operandWant
 returns-4 c = search (needs, tests)

@@ -1,5 +1,5 @@
 use Rattle.conditions.proofs.TableWays.{operator-test, operator-none, operator-word}
-use Rattle.conditions.specs.Table.{operator}
+use Rattle.conditions.specs.Working.Numbered.{operator}
 use Rattle.text.specs.Choice.{tests}
 use borrow.Author.Needs.{needs}
 use Rattle.conditions.proofs.table.operator_of.Statement.{statement}
@@ -10,41 +10,32 @@ use Rattle.conditions.proofs.table.number_operator.Reads as number-oper
 use Rattle.conditions.proofs.table.test_operator.Reads as test-operator-reads
 use Rattle.conditions.proofs.table.text_operator.Reads as text-operator-reads
 
--- src/table.rt:189:9
 number-operator-requires : tie.Need-number-operator-requires
 number-operator-requires c κs = search (needs, tests)
 
--- src/table.rt:189:9
 returns : tie.Need-returns
 unfolding operator
 returns c = search (needs, tests)
 
--- src/table.rt:192:9
 text-operator-requires : tie.Need-text-operator-requires
 text-operator-requires c κs = search (needs, tests)
 
--- src/table.rt:192:9
 returns-2 : tie.Need-returns-2
 unfolding operator
 returns-2 c = search (needs, tests)
 
--- src/table.rt:194:9
 test-operator-requires : tie.Need-test-operator-requires
 test-operator-requires c κs = search (needs, tests)
 
--- src/table.rt:196:9
 returns-3 : tie.Need-returns-3
 returns-3 c = search operator-test
 
--- src/table.rt:199:9
 returns-4 : tie.Need-returns-4
 returns-4 c = search operator-none
 
--- src/table.rt:201:5
 text-operator-requires-2 : tie.Need-text-operator-requires-2
 text-operator-requires-2 c κs = search (needs, tests)
 
--- src/table.rt:185:1
 returns-5 : tie.Need-returns-5
 returns-5 c = search operator-word
 

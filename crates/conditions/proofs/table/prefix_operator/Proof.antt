@@ -1,4 +1,4 @@
-use Rattle.conditions.specs.Table.{prefixOperator}
+use Rattle.conditions.specs.Working.Numbered.{prefixOperator}
 use borrow.Author.Needs.{needs}
 use Rattle.text.specs.Choice.{tests}
 use Rattle.conditions.proofs.table.prefix_operator.Statement.{statement}
@@ -6,27 +6,22 @@ use Rattle.conditions.proofs.table.prefix_operator.Tie as tie
 use Rattle.conditions.proofs.table.prefix_operator.Reads as reads
 use Rattle.conditions.proofs.table.prefix_operator.Lts as lts
 
--- src/table.rt:209:9
 returns : tie.Need-returns
 unfolding prefixOperator
 returns c = search (needs, tests)
 
--- src/table.rt:212:9
 returns-2 : tie.Need-returns-2
 unfolding prefixOperator
 returns-2 c = search (needs, tests)
 
--- src/table.rt:215:9
 returns-3 : tie.Need-returns-3
 unfolding prefixOperator
 returns-3 c = search (needs, tests)
 
--- src/table.rt:218:9
 returns-4 : tie.Need-returns-4
 unfolding prefixOperator
 returns-4 c = search (needs, tests)
 
--- src/table.rt:205:1
 returns-5 : tie.Need-returns-5
 unfolding prefixOperator
 returns-5 c = search (needs, tests)

@@ -6,17 +6,14 @@ use Rattle.conditions.proofs.table.refusal_of.Tie as tie
 use Rattle.conditions.proofs.table.refusal_of.Reads as reads
 use Rattle.conditions.proofs.table.refusal_of.Lts as lts
 
--- src/table.rt:95:9
 returns : tie.Need-returns
 unfolding refusal
 returns c = search (needs, tests)
 
--- src/table.rt:98:9
 returns-2 : tie.Need-returns-2
 unfolding refusal
 returns-2 c = search (needs, tests)
 
--- src/table.rt:91:1
 returns-3 : tie.Need-returns-3
 unfolding refusal
 returns-3 c = search (needs, tests)

@@ -1,5 +1,5 @@
 use Rattle.conditions.proofs.TableWays.{result-sum, result-known}
-use Rattle.conditions.specs.Table.{resultOf}
+use Rattle.conditions.specs.Working.Numbered.{resultOf}
 use Rattle.text.specs.Choice.{tests}
 use borrow.Author.Needs.{needs}
 use Rattle.conditions.proofs.table.result_of.Statement.{statement}
@@ -7,31 +7,25 @@ use Rattle.conditions.proofs.table.result_of.Tie as tie
 use Rattle.conditions.proofs.table.result_of.Reads as reads
 use Rattle.conditions.proofs.table.result_of.Lts as lts
 
--- src/table.rt:285:9
 returns : tie.Need-returns
 unfolding resultOf
 returns c = search (needs, tests)
 
--- src/table.rt:288:9
 returns-2 : tie.Need-returns-2
 returns-2 c = search result-sum
 
--- src/table.rt:291:9
 returns-3 : tie.Need-returns-3
 unfolding resultOf
 returns-3 c = search (result-known 8)
 
--- src/table.rt:294:9
 returns-4 : tie.Need-returns-4
 unfolding resultOf
 returns-4 c = search (result-known 5)
 
--- src/table.rt:297:9
 returns-5 : tie.Need-returns-5
 unfolding resultOf
 returns-5 c = search (result-known 9)
 
--- src/table.rt:281:1
 returns-6 : tie.Need-returns-6
 unfolding resultOf
 returns-6 c = search (needs, tests)

@@ -6,15 +6,12 @@ use Rattle.conditions.proofs.table.right_level.Reads as reads
 use Rattle.conditions.proofs.table.right_level.Lts as lts
 use Rattle.conditions.proofs.table.level_of.Reads as level-of-reads
 
--- src/table.rt:337:5
 level-of-requires : tie.Need-level-of-requires
 level-of-requires c κs = search needs
 
--- src/table.rt:337:5
 add-result : tie.Need-add-result
 add-result c = search needs
 
--- src/table.rt:334:1
 returns : tie.Need-returns
 returns c = search right-made
 

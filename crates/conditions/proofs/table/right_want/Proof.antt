@@ -1,5 +1,5 @@
 use Rattle.conditions.proofs.TableWays.{right-test, right-text, right-number}
-use Rattle.conditions.specs.Table.{rightWant}
+use Rattle.conditions.specs.Working.Numbered.{rightWant}
 use Rattle.text.specs.Choice.{tests}
 use borrow.Author.Needs.{needs}
 use Rattle.conditions.proofs.table.right_want.Statement.{statement}
@@ -8,19 +8,15 @@ use Rattle.conditions.proofs.table.right_want.Reads as reads
 use Rattle.conditions.proofs.table.right_want.Lts as lts
 use Rattle.conditions.proofs.table.operand_of.Reads as operand-of-reads
 
--- src/table.rt:323:9
 operand-of-requires : tie.Need-operand-of-requires
 operand-of-requires c κs = search (needs, tests)
 
--- src/table.rt:325:9
 returns : tie.Need-returns
 returns c = search right-test
 
--- src/table.rt:328:9
 returns-2 : tie.Need-returns-2
 returns-2 c = search right-text
 
--- src/table.rt:320:1
 returns-3 : tie.Need-returns-3
 returns-3 c = search right-number
 

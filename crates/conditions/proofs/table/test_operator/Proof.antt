@@ -1,4 +1,4 @@
-use Rattle.conditions.specs.Table.{testOperator}
+use Rattle.conditions.specs.Working.Numbered.{testOperator}
 use borrow.Author.Needs.{needs}
 use Rattle.text.specs.Choice.{tests}
 use Rattle.conditions.proofs.table.test_operator.Statement.{statement}
@@ -6,17 +6,14 @@ use Rattle.conditions.proofs.table.test_operator.Tie as tie
 use Rattle.conditions.proofs.table.test_operator.Reads as reads
 use Rattle.conditions.proofs.table.test_operator.Lts as lts
 
--- src/table.rt:176:9
 returns : tie.Need-returns
 unfolding testOperator
 returns c = search (needs, tests)
 
--- src/table.rt:179:9
 returns-2 : tie.Need-returns-2
 unfolding testOperator
 returns-2 c = search (needs, tests)
 
--- src/table.rt:172:1
 returns-3 : tie.Need-returns-3
 unfolding testOperator
 returns-3 c = search (needs, tests)

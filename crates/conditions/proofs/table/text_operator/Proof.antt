@@ -1,4 +1,4 @@
-use Rattle.conditions.specs.Table.{textOperator}
+use Rattle.conditions.specs.Working.Numbered.{textOperator}
 use Rattle.text.specs.Choice.{tests}
 use borrow.Author.Needs.{needs}
 use Rattle.conditions.proofs.table.text_operator.Statement.{statement}
@@ -7,21 +7,17 @@ use Rattle.conditions.proofs.table.text_operator.Reads as reads
 use Rattle.conditions.proofs.table.text_operator.Lts as lts
 use Rattle.conditions.proofs.table.comparison_of.Reads as comparison-of-reads
 
--- src/table.rt:163:9
 returns : tie.Need-returns
 unfolding textOperator
 returns c = search (needs, tests)
 
--- src/table.rt:166:9
 returns-2 : tie.Need-returns-2
 unfolding textOperator
 returns-2 c = search (needs, tests)
 
--- src/table.rt:168:5
 comparison-of-requires : tie.Need-comparison-of-requires
 comparison-of-requires c κs = search (needs, tests)
 
--- src/table.rt:159:1
 returns-3 : tie.Need-returns-3
 unfolding textOperator
 returns-3 c = search (needs, tests)

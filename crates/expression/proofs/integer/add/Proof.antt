@@ -7,35 +7,27 @@ use Rattle.expression.proofs.integer.add.Lts as lts
 use Rattle.expression.proofs.integer.less.Reads as less-reads
 use Rattle.expression.proofs.integer.together.Reads as together-reads
 
--- src/integer.rt:88:13
 together-requires : tie.Need-together-requires
 together-requires c κs = search needs
 
--- src/integer.rt:88:13
 returns : tie.Need-returns
 returns c = search add-negatives
 
--- src/integer.rt:90:9
 less-requires : tie.Need-less-requires
 less-requires c κs = search needs
 
--- src/integer.rt:90:9
 returns-2 : tie.Need-returns-2
 returns-2 c = search add-left
 
--- src/integer.rt:93:9
 less-requires-2 : tie.Need-less-requires-2
 less-requires-2 c κs = search needs
 
--- src/integer.rt:93:9
 returns-3 : tie.Need-returns-3
 returns-3 c = search add-right
 
--- src/integer.rt:95:5
 together-requires-2 : tie.Need-together-requires-2
 together-requires-2 c κs = search needs
 
--- src/integer.rt:83:1
 returns-4 : tie.Need-returns-4
 returns-4 c = search add-plain
 

@@ -7,23 +7,18 @@ use Rattle.expression.proofs.integer.divide.Lts as lts
 use Rattle.expression.proofs.integer.in_range.Reads as in-range-reads
 use Rattle.expression.proofs.integer.signs_differ.Reads as signs-differ-reads
 
--- src/integer.rt:137:9
 signs-differ-requires : tie.Need-signs-differ-requires
 signs-differ-requires c κs = search needs
 
--- src/integer.rt:139:9
 returns : tie.Need-returns
 returns c = search over-none
 
--- src/integer.rt:141:17
 div-in-range : tie.Need-div-in-range
 div-in-range c = search needs
 
--- src/integer.rt:141:5
 in-range-requires : tie.Need-in-range-requires
 in-range-requires c κs = search needs
 
--- src/integer.rt:134:1
 returns-2 : tie.Need-returns-2
 returns-2 c = search over-in
 

@@ -5,23 +5,18 @@ use Rattle.expression.proofs.integer.in_range.Tie as tie
 use Rattle.expression.proofs.integer.in_range.Reads as reads
 use Rattle.expression.proofs.integer.in_range.Lts as lts
 
--- src/integer.rt:37:9
 returns : tie.Need-returns
 returns c = search range-zero
 
--- src/integer.rt:44:13
 returns-2 : tie.Need-returns-2
 returns-2 c = search range-below
 
--- src/integer.rt:46:9
 returns-3 : tie.Need-returns-3
 returns-3 c = search range-negative
 
--- src/integer.rt:52:9
 returns-4 : tie.Need-returns-4
 returns-4 c = search range-above
 
--- src/integer.rt:33:1
 returns-5 : tie.Need-returns-5
 returns-5 c = search range-positive
 

@@ -6,7 +6,6 @@ use Rattle.expression.proofs.integer.is_odd.Tie as tie
 use Rattle.expression.proofs.integer.is_odd.Reads as reads
 use Rattle.expression.proofs.integer.is_odd.Lts as lts
 
--- src/integer.rt:154:1
 returns : tie.Need-returns
 unfolding odd
 returns c = search (needs, tests)

@@ -7,27 +7,21 @@ use Rattle.expression.proofs.integer.less.Lts as lts
 use Rattle.expression.proofs.integer.in_range.Reads as in-range-reads
 use Rattle.expression.proofs.integer.opposite.Reads as opposite-reads
 
--- src/integer.rt:78:9
 in-range-requires : tie.Need-in-range-requires
 in-range-requires c κs = search needs
 
--- src/integer.rt:78:9
 returns : tie.Need-returns
 returns c = search less-in
 
--- src/integer.rt:80:14
 opposite-requires : tie.Need-opposite-requires
 opposite-requires c κs = search needs
 
--- src/integer.rt:80:34
 sub-in-range : tie.Need-sub-in-range
 sub-in-range c = search needs
 
--- src/integer.rt:80:5
 in-range-requires-2 : tie.Need-in-range-requires-2
 in-range-requires-2 c κs = search needs
 
--- src/integer.rt:74:1
 returns-2 : tie.Need-returns-2
 returns-2 c = search less-turned
 

@@ -7,43 +7,33 @@ use Rattle.expression.proofs.integer.multiply.Lts as lts
 use Rattle.expression.proofs.integer.in_range.Reads as in-range-reads
 use Rattle.expression.proofs.integer.signs_differ.Reads as signs-differ-reads
 
--- src/integer.rt:117:9
 signs-differ-requires : tie.Need-signs-differ-requires
 signs-differ-requires c κs = search needs
 
--- src/integer.rt:119:9
 in-range-requires : tie.Need-in-range-requires
 in-range-requires c κs = search needs
 
--- src/integer.rt:119:9
 returns : tie.Need-returns
 returns c = search times-none
 
--- src/integer.rt:122:9
 in-range-requires-2 : tie.Need-in-range-requires-2
 in-range-requires-2 c κs = search needs
 
--- src/integer.rt:122:9
 returns-2 : tie.Need-returns-2
 returns-2 c = search times-nothing
 
--- src/integer.rt:125:9
 returns-3 : tie.Need-returns-3
 returns-3 c = search times-left
 
--- src/integer.rt:128:9
 returns-4 : tie.Need-returns-4
 returns-4 c = search times-right
 
--- src/integer.rt:130:17
 mul-in-range : tie.Need-mul-in-range
 mul-in-range c = search product-fits
 
--- src/integer.rt:130:5
 in-range-requires-3 : tie.Need-in-range-requires-3
 in-range-requires-3 c κs = search needs
 
--- src/integer.rt:114:1
 returns-5 : tie.Need-returns-5
 returns-5 c = search times-in
 

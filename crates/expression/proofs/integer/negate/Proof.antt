@@ -7,15 +7,12 @@ use Rattle.expression.proofs.integer.negate.Lts as lts
 use Rattle.expression.proofs.integer.in_range.Reads as in-range-reads
 use Rattle.expression.proofs.integer.opposite.Reads as opposite-reads
 
--- src/integer.rt:101:14
 opposite-requires : tie.Need-opposite-requires
 opposite-requires c κs = search needs
 
--- src/integer.rt:101:5
 in-range-requires : tie.Need-in-range-requires
 in-range-requires c κs = search needs
 
--- src/integer.rt:98:1
 returns : tie.Need-returns
 returns c = search negated-in
 

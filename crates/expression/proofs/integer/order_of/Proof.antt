@@ -6,27 +6,21 @@ use Rattle.expression.proofs.integer.order_of.Reads as reads
 use Rattle.expression.proofs.integer.order_of.Lts as lts
 use Rattle.expression.proofs.integer.order_of_sizes.Reads as order-of-sizes-reads
 
--- src/integer.rt:229:13
 order-of-sizes-requires : tie.Need-order-of-sizes-requires
 order-of-sizes-requires c κs = search needs
 
--- src/integer.rt:229:13
 returns : tie.Need-returns
 returns c = search compared-below
 
--- src/integer.rt:231:9
 returns-2 : tie.Need-returns-2
 returns-2 c = search compared-less
 
--- src/integer.rt:234:9
 returns-3 : tie.Need-returns-3
 returns-3 c = search compared-greater
 
--- src/integer.rt:236:5
 order-of-sizes-requires-2 : tie.Need-order-of-sizes-requires-2
 order-of-sizes-requires-2 c κs = search needs
 
--- src/integer.rt:224:1
 returns-4 : tie.Need-returns-4
 returns-4 c = search compared-above
 

@@ -5,15 +5,12 @@ use Rattle.expression.proofs.integer.order_of_sizes.Tie as tie
 use Rattle.expression.proofs.integer.order_of_sizes.Reads as reads
 use Rattle.expression.proofs.integer.order_of_sizes.Lts as lts
 
--- src/integer.rt:216:9
 returns : tie.Need-returns
 returns c = search sizes-less
 
--- src/integer.rt:219:9
 returns-2 : tie.Need-returns-2
 returns-2 c = search sizes-greater
 
--- src/integer.rt:212:1
 returns-3 : tie.Need-returns-3
 returns-3 c = search sizes-equal
 

@@ -14,43 +14,33 @@ Inv-loop x n v₀ left₀ v left = (v ≤ 2147483648) × (raisedTo v x left ≡ 
 abbrev μ-loop : tie.MeasureT-loop
 μ-loop x n v₀ left₀ v left = left
 
--- src/integer.rt:165:9
 returns : tie.Need-returns Inv-loop μ-loop
 returns c = search raise-none
 
--- src/integer.rt:168:9
 returns-2 : tie.Need-returns-2 Inv-loop μ-loop
 returns-2 c = search raise-small
 
--- src/integer.rt:171:9
 returns-3 : tie.Need-returns-3 Inv-loop μ-loop
 returns-3 c = search raise-large
 
--- src/integer.rt:175:5
 loop-holds : tie.Need-loop-holds Inv-loop μ-loop
 loop-holds c = search needs
 
--- src/integer.rt:176:13
 mul-v : tie.Need-mul-v Inv-loop μ-loop
 mul-v c = search product-fits
 
--- src/integer.rt:178:13
 returns-4 : tie.Need-returns-4 Inv-loop μ-loop
 returns-4 c = search raise-over
 
--- src/integer.rt:180:9
 sub-left : tie.Need-sub-left Inv-loop μ-loop
 sub-left c = search needs
 
--- src/integer.rt:175:5
 loop-less : tie.Need-loop-less Inv-loop μ-loop
 loop-less c = search needs
 
--- src/integer.rt:175:5
 loop-again : tie.Need-loop-again Inv-loop μ-loop
 loop-again c = (search needs, search raise-more)
 
--- src/integer.rt:161:1
 returns-5 : tie.Need-returns-5 Inv-loop μ-loop
 returns-5 c = search raise-end
 

@@ -8,27 +8,21 @@ use Rattle.expression.proofs.integer.in_range.Reads as in-range-reads
 use Rattle.expression.proofs.integer.raise.Reads as raise-reads
 use Rattle.expression.proofs.integer.sign_of_power.Reads as sign-of-power-reads
 
--- src/integer.rt:199:9
 returns : tie.Need-returns
 returns c = search power-none
 
--- src/integer.rt:205:9
 returns-2 : tie.Need-returns-2
 returns-2 c = search power-negative
 
--- src/integer.rt:207:9
 sign-of-power-requires : tie.Need-sign-of-power-requires
 sign-of-power-requires c κs = search needs
 
--- src/integer.rt:208:9
 raise-requires : tie.Need-raise-requires
 raise-requires c κs = search needs
 
--- src/integer.rt:209:5
 in-range-requires : tie.Need-in-range-requires
 in-range-requires c κs = search needs
 
--- src/integer.rt:195:1
 returns-3 : tie.Need-returns-3
 returns-3 c = search power-in
 

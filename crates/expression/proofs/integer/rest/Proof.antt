@@ -6,19 +6,15 @@ use Rattle.expression.proofs.integer.rest.Reads as reads
 use Rattle.expression.proofs.integer.rest.Lts as lts
 use Rattle.expression.proofs.integer.in_range.Reads as in-range-reads
 
--- src/integer.rt:149:9
 returns : tie.Need-returns
 returns c = search rest-none
 
--- src/integer.rt:151:26
 rem-in-range : tie.Need-rem-in-range
 rem-in-range c = search needs
 
--- src/integer.rt:151:5
 in-range-requires : tie.Need-in-range-requires
 in-range-requires c κs = search needs
 
--- src/integer.rt:145:1
 returns-2 : tie.Need-returns-2
 returns-2 c = search rest-in
 

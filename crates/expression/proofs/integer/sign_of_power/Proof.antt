@@ -6,15 +6,12 @@ use Rattle.expression.proofs.integer.sign_of_power.Reads as reads
 use Rattle.expression.proofs.integer.sign_of_power.Lts as lts
 use Rattle.expression.proofs.integer.is_odd.Reads as is-odd-reads
 
--- src/integer.rt:188:8
 is-odd-requires : tie.Need-is-odd-requires
 is-odd-requires c κs = search needs
 
--- src/integer.rt:189:9
 returns : tie.Need-returns
 returns c = search sign-odd
 
--- src/integer.rt:185:1
 returns-2 : tie.Need-returns-2
 returns-2 c = search sign-even
 

@@ -6,15 +6,12 @@ use Rattle.expression.proofs.integer.signs_differ.Reads as reads
 use Rattle.expression.proofs.integer.signs_differ.Lts as lts
 use Rattle.expression.proofs.integer.opposite.Reads as opposite-reads
 
--- src/integer.rt:27:9
 opposite-requires : tie.Need-opposite-requires
 opposite-requires c κs = search needs
 
--- src/integer.rt:27:9
 returns : tie.Need-returns
 returns c = search differ-turned
 
--- src/integer.rt:23:1
 returns-2 : tie.Need-returns-2
 returns-2 c = search differ-same
 

@@ -7,15 +7,12 @@ use Rattle.expression.proofs.integer.subtract.Lts as lts
 use Rattle.expression.proofs.integer.add.Reads as add-reads
 use Rattle.expression.proofs.integer.opposite.Reads as opposite-reads
 
--- src/integer.rt:108:19
 opposite-requires : tie.Need-opposite-requires
 opposite-requires c κs = search needs
 
--- src/integer.rt:111:5
 add-requires : tie.Need-add-requires
 add-requires c κs = search needs
 
--- src/integer.rt:104:1
 returns : tie.Need-returns
 returns c = search minus-in
 

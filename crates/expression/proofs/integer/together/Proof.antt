@@ -6,23 +6,18 @@ use Rattle.expression.proofs.integer.together.Reads as reads
 use Rattle.expression.proofs.integer.together.Lts as lts
 use Rattle.expression.proofs.integer.in_range.Reads as in-range-reads
 
--- src/integer.rt:65:9
 returns : tie.Need-returns
 returns c = search sum-left
 
--- src/integer.rt:68:9
 returns-2 : tie.Need-returns-2
 returns-2 c = search sum-right
 
--- src/integer.rt:70:24
 add-in-range : tie.Need-add-in-range
 add-in-range c = search needs
 
--- src/integer.rt:70:5
 in-range-requires : tie.Need-in-range-requires
 in-range-requires c κs = search needs
 
--- src/integer.rt:61:1
 returns-3 : tie.Need-returns-3
 returns-3 c = search needs
 

@@ -6,55 +6,42 @@ use Rattle.expression.proofs.name.behind.Reads as reads
 use Rattle.expression.proofs.name.behind.Lts as lts
 use Rattle.text.proofs.counted_at.Reads as counted-at-reads
 
--- src/name.rt:32:9
 slice-aggregate-result : tie.Need-slice-aggregate-result
 slice-aggregate-result c = search needs
 
--- src/name.rt:32:9
 returns : tie.Need-returns
 returns c = search behind-past
 
--- src/name.rt:34:8
 sub-if2 : tie.Need-sub-if2
 sub-if2 c = search needs
 
--- src/name.rt:35:9
 slice-aggregate-result-2 : tie.Need-slice-aggregate-result-2
 slice-aggregate-result-2 c = search needs
 
--- src/name.rt:35:9
 returns-2 : tie.Need-returns-2
 returns-2 c = search behind-short
 
--- src/name.rt:37:8
 sub-if3 : tie.Need-sub-if3
 sub-if3 c = search needs
 
--- src/name.rt:37:8
 sub-if3-2 : tie.Need-sub-if3-2
 sub-if3-2 c = search needs
 
--- src/name.rt:38:9
 slice-aggregate-result-3 : tie.Need-slice-aggregate-result-3
 slice-aggregate-result-3 c = search needs
 
--- src/name.rt:38:9
 returns-3 : tie.Need-returns-3
 returns-3 c = search behind-none
 
--- src/name.rt:40:25
 add-counted-at : tie.Need-add-counted-at
 add-counted-at c = search needs
 
--- src/name.rt:40:25
 add-counted-at-2 : tie.Need-add-counted-at-2
 add-counted-at-2 c = search needs
 
--- src/name.rt:40:5
 counted-at-requires : tie.Need-counted-at-requires
 counted-at-requires c κs = search needs
 
--- src/name.rt:28:1
 returns-4 : tie.Need-returns-4
 returns-4 c = search needs
 

@@ -17,43 +17,33 @@ Inv-loop s places name i₀ i = firstRest s name places i ≡ firstFrom s name 0
 abbrev μ-loop : tie.MeasureT-loop
 μ-loop s places name i₀ i = length places - i
 
--- src/name.rt:15:5
 loop-holds : tie.Need-loop-holds Inv-loop μ-loop
 loop-holds c = search first-start
 
--- src/name.rt:19:17
 mul-p : tie.Need-mul-p Inv-loop μ-loop
 mul-p c = search needs
 
--- src/name.rt:19:17
 shared-slice-read-p : tie.Need-shared-slice-read-p Inv-loop μ-loop
 shared-slice-read-p c = search needs
 
--- src/name.rt:20:29
 counted-at-requires : tie.Need-counted-at-requires Inv-loop μ-loop
 counted-at-requires c κs = search needs
 
--- src/name.rt:20:12
 same-bytes-requires : tie.Need-same-bytes-requires Inv-loop μ-loop
 same-bytes-requires c κs = search needs
 
--- src/name.rt:23:9
 add-i : tie.Need-add-i Inv-loop μ-loop
 add-i c = search needs
 
--- src/name.rt:15:5
 loop-less : tie.Need-loop-less Inv-loop μ-loop
 loop-less c = search needs
 
--- src/name.rt:15:5
 loop-again : tie.Need-loop-again Inv-loop μ-loop
 loop-again c = search first-more
 
--- src/name.rt:11:1
 returns : tie.Need-returns Inv-loop μ-loop
 returns c = search first-end
 
--- src/name.rt:11:1
 returns-2 : tie.Need-returns-2 Inv-loop μ-loop
 returns-2 c = search first-here
 

@@ -9,27 +9,21 @@ use Rattle.expression.proofs.name.from_reserved.Reads as from-reserved-
 use Rattle.expression.proofs.name.is_marked.Reads as is-marked-reads
 use Rattle.expression.proofs.name.setting.Reads as setting-reads
 
--- src/name.rt:131:8
 is-marked-requires : tie.Need-is-marked-requires
 is-marked-requires c κs = search needs
 
--- src/name.rt:132:9
 from-reserved-requires : tie.Need-from-reserved-requires
 from-reserved-requires c κs = search needs
 
--- src/name.rt:132:9
 returns : tie.Need-returns
 returns c = search needs
 
--- src/name.rt:134:9
 find-requires : tie.Need-find-requires
 find-requires c κs = search needs
 
--- src/name.rt:135:5
 setting-requires : tie.Need-setting-requires
 setting-requires c κs = search needs
 
--- src/name.rt:122:1
 returns-2 : tie.Need-returns-2
 returns-2 c = search query-unmarked
 

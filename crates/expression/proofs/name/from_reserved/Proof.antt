@@ -11,79 +11,60 @@ use Rattle.expression.proofs.name.string_at.Reads as string-at-reads
 use Rattle.text.proofs.counted_at.Reads as counted-at-reads
 use Rattle.text.proofs.same_bytes.Reads as same-bytes-reads
 
--- src/name.rt:80:31
 slice-aggregate-same-bytes : tie.Need-slice-aggregate-same-bytes
 slice-aggregate-same-bytes c = search needs
 
--- src/name.rt:80:8
 same-bytes-requires : tie.Need-same-bytes-requires
 same-bytes-requires c κs = search needs
 
--- src/name.rt:81:9
 string-at-requires : tie.Need-string-at-requires
 string-at-requires c κs = search needs
 
--- src/name.rt:81:9
 returns : tie.Need-returns
 returns c = search query-least
 
--- src/name.rt:83:31
 slice-aggregate-same-bytes-2 : tie.Need-slice-aggregate-same-bytes-2
 slice-aggregate-same-bytes-2 c = search needs
 
--- src/name.rt:83:8
 same-bytes-requires-2 : tie.Need-same-bytes-requires-2
 same-bytes-requires-2 c κs = search needs
 
--- src/name.rt:84:9
 last-requires : tie.Need-last-requires
 last-requires c κs = search needs
 
--- src/name.rt:84:9
 returns-2 : tie.Need-returns-2
 returns-2 c = search query-most
 
--- src/name.rt:86:31
 slice-aggregate-same-bytes-3 : tie.Need-slice-aggregate-same-bytes-3
 slice-aggregate-same-bytes-3 c = search needs
 
--- src/name.rt:86:8
 same-bytes-requires-3 : tie.Need-same-bytes-requires-3
 same-bytes-requires-3 c κs = search needs
 
--- src/name.rt:87:9
 counted-at-requires : tie.Need-counted-at-requires
 counted-at-requires c κs = search needs
 
--- src/name.rt:87:9
 returns-3 : tie.Need-returns-3
 returns-3 c = search query-values
 
--- src/name.rt:89:31
 slice-aggregate-same-bytes-4 : tie.Need-slice-aggregate-same-bytes-4
 slice-aggregate-same-bytes-4 c = search needs
 
--- src/name.rt:89:8
 same-bytes-requires-4 : tie.Need-same-bytes-requires-4
 same-bytes-requires-4 c κs = search needs
 
--- src/name.rt:90:17
 counted-at-requires-2 : tie.Need-counted-at-requires-2
 counted-at-requires-2 c κs = search needs
 
--- src/name.rt:91:9
 behind-requires : tie.Need-behind-requires
 behind-requires c κs = search needs
 
--- src/name.rt:91:9
 returns-4 : tie.Need-returns-4
 returns-4 c = search query-authorizers
 
--- src/name.rt:93:5
 attribute-requires : tie.Need-attribute-requires
 attribute-requires c κs = search needs
 
--- src/name.rt:77:1
 returns-5 : tie.Need-returns-5
 returns-5 c = search query-attribute
 

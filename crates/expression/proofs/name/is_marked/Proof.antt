@@ -5,15 +5,12 @@ use Rattle.expression.proofs.name.is_marked.Tie as tie
 use Rattle.expression.proofs.name.is_marked.Reads as reads
 use Rattle.expression.proofs.name.is_marked.Lts as lts
 
--- src/name.rt:82:9
 returns : tie.Need-returns
 returns c = search marked-none
 
--- src/name.rt:84:5
 shared-slice-read-result : tie.Need-shared-slice-read-result
 shared-slice-read-result c = search needs
 
--- src/name.rt:78:1
 returns-2 : tie.Need-returns-2
 returns-2 c = search needs
 

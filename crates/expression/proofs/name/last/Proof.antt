@@ -6,23 +6,18 @@ use Rattle.expression.proofs.name.last.Reads as reads
 use Rattle.expression.proofs.name.last.Lts as lts
 use Rattle.expression.proofs.name.string_at.Reads as string-at-reads
 
--- src/name.rt:71:9
 string-at-requires : tie.Need-string-at-requires
 string-at-requires c κs = search needs
 
--- src/name.rt:71:9
 returns : tie.Need-returns
 returns c = search last-none
 
--- src/name.rt:73:30
 sub-string-at : tie.Need-sub-string-at
 sub-string-at c = search needs
 
--- src/name.rt:73:5
 string-at-requires-2 : tie.Need-string-at-requires-2
 string-at-requires-2 c κs = search needs
 
--- src/name.rt:67:1
 returns-2 : tie.Need-returns-2
 returns-2 c = search needs
 

@@ -8,31 +8,24 @@ use Rattle.expression.proofs.name.behind.Reads as behind-reads
 use Rattle.expression.proofs.name.find.Reads as find-reads
 use Rattle.expression.proofs.name.from_query.Reads as from-query-reads
 
--- src/name.rt:107:9
 find-requires : tie.Need-find-requires
 find-requires c κs = search needs
 
--- src/name.rt:109:9
 from-query-requires : tie.Need-from-query-requires
 from-query-requires c κs = search needs
 
--- src/name.rt:109:9
 returns : tie.Need-returns
 returns c = search lookup-query
 
--- src/name.rt:111:13
 mul-p : tie.Need-mul-p
 mul-p c = search needs
 
--- src/name.rt:111:13
 shared-slice-read-p : tie.Need-shared-slice-read-p
 shared-slice-read-p c = search needs
 
--- src/name.rt:112:5
 behind-requires : tie.Need-behind-requires
 behind-requires c κs = search needs
 
--- src/name.rt:97:1
 returns-2 : tie.Need-returns-2
 returns-2 c = search lookup-constant
 

@@ -6,15 +6,12 @@ use Rattle.expression.proofs.name.rank_of.Reads as reads
 use Rattle.expression.proofs.name.rank_of.Lts as lts
 use Rattle.expression.proofs.name.find.Reads as find-reads
 
--- src/name.rt:119:9
 find-requires : tie.Need-find-requires
 find-requires c κs = search needs
 
--- src/name.rt:121:9
 returns : tie.Need-returns
 returns c = search rank-none
 
--- src/name.rt:116:1
 returns-2 : tie.Need-returns-2
 returns-2 c = search rank-some
 

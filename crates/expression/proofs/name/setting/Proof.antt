@@ -6,27 +6,21 @@ use Rattle.expression.proofs.name.setting.Reads as reads
 use Rattle.expression.proofs.name.setting.Lts as lts
 use Rattle.expression.proofs.name.behind.Reads as behind-reads
 
--- src/name.rt:61:9
 slice-aggregate-result : tie.Need-slice-aggregate-result
 slice-aggregate-result c = search needs
 
--- src/name.rt:61:9
 returns : tie.Need-returns
 returns c = search setting-none
 
--- src/name.rt:63:13
 mul-p : tie.Need-mul-p
 mul-p c = search needs
 
--- src/name.rt:63:13
 shared-slice-read-p : tie.Need-shared-slice-read-p
 shared-slice-read-p c = search needs
 
--- src/name.rt:64:5
 behind-requires : tie.Need-behind-requires
 behind-requires c κs = search needs
 
--- src/name.rt:56:1
 returns-2 : tie.Need-returns-2
 returns-2 c = search setting-some
 

@@ -6,27 +6,21 @@ use Rattle.expression.proofs.name.string_at.Reads as reads
 use Rattle.expression.proofs.name.string_at.Lts as lts
 use Rattle.text.proofs.counted_at.Reads as counted-at-reads
 
--- src/name.rt:48:9
 slice-aggregate-result : tie.Need-slice-aggregate-result
 slice-aggregate-result c = search needs
 
--- src/name.rt:48:9
 returns : tie.Need-returns
 returns c = search string-none
 
--- src/name.rt:50:13
 mul-p : tie.Need-mul-p
 mul-p c = search needs
 
--- src/name.rt:50:13
 shared-slice-read-p : tie.Need-shared-slice-read-p
 shared-slice-read-p c = search needs
 
--- src/name.rt:51:5
 counted-at-requires : tie.Need-counted-at-requires
 counted-at-requires c κs = search needs
 
--- src/name.rt:44:1
 returns-2 : tie.Need-returns-2
 returns-2 c = search string-some
 

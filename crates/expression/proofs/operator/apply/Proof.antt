@@ -10,39 +10,30 @@ use Rattle.expression.proofs.operator.negate_operand.Reads as negate-op
 use Rattle.expression.proofs.operator.oppose.Reads as oppose-reads
 use Rattle.expression.proofs.operator.top_rank.Reads as top-rank-reads
 
--- src/operator.rt:346:9
 convert-requires : tie.Need-convert-requires
 convert-requires c κs = search needs
 
--- src/operator.rt:346:9
 returns : tie.Need-returns
 returns c = search apply-convert
 
--- src/operator.rt:349:9
 negate-operand-requires : tie.Need-negate-operand-requires
 negate-operand-requires c κs = search needs
 
--- src/operator.rt:349:9
 returns-2 : tie.Need-returns-2
 returns-2 c = search apply-negate
 
--- src/operator.rt:352:9
 oppose-requires : tie.Need-oppose-requires
 oppose-requires c κs = search needs
 
--- src/operator.rt:352:9
 returns-3 : tie.Need-returns-3
 returns-3 c = search apply-oppose
 
--- src/operator.rt:354:9
 top-rank-requires : tie.Need-top-rank-requires
 top-rank-requires c κs = search needs
 
--- src/operator.rt:355:27
 gated-requires : tie.Need-gated-requires
 gated-requires c κs = search needs
 
--- src/operator.rt:342:1
 returns-4 : tie.Need-returns-4
 returns-4 c = search apply-plain
 

@@ -6,15 +6,12 @@ use Rattle.expression.proofs.operator.as_test.Reads as reads
 use Rattle.expression.proofs.operator.as_test.Lts as lts
 use Rattle.expression.proofs.value.is_test.Reads as is-test-reads
 
--- src/operator.rt:188:8
 is-test-requires : tie.Need-is-test-requires
 is-test-requires c κs = search needs
 
--- src/operator.rt:189:9
 returns : tie.Need-returns
 returns c = search as-test
 
--- src/operator.rt:185:1
 returns-2 : tie.Need-returns-2
 returns-2 c = search as-none
 

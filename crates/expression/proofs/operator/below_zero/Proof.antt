@@ -5,15 +5,12 @@ use Rattle.expression.proofs.operator.below_zero.Tie as tie
 use Rattle.expression.proofs.operator.below_zero.Reads as reads
 use Rattle.expression.proofs.operator.below_zero.Lts as lts
 
--- src/operator.rt:150:9
 returns : tie.Need-returns
 returns c = search below-none
 
--- src/operator.rt:153:9
 returns-2 : tie.Need-returns-2
 returns-2 c = search below-in
 
--- src/operator.rt:146:1
 returns-3 : tie.Need-returns-3
 returns-3 c = search below-over
 

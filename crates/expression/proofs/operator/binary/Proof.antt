@@ -9,35 +9,27 @@ use Rattle.expression.proofs.operator.is_textual.Reads as is-textual-re
 use Rattle.expression.proofs.operator.tests.Reads as tests-reads
 use Rattle.expression.proofs.operator.texts.Reads as texts-reads
 
--- src/operator.rt:229:8
 is-textual-requires : tie.Need-is-textual-requires
 is-textual-requires c κs = search needs
 
--- src/operator.rt:230:9
 texts-requires : tie.Need-texts-requires
 texts-requires c κs = search needs
 
--- src/operator.rt:230:9
 returns : tie.Need-returns
 returns c = search binary-texts
 
--- src/operator.rt:233:9
 integers-requires : tie.Need-integers-requires
 integers-requires c κs = search needs
 
--- src/operator.rt:233:9
 returns-2 : tie.Need-returns-2
 returns-2 c = search binary-integers
 
--- src/operator.rt:236:9
 tests-requires : tie.Need-tests-requires
 tests-requires c κs = search needs
 
--- src/operator.rt:236:9
 returns-3 : tie.Need-returns-3
 returns-3 c = search binary-tests
 
--- src/operator.rt:226:1
 returns-4 : tie.Need-returns-4
 returns-4 c = search binary-none
 

@@ -10,51 +10,39 @@ use Rattle.expression.proofs.operator.higher.Reads as higher-reads
 use Rattle.expression.proofs.operator.rank_of_text.Reads as rank-of-text-reads
 use Rattle.expression.proofs.value.rank_in.Reads as rank-in-reads
 
--- src/operator.rt:283:9
 binary-requires : tie.Need-binary-requires
 binary-requires c κs = search needs
 
--- src/operator.rt:283:9
 returns : tie.Need-returns
 returns c = search combine-binary
 
--- src/operator.rt:286:13
 rank-of-text-requires : tie.Need-rank-of-text-requires
 rank-of-text-requires c κs = search needs
 
--- src/operator.rt:287:38
 gated-requires : tie.Need-gated-requires
 gated-requires c κs = search needs
 
--- src/operator.rt:287:9
 returns-2 : tie.Need-returns-2
 returns-2 c = search combine-valued
 
--- src/operator.rt:290:13
 rank-in-requires : tie.Need-rank-in-requires
 rank-in-requires c κs = search needs
 
--- src/operator.rt:291:38
 gated-requires-2 : tie.Need-gated-requires-2
 gated-requires-2 c κs = search needs
 
--- src/operator.rt:291:9
 returns-3 : tie.Need-returns-3
 returns-3 c = search combine-nested
 
--- src/operator.rt:293:9
 rank-in-requires-2 : tie.Need-rank-in-requires-2
 rank-in-requires-2 c κs = search needs
 
--- src/operator.rt:294:9
 rank-in-requires-3 : tie.Need-rank-in-requires-3
 rank-in-requires-3 c κs = search needs
 
--- src/operator.rt:295:27
 higher-requires : tie.Need-higher-requires
 higher-requires c κs = search needs
 
--- src/operator.rt:271:1
 returns-4 : tie.Need-returns-4
 returns-4 c = search combine-raise
 

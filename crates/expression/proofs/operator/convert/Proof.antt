@@ -7,19 +7,15 @@ use Rattle.expression.proofs.operator.convert.Lts as lts
 use Rattle.expression.proofs.value.is_text.Reads as is-text-reads
 use Rattle.text.proofs.to_integer.Reads as to-integer-reads
 
--- src/operator.rt:301:8
 is-text-requires : tie.Need-is-text-requires
 is-text-requires c κs = search needs
 
--- src/operator.rt:302:13
 to-integer-requires : tie.Need-to-integer-requires
 to-integer-requires c κs = search needs
 
--- src/operator.rt:303:9
 returns : tie.Need-returns
 returns c = search convert-text
 
--- src/operator.rt:298:1
 returns-2 : tie.Need-returns-2
 returns-2 c = search convert-none
 

@@ -6,15 +6,12 @@ use Rattle.expression.proofs.operator.gated.Reads as reads
 use Rattle.expression.proofs.operator.gated.Lts as lts
 use Rattle.expression.proofs.value.holds_in.Reads as holds-in-reads
 
--- src/operator.rt:245:8
 holds-in-requires : tie.Need-holds-in-requires
 holds-in-requires c κs = search needs
 
--- src/operator.rt:246:9
 returns : tie.Need-returns
 returns c = search gated-in
 
--- src/operator.rt:242:1
 returns-2 : tie.Need-returns-2
 returns-2 c = search gated-out
 

@@ -8,35 +8,27 @@ use Rattle.expression.proofs.operator.of_integers.Reads as of-integers-
 use Rattle.expression.proofs.value.integer_in.Reads as integer-in-reads
 use Rattle.expression.proofs.value.is_number.Reads as is-number-reads
 
--- src/operator.rt:175:8
 is-number-requires : tie.Need-is-number-requires
 is-number-requires c κs = search needs
 
--- src/operator.rt:176:12
 is-number-requires-2 : tie.Need-is-number-requires-2
 is-number-requires-2 c κs = search needs
 
--- src/operator.rt:177:36
 integer-in-requires : tie.Need-integer-in-requires
 integer-in-requires c κs = search needs
 
--- src/operator.rt:177:51
 integer-in-requires-2 : tie.Need-integer-in-requires-2
 integer-in-requires-2 c κs = search needs
 
--- src/operator.rt:177:13
 of-integers-requires : tie.Need-of-integers-requires
 of-integers-requires c κs = search needs
 
--- src/operator.rt:177:13
 returns : tie.Need-returns
 returns c = search integers-both
 
--- src/operator.rt:179:9
 returns-2 : tie.Need-returns-2
 returns-2 c = search integers-half
 
--- src/operator.rt:172:1
 returns-3 : tie.Need-returns-3
 returns-3 c = search integers-none
 

@@ -1,22 +1,19 @@
 use Rattle.text.specs.Choice.{tests}
-use Rattle.expression.specs.Operations.{isTextual}
+use Rattle.expression.specs.Working.Numbered.{isTextual}
 use borrow.Author.Needs.{needs}
 use Rattle.expression.proofs.operator.is_textual.Statement.{statement}
 use Rattle.expression.proofs.operator.is_textual.Tie as tie
 use Rattle.expression.proofs.operator.is_textual.Reads as reads
 use Rattle.expression.proofs.operator.is_textual.Lts as lts
 
--- src/operator.rt:217:9
 returns : tie.Need-returns
 unfolding isTextual
 returns c = search (needs, tests)
 
--- src/operator.rt:220:9
 returns-2 : tie.Need-returns-2
 unfolding isTextual
 returns-2 c = search (needs, tests)
 
--- src/operator.rt:213:1
 returns-3 : tie.Need-returns-3
 unfolding isTextual
 returns-3 c = search (needs, tests)

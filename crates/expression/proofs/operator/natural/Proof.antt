@@ -5,11 +5,9 @@ use Rattle.expression.proofs.operator.natural.Tie as tie
 use Rattle.expression.proofs.operator.natural.Reads as reads
 use Rattle.expression.proofs.operator.natural.Lts as lts
 
--- src/operator.rt:140:9
 returns : tie.Need-returns
 returns c = search natural-in
 
--- src/operator.rt:136:1
 returns-2 : tie.Need-returns-2
 returns-2 c = search natural-over
 

@@ -8,23 +8,18 @@ use Rattle.expression.proofs.integer.negate.Reads as negate-reads
 use Rattle.expression.proofs.value.integer_in.Reads as integer-in-reads
 use Rattle.expression.proofs.value.is_number.Reads as is-number-reads
 
--- src/operator.rt:314:8
 is-number-requires : tie.Need-is-number-requires
 is-number-requires c κs = search needs
 
--- src/operator.rt:315:23
 integer-in-requires : tie.Need-integer-in-requires
 integer-in-requires c κs = search needs
 
--- src/operator.rt:315:9
 negate-requires : tie.Need-negate-requires
 negate-requires c κs = search needs
 
--- src/operator.rt:315:9
 returns : tie.Need-returns
 returns c = search negate-number
 
--- src/operator.rt:311:1
 returns-2 : tie.Need-returns-2
 returns-2 c = search negate-none
 

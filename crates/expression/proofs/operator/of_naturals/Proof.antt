@@ -13,55 +13,42 @@ use Rattle.expression.proofs.operator.relation.Reads as relation-reads
 use Rattle.expression.proofs.value.pack_operand.Reads as pack-operand-reads
 use Rattle.expression.proofs.value.told.Reads as told-reads
 
--- src/operator.rt:183:32
 add-natural : tie.Need-add-natural
 add-natural c = search needs
 
--- src/operator.rt:183:17
 natural-requires : tie.Need-natural-requires
 natural-requires c κs = search needs
 
--- src/operator.rt:183:17
 returns : tie.Need-returns
 returns c = search naturals-sum
 
--- src/operator.rt:188:9
 difference-requires : tie.Need-difference-requires
 difference-requires c κs = search needs
 
--- src/operator.rt:188:9
 returns-2 : tie.Need-returns-2
 returns-2 c = search naturals-less
 
--- src/operator.rt:191:29
 of-integers-requires : tie.Need-of-integers-requires
 of-integers-requires c κs = search needs
 
--- src/operator.rt:191:9
 pack-operand-requires : tie.Need-pack-operand-requires
 pack-operand-requires c κs = search needs
 
--- src/operator.rt:191:9
 returns-3 : tie.Need-returns-3
 returns-3 c = search naturals-other
 
--- src/operator.rt:193:9
 order-of-requires : tie.Need-order-of-requires
 order-of-requires c κs = search needs
 
--- src/operator.rt:194:9
 minus-requires : tie.Need-minus-requires
 minus-requires c κs = search needs
 
--- src/operator.rt:195:10
 relation-requires : tie.Need-relation-requires
 relation-requires c κs = search needs
 
--- src/operator.rt:195:5
 told-requires : tie.Need-told-requires
 told-requires c κs = search needs
 
--- src/operator.rt:169:1
 returns-4 : tie.Need-returns-4
 returns-4 c = search naturals-order
 

@@ -11,47 +11,36 @@ use Rattle.expression.proofs.operator.relation.Reads as relation-reads
 use Rattle.text.proofs.compare.Reads as compare-reads
 use Rattle.text.proofs.same_bytes.Reads as same-bytes-reads
 
--- src/operator.rt:151:9
 join-requires : tie.Need-join-requires
 join-requires c κs = search needs
 
--- src/operator.rt:151:9
 returns : tie.Need-returns
 returns c = search does-join
 
--- src/operator.rt:155:20
 same-bytes-requires : tie.Need-same-bytes-requires
 same-bytes-requires c κs = search needs
 
--- src/operator.rt:154:9
 returns-2 : tie.Need-returns-2
 returns-2 c = search does-equal
 
--- src/operator.rt:160:29
 same-bytes-requires-2 : tie.Need-same-bytes-requires-2
 same-bytes-requires-2 c κs = search needs
 
--- src/operator.rt:160:20
 opposite-requires : tie.Need-opposite-requires
 opposite-requires c κs = search needs
 
--- src/operator.rt:159:9
 returns-3 : tie.Need-returns-3
 returns-3 c = search does-differ
 
--- src/operator.rt:163:9
 compare-requires : tie.Need-compare-requires
 compare-requires c κs = search needs
 
--- src/operator.rt:164:9
 minus-requires : tie.Need-minus-requires
 minus-requires c κs = search needs
 
--- src/operator.rt:166:16
 relation-requires : tie.Need-relation-requires
 relation-requires c κs = search needs
 
--- src/operator.rt:147:1
 returns-4 : tie.Need-returns-4
 returns-4 c = search does-order
 

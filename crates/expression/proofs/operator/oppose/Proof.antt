@@ -8,23 +8,18 @@ use Rattle.expression.proofs.integer.opposite.Reads as opposite-reads
 use Rattle.expression.proofs.value.holds_in.Reads as holds-in-reads
 use Rattle.expression.proofs.value.is_test.Reads as is-test-reads
 
--- src/operator.rt:323:8
 is-test-requires : tie.Need-is-test-requires
 is-test-requires c κs = search needs
 
--- src/operator.rt:325:29
 holds-in-requires : tie.Need-holds-in-requires
 holds-in-requires c κs = search needs
 
--- src/operator.rt:325:20
 opposite-requires : tie.Need-opposite-requires
 opposite-requires c κs = search needs
 
--- src/operator.rt:324:9
 returns : tie.Need-returns
 returns c = search oppose-test
 
--- src/operator.rt:320:1
 returns-2 : tie.Need-returns-2
 returns-2 c = search oppose-none
 

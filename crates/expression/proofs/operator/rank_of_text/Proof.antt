@@ -7,19 +7,15 @@ use Rattle.expression.proofs.operator.rank_of_text.Lts as lts
 use Rattle.expression.proofs.name.rank_of.Reads as rank-of-reads
 use Rattle.expression.proofs.value.is_text.Reads as is-text-reads
 
--- src/operator.rt:255:8
 is-text-requires : tie.Need-is-text-requires
 is-text-requires c κs = search needs
 
--- src/operator.rt:256:9
 rank-of-requires : tie.Need-rank-of-requires
 rank-of-requires c κs = search needs
 
--- src/operator.rt:256:9
 returns : tie.Need-returns
 returns c = search rank-text
 
--- src/operator.rt:252:1
 returns-2 : tie.Need-returns-2
 returns-2 c = search rank-other
 

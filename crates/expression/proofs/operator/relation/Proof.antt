@@ -9,63 +9,48 @@ use Rattle.expression.proofs.operator.is_equal.Reads as is-equal-reads
 use Rattle.expression.proofs.operator.is_greater.Reads as is-greater-reads
 use Rattle.expression.proofs.operator.is_less.Reads as is-less-reads
 
--- src/operator.rt:73:9
 is-equal-requires : tie.Need-is-equal-requires
 is-equal-requires c κs = search needs
 
--- src/operator.rt:73:9
 returns : tie.Need-returns
 returns c = search relates-equal
 
--- src/operator.rt:76:25
 is-equal-requires-2 : tie.Need-is-equal-requires-2
 is-equal-requires-2 c κs = search needs
 
--- src/operator.rt:76:9
 opposite-requires : tie.Need-opposite-requires
 opposite-requires c κs = search needs
 
--- src/operator.rt:76:9
 returns-2 : tie.Need-returns-2
 returns-2 c = search relates-unequal
 
--- src/operator.rt:79:9
 is-less-requires : tie.Need-is-less-requires
 is-less-requires c κs = search needs
 
--- src/operator.rt:79:9
 returns-3 : tie.Need-returns-3
 returns-3 c = search relates-less
 
--- src/operator.rt:82:9
 is-greater-requires : tie.Need-is-greater-requires
 is-greater-requires c κs = search needs
 
--- src/operator.rt:82:9
 returns-4 : tie.Need-returns-4
 returns-4 c = search relates-greater
 
--- src/operator.rt:85:25
 is-greater-requires-2 : tie.Need-is-greater-requires-2
 is-greater-requires-2 c κs = search needs
 
--- src/operator.rt:85:9
 opposite-requires-2 : tie.Need-opposite-requires-2
 opposite-requires-2 c κs = search needs
 
--- src/operator.rt:85:9
 returns-5 : tie.Need-returns-5
 returns-5 c = search relates-most
 
--- src/operator.rt:87:14
 is-less-requires-2 : tie.Need-is-less-requires-2
 is-less-requires-2 c κs = search needs
 
--- src/operator.rt:87:5
 opposite-requires-3 : tie.Need-opposite-requires-3
 opposite-requires-3 c κs = search needs
 
--- src/operator.rt:69:1
 returns-6 : tie.Need-returns-6
 returns-6 c = search relates-least
 

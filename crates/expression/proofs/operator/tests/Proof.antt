@@ -8,43 +8,33 @@ use Rattle.expression.proofs.operator.as_test.Reads as as-test-reads
 use Rattle.expression.proofs.value.holds_in.Reads as holds-in-reads
 use Rattle.expression.proofs.value.is_test.Reads as is-test-reads
 
--- src/operator.rt:198:8
 is-test-requires : tie.Need-is-test-requires
 is-test-requires c κs = search needs
 
--- src/operator.rt:200:16
 holds-in-requires : tie.Need-holds-in-requires
 holds-in-requires c κs = search needs
 
--- src/operator.rt:201:17
 as-test-requires : tie.Need-as-test-requires
 as-test-requires c κs = search needs
 
--- src/operator.rt:201:17
 returns : tie.Need-returns
 returns c = search both-more
 
--- src/operator.rt:203:13
 returns-2 : tie.Need-returns-2
 returns-2 c = search both-done
 
--- src/operator.rt:205:12
 holds-in-requires-2 : tie.Need-holds-in-requires-2
 holds-in-requires-2 c κs = search needs
 
--- src/operator.rt:206:13
 returns-3 : tie.Need-returns-3
 returns-3 c = search either-done
 
--- src/operator.rt:208:9
 as-test-requires-2 : tie.Need-as-test-requires-2
 as-test-requires-2 c κs = search needs
 
--- src/operator.rt:208:9
 returns-4 : tie.Need-returns-4
 returns-4 c = search either-more
 
--- src/operator.rt:195:1
 returns-5 : tie.Need-returns-5
 returns-5 c = search tests-none
 

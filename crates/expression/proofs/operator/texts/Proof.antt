@@ -7,27 +7,21 @@ use Rattle.expression.proofs.operator.texts.Lts as lts
 use Rattle.expression.proofs.operator.of_strings.Reads as of-strings-reads
 use Rattle.expression.proofs.value.is_text.Reads as is-text-reads
 
--- src/operator.rt:163:8
 is-text-requires : tie.Need-is-text-requires
 is-text-requires c κs = search needs
 
--- src/operator.rt:164:12
 is-text-requires-2 : tie.Need-is-text-requires-2
 is-text-requires-2 c κs = search needs
 
--- src/operator.rt:165:13
 of-strings-requires : tie.Need-of-strings-requires
 of-strings-requires c κs = search needs
 
--- src/operator.rt:165:13
 returns : tie.Need-returns
 returns c = search texts-both
 
--- src/operator.rt:167:9
 returns-2 : tie.Need-returns-2
 returns-2 c = search texts-half
 
--- src/operator.rt:160:1
 returns-3 : tie.Need-returns-3
 returns-3 c = search texts-none
 

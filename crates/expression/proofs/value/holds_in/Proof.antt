@@ -6,47 +6,37 @@ use Rattle.expression.proofs.value.holds_in.Tie as tie
 use Rattle.expression.proofs.value.holds_in.Reads as reads
 use Rattle.expression.proofs.value.holds_in.Lts as lts
 
--- src/value.rt:163:40
 enum-told : tie.Need-enum-told
 enum-told c = search (needs, tests)
 
--- src/value.rt:164:53
 enum-told-2 : tie.Need-enum-told-2
 enum-told-2 c = search (needs, tests)
 
--- src/value.rt:165:25
 enum-known-v : tie.Need-enum-known-v
 enum-known-v c = search (needs, tests)
 
--- src/value.rt:166:38
 enum-told-3 : tie.Need-enum-told-3
 enum-told-3 c = search (needs, tests)
 
--- src/value.rt:167:27
 enum-told-4 : tie.Need-enum-told-4
 enum-told-4 c = search (needs, tests)
 
--- src/value.rt:159:1
 returns : tie.Need-returns
 unfolding holdsIn
 returns c = search (needs, tests)
 
--- src/value.rt:159:1
 returns-2 : tie.Need-returns-2
 unfolding holdsIn
 returns-2 c = search (needs, tests)
 
--- src/value.rt:159:1
 returns-3 : tie.Need-returns-3
 unfolding holdsIn
 returns-3 c = search (needs, tests)
 
--- src/value.rt:159:1
 returns-4 : tie.Need-returns-4
 unfolding holdsIn
 returns-4 c = search (needs, tests)
 
--- src/value.rt:159:1
 returns-5 : tie.Need-returns-5
 unfolding holdsIn
 returns-5 c = search (needs, tests)

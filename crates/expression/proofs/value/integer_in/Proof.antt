@@ -7,43 +7,33 @@ use Rattle.expression.proofs.value.integer_in.Tie as tie
 use Rattle.expression.proofs.value.integer_in.Reads as reads
 use Rattle.expression.proofs.value.integer_in.Lts as lts
 
--- src/value.rt:126:40
 enum-told : tie.Need-enum-told
 enum-told c = search (needs, tests)
 
--- src/value.rt:130:27
 enum-known-v : tie.Need-enum-known-v
 enum-known-v c = search (needs, tests)
 
--- src/value.rt:131:39
 enum-told-2 : tie.Need-enum-told-2
 enum-told-2 c = search (needs, tests)
 
--- src/value.rt:135:38
 enum-told-3 : tie.Need-enum-told-3
 enum-told-3 c = search (needs, tests)
 
--- src/value.rt:139:27
 enum-told-4 : tie.Need-enum-told-4
 enum-told-4 c = search (needs, tests)
 
--- src/value.rt:122:1
 returns : tie.Need-returns
 returns c = search in-text
 
--- src/value.rt:122:1
 returns-2 : tie.Need-returns-2
 returns-2 c = search in-number
 
--- src/value.rt:122:1
 returns-3 : tie.Need-returns-3
 returns-3 c = search in-test
 
--- src/value.rt:122:1
 returns-4 : tie.Need-returns-4
 returns-4 c = search in-rank
 
--- src/value.rt:122:1
 returns-5 : tie.Need-returns-5
 returns-5 c = search in-fault
 

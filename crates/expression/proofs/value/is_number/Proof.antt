@@ -6,47 +6,37 @@ use Rattle.expression.proofs.value.is_number.Tie as tie
 use Rattle.expression.proofs.value.is_number.Reads as reads
 use Rattle.expression.proofs.value.is_number.Lts as lts
 
--- src/value.rt:113:40
 enum-told : tie.Need-enum-told
 enum-told c = search (needs, tests)
 
--- src/value.rt:114:53
 enum-told-2 : tie.Need-enum-told-2
 enum-told-2 c = search (needs, tests)
 
--- src/value.rt:115:39
 enum-told-3 : tie.Need-enum-told-3
 enum-told-3 c = search (needs, tests)
 
--- src/value.rt:116:38
 enum-told-4 : tie.Need-enum-told-4
 enum-told-4 c = search (needs, tests)
 
--- src/value.rt:117:27
 enum-told-5 : tie.Need-enum-told-5
 enum-told-5 c = search (needs, tests)
 
--- src/value.rt:109:1
 returns : tie.Need-returns
 unfolding isNumber
 returns c = search (needs, tests)
 
--- src/value.rt:109:1
 returns-2 : tie.Need-returns-2
 unfolding isNumber
 returns-2 c = search (needs, tests)
 
--- src/value.rt:109:1
 returns-3 : tie.Need-returns-3
 unfolding isNumber
 returns-3 c = search (needs, tests)
 
--- src/value.rt:109:1
 returns-4 : tie.Need-returns-4
 unfolding isNumber
 returns-4 c = search (needs, tests)
 
--- src/value.rt:109:1
 returns-5 : tie.Need-returns-5
 unfolding isNumber
 returns-5 c = search (needs, tests)

@@ -6,57 +6,45 @@ use Rattle.expression.proofs.value.kind_of.Tie as tie
 use Rattle.expression.proofs.value.kind_of.Reads as reads
 use Rattle.expression.proofs.value.kind_of.Lts as lts
 
--- src/value.rt:19:40
 enum-told : tie.Need-enum-told
 enum-told c = search (needs, tests)
 
--- src/value.rt:20:27
 enum-known-v : tie.Need-enum-known-v
 enum-known-v c = search (needs, tests)
 
--- src/value.rt:22:17
 returns : tie.Need-returns
 unfolding kindOf
 returns c = search (needs, tests)
 
--- src/value.rt:26:25
 enum-known-v-2 : tie.Need-enum-known-v-2
 enum-known-v-2 c = search (needs, tests)
 
--- src/value.rt:28:17
 returns-2 : tie.Need-returns-2
 unfolding kindOf
 returns-2 c = search (needs, tests)
 
--- src/value.rt:32:38
 enum-told-2 : tie.Need-enum-told-2
 enum-told-2 c = search (needs, tests)
 
--- src/value.rt:33:27
 enum-told-3 : tie.Need-enum-told-3
 enum-told-3 c = search (needs, tests)
 
--- src/value.rt:15:1
 returns-3 : tie.Need-returns-3
 unfolding kindOf
 returns-3 c = search (needs, tests)
 
--- src/value.rt:15:1
 returns-4 : tie.Need-returns-4
 unfolding kindOf
 returns-4 c = search (needs, tests)
 
--- src/value.rt:15:1
 returns-5 : tie.Need-returns-5
 unfolding kindOf
 returns-5 c = search (needs, tests)
 
--- src/value.rt:15:1
 returns-6 : tie.Need-returns-6
 unfolding kindOf
 returns-6 c = search (needs, tests)
 
--- src/value.rt:15:1
 returns-7 : tie.Need-returns-7
 unfolding kindOf
 returns-7 c = search (needs, tests)

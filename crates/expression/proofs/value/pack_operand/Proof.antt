@@ -7,15 +7,12 @@ use Rattle.expression.proofs.value.pack_operand.Lts as lts
 use Rattle.expression.proofs.value.kind_of.Reads as kind-of-reads
 use Rattle.expression.proofs.value.size_of.Reads as size-of-reads
 
--- src/value.rt:59:9
 kind-of-requires : tie.Need-kind-of-requires
 kind-of-requires c κs = search needs
 
--- src/value.rt:60:9
 size-of-requires : tie.Need-size-of-requires
 size-of-requires c κs = search needs
 
--- src/value.rt:56:1
 returns : tie.Need-returns
 returns c = search packed-is
 

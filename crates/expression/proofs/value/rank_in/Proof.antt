@@ -6,47 +6,37 @@ use Rattle.expression.proofs.value.rank_in.Tie as tie
 use Rattle.expression.proofs.value.rank_in.Reads as reads
 use Rattle.expression.proofs.value.rank_in.Lts as lts
 
--- src/value.rt:176:40
 enum-told : tie.Need-enum-told
 enum-told c = search (needs, tests)
 
--- src/value.rt:177:53
 enum-told-2 : tie.Need-enum-told-2
 enum-told-2 c = search (needs, tests)
 
--- src/value.rt:178:39
 enum-told-3 : tie.Need-enum-told-3
 enum-told-3 c = search (needs, tests)
 
--- src/value.rt:179:25
 enum-known-v : tie.Need-enum-known-v
 enum-known-v c = search (needs, tests)
 
--- src/value.rt:180:27
 enum-told-4 : tie.Need-enum-told-4
 enum-told-4 c = search (needs, tests)
 
--- src/value.rt:172:1
 returns : tie.Need-returns
 unfolding rankIn
 returns c = search (needs, tests)
 
--- src/value.rt:172:1
 returns-2 : tie.Need-returns-2
 unfolding rankIn
 returns-2 c = search (needs, tests)
 
--- src/value.rt:172:1
 returns-3 : tie.Need-returns-3
 unfolding rankIn
 returns-3 c = search (needs, tests)
 
--- src/value.rt:172:1
 returns-4 : tie.Need-returns-4
 unfolding rankIn
 returns-4 c = search (needs, tests)
 
--- src/value.rt:172:1
 returns-5 : tie.Need-returns-5
 unfolding rankIn
 returns-5 c = search (needs, tests)

@@ -6,47 +6,37 @@ use Rattle.expression.proofs.value.size_of.Tie as tie
 use Rattle.expression.proofs.value.size_of.Reads as reads
 use Rattle.expression.proofs.value.size_of.Lts as lts
 
--- src/value.rt:41:25
 enum-known-v : tie.Need-enum-known-v
 enum-known-v c = search (needs, tests)
 
--- src/value.rt:42:40
 enum-known-v-2 : tie.Need-enum-known-v-2
 enum-known-v-2 c = search (needs, tests)
 
--- src/value.rt:43:39
 enum-told : tie.Need-enum-told
 enum-told c = search (needs, tests)
 
--- src/value.rt:44:25
 enum-known-v-3 : tie.Need-enum-known-v-3
 enum-known-v-3 c = search (needs, tests)
 
--- src/value.rt:45:27
 enum-told-2 : tie.Need-enum-told-2
 enum-told-2 c = search (needs, tests)
 
--- src/value.rt:37:1
 returns : tie.Need-returns
 unfolding sizeOf
 returns c = search (needs, tests)
 
--- src/value.rt:37:1
 returns-2 : tie.Need-returns-2
 unfolding sizeOf
 returns-2 c = search (needs, tests)
 
--- src/value.rt:37:1
 returns-3 : tie.Need-returns-3
 unfolding sizeOf
 returns-3 c = search (needs, tests)
 
--- src/value.rt:37:1
 returns-4 : tie.Need-returns-4
 unfolding sizeOf
 returns-4 c = search (needs, tests)
 
--- src/value.rt:37:1
 returns-5 : tie.Need-returns-5
 unfolding sizeOf
 returns-5 c = search (needs, tests)

@@ -5,11 +5,9 @@ use Rattle.expression.proofs.value.told.Tie as tie
 use Rattle.expression.proofs.value.told.Reads as reads
 use Rattle.expression.proofs.value.told.Lts as lts
 
--- src/value.rt:69:9
 returns : tie.Need-returns
 returns c = search told-yes
 
--- src/value.rt:65:1
 returns-2 : tie.Need-returns-2
 returns-2 c = search told-no
 

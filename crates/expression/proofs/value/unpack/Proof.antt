@@ -6,37 +6,30 @@ use Rattle.expression.proofs.value.unpack.Tie as tie
 use Rattle.expression.proofs.value.unpack.Reads as reads
 use Rattle.expression.proofs.value.unpack.Lts as lts
 
--- src/value.rt:54:9
 returns : tie.Need-returns
 unfolding unpacked
 returns c = search (needs, tests)
 
--- src/value.rt:59:9
 returns-2 : tie.Need-returns-2
 unfolding unpacked
 returns-2 c = search (needs, tests)
 
--- src/value.rt:65:9
 returns-3 : tie.Need-returns-3
 unfolding unpacked
 returns-3 c = search (needs, tests)
 
--- src/value.rt:71:9
 returns-4 : tie.Need-returns-4
 unfolding unpacked
 returns-4 c = search (needs, tests)
 
--- src/value.rt:74:9
 returns-5 : tie.Need-returns-5
 unfolding unpacked
 returns-5 c = search (needs, tests)
 
--- src/value.rt:77:9
 returns-6 : tie.Need-returns-6
 unfolding unpacked
 returns-6 c = search (needs, tests)
 
--- src/value.rt:50:1
 returns-7 : tie.Need-returns-7
 unfolding unpacked
 returns-7 c = search (needs, tests)

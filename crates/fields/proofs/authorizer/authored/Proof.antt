@@ -8,35 +8,27 @@ use Rattle.fields.proofs.authorizer.finished.Reads as finished-reads
 use Rattle.fields.proofs.authorizer.is_barred.Reads as is-barred-reads
 use Rattle.lexical.proofs.token_at.Reads as token-at-reads
 
--- src/authorizer.rt:84:24
 enum-told : tie.Need-enum-told
 enum-told c = search needs
 
--- src/authorizer.rt:88:21
 enum-known-e : tie.Need-enum-known-e
 enum-known-e c = search needs
 
--- src/authorizer.rt:89:16
 is-barred-requires : tie.Need-is-barred-requires
 is-barred-requires c κs = search needs
 
--- src/authorizer.rt:90:17
 returns : tie.Need-returns
 returns c = search authored-barred
 
--- src/authorizer.rt:95:17
 token-at-requires : tie.Need-token-at-requires
 token-at-requires c κs = search needs
 
--- src/authorizer.rt:96:13
 finished-requires : tie.Need-finished-requires
 finished-requires c κs = search needs
 
--- src/authorizer.rt:73:1
 returns-2 : tie.Need-returns-2
 returns-2 c = search authored-full
 
--- src/authorizer.rt:73:1
 returns-3 : tie.Need-returns-3
 returns-3 c = search authored-on
 

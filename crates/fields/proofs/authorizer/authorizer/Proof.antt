@@ -11,75 +11,57 @@ use Rattle.fields.proofs.identifier.entered.Reads as entered-reads
 use Rattle.fields.proofs.identifier.identifier_fault.Reads as identifier-fault-reads
 use Rattle.fields.proofs.identifier.is_whole.Reads as is-whole-reads
 
--- src/authorizer.rt:115:8
 is-whole-requires : tie.Need-is-whole-requires
 is-whole-requires c κs = search needs
 
--- src/authorizer.rt:116:54
 add-entered : tie.Need-add-entered
 add-entered c = search whole-fits
 
--- src/authorizer.rt:116:67
 sub-entered : tie.Need-sub-entered
 sub-entered c = search whole-some
 
--- src/authorizer.rt:116:51
 sub-entered-2 : tie.Need-sub-entered-2
 sub-entered-2 c = search whole-from
 
--- src/authorizer.rt:116:51
 part-entered-start : tie.Need-part-entered-start
 part-entered-start c = search whole-from
 
--- src/authorizer.rt:116:51
 part-entered-end : tie.Need-part-entered-end
 part-entered-end c = search whole-within
 
--- src/authorizer.rt:116:13
 entered-requires : tie.Need-entered-requires
 entered-requires c κs = search needs
 
--- src/authorizer.rt:117:9
 authored-requires : tie.Need-authored-requires
 authored-requires c κs = search needs
 
--- src/authorizer.rt:117:9
 same-length : tie.Need-same-length
 same-length c = search needs
 
--- src/authorizer.rt:117:9
 same-length-2 : tie.Need-same-length-2
 same-length-2 c = search needs
 
--- src/authorizer.rt:117:9
 returns : tie.Need-returns
 returns c = search author-whole
 
--- src/authorizer.rt:119:9
 identifier-fault-requires : tie.Need-identifier-fault-requires
 identifier-fault-requires c κs = search needs
 
--- src/authorizer.rt:121:9
 returns-2 : tie.Need-returns-2
 returns-2 c = search author-fault
 
--- src/authorizer.rt:126:9
 enter-token-requires : tie.Need-enter-token-requires
 enter-token-requires c κs = search needs
 
--- src/authorizer.rt:127:5
 authored-requires-2 : tie.Need-authored-requires-2
 authored-requires-2 c κs = search needs
 
--- src/authorizer.rt:102:1
 same-length-3 : tie.Need-same-length-3
 same-length-3 c = search needs
 
--- src/authorizer.rt:102:1
 same-length-4 : tie.Need-same-length-4
 same-length-4 c = search needs
 
--- src/authorizer.rt:102:1
 returns-3 : tie.Need-returns-3
 returns-3 c = search author-on
 

@@ -7,19 +7,15 @@ use Rattle.fields.proofs.authorizer.finished.Lts as lts
 use Rattle.fields.proofs.out.is_ending.Reads as is-ending-reads
 use Rattle.fields.proofs.out.refusal_of.Reads as refusal-of-reads
 
--- src/authorizer.rt:56:8
 is-ending-requires : tie.Need-is-ending-requires
 is-ending-requires c κs = search needs
 
--- src/authorizer.rt:57:9
 returns : tie.Need-returns
 returns c = search finished-on
 
--- src/authorizer.rt:65:17
 refusal-of-requires : tie.Need-refusal-of-requires
 refusal-of-requires c κs = search needs
 
--- src/authorizer.rt:53:1
 returns-2 : tie.Need-returns-2
 returns-2 c = search finished-not
 

@@ -6,15 +6,12 @@ use Rattle.fields.proofs.authorizer.is_barred.Reads as reads
 use Rattle.fields.proofs.authorizer.is_barred.Lts as lts
 use Rattle.fields.proofs.authorizer.is_policy.Reads as is-policy-reads
 
--- src/authorizer.rt:47:9
 is-policy-requires : tie.Need-is-policy-requires
 is-policy-requires c κs = search needs
 
--- src/authorizer.rt:47:9
 returns : tie.Need-returns
 returns c = search barred-verified
 
--- src/authorizer.rt:43:1
 returns-2 : tie.Need-returns-2
 returns-2 c = search barred-local
 

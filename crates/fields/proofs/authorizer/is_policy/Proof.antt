@@ -7,31 +7,24 @@ use Rattle.fields.proofs.authorizer.is_policy.Lts as lts
 use Rattle.principal.proofs.same_principal.Reads as same-principal-reads
 use Rattle.index.proofs.name_at.Reads as name-at-reads
 
--- src/authorizer.rt:36:9
 returns : tie.Need-returns
 returns c = search policy-out
 
--- src/authorizer.rt:38:13
 mul-e : tie.Need-mul-e
 mul-e c = search needs
 
--- src/authorizer.rt:38:13
 shared-slice-read-e : tie.Need-shared-slice-read-e
 shared-slice-read-e c = search needs
 
--- src/authorizer.rt:39:31
 name-at-requires : tie.Need-name-at-requires
 name-at-requires c κs = search needs
 
--- src/authorizer.rt:39:58
 slice-aggregate-same-principal : tie.Need-slice-aggregate-same-principal
 slice-aggregate-same-principal c = search needs
 
--- src/authorizer.rt:39:5
 same-principal-requires : tie.Need-same-principal-requires
 same-principal-requires c κs = search needs
 
--- src/authorizer.rt:32:1
 returns-2 : tie.Need-returns-2
 returns-2 c = search policy-in
 

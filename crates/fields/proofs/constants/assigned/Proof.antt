@@ -8,35 +8,27 @@ use Rattle.fields.proofs.constants.refused.Reads as refused-reads
 use Rattle.fields.proofs.constants.valued.Reads as valued-reads
 use Rattle.lexical.proofs.token_at.Reads as token-at-reads
 
--- src/constants.rt:179:9
 token-at-requires : tie.Need-token-at-requires
 token-at-requires c κs = search needs
 
--- src/constants.rt:181:9
 refused-requires : tie.Need-refused-requires
 refused-requires c κs = search needs
 
--- src/constants.rt:181:9
 returns : tie.Need-returns
 returns c = search assign-none
 
--- src/constants.rt:183:9
 token-at-requires-2 : tie.Need-token-at-requires-2
 token-at-requires-2 c κs = search needs
 
--- src/constants.rt:184:5
 valued-requires : tie.Need-valued-requires
 valued-requires c κs = search needs
 
--- src/constants.rt:169:1
 same-length : tie.Need-same-length
 same-length c = search needs
 
--- src/constants.rt:169:1
 same-length-2 : tie.Need-same-length-2
 same-length-2 c = search needs
 
--- src/constants.rt:169:1
 returns-2 : tie.Need-returns-2
 returns-2 c = search assign-on
 

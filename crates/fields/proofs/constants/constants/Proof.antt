@@ -18,87 +18,66 @@ Inv-loop s consts₀ places₀ start count₀ end₀ t₀ consts places count en
 abbrev μ-loop : tie.MeasureT-loop
 μ-loop s consts₀ places₀ start count₀ end₀ t₀ consts places count end t = 16 - count
 
--- src/constants.rt:200:5
 loop-holds : tie.Need-loop-holds Inv-loop μ-loop
 loop-holds c = search needs
 
--- src/constants.rt:201:12
 is-ending-requires : tie.Need-is-ending-requires Inv-loop μ-loop
 is-ending-requires c κs = search needs
 
--- src/constants.rt:202:13
 same-length : tie.Need-same-length Inv-loop μ-loop
 same-length c = search needs
 
--- src/constants.rt:202:13
 same-length-2 : tie.Need-same-length-2 Inv-loop μ-loop
 same-length-2 c = search needs
 
--- src/constants.rt:202:13
 returns : tie.Need-returns Inv-loop μ-loop
 returns c = search setting-end
 
--- src/constants.rt:208:13
 name-fault-requires : tie.Need-name-fault-requires Inv-loop μ-loop
 name-fault-requires c κs = search needs
 
--- src/constants.rt:210:13
 same-length-3 : tie.Need-same-length-3 Inv-loop μ-loop
 same-length-3 c = search needs
 
--- src/constants.rt:210:13
 same-length-4 : tie.Need-same-length-4 Inv-loop μ-loop
 same-length-4 c = search needs
 
--- src/constants.rt:210:13
 returns-2 : tie.Need-returns-2 Inv-loop μ-loop
 returns-2 c = search setting-fault
 
--- src/constants.rt:216:13
 same-length-5 : tie.Need-same-length-5 Inv-loop μ-loop
 same-length-5 c = search needs
 
--- src/constants.rt:216:13
 same-length-6 : tie.Need-same-length-6 Inv-loop μ-loop
 same-length-6 c = search needs
 
--- src/constants.rt:216:13
 returns-3 : tie.Need-returns-3 Inv-loop μ-loop
 returns-3 c = search setting-most
 
--- src/constants.rt:221:15
 assigned-requires : tie.Need-assigned-requires Inv-loop μ-loop
 assigned-requires c κs = search needs
 
--- src/constants.rt:222:31
 enum-known-reason : tie.Need-enum-known-reason Inv-loop μ-loop
 enum-known-reason c = search needs
 
--- src/constants.rt:223:17
 same-length-7 : tie.Need-same-length-7 Inv-loop μ-loop
 same-length-7 c = search needs
 
--- src/constants.rt:223:17
 same-length-8 : tie.Need-same-length-8 Inv-loop μ-loop
 same-length-8 c = search needs
 
--- src/constants.rt:223:17
 returns-4 : tie.Need-returns-4 Inv-loop μ-loop
 returns-4 c = search setting-aside
 
--- src/constants.rt:227:22
 enum-known-e : tie.Need-enum-known-e Inv-loop μ-loop
 enum-known-e c = search needs
 
--- src/constants.rt:230:17
 add-count : tie.Need-add-count Inv-loop μ-loop
 add-count c = search needs
 
--- src/constants.rt:200:5
 loop-less : tie.Need-loop-less Inv-loop μ-loop
 loop-less c = search needs
 
--- src/constants.rt:200:5
 loop-again : tie.Need-loop-again Inv-loop μ-loop
 loop-again c = (search needs, search needs, (let f = setting-more _ _ _ _ _ _ _ (c .before .before .before .before .before .before .before .before .before .before .before .before .before .before .before .before .before .loop .inv .2) _ (c .before .before .before .before .before .before .before .before .before .before .before .before .before .before .before .before .is-ending .ensures) (c .before .before .before .before .before .before .before .before .before .before .before .before .before .before .before .if1 .left) _ (c .before .before .before .before .before .before .before .before .before .before .before .before .name-fault .ensures) (c .before .before .before .before .before .before .before .before .before .before .before .if2 .left) (c .before .before .before .before .before .before .before .before .before .before .if3 .left) _ _ _ (c .before .before .before .before .before .before .before .assigned .ensures) in search f))
 

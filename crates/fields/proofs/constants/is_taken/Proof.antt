@@ -7,19 +7,15 @@ use Rattle.fields.proofs.constants.is_taken.Reads as reads
 use Rattle.fields.proofs.constants.is_taken.Lts as lts
 use Rattle.expression.proofs.name.find.Reads as find-reads
 
--- src/constants.rt:61:9
 returns : tie.Need-returns
 returns c = search taken-short
 
--- src/constants.rt:63:26
 slice-aggregate-find : tie.Need-slice-aggregate-find
 slice-aggregate-find c = search (needs, front-length)
 
--- src/constants.rt:63:9
 find-requires : tie.Need-find-requires
 find-requires c κs = search needs
 
--- src/constants.rt:57:1
 returns-2 : tie.Need-returns-2
 returns-2 c = search taken-is
 

@@ -9,35 +9,27 @@ use Rattle.fields.proofs.constants.is_taken.Reads as is-taken-reads
 use Rattle.fields.proofs.out.refusal_of.Reads as refusal-of-reads
 use Rattle.fields.proofs.out.word.Reads as word-reads
 
--- src/constants.rt:72:9
 refusal-of-requires : tie.Need-refusal-of-requires
 refusal-of-requires c κs = search needs
 
--- src/constants.rt:72:9
 returns : tie.Need-returns
 returns c = search constant-none
 
--- src/constants.rt:74:9
 word-requires : tie.Need-word-requires
 word-requires c κs = search needs
 
--- src/constants.rt:75:8
 is-reserved-requires : tie.Need-is-reserved-requires
 is-reserved-requires c κs = search needs
 
--- src/constants.rt:76:9
 returns-2 : tie.Need-returns-2
 returns-2 c = search constant-reserved
 
--- src/constants.rt:78:8
 is-taken-requires : tie.Need-is-taken-requires
 is-taken-requires c κs = search needs
 
--- src/constants.rt:79:9
 returns-3 : tie.Need-returns-3
 returns-3 c = search constant-taken
 
--- src/constants.rt:68:1
 returns-4 : tie.Need-returns-4
 returns-4 c = search constant-free
 

@@ -7,63 +7,48 @@ use Rattle.fields.proofs.constants.put_literal.Reads as reads
 use Rattle.fields.proofs.constants.put_literal.Lts as lts
 use Rattle.lexical.proofs.decode_into.Reads as decode-into-reads
 
--- src/constants.rt:90:9
 returns : tie.Need-returns
 returns c = search put-long
 
--- src/constants.rt:93:9
 returns-2 : tie.Need-returns-2
 returns-2 c = search put-past
 
--- src/constants.rt:95:8
 sub-if3 : tie.Need-sub-if3
 sub-if3 c = search needs
 
--- src/constants.rt:96:9
 returns-3 : tie.Need-returns-3
 returns-3 c = search put-two
 
--- src/constants.rt:98:35
 add-decode-into : tie.Need-add-decode-into
 add-decode-into c = search needs
 
--- src/constants.rt:98:8
 decode-into-requires : tie.Need-decode-into-requires
 decode-into-requires c κs = search needs
 
--- src/constants.rt:99:19
 cast-buf : tie.Need-cast-buf
 cast-buf c = search needs
 
--- src/constants.rt:99:9
 slice-write-buf : tie.Need-slice-write-buf
 slice-write-buf c = search needs
 
--- src/constants.rt:100:23
 cast-buf-2 : tie.Need-cast-buf-2
 cast-buf-2 c = search needs
 
--- src/constants.rt:100:13
 add-buf : tie.Need-add-buf
 add-buf c = search needs
 
--- src/constants.rt:100:9
 slice-write-buf-2 : tie.Need-slice-write-buf-2
 slice-write-buf-2 c = search (needs, second-byte)
 
--- src/constants.rt:101:9
 same-length : tie.Need-same-length
 same-length c = search needs
 
--- src/constants.rt:101:9
 returns-4 : tie.Need-returns-4
 returns-4 c = search put-done
 
--- src/constants.rt:85:1
 same-length-2 : tie.Need-same-length-2
 same-length-2 c = search needs
 
--- src/constants.rt:85:1
 returns-5 : tie.Need-returns-5
 returns-5 c = search put-none
 

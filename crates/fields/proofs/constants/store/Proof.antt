@@ -8,67 +8,51 @@ use Rattle.fields.proofs.constants.put_literal.Reads as put-literal-rea
 use Rattle.index.proofs.add.Reads as add-reads
 use Rattle.lexical.proofs.literal_length.Reads as literal-length-reads
 
--- src/constants.rt:118:11
 add-requires : tie.Need-add-requires
 add-requires c κs = search needs
 
--- src/constants.rt:119:26
 enum-told : tie.Need-enum-told
 enum-told c = search needs
 
--- src/constants.rt:120:31
 enum-known-c : tie.Need-enum-known-c
 enum-known-c c = search needs
 
--- src/constants.rt:121:17
 literal-length-requires : tie.Need-literal-length-requires
 literal-length-requires c κs = search needs
 
--- src/constants.rt:122:16
 put-literal-requires : tie.Need-put-literal-requires
 put-literal-requires c κs = search needs
 
--- src/constants.rt:125:26
 add-t20 : tie.Need-add-t20
 add-t20 c = let w = put-room _ _ _ _ _ (c .before .before .before .put-literal .ensures) (c .if1 .taken) in search needs
 
--- src/constants.rt:125:26
 add-t21 : tie.Need-add-t21
 add-t21 c = let w = put-room _ _ _ _ _ (c .before .before .before .put-literal .ensures) (c .if1 .taken) in search needs
 
--- src/constants.rt:123:17
 same-length : tie.Need-same-length
 same-length c = search needs
 
--- src/constants.rt:123:17
 same-length-2 : tie.Need-same-length-2
 same-length-2 c = search needs
 
--- src/constants.rt:123:17
 returns : tie.Need-returns
 returns c = search store-done
 
--- src/constants.rt:107:1
 same-length-3 : tie.Need-same-length-3
 same-length-3 c = search needs
 
--- src/constants.rt:107:1
 same-length-4 : tie.Need-same-length-4
 same-length-4 c = search needs
 
--- src/constants.rt:107:1
 returns-2 : tie.Need-returns-2
 returns-2 c = search store-full
 
--- src/constants.rt:107:1
 same-length-5 : tie.Need-same-length-5
 same-length-5 c = search needs
 
--- src/constants.rt:107:1
 same-length-6 : tie.Need-same-length-6
 same-length-6 c = search needs
 
--- src/constants.rt:107:1
 returns-3 : tie.Need-returns-3
 returns-3 c = search store-none
 

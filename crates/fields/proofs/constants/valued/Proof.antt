@@ -10,63 +10,48 @@ use Rattle.fields.proofs.out.word.Reads as word-reads
 use Rattle.lexical.proofs.token_at.Reads as token-at-reads
 use Rattle.fields.proofs.signature.is_fitting.Reads as is-fitting-reads
 
--- src/constants.rt:146:9
 refused-requires : tie.Need-refused-requires
 refused-requires c κs = search needs
 
--- src/constants.rt:146:9
 returns : tie.Need-returns
 returns c = search value-none
 
--- src/constants.rt:148:23
 is-fitting-requires : tie.Need-is-fitting-requires
 is-fitting-requires c κs = search needs
 
--- src/constants.rt:149:9
 returns-2 : tie.Need-returns-2
 returns-2 c = search value-long
 
--- src/constants.rt:154:9
 word-requires : tie.Need-word-requires
 word-requires c κs = search needs
 
--- src/constants.rt:155:11
 store-requires : tie.Need-store-requires
 store-requires c κs = search needs
 
--- src/constants.rt:156:26
 enum-told : tie.Need-enum-told
 enum-told c = search needs
 
--- src/constants.rt:160:31
 enum-known-c : tie.Need-enum-known-c
 enum-known-c c = search needs
 
--- src/constants.rt:163:19
 token-at-requires : tie.Need-token-at-requires
 token-at-requires c κs = search needs
 
--- src/constants.rt:134:1
 same-length : tie.Need-same-length
 same-length c = search needs
 
--- src/constants.rt:134:1
 same-length-2 : tie.Need-same-length-2
 same-length-2 c = search needs
 
--- src/constants.rt:134:1
 returns-3 : tie.Need-returns-3
 returns-3 c = search value-full
 
--- src/constants.rt:134:1
 same-length-3 : tie.Need-same-length-3
 same-length-3 c = search needs
 
--- src/constants.rt:134:1
 same-length-4 : tie.Need-same-length-4
 same-length-4 c = search needs
 
--- src/constants.rt:134:1
 returns-4 : tie.Need-returns-4
 returns-4 c = search value-on
 

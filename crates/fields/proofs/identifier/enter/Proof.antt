@@ -7,55 +7,42 @@ use Rattle.fields.proofs.identifier.enter.Lts as lts
 use Rattle.index.proofs.add_principal.Reads as add-principal-reads
 use Rattle.index.proofs.find.Reads as find-reads
 
--- src/identifier.rt:71:9
 find-requires : tie.Need-find-requires
 find-requires c κs = search needs
 
--- src/identifier.rt:73:9
 same-length : tie.Need-same-length
 same-length c = search needs
 
--- src/identifier.rt:73:9
 same-length-2 : tie.Need-same-length-2
 same-length-2 c = search needs
 
--- src/identifier.rt:73:9
 returns : tie.Need-returns
 returns c = search enter-there
 
--- src/identifier.rt:79:11
 add-principal-requires : tie.Need-add-principal-requires
 add-principal-requires c κs = search needs
 
--- src/identifier.rt:80:38
 enum-known-c : tie.Need-enum-known-c
 enum-known-c c = search needs
 
--- src/identifier.rt:85:33
 enum-told : tie.Need-enum-told
 enum-told c = search needs
 
--- src/identifier.rt:68:1
 same-length-3 : tie.Need-same-length-3
 same-length-3 c = search needs
 
--- src/identifier.rt:68:1
 same-length-4 : tie.Need-same-length-4
 same-length-4 c = search needs
 
--- src/identifier.rt:68:1
 returns-2 : tie.Need-returns-2
 returns-2 c = search enter-new
 
--- src/identifier.rt:68:1
 same-length-5 : tie.Need-same-length-5
 same-length-5 c = search needs
 
--- src/identifier.rt:68:1
 same-length-6 : tie.Need-same-length-6
 same-length-6 c = search needs
 
--- src/identifier.rt:68:1
 returns-3 : tie.Need-returns-3
 returns-3 c = search enter-full
 

@@ -9,47 +9,36 @@ use Rattle.fields.proofs.identifier.entered.Reads as entered-reads
 use Rattle.lexical.proofs.decode_into.Reads as decode-into-reads
 use Rattle.lexical.proofs.literal_length.Reads as literal-length-reads
 
--- src/identifier.rt:100:9
 literal-length-requires : tie.Need-literal-length-requires
 literal-length-requires c κs = search needs
 
--- src/identifier.rt:102:9
 returns : tie.Need-returns
 returns c = search literal-long
 
--- src/identifier.rt:105:30
 slice-aggregate-decode-into : tie.Need-slice-aggregate-decode-into
 slice-aggregate-decode-into c = search needs
 
--- src/identifier.rt:105:8
 decode-into-requires : tie.Need-decode-into-requires
 decode-into-requires c κs = search needs
 
--- src/identifier.rt:106:48
 array-share-prefix-id : tie.Need-array-share-prefix-id
 array-share-prefix-id c = search needs
 
--- src/identifier.rt:106:48
 slice-aggregate-entered : tie.Need-slice-aggregate-entered
 slice-aggregate-entered c = search (needs, front-long)
 
--- src/identifier.rt:106:9
 entered-requires : tie.Need-entered-requires
 entered-requires c κs = search needs
 
--- src/identifier.rt:106:9
 same-length : tie.Need-same-length
 same-length c = search needs
 
--- src/identifier.rt:106:9
 same-length-2 : tie.Need-same-length-2
 same-length-2 c = search needs
 
--- src/identifier.rt:106:9
 returns-2 : tie.Need-returns-2
 returns-2 c = search literal-entered
 
--- src/identifier.rt:90:1
 returns-3 : tie.Need-returns-3
 returns-3 c = search literal-never
 

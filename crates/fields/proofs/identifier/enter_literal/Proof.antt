@@ -9,67 +9,51 @@ use Rattle.fields.proofs.identifier.enter_decoded.Reads as enter-decode
 use Rattle.fields.proofs.identifier.entered.Reads as entered-reads
 use Rattle.lexical.proofs.literal.bare_end.Reads as bare-end-reads
 
--- src/identifier.rt:290:9
 bare-end-requires : tie.Need-bare-end-requires
 bare-end-requires c κs = search needs
 
--- src/identifier.rt:292:9
 enter-decoded-requires : tie.Need-enter-decoded-requires
 enter-decoded-requires c κs = search needs
 
--- src/identifier.rt:292:9
 same-length : tie.Need-same-length
 same-length c = search needs
 
--- src/identifier.rt:292:9
 same-length-2 : tie.Need-same-length-2
 same-length-2 c = search needs
 
--- src/identifier.rt:292:9
 returns : tie.Need-returns
 returns c = search needs
 
--- src/identifier.rt:294:31
 add-if2 : tie.Need-add-if2
 add-if2 c = search bare-fits
 
--- src/identifier.rt:294:26
 sub-if2 : tie.Need-sub-if2
 sub-if2 c = search bare-from
 
--- src/identifier.rt:295:9
 returns-2 : tie.Need-returns-2
 returns-2 c = search bare-long
 
--- src/identifier.rt:297:42
 add-entered : tie.Need-add-entered
 add-entered c = search bare-fits
 
--- src/identifier.rt:297:39
 sub-entered : tie.Need-sub-entered
 sub-entered c = search bare-from
 
--- src/identifier.rt:297:39
 part-entered-start : tie.Need-part-entered-start
 part-entered-start c = search bare-from
 
--- src/identifier.rt:297:39
 part-entered-end : tie.Need-part-entered-end
 part-entered-end c = search bare-within
 
--- src/identifier.rt:297:5
 entered-requires : tie.Need-entered-requires
 entered-requires c κs = search needs
 
--- src/identifier.rt:280:1
 same-length-3 : tie.Need-same-length-3
 same-length-3 c = search needs
 
--- src/identifier.rt:280:1
 same-length-4 : tie.Need-same-length-4
 same-length-4 c = search needs
 
--- src/identifier.rt:280:1
 returns-3 : tie.Need-returns-3
 returns-3 c = search bare-entered
 

@@ -9,43 +9,33 @@ use Rattle.fields.proofs.identifier.entered.Reads as entered-reads
 use Rattle.fields.proofs.identifier.enter_literal.Reads as enter-literal-reads
 use Rattle.fields.proofs.out.word.Reads as word-reads
 
--- src/identifier.rt:125:9
 enter-literal-requires : tie.Need-enter-literal-requires
 enter-literal-requires c κs = search needs
 
--- src/identifier.rt:125:9
 same-length : tie.Need-same-length
 same-length c = search needs
 
--- src/identifier.rt:125:9
 same-length-2 : tie.Need-same-length-2
 same-length-2 c = search needs
 
--- src/identifier.rt:125:9
 returns : tie.Need-returns
 returns c = search token-literal
 
--- src/identifier.rt:127:9
 word-requires : tie.Need-word-requires
 word-requires c κs = search needs
 
--- src/identifier.rt:128:37
 attribute-requires : tie.Need-attribute-requires
 attribute-requires c κs = search needs
 
--- src/identifier.rt:128:5
 entered-requires : tie.Need-entered-requires
 entered-requires c κs = search needs
 
--- src/identifier.rt:112:1
 same-length-3 : tie.Need-same-length-3
 same-length-3 c = search needs
 
--- src/identifier.rt:112:1
 same-length-4 : tie.Need-same-length-4
 same-length-4 c = search needs
 
--- src/identifier.rt:112:1
 returns-2 : tie.Need-returns-2
 returns-2 c = search token-name
 

@@ -6,39 +6,30 @@ use Rattle.fields.proofs.identifier.entered.Reads as reads
 use Rattle.fields.proofs.identifier.entered.Lts as lts
 use Rattle.fields.proofs.identifier.enter.Reads as enter-reads
 
--- src/identifier.rt:108:11
 enter-requires : tie.Need-enter-requires
 enter-requires c κs = search needs
 
--- src/identifier.rt:109:24
 enum-told : tie.Need-enum-told
 enum-told c = search needs
 
--- src/identifier.rt:111:13
 enum-known-number : tie.Need-enum-known-number
 enum-known-number c = search needs
 
--- src/identifier.rt:105:1
 same-length : tie.Need-same-length
 same-length c = search needs
 
--- src/identifier.rt:105:1
 same-length-2 : tie.Need-same-length-2
 same-length-2 c = search needs
 
--- src/identifier.rt:105:1
 returns : tie.Need-returns
 returns c = search enter-anew
 
--- src/identifier.rt:105:1
 same-length-3 : tie.Need-same-length-3
 same-length-3 c = search needs
 
--- src/identifier.rt:105:1
 same-length-4 : tie.Need-same-length-4
 same-length-4 c = search needs
 
--- src/identifier.rt:105:1
 returns-2 : tie.Need-returns-2
 returns-2 c = search enter-anew
 

@@ -9,31 +9,24 @@ use Rattle.fields.proofs.identifier.name_fault.Reads as name-fault-read
 use Rattle.fields.proofs.out.refusal_of.Reads as refusal-of-reads
 use Rattle.fields.proofs.out.word.Reads as word-reads
 
--- src/identifier.rt:71:9
 literal-fault-requires : tie.Need-literal-fault-requires
 literal-fault-requires c κs = search needs
 
--- src/identifier.rt:71:9
 returns : tie.Need-returns
 returns c = search fault-literal
 
--- src/identifier.rt:74:13
 word-requires : tie.Need-word-requires
 word-requires c κs = search needs
 
--- src/identifier.rt:75:9
 name-fault-requires : tie.Need-name-fault-requires
 name-fault-requires c κs = search needs
 
--- src/identifier.rt:75:9
 returns-2 : tie.Need-returns-2
 returns-2 c = search fault-name
 
--- src/identifier.rt:77:5
 refusal-of-requires : tie.Need-refusal-of-requires
 refusal-of-requires c κs = search needs
 
--- src/identifier.rt:67:1
 returns-3 : tie.Need-returns-3
 returns-3 c = search fault-none
 

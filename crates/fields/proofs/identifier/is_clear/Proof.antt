@@ -7,27 +7,21 @@ use Rattle.fields.proofs.identifier.is_clear.Lts as lts
 use Rattle.fields.proofs.identifier.is_printed.Reads as is-printed-reads
 use Rattle.fields.proofs.identifier.is_without.Reads as is-without-reads
 
--- src/identifier.rt:70:9
 is-without-requires : tie.Need-is-without-requires
 is-without-requires c κs = search needs
 
--- src/identifier.rt:71:9
 is-without-requires-2 : tie.Need-is-without-requires-2
 is-without-requires-2 c κs = search needs
 
--- src/identifier.rt:72:9
 is-printed-requires : tie.Need-is-printed-requires
 is-printed-requires c κs = search needs
 
--- src/identifier.rt:75:13
 returns : tie.Need-returns
 returns c = search clear-rest
 
--- src/identifier.rt:77:9
 returns-2 : tie.Need-returns-2
 returns-2 c = search clear-quote
 
--- src/identifier.rt:66:1
 returns-3 : tie.Need-returns-3
 returns-3 c = search clear-slash
 

@@ -5,15 +5,12 @@ use Rattle.fields.proofs.identifier.is_clear_byte.Tie as tie
 use Rattle.fields.proofs.identifier.is_clear_byte.Reads as reads
 use Rattle.fields.proofs.identifier.is_clear_byte.Lts as lts
 
--- src/identifier.rt:99:9
 returns : tie.Need-returns
 returns c = search byte-slash
 
--- src/identifier.rt:102:9
 returns-2 : tie.Need-returns-2
 returns-2 c = search byte-quote
 
--- src/identifier.rt:95:1
 returns-3 : tie.Need-returns-3
 returns-3 c = search byte-rest
 

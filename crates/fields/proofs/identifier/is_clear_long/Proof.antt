@@ -17,43 +17,33 @@ Inv-loop s i e a₀ a = (i ≤ a) × (a ≤ e) × (all clear (take (a - i) (drop
 abbrev μ-loop : tie.MeasureT-loop
 μ-loop s i e a₀ a = e - a
 
--- src/identifier.rt:85:5
 loop-holds : tie.Need-loop-holds Inv-loop μ-loop
 loop-holds c = (search needs, search needs, search bytes-start)
 
--- src/identifier.rt:85:16
 sub-loop : tie.Need-sub-loop Inv-loop μ-loop
 sub-loop c = search needs
 
--- src/identifier.rt:86:12
 is-clear-requires : tie.Need-is-clear-requires Inv-loop μ-loop
 is-clear-requires c κs = search needs
 
--- src/identifier.rt:87:13
 add-a : tie.Need-add-a Inv-loop μ-loop
 add-a c = search needs
 
--- src/identifier.rt:85:5
 loop-less : tie.Need-loop-less Inv-loop μ-loop
 loop-less c = search needs
 
--- src/identifier.rt:85:5
 loop-again : tie.Need-loop-again Inv-loop μ-loop
 loop-again c = (search needs, search needs, search block-more)
 
--- src/identifier.rt:89:13
 returns : tie.Need-returns Inv-loop μ-loop
 returns c = search block-stops
 
--- src/identifier.rt:92:17
 sub-is-clear : tie.Need-sub-is-clear Inv-loop μ-loop
 sub-is-clear c = search needs
 
--- src/identifier.rt:92:5
 is-clear-requires-2 : tie.Need-is-clear-requires-2 Inv-loop μ-loop
 is-clear-requires-2 c κs = search needs
 
--- src/identifier.rt:80:1
 returns-2 : tie.Need-returns-2 Inv-loop μ-loop
 returns-2 c = search block-last
 

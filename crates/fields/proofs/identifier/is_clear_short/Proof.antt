@@ -17,35 +17,27 @@ Inv-loop s i e a₀ a = (i ≤ a) × (a ≤ e) × (all clear (take (a - i) (drop
 abbrev μ-loop : tie.MeasureT-loop
 μ-loop s i e a₀ a = e - a
 
--- src/identifier.rt:113:5
 loop-holds : tie.Need-loop-holds Inv-loop μ-loop
 loop-holds c = (search needs, search needs, search bytes-start)
 
--- src/identifier.rt:114:26
 shared-slice-read-is-clear-byte : tie.Need-shared-slice-read-is-clear-byte Inv-loop μ-loop
 shared-slice-read-is-clear-byte c = search needs
 
--- src/identifier.rt:114:12
 is-clear-byte-requires : tie.Need-is-clear-byte-requires Inv-loop μ-loop
 is-clear-byte-requires c κs = search needs
 
--- src/identifier.rt:115:13
 add-a : tie.Need-add-a Inv-loop μ-loop
 add-a c = search needs
 
--- src/identifier.rt:113:5
 loop-less : tie.Need-loop-less Inv-loop μ-loop
 loop-less c = search needs
 
--- src/identifier.rt:113:5
 loop-again : tie.Need-loop-again Inv-loop μ-loop
 loop-again c = (search needs, search needs, search byte-more)
 
--- src/identifier.rt:117:13
 returns : tie.Need-returns Inv-loop μ-loop
 returns c = search byte-stops
 
--- src/identifier.rt:108:1
 returns-2 : tie.Need-returns-2 Inv-loop μ-loop
 returns-2 c = search byte-last
 

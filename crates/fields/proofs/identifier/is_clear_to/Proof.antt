@@ -8,47 +8,36 @@ use Rattle.fields.proofs.identifier.is_clear.Reads as is-clear-reads
 use Rattle.fields.proofs.identifier.is_clear_long.Reads as is-clear-long-reads
 use Rattle.fields.proofs.identifier.is_clear_short.Reads as is-clear-short-reads
 
--- src/identifier.rt:128:14
 sub-if1 : tie.Need-sub-if1
 sub-if1 c = search needs
 
--- src/identifier.rt:129:9
 is-clear-long-requires : tie.Need-is-clear-long-requires
 is-clear-long-requires c κs = search needs
 
--- src/identifier.rt:129:9
 returns : tie.Need-returns
 returns c = search needs
 
--- src/identifier.rt:131:8
 sub-if2 : tie.Need-sub-if2
 sub-if2 c = search needs
 
--- src/identifier.rt:132:9
 is-clear-short-requires : tie.Need-is-clear-short-requires
 is-clear-short-requires c κs = search needs
 
--- src/identifier.rt:132:9
 returns-2 : tie.Need-returns-2
 returns-2 c = search needs
 
--- src/identifier.rt:134:8
 is-clear-requires : tie.Need-is-clear-requires
 is-clear-requires c κs = search needs
 
--- src/identifier.rt:135:28
 sub-is-clear : tie.Need-sub-is-clear
 sub-is-clear c = search needs
 
--- src/identifier.rt:135:9
 is-clear-requires-2 : tie.Need-is-clear-requires-2
 is-clear-requires-2 c κs = search needs
 
--- src/identifier.rt:135:9
 returns-3 : tie.Need-returns-3
 returns-3 c = search pair-last
 
--- src/identifier.rt:124:1
 returns-4 : tie.Need-returns-4
 returns-4 c = search pair-stops
 

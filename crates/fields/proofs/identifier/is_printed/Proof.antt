@@ -16,31 +16,24 @@ Inv-loop s i n held₀ j₀ held j = (j ≤ n) × (held ≡ all printed (take j 
 abbrev μ-loop : tie.MeasureT-loop
 μ-loop s i n held₀ j₀ held j = n - j
 
--- src/identifier.rt:56:5
 loop-holds : tie.Need-loop-holds Inv-loop μ-loop
 loop-holds c = (search needs, search bytes-none)
 
--- src/identifier.rt:57:14
 add-if1 : tie.Need-add-if1 Inv-loop μ-loop
 add-if1 c = search needs
 
--- src/identifier.rt:57:12
 shared-slice-read-if1 : tie.Need-shared-slice-read-if1 Inv-loop μ-loop
 shared-slice-read-if1 c = search needs
 
--- src/identifier.rt:60:9
 add-j : tie.Need-add-j Inv-loop μ-loop
 add-j c = search needs
 
--- src/identifier.rt:56:5
 loop-less : tie.Need-loop-less Inv-loop μ-loop
 loop-less c = search needs
 
--- src/identifier.rt:56:5
 loop-again : tie.Need-loop-again Inv-loop μ-loop
 loop-again c = (search needs, ⊎-elim (λ w. search printed-not) (λ w. search printed-more) (c .if1 .came))
 
--- src/identifier.rt:50:1
 returns : tie.Need-returns Inv-loop μ-loop
 returns c = search bytes-done
 

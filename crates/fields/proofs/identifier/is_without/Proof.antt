@@ -16,31 +16,24 @@ Inv-loop s i n b none₀ j₀ none j = (j ≤ n) × (none ≡ all (other b) (tak
 abbrev μ-loop : tie.MeasureT-loop
 μ-loop s i n b none₀ j₀ none j = n - j
 
--- src/identifier.rt:40:5
 loop-holds : tie.Need-loop-holds Inv-loop μ-loop
 loop-holds c = (search needs, search bytes-none)
 
--- src/identifier.rt:41:14
 add-if1 : tie.Need-add-if1 Inv-loop μ-loop
 add-if1 c = search needs
 
--- src/identifier.rt:41:12
 shared-slice-read-if1 : tie.Need-shared-slice-read-if1 Inv-loop μ-loop
 shared-slice-read-if1 c = search needs
 
--- src/identifier.rt:44:9
 add-j : tie.Need-add-j Inv-loop μ-loop
 add-j c = search needs
 
--- src/identifier.rt:40:5
 loop-less : tie.Need-loop-less Inv-loop μ-loop
 loop-less c = search needs
 
--- src/identifier.rt:40:5
 loop-again : tie.Need-loop-again Inv-loop μ-loop
 loop-again c = (search needs, ⊎-elim (λ w. search without-held) (λ w. search without-more) (c .if1 .came))
 
--- src/identifier.rt:34:1
 returns : tie.Need-returns Inv-loop μ-loop
 returns c = search bytes-done
 

@@ -8,23 +8,18 @@ use Rattle.fields.proofs.identifier.size_fault.Reads as size-fault-read
 use Rattle.lexical.proofs.literal.is_sized.Reads as is-sized-reads
 use Rattle.lexical.proofs.literal_length.Reads as literal-length-reads
 
--- src/identifier.rt:59:8
 is-sized-requires : tie.Need-is-sized-requires
 is-sized-requires c κs = search needs
 
--- src/identifier.rt:60:9
 returns : tie.Need-returns
 returns c = search fault-sized
 
--- src/identifier.rt:62:9
 literal-length-requires : tie.Need-literal-length-requires
 literal-length-requires c κs = search needs
 
--- src/identifier.rt:63:5
 size-fault-requires : tie.Need-size-fault-requires
 size-fault-requires c κs = search needs
 
--- src/identifier.rt:56:1
 returns-2 : tie.Need-returns-2
 returns-2 c = search fault-counted
 

@@ -8,23 +8,18 @@ use Rattle.expression.proofs.name.attribute.Reads as attribute-reads
 use Rattle.expression.proofs.name.find.Reads as find-reads
 use Rattle.fields.proofs.identifier.size_fault.Reads as size-fault-reads
 
--- src/identifier.rt:44:9
 find-requires : tie.Need-find-requires
 find-requires c κs = search needs
 
--- src/identifier.rt:46:9
 returns : tie.Need-returns
 returns c = search name-unset
 
--- src/identifier.rt:48:9
 attribute-requires : tie.Need-attribute-requires
 attribute-requires c κs = search needs
 
--- src/identifier.rt:49:5
 size-fault-requires : tie.Need-size-fault-requires
 size-fault-requires c κs = search needs
 
--- src/identifier.rt:41:1
 returns-2 : tie.Need-returns-2
 returns-2 c = search name-sized
 

@@ -6,17 +6,14 @@ use Rattle.fields.proofs.identifier.size_fault.Tie as tie
 use Rattle.fields.proofs.identifier.size_fault.Reads as reads
 use Rattle.fields.proofs.identifier.size_fault.Lts as lts
 
--- src/identifier.rt:32:9
 returns : tie.Need-returns
 unfolding sizeFault
 returns c = search (needs, tests)
 
--- src/identifier.rt:35:9
 returns-2 : tie.Need-returns-2
 unfolding sizeFault
 returns-2 c = search (needs, tests)
 
--- src/identifier.rt:28:1
 returns-3 : tie.Need-returns-3
 unfolding sizeFault
 returns-3 c = search (needs, tests)

@@ -67,112 +67,92 @@ primary-at t = and 6 primary-kinds.ps (is 6 primary-kinds.ps μ-primary t) prima
 abbrev primary-below : ℕ → In 6 primary-kinds.ps
 primary-below t = and 6 primary-kinds.ps (falls 6 primary-kinds.ps _<_ μ-primary t) primary.Pre
 
--- src/licensees.rt:196:11
-chain-operand-requires : (t : ℕ) → chain-lts.Need-operand-requires (
+abbrev chain-claims : ℕ → chain-lts.Claims
+chain-claims t = (
   operand-below t,
   operand.Post,
   more-below t,
   more.Post,
-) (chain-at t) chain.Post
+)
+
+abbrev more-claims : ℕ → more-lts.Claims
+more-claims t = (
+  joint-of-reads.Asked,
+  joint-of-reads.Learnt,
+  token-at-reads.Asked,
+  token-at-reads.Learnt,
+  operand-below t,
+  operand.Post,
+  rest-reads.Asked,
+  rest-reads.Learnt,
+  join-of-reads.Asked,
+  join-of-reads.Learnt,
+  push-reads.Asked,
+  push-reads.Learnt,
+)
+
+abbrev operand-claims : ℕ → operand-lts.Claims
+operand-claims t = (
+  primary-below t,
+  primary.Post,
+  is-single-reads.Asked,
+  is-single-reads.Learnt,
+  token-at-reads.Asked,
+  token-at-reads.Learnt,
+  licensee-before-reads.Asked,
+  licensee-before-reads.Learnt,
+  chain-below t,
+  chain.Post,
+)
+
+abbrev primary-claims : ℕ → primary-lts.Claims
+primary-claims t = (
+  threshold-reads.Asked,
+  threshold-reads.Learnt,
+  licensee-reads.Asked,
+  licensee-reads.Learnt,
+  token-at-reads.Asked,
+  token-at-reads.Learnt,
+  chain-below t,
+  chain.Post,
+  closed-reads.Asked,
+  closed-reads.Learnt,
+)
+
+chain-operand-requires : (t : ℕ) → chain-lts.Need-operand-requires (chain-claims t) (chain-at t) chain.Post
 chain-operand-requires t c κs = search needs
 
--- src/licensees.rt:197:27
-chain-enum-known-reason : (t : ℕ) → chain-lts.Need-enum-known-reason (
-  operand-below t,
-  operand.Post,
-  more-below t,
-  more.Post,
-) (chain-at t) chain.Post
+chain-enum-known-reason : (t : ℕ) → chain-lts.Need-enum-known-reason (chain-claims t) (chain-at t) chain.Post
 chain-enum-known-reason t c = search needs
 
--- src/licensees.rt:198:24
-chain-enum-known-state : (t : ℕ) → chain-lts.Need-enum-known-state (
-  operand-below t,
-  operand.Post,
-  more-below t,
-  more.Post,
-) (chain-at t) chain.Post
+chain-enum-known-state : (t : ℕ) → chain-lts.Need-enum-known-state (chain-claims t) (chain-at t) chain.Post
 chain-enum-known-state t c = search needs
 
--- src/licensees.rt:199:13
-chain-more-requires : (t : ℕ) → chain-lts.Need-more-requires (
-  operand-below t,
-  operand.Post,
-  more-below t,
-  more.Post,
-) (chain-at t) chain.Post
+chain-more-requires : (t : ℕ) → chain-lts.Need-more-requires (chain-claims t) (chain-at t) chain.Post
 chain-more-requires t c κs = search needs
 
--- src/licensees.rt:182:1
-chain-same-length : (t : ℕ) → chain-lts.Need-same-length (
-  operand-below t,
-  operand.Post,
-  more-below t,
-  more.Post,
-) (chain-at t) chain.Post
+chain-same-length : (t : ℕ) → chain-lts.Need-same-length (chain-claims t) (chain-at t) chain.Post
 chain-same-length t c = search needs
 
--- src/licensees.rt:182:1
-chain-same-length-2 : (t : ℕ) → chain-lts.Need-same-length-2 (
-  operand-below t,
-  operand.Post,
-  more-below t,
-  more.Post,
-) (chain-at t) chain.Post
+chain-same-length-2 : (t : ℕ) → chain-lts.Need-same-length-2 (chain-claims t) (chain-at t) chain.Post
 chain-same-length-2 t c = search needs
 
--- src/licensees.rt:182:1
-chain-same-length-3 : (t : ℕ) → chain-lts.Need-same-length-3 (
-  operand-below t,
-  operand.Post,
-  more-below t,
-  more.Post,
-) (chain-at t) chain.Post
+chain-same-length-3 : (t : ℕ) → chain-lts.Need-same-length-3 (chain-claims t) (chain-at t) chain.Post
 chain-same-length-3 t c = search needs
 
--- src/licensees.rt:182:1
-chain-returns : (t : ℕ) → chain-lts.Need-returns (
-  operand-below t,
-  operand.Post,
-  more-below t,
-  more.Post,
-) (chain-at t) chain.Post
+chain-returns : (t : ℕ) → chain-lts.Need-returns (chain-claims t) (chain-at t) chain.Post
 chain-returns t c = search chain-aside
 
--- src/licensees.rt:182:1
-chain-same-length-4 : (t : ℕ) → chain-lts.Need-same-length-4 (
-  operand-below t,
-  operand.Post,
-  more-below t,
-  more.Post,
-) (chain-at t) chain.Post
+chain-same-length-4 : (t : ℕ) → chain-lts.Need-same-length-4 (chain-claims t) (chain-at t) chain.Post
 chain-same-length-4 t c = search needs
 
--- src/licensees.rt:182:1
-chain-same-length-5 : (t : ℕ) → chain-lts.Need-same-length-5 (
-  operand-below t,
-  operand.Post,
-  more-below t,
-  more.Post,
-) (chain-at t) chain.Post
+chain-same-length-5 : (t : ℕ) → chain-lts.Need-same-length-5 (chain-claims t) (chain-at t) chain.Post
 chain-same-length-5 t c = search needs
 
--- src/licensees.rt:182:1
-chain-same-length-6 : (t : ℕ) → chain-lts.Need-same-length-6 (
-  operand-below t,
-  operand.Post,
-  more-below t,
-  more.Post,
-) (chain-at t) chain.Post
+chain-same-length-6 : (t : ℕ) → chain-lts.Need-same-length-6 (chain-claims t) (chain-at t) chain.Post
 chain-same-length-6 t c = search needs
 
--- src/licensees.rt:182:1
-chain-returns-2 : (t : ℕ) → chain-lts.Need-returns-2 (
-  operand-below t,
-  operand.Post,
-  more-below t,
-  more.Post,
-) (chain-at t) chain.Post
+chain-returns-2 : (t : ℕ) → chain-lts.Need-returns-2 (chain-claims t) (chain-at t) chain.Post
 chain-returns-2 t c = search chain-on
 
 abbrev more-Inv-loop : more-lts.InvT-loop
@@ -183,1066 +163,209 @@ abbrev more-μ-loop : more-lts.MeasureT-loop
 more-μ-loop s consts constants pool₀ places₀ code₀ level left joint state₀ t₀ pool places code state t =
     16 - state .listed
 
--- src/licensees.rt:140:9
-more-joint-of-requires : (t : ℕ) → more-lts.Need-joint-of-requires (
-  joint-of-reads.Asked,
-  joint-of-reads.Learnt,
-  token-at-reads.Asked,
-  token-at-reads.Learnt,
-  operand-below t,
-  operand.Post,
-  rest-reads.Asked,
-  rest-reads.Learnt,
-  join-of-reads.Asked,
-  join-of-reads.Learnt,
-  push-reads.Asked,
-  push-reads.Learnt,
-) (more-at t) more.Post more-Inv-loop more-μ-loop
+more-joint-of-requires : (t : ℕ) → more-lts.Need-joint-of-requires (more-claims t) (more-at t) more.Post more-Inv-loop more-μ-loop
 more-joint-of-requires t c κs = search needs
 
--- src/licensees.rt:143:5
-more-loop-holds : (t : ℕ) → more-lts.Need-loop-holds (
-  joint-of-reads.Asked,
-  joint-of-reads.Learnt,
-  token-at-reads.Asked,
-  token-at-reads.Learnt,
-  operand-below t,
-  operand.Post,
-  rest-reads.Asked,
-  rest-reads.Learnt,
-  join-of-reads.Asked,
-  join-of-reads.Learnt,
-  push-reads.Asked,
-  push-reads.Learnt,
-) (more-at t) more.Post more-Inv-loop more-μ-loop
+more-loop-holds : (t : ℕ) → more-lts.Need-loop-holds (more-claims t) (more-at t) more.Post more-Inv-loop more-μ-loop
 more-loop-holds t c = search needs
 
--- src/licensees.rt:144:13
-more-token-at-requires : (t : ℕ) → more-lts.Need-token-at-requires (
-  joint-of-reads.Asked,
-  joint-of-reads.Learnt,
-  token-at-reads.Asked,
-  token-at-reads.Learnt,
-  operand-below t,
-  operand.Post,
-  rest-reads.Asked,
-  rest-reads.Learnt,
-  join-of-reads.Asked,
-  join-of-reads.Learnt,
-  push-reads.Asked,
-  push-reads.Learnt,
-) (more-at t) more.Post more-Inv-loop more-μ-loop
+more-token-at-requires : (t : ℕ) → more-lts.Need-token-at-requires (more-claims t) (more-at t) more.Post more-Inv-loop more-μ-loop
 more-token-at-requires t c κs = search needs
 
--- src/licensees.rt:145:15
-more-operand-requires : (t : ℕ) → more-lts.Need-operand-requires (
-  joint-of-reads.Asked,
-  joint-of-reads.Learnt,
-  token-at-reads.Asked,
-  token-at-reads.Learnt,
-  operand-below t,
-  operand.Post,
-  rest-reads.Asked,
-  rest-reads.Learnt,
-  join-of-reads.Asked,
-  join-of-reads.Learnt,
-  push-reads.Asked,
-  push-reads.Learnt,
-) (more-at t) more.Post more-Inv-loop more-μ-loop
+more-operand-requires : (t : ℕ) → more-lts.Need-operand-requires (more-claims t) (more-at t) more.Post more-Inv-loop more-μ-loop
 more-operand-requires t c κs = search needs
 
--- src/licensees.rt:157:31
-more-enum-known-reason : (t : ℕ) → more-lts.Need-enum-known-reason (
-  joint-of-reads.Asked,
-  joint-of-reads.Learnt,
-  token-at-reads.Asked,
-  token-at-reads.Learnt,
-  operand-below t,
-  operand.Post,
-  rest-reads.Asked,
-  rest-reads.Learnt,
-  join-of-reads.Asked,
-  join-of-reads.Learnt,
-  push-reads.Asked,
-  push-reads.Learnt,
-) (more-at t) more.Post more-Inv-loop more-μ-loop
+more-enum-known-reason : (t : ℕ) → more-lts.Need-enum-known-reason (more-claims t) (more-at t) more.Post more-Inv-loop more-μ-loop
 more-enum-known-reason t c = search needs
 
--- src/licensees.rt:158:17
-more-same-length : (t : ℕ) → more-lts.Need-same-length (
-  joint-of-reads.Asked,
-  joint-of-reads.Learnt,
-  token-at-reads.Asked,
-  token-at-reads.Learnt,
-  operand-below t,
-  operand.Post,
-  rest-reads.Asked,
-  rest-reads.Learnt,
-  join-of-reads.Asked,
-  join-of-reads.Learnt,
-  push-reads.Asked,
-  push-reads.Learnt,
-) (more-at t) more.Post more-Inv-loop more-μ-loop
+more-same-length : (t : ℕ) → more-lts.Need-same-length (more-claims t) (more-at t) more.Post more-Inv-loop more-μ-loop
 more-same-length t c = search needs
 
--- src/licensees.rt:158:17
-more-same-length-2 : (t : ℕ) → more-lts.Need-same-length-2 (
-  joint-of-reads.Asked,
-  joint-of-reads.Learnt,
-  token-at-reads.Asked,
-  token-at-reads.Learnt,
-  operand-below t,
-  operand.Post,
-  rest-reads.Asked,
-  rest-reads.Learnt,
-  join-of-reads.Asked,
-  join-of-reads.Learnt,
-  push-reads.Asked,
-  push-reads.Learnt,
-) (more-at t) more.Post more-Inv-loop more-μ-loop
+more-same-length-2 : (t : ℕ) → more-lts.Need-same-length-2 (more-claims t) (more-at t) more.Post more-Inv-loop more-μ-loop
 more-same-length-2 t c = search needs
 
--- src/licensees.rt:158:17
-more-same-length-3 : (t : ℕ) → more-lts.Need-same-length-3 (
-  joint-of-reads.Asked,
-  joint-of-reads.Learnt,
-  token-at-reads.Asked,
-  token-at-reads.Learnt,
-  operand-below t,
-  operand.Post,
-  rest-reads.Asked,
-  rest-reads.Learnt,
-  join-of-reads.Asked,
-  join-of-reads.Learnt,
-  push-reads.Asked,
-  push-reads.Learnt,
-) (more-at t) more.Post more-Inv-loop more-μ-loop
+more-same-length-3 : (t : ℕ) → more-lts.Need-same-length-3 (more-claims t) (more-at t) more.Post more-Inv-loop more-μ-loop
 more-same-length-3 t c = search needs
 
--- src/licensees.rt:158:17
-more-returns : (t : ℕ) → more-lts.Need-returns (
-  joint-of-reads.Asked,
-  joint-of-reads.Learnt,
-  token-at-reads.Asked,
-  token-at-reads.Learnt,
-  operand-below t,
-  operand.Post,
-  rest-reads.Asked,
-  rest-reads.Learnt,
-  join-of-reads.Asked,
-  join-of-reads.Learnt,
-  push-reads.Asked,
-  push-reads.Learnt,
-) (more-at t) more.Post more-Inv-loop more-μ-loop
+more-returns : (t : ℕ) → more-lts.Need-returns (more-claims t) (more-at t) more.Post more-Inv-loop more-μ-loop
 more-returns t c = search more-aside
 
--- src/licensees.rt:160:35
-more-enum-known-u : (t : ℕ) → more-lts.Need-enum-known-u (
-  joint-of-reads.Asked,
-  joint-of-reads.Learnt,
-  token-at-reads.Asked,
-  token-at-reads.Learnt,
-  operand-below t,
-  operand.Post,
-  rest-reads.Asked,
-  rest-reads.Learnt,
-  join-of-reads.Asked,
-  join-of-reads.Learnt,
-  push-reads.Asked,
-  push-reads.Learnt,
-) (more-at t) more.Post more-Inv-loop more-μ-loop
+more-enum-known-u : (t : ℕ) → more-lts.Need-enum-known-u (more-claims t) (more-at t) more.Post more-Inv-loop more-μ-loop
 more-enum-known-u t c = search needs
 
--- src/licensees.rt:161:20
-more-rest-requires : (t : ℕ) → more-lts.Need-rest-requires (
-  joint-of-reads.Asked,
-  joint-of-reads.Learnt,
-  token-at-reads.Asked,
-  token-at-reads.Learnt,
-  operand-below t,
-  operand.Post,
-  rest-reads.Asked,
-  rest-reads.Learnt,
-  join-of-reads.Asked,
-  join-of-reads.Learnt,
-  push-reads.Asked,
-  push-reads.Learnt,
-) (more-at t) more.Post more-Inv-loop more-μ-loop
+more-rest-requires : (t : ℕ) → more-lts.Need-rest-requires (more-claims t) (more-at t) more.Post more-Inv-loop more-μ-loop
 more-rest-requires t c κs = search needs
 
--- src/licensees.rt:161:42
-more-rest-requires-2 : (t : ℕ) → more-lts.Need-rest-requires-2 (
-  joint-of-reads.Asked,
-  joint-of-reads.Learnt,
-  token-at-reads.Asked,
-  token-at-reads.Learnt,
-  operand-below t,
-  operand.Post,
-  rest-reads.Asked,
-  rest-reads.Learnt,
-  join-of-reads.Asked,
-  join-of-reads.Learnt,
-  push-reads.Asked,
-  push-reads.Learnt,
-) (more-at t) more.Post more-Inv-loop more-μ-loop
+more-rest-requires-2 : (t : ℕ) → more-lts.Need-rest-requires-2 (more-claims t) (more-at t) more.Post more-Inv-loop more-μ-loop
 more-rest-requires-2 t c κs = search needs
 
--- src/licensees.rt:162:21
-more-same-length-4 : (t : ℕ) → more-lts.Need-same-length-4 (
-  joint-of-reads.Asked,
-  joint-of-reads.Learnt,
-  token-at-reads.Asked,
-  token-at-reads.Learnt,
-  operand-below t,
-  operand.Post,
-  rest-reads.Asked,
-  rest-reads.Learnt,
-  join-of-reads.Asked,
-  join-of-reads.Learnt,
-  push-reads.Asked,
-  push-reads.Learnt,
-) (more-at t) more.Post more-Inv-loop more-μ-loop
+more-same-length-4 : (t : ℕ) → more-lts.Need-same-length-4 (more-claims t) (more-at t) more.Post more-Inv-loop more-μ-loop
 more-same-length-4 t c = search needs
 
--- src/licensees.rt:162:21
-more-same-length-5 : (t : ℕ) → more-lts.Need-same-length-5 (
-  joint-of-reads.Asked,
-  joint-of-reads.Learnt,
-  token-at-reads.Asked,
-  token-at-reads.Learnt,
-  operand-below t,
-  operand.Post,
-  rest-reads.Asked,
-  rest-reads.Learnt,
-  join-of-reads.Asked,
-  join-of-reads.Learnt,
-  push-reads.Asked,
-  push-reads.Learnt,
-) (more-at t) more.Post more-Inv-loop more-μ-loop
+more-same-length-5 : (t : ℕ) → more-lts.Need-same-length-5 (more-claims t) (more-at t) more.Post more-Inv-loop more-μ-loop
 more-same-length-5 t c = search needs
 
--- src/licensees.rt:162:21
-more-same-length-6 : (t : ℕ) → more-lts.Need-same-length-6 (
-  joint-of-reads.Asked,
-  joint-of-reads.Learnt,
-  token-at-reads.Asked,
-  token-at-reads.Learnt,
-  operand-below t,
-  operand.Post,
-  rest-reads.Asked,
-  rest-reads.Learnt,
-  join-of-reads.Asked,
-  join-of-reads.Learnt,
-  push-reads.Asked,
-  push-reads.Learnt,
-) (more-at t) more.Post more-Inv-loop more-μ-loop
+more-same-length-6 : (t : ℕ) → more-lts.Need-same-length-6 (more-claims t) (more-at t) more.Post more-Inv-loop more-μ-loop
 more-same-length-6 t c = search needs
 
--- src/licensees.rt:162:21
-more-returns-2 : (t : ℕ) → more-lts.Need-returns-2 (
-  joint-of-reads.Asked,
-  joint-of-reads.Learnt,
-  token-at-reads.Asked,
-  token-at-reads.Learnt,
-  operand-below t,
-  operand.Post,
-  rest-reads.Asked,
-  rest-reads.Learnt,
-  join-of-reads.Asked,
-  join-of-reads.Learnt,
-  push-reads.Asked,
-  push-reads.Learnt,
-) (more-at t) more.Post more-Inv-loop more-μ-loop
+more-returns-2 : (t : ℕ) → more-lts.Need-returns-2 (more-claims t) (more-at t) more.Post more-Inv-loop more-μ-loop
 more-returns-2 t c = search more-stuck
 
--- src/licensees.rt:167:47
-more-join-of-requires : (t : ℕ) → more-lts.Need-join-of-requires (
-  joint-of-reads.Asked,
-  joint-of-reads.Learnt,
-  token-at-reads.Asked,
-  token-at-reads.Learnt,
-  operand-below t,
-  operand.Post,
-  rest-reads.Asked,
-  rest-reads.Learnt,
-  join-of-reads.Asked,
-  join-of-reads.Learnt,
-  push-reads.Asked,
-  push-reads.Learnt,
-) (more-at t) more.Post more-Inv-loop more-μ-loop
+more-join-of-requires : (t : ℕ) → more-lts.Need-join-of-requires (more-claims t) (more-at t) more.Post more-Inv-loop more-μ-loop
 more-join-of-requires t c κs = search needs
 
--- src/licensees.rt:167:21
-more-push-requires : (t : ℕ) → more-lts.Need-push-requires (
-  joint-of-reads.Asked,
-  joint-of-reads.Learnt,
-  token-at-reads.Asked,
-  token-at-reads.Learnt,
-  operand-below t,
-  operand.Post,
-  rest-reads.Asked,
-  rest-reads.Learnt,
-  join-of-reads.Asked,
-  join-of-reads.Learnt,
-  push-reads.Asked,
-  push-reads.Learnt,
-) (more-at t) more.Post more-Inv-loop more-μ-loop
+more-push-requires : (t : ℕ) → more-lts.Need-push-requires (more-claims t) (more-at t) more.Post more-Inv-loop more-μ-loop
 more-push-requires t c κs = search needs
 
--- src/licensees.rt:143:5
-more-loop-less : (t : ℕ) → more-lts.Need-loop-less (
-  joint-of-reads.Asked,
-  joint-of-reads.Learnt,
-  token-at-reads.Asked,
-  token-at-reads.Learnt,
-  operand-below t,
-  operand.Post,
-  rest-reads.Asked,
-  rest-reads.Learnt,
-  join-of-reads.Asked,
-  join-of-reads.Learnt,
-  push-reads.Asked,
-  push-reads.Learnt,
-) (more-at t) more.Post more-Inv-loop more-μ-loop
+more-loop-less : (t : ℕ) → more-lts.Need-loop-less (more-claims t) (more-at t) more.Post more-Inv-loop more-μ-loop
 more-loop-less t c = let f = more-less _ _ _ _ _ _ _ _ _ _ _ (c .before .before .before .before .before .before .before .before .before .before .before .before .before .before .before .before .before .before .before .before .before .before .before .before .loop .inv .3) _ (c .before .before .before .before .before .before .before .before .before .before .before .before .before .before .before .before .before .before .before .before .before .before .before .before .before .joint-of .ensures) (c .before .before .before .before .before .before .before .before .before .before .before .before .before .before .before .before .before .before .before .before .before .before .if1 .taken) _ (c .before .before .before .before .before .before .before .before .before .before .before .before .before .before .before .before .before .before .before .before .before .token-at .ensures) _ _ _ _ (c .before .before .before .before .before .before .before .before .before .before .before .before .before .before .before .before .before .operand .ensures) in search f
 
--- src/licensees.rt:143:5
-more-loop-again : (t : ℕ) → more-lts.Need-loop-again (
-  joint-of-reads.Asked,
-  joint-of-reads.Learnt,
-  token-at-reads.Asked,
-  token-at-reads.Learnt,
-  operand-below t,
-  operand.Post,
-  rest-reads.Asked,
-  rest-reads.Learnt,
-  join-of-reads.Asked,
-  join-of-reads.Learnt,
-  push-reads.Asked,
-  push-reads.Learnt,
-) (more-at t) more.Post more-Inv-loop more-μ-loop
+more-loop-again : (t : ℕ) → more-lts.Need-loop-again (more-claims t) (more-at t) more.Post more-Inv-loop more-μ-loop
 more-loop-again t c = ((let w = c .before .before .before .before .before .before .before .before .before .before .before .before .before .before .before .before .before .before .before .before .before .before .before .before .loop .inv .0 in search needs), (let w = c .before .before .before .before .before .before .before .before .before .before .before .before .before .before .before .before .before .before .before .before .before .before .before .before .loop .inv .1 in search needs), (let w = c .before .before .before .before .before .before .before .before .before .before .before .before .before .before .before .before .before .before .before .before .before .before .before .before .loop .inv .2 in search needs), (let f = more-again _ _ _ _ _ _ _ _ _ _ _ (c .before .before .before .before .before .before .before .before .before .before .before .before .before .before .before .before .before .before .before .before .before .before .before .before .loop .inv .3) _ (c .before .before .before .before .before .before .before .before .before .before .before .before .before .before .before .before .before .before .before .before .before .before .before .before .before .joint-of .ensures) (c .before .before .before .before .before .before .before .before .before .before .before .before .before .before .before .before .before .before .before .before .before .before .if1 .taken) _ (c .before .before .before .before .before .before .before .before .before .before .before .before .before .before .before .before .before .before .before .before .before .token-at .ensures) _ _ _ _ (c .before .before .before .before .before .before .before .before .before .before .before .before .before .before .before .before .before .operand .ensures) in search f))
 
--- src/licensees.rt:126:1
-more-same-length-7 : (t : ℕ) → more-lts.Need-same-length-7 (
-  joint-of-reads.Asked,
-  joint-of-reads.Learnt,
-  token-at-reads.Asked,
-  token-at-reads.Learnt,
-  operand-below t,
-  operand.Post,
-  rest-reads.Asked,
-  rest-reads.Learnt,
-  join-of-reads.Asked,
-  join-of-reads.Learnt,
-  push-reads.Asked,
-  push-reads.Learnt,
-) (more-at t) more.Post more-Inv-loop more-μ-loop
+more-same-length-7 : (t : ℕ) → more-lts.Need-same-length-7 (more-claims t) (more-at t) more.Post more-Inv-loop more-μ-loop
 more-same-length-7 t c = search needs
 
--- src/licensees.rt:126:1
-more-same-length-8 : (t : ℕ) → more-lts.Need-same-length-8 (
-  joint-of-reads.Asked,
-  joint-of-reads.Learnt,
-  token-at-reads.Asked,
-  token-at-reads.Learnt,
-  operand-below t,
-  operand.Post,
-  rest-reads.Asked,
-  rest-reads.Learnt,
-  join-of-reads.Asked,
-  join-of-reads.Learnt,
-  push-reads.Asked,
-  push-reads.Learnt,
-) (more-at t) more.Post more-Inv-loop more-μ-loop
+more-same-length-8 : (t : ℕ) → more-lts.Need-same-length-8 (more-claims t) (more-at t) more.Post more-Inv-loop more-μ-loop
 more-same-length-8 t c = search needs
 
--- src/licensees.rt:126:1
-more-same-length-9 : (t : ℕ) → more-lts.Need-same-length-9 (
-  joint-of-reads.Asked,
-  joint-of-reads.Learnt,
-  token-at-reads.Asked,
-  token-at-reads.Learnt,
-  operand-below t,
-  operand.Post,
-  rest-reads.Asked,
-  rest-reads.Learnt,
-  join-of-reads.Asked,
-  join-of-reads.Learnt,
-  push-reads.Asked,
-  push-reads.Learnt,
-) (more-at t) more.Post more-Inv-loop more-μ-loop
+more-same-length-9 : (t : ℕ) → more-lts.Need-same-length-9 (more-claims t) (more-at t) more.Post more-Inv-loop more-μ-loop
 more-same-length-9 t c = search needs
 
--- src/licensees.rt:126:1
-more-returns-3 : (t : ℕ) → more-lts.Need-returns-3 (
-  joint-of-reads.Asked,
-  joint-of-reads.Learnt,
-  token-at-reads.Asked,
-  token-at-reads.Learnt,
-  operand-below t,
-  operand.Post,
-  rest-reads.Asked,
-  rest-reads.Learnt,
-  join-of-reads.Asked,
-  join-of-reads.Learnt,
-  push-reads.Asked,
-  push-reads.Learnt,
-) (more-at t) more.Post more-Inv-loop more-μ-loop
+more-returns-3 : (t : ℕ) → more-lts.Need-returns-3 (more-claims t) (more-at t) more.Post more-Inv-loop more-μ-loop
 more-returns-3 t c = search more-end
 
--- src/licensees.rt:89:9
-operand-primary-requires : (t : ℕ) → operand-lts.Need-primary-requires (
-  primary-below t,
-  primary.Post,
-  is-single-reads.Asked,
-  is-single-reads.Learnt,
-  token-at-reads.Asked,
-  token-at-reads.Learnt,
-  licensee-before-reads.Asked,
-  licensee-before-reads.Learnt,
-  chain-below t,
-  chain.Post,
-) (operand-at t) operand.Post
+operand-primary-requires : (t : ℕ) → operand-lts.Need-primary-requires (operand-claims t) (operand-at t) operand.Post
 operand-primary-requires t c κs = search needs
 
--- src/licensees.rt:89:9
-operand-same-length : (t : ℕ) → operand-lts.Need-same-length (
-  primary-below t,
-  primary.Post,
-  is-single-reads.Asked,
-  is-single-reads.Learnt,
-  token-at-reads.Asked,
-  token-at-reads.Learnt,
-  licensee-before-reads.Asked,
-  licensee-before-reads.Learnt,
-  chain-below t,
-  chain.Post,
-) (operand-at t) operand.Post
+operand-same-length : (t : ℕ) → operand-lts.Need-same-length (operand-claims t) (operand-at t) operand.Post
 operand-same-length t c = search needs
 
--- src/licensees.rt:89:9
-operand-same-length-2 : (t : ℕ) → operand-lts.Need-same-length-2 (
-  primary-below t,
-  primary.Post,
-  is-single-reads.Asked,
-  is-single-reads.Learnt,
-  token-at-reads.Asked,
-  token-at-reads.Learnt,
-  licensee-before-reads.Asked,
-  licensee-before-reads.Learnt,
-  chain-below t,
-  chain.Post,
-) (operand-at t) operand.Post
+operand-same-length-2 : (t : ℕ) → operand-lts.Need-same-length-2 (operand-claims t) (operand-at t) operand.Post
 operand-same-length-2 t c = search needs
 
--- src/licensees.rt:89:9
-operand-same-length-3 : (t : ℕ) → operand-lts.Need-same-length-3 (
-  primary-below t,
-  primary.Post,
-  is-single-reads.Asked,
-  is-single-reads.Learnt,
-  token-at-reads.Asked,
-  token-at-reads.Learnt,
-  licensee-before-reads.Asked,
-  licensee-before-reads.Learnt,
-  chain-below t,
-  chain.Post,
-) (operand-at t) operand.Post
+operand-same-length-3 : (t : ℕ) → operand-lts.Need-same-length-3 (operand-claims t) (operand-at t) operand.Post
 operand-same-length-3 t c = search needs
 
--- src/licensees.rt:89:9
-operand-returns : (t : ℕ) → operand-lts.Need-returns (
-  primary-below t,
-  primary.Post,
-  is-single-reads.Asked,
-  is-single-reads.Learnt,
-  token-at-reads.Asked,
-  token-at-reads.Learnt,
-  licensee-before-reads.Asked,
-  licensee-before-reads.Learnt,
-  chain-below t,
-  chain.Post,
-) (operand-at t) operand.Post
+operand-returns : (t : ℕ) → operand-lts.Need-returns (operand-claims t) (operand-at t) operand.Post
 operand-returns t c = search operand-primary
 
--- src/licensees.rt:91:8
-operand-is-single-requires : (t : ℕ) → operand-lts.Need-is-single-requires (
-  primary-below t,
-  primary.Post,
-  is-single-reads.Asked,
-  is-single-reads.Learnt,
-  token-at-reads.Asked,
-  token-at-reads.Learnt,
-  licensee-before-reads.Asked,
-  licensee-before-reads.Learnt,
-  chain-below t,
-  chain.Post,
-) (operand-at t) operand.Post
+operand-is-single-requires : (t : ℕ) → operand-lts.Need-is-single-requires (operand-claims t) (operand-at t) operand.Post
 operand-is-single-requires t c κs = search needs
 
--- src/licensees.rt:92:13
-operand-token-at-requires : (t : ℕ) → operand-lts.Need-token-at-requires (
-  primary-below t,
-  primary.Post,
-  is-single-reads.Asked,
-  is-single-reads.Learnt,
-  token-at-reads.Asked,
-  token-at-reads.Learnt,
-  licensee-before-reads.Asked,
-  licensee-before-reads.Learnt,
-  chain-below t,
-  chain.Post,
-) (operand-at t) operand.Post
+operand-token-at-requires : (t : ℕ) → operand-lts.Need-token-at-requires (operand-claims t) (operand-at t) operand.Post
 operand-token-at-requires t c κs = search needs
 
--- src/licensees.rt:94:13
-operand-licensee-before-requires : (t : ℕ) → operand-lts.Need-licensee-before-requires (
-  primary-below t,
-  primary.Post,
-  is-single-reads.Asked,
-  is-single-reads.Learnt,
-  token-at-reads.Asked,
-  token-at-reads.Learnt,
-  licensee-before-reads.Asked,
-  licensee-before-reads.Learnt,
-  chain-below t,
-  chain.Post,
-) (operand-at t) operand.Post
+operand-licensee-before-requires : (t : ℕ) → operand-lts.Need-licensee-before-requires (operand-claims t) (operand-at t) operand.Post
 operand-licensee-before-requires t c κs = search needs
 
--- src/licensees.rt:94:13
-operand-same-length-4 : (t : ℕ) → operand-lts.Need-same-length-4 (
-  primary-below t,
-  primary.Post,
-  is-single-reads.Asked,
-  is-single-reads.Learnt,
-  token-at-reads.Asked,
-  token-at-reads.Learnt,
-  licensee-before-reads.Asked,
-  licensee-before-reads.Learnt,
-  chain-below t,
-  chain.Post,
-) (operand-at t) operand.Post
+operand-same-length-4 : (t : ℕ) → operand-lts.Need-same-length-4 (operand-claims t) (operand-at t) operand.Post
 operand-same-length-4 t c = search needs
 
--- src/licensees.rt:94:13
-operand-same-length-5 : (t : ℕ) → operand-lts.Need-same-length-5 (
-  primary-below t,
-  primary.Post,
-  is-single-reads.Asked,
-  is-single-reads.Learnt,
-  token-at-reads.Asked,
-  token-at-reads.Learnt,
-  licensee-before-reads.Asked,
-  licensee-before-reads.Learnt,
-  chain-below t,
-  chain.Post,
-) (operand-at t) operand.Post
+operand-same-length-5 : (t : ℕ) → operand-lts.Need-same-length-5 (operand-claims t) (operand-at t) operand.Post
 operand-same-length-5 t c = search needs
 
--- src/licensees.rt:94:13
-operand-same-length-6 : (t : ℕ) → operand-lts.Need-same-length-6 (
-  primary-below t,
-  primary.Post,
-  is-single-reads.Asked,
-  is-single-reads.Learnt,
-  token-at-reads.Asked,
-  token-at-reads.Learnt,
-  licensee-before-reads.Asked,
-  licensee-before-reads.Learnt,
-  chain-below t,
-  chain.Post,
-) (operand-at t) operand.Post
+operand-same-length-6 : (t : ℕ) → operand-lts.Need-same-length-6 (operand-claims t) (operand-at t) operand.Post
 operand-same-length-6 t c = search needs
 
--- src/licensees.rt:94:13
-operand-returns-2 : (t : ℕ) → operand-lts.Need-returns-2 (
-  primary-below t,
-  primary.Post,
-  is-single-reads.Asked,
-  is-single-reads.Learnt,
-  token-at-reads.Asked,
-  token-at-reads.Learnt,
-  licensee-before-reads.Asked,
-  licensee-before-reads.Learnt,
-  chain-below t,
-  chain.Post,
-) (operand-at t) operand.Post
+operand-returns-2 : (t : ℕ) → operand-lts.Need-returns-2 (operand-claims t) (operand-at t) operand.Post
 operand-returns-2 t c = search operand-single
 
--- src/licensees.rt:120:9
-operand-sub-chain : (t : ℕ) → operand-lts.Need-sub-chain (
-  primary-below t,
-  primary.Post,
-  is-single-reads.Asked,
-  is-single-reads.Learnt,
-  token-at-reads.Asked,
-  token-at-reads.Learnt,
-  licensee-before-reads.Asked,
-  licensee-before-reads.Learnt,
-  chain-below t,
-  chain.Post,
-) (operand-at t) operand.Post
+operand-sub-chain : (t : ℕ) → operand-lts.Need-sub-chain (operand-claims t) (operand-at t) operand.Post
 operand-sub-chain t c = search needs
 
--- src/licensees.rt:111:5
-operand-chain-requires : (t : ℕ) → operand-lts.Need-chain-requires (
-  primary-below t,
-  primary.Post,
-  is-single-reads.Asked,
-  is-single-reads.Learnt,
-  token-at-reads.Asked,
-  token-at-reads.Learnt,
-  licensee-before-reads.Asked,
-  licensee-before-reads.Learnt,
-  chain-below t,
-  chain.Post,
-) (operand-at t) operand.Post
+operand-chain-requires : (t : ℕ) → operand-lts.Need-chain-requires (operand-claims t) (operand-at t) operand.Post
 operand-chain-requires t c κs = search needs
 
--- src/licensees.rt:74:1
-operand-same-length-7 : (t : ℕ) → operand-lts.Need-same-length-7 (
-  primary-below t,
-  primary.Post,
-  is-single-reads.Asked,
-  is-single-reads.Learnt,
-  token-at-reads.Asked,
-  token-at-reads.Learnt,
-  licensee-before-reads.Asked,
-  licensee-before-reads.Learnt,
-  chain-below t,
-  chain.Post,
-) (operand-at t) operand.Post
+operand-same-length-7 : (t : ℕ) → operand-lts.Need-same-length-7 (operand-claims t) (operand-at t) operand.Post
 operand-same-length-7 t c = search needs
 
--- src/licensees.rt:74:1
-operand-same-length-8 : (t : ℕ) → operand-lts.Need-same-length-8 (
-  primary-below t,
-  primary.Post,
-  is-single-reads.Asked,
-  is-single-reads.Learnt,
-  token-at-reads.Asked,
-  token-at-reads.Learnt,
-  licensee-before-reads.Asked,
-  licensee-before-reads.Learnt,
-  chain-below t,
-  chain.Post,
-) (operand-at t) operand.Post
+operand-same-length-8 : (t : ℕ) → operand-lts.Need-same-length-8 (operand-claims t) (operand-at t) operand.Post
 operand-same-length-8 t c = search needs
 
--- src/licensees.rt:74:1
-operand-same-length-9 : (t : ℕ) → operand-lts.Need-same-length-9 (
-  primary-below t,
-  primary.Post,
-  is-single-reads.Asked,
-  is-single-reads.Learnt,
-  token-at-reads.Asked,
-  token-at-reads.Learnt,
-  licensee-before-reads.Asked,
-  licensee-before-reads.Learnt,
-  chain-below t,
-  chain.Post,
-) (operand-at t) operand.Post
+operand-same-length-9 : (t : ℕ) → operand-lts.Need-same-length-9 (operand-claims t) (operand-at t) operand.Post
 operand-same-length-9 t c = search needs
 
--- src/licensees.rt:74:1
-operand-returns-3 : (t : ℕ) → operand-lts.Need-returns-3 (
-  primary-below t,
-  primary.Post,
-  is-single-reads.Asked,
-  is-single-reads.Learnt,
-  token-at-reads.Asked,
-  token-at-reads.Learnt,
-  licensee-before-reads.Asked,
-  licensee-before-reads.Learnt,
-  chain-below t,
-  chain.Post,
-) (operand-at t) operand.Post
+operand-returns-3 : (t : ℕ) → operand-lts.Need-returns-3 (operand-claims t) (operand-at t) operand.Post
 operand-returns-3 t c = search operand-chain
 
--- src/licensees.rt:230:9
-primary-threshold-requires : (t : ℕ) → primary-lts.Need-threshold-requires (
-  threshold-reads.Asked,
-  threshold-reads.Learnt,
-  licensee-reads.Asked,
-  licensee-reads.Learnt,
-  token-at-reads.Asked,
-  token-at-reads.Learnt,
-  chain-below t,
-  chain.Post,
-  closed-reads.Asked,
-  closed-reads.Learnt,
-) (primary-at t) primary.Post
+primary-threshold-requires : (t : ℕ) → primary-lts.Need-threshold-requires (primary-claims t) (primary-at t) primary.Post
 primary-threshold-requires t c κs = search needs
 
--- src/licensees.rt:230:9
-primary-same-length : (t : ℕ) → primary-lts.Need-same-length (
-  threshold-reads.Asked,
-  threshold-reads.Learnt,
-  licensee-reads.Asked,
-  licensee-reads.Learnt,
-  token-at-reads.Asked,
-  token-at-reads.Learnt,
-  chain-below t,
-  chain.Post,
-  closed-reads.Asked,
-  closed-reads.Learnt,
-) (primary-at t) primary.Post
+primary-same-length : (t : ℕ) → primary-lts.Need-same-length (primary-claims t) (primary-at t) primary.Post
 primary-same-length t c = search needs
 
--- src/licensees.rt:230:9
-primary-same-length-2 : (t : ℕ) → primary-lts.Need-same-length-2 (
-  threshold-reads.Asked,
-  threshold-reads.Learnt,
-  licensee-reads.Asked,
-  licensee-reads.Learnt,
-  token-at-reads.Asked,
-  token-at-reads.Learnt,
-  chain-below t,
-  chain.Post,
-  closed-reads.Asked,
-  closed-reads.Learnt,
-) (primary-at t) primary.Post
+primary-same-length-2 : (t : ℕ) → primary-lts.Need-same-length-2 (primary-claims t) (primary-at t) primary.Post
 primary-same-length-2 t c = search needs
 
--- src/licensees.rt:230:9
-primary-same-length-3 : (t : ℕ) → primary-lts.Need-same-length-3 (
-  threshold-reads.Asked,
-  threshold-reads.Learnt,
-  licensee-reads.Asked,
-  licensee-reads.Learnt,
-  token-at-reads.Asked,
-  token-at-reads.Learnt,
-  chain-below t,
-  chain.Post,
-  closed-reads.Asked,
-  closed-reads.Learnt,
-) (primary-at t) primary.Post
+primary-same-length-3 : (t : ℕ) → primary-lts.Need-same-length-3 (primary-claims t) (primary-at t) primary.Post
 primary-same-length-3 t c = search needs
 
--- src/licensees.rt:230:9
-primary-returns : (t : ℕ) → primary-lts.Need-returns (
-  threshold-reads.Asked,
-  threshold-reads.Learnt,
-  licensee-reads.Asked,
-  licensee-reads.Learnt,
-  token-at-reads.Asked,
-  token-at-reads.Learnt,
-  chain-below t,
-  chain.Post,
-  closed-reads.Asked,
-  closed-reads.Learnt,
-) (primary-at t) primary.Post
+primary-returns : (t : ℕ) → primary-lts.Need-returns (primary-claims t) (primary-at t) primary.Post
 primary-returns t c = search primary-digits
 
--- src/licensees.rt:233:9
-primary-licensee-requires : (t : ℕ) → primary-lts.Need-licensee-requires (
-  threshold-reads.Asked,
-  threshold-reads.Learnt,
-  licensee-reads.Asked,
-  licensee-reads.Learnt,
-  token-at-reads.Asked,
-  token-at-reads.Learnt,
-  chain-below t,
-  chain.Post,
-  closed-reads.Asked,
-  closed-reads.Learnt,
-) (primary-at t) primary.Post
+primary-licensee-requires : (t : ℕ) → primary-lts.Need-licensee-requires (primary-claims t) (primary-at t) primary.Post
 primary-licensee-requires t c κs = search needs
 
--- src/licensees.rt:233:9
-primary-same-length-4 : (t : ℕ) → primary-lts.Need-same-length-4 (
-  threshold-reads.Asked,
-  threshold-reads.Learnt,
-  licensee-reads.Asked,
-  licensee-reads.Learnt,
-  token-at-reads.Asked,
-  token-at-reads.Learnt,
-  chain-below t,
-  chain.Post,
-  closed-reads.Asked,
-  closed-reads.Learnt,
-) (primary-at t) primary.Post
+primary-same-length-4 : (t : ℕ) → primary-lts.Need-same-length-4 (primary-claims t) (primary-at t) primary.Post
 primary-same-length-4 t c = search needs
 
--- src/licensees.rt:233:9
-primary-same-length-5 : (t : ℕ) → primary-lts.Need-same-length-5 (
-  threshold-reads.Asked,
-  threshold-reads.Learnt,
-  licensee-reads.Asked,
-  licensee-reads.Learnt,
-  token-at-reads.Asked,
-  token-at-reads.Learnt,
-  chain-below t,
-  chain.Post,
-  closed-reads.Asked,
-  closed-reads.Learnt,
-) (primary-at t) primary.Post
+primary-same-length-5 : (t : ℕ) → primary-lts.Need-same-length-5 (primary-claims t) (primary-at t) primary.Post
 primary-same-length-5 t c = search needs
 
--- src/licensees.rt:233:9
-primary-same-length-6 : (t : ℕ) → primary-lts.Need-same-length-6 (
-  threshold-reads.Asked,
-  threshold-reads.Learnt,
-  licensee-reads.Asked,
-  licensee-reads.Learnt,
-  token-at-reads.Asked,
-  token-at-reads.Learnt,
-  chain-below t,
-  chain.Post,
-  closed-reads.Asked,
-  closed-reads.Learnt,
-) (primary-at t) primary.Post
+primary-same-length-6 : (t : ℕ) → primary-lts.Need-same-length-6 (primary-claims t) (primary-at t) primary.Post
 primary-same-length-6 t c = search needs
 
--- src/licensees.rt:233:9
-primary-returns-2 : (t : ℕ) → primary-lts.Need-returns-2 (
-  threshold-reads.Asked,
-  threshold-reads.Learnt,
-  licensee-reads.Asked,
-  licensee-reads.Learnt,
-  token-at-reads.Asked,
-  token-at-reads.Learnt,
-  chain-below t,
-  chain.Post,
-  closed-reads.Asked,
-  closed-reads.Learnt,
-) (primary-at t) primary.Post
+primary-returns-2 : (t : ℕ) → primary-lts.Need-returns-2 (primary-claims t) (primary-at t) primary.Post
 primary-returns-2 t c = search primary-one
 
--- src/licensees.rt:236:9
-primary-returns-3 : (t : ℕ) → primary-lts.Need-returns-3 (
-  threshold-reads.Asked,
-  threshold-reads.Learnt,
-  licensee-reads.Asked,
-  licensee-reads.Learnt,
-  token-at-reads.Asked,
-  token-at-reads.Learnt,
-  chain-below t,
-  chain.Post,
-  closed-reads.Asked,
-  closed-reads.Learnt,
-) (primary-at t) primary.Post
+primary-returns-3 : (t : ℕ) → primary-lts.Need-returns-3 (primary-claims t) (primary-at t) primary.Post
 primary-returns-3 t c = search primary-most
 
--- src/licensees.rt:241:9
-primary-token-at-requires : (t : ℕ) → primary-lts.Need-token-at-requires (
-  threshold-reads.Asked,
-  threshold-reads.Learnt,
-  licensee-reads.Asked,
-  licensee-reads.Learnt,
-  token-at-reads.Asked,
-  token-at-reads.Learnt,
-  chain-below t,
-  chain.Post,
-  closed-reads.Asked,
-  closed-reads.Learnt,
-) (primary-at t) primary.Post
+primary-token-at-requires : (t : ℕ) → primary-lts.Need-token-at-requires (primary-claims t) (primary-at t) primary.Post
 primary-token-at-requires t c κs = search needs
 
--- src/licensees.rt:252:9
-primary-sub-chain : (t : ℕ) → primary-lts.Need-sub-chain (
-  threshold-reads.Asked,
-  threshold-reads.Learnt,
-  licensee-reads.Asked,
-  licensee-reads.Learnt,
-  token-at-reads.Asked,
-  token-at-reads.Learnt,
-  chain-below t,
-  chain.Post,
-  closed-reads.Asked,
-  closed-reads.Learnt,
-) (primary-at t) primary.Post
+primary-sub-chain : (t : ℕ) → primary-lts.Need-sub-chain (primary-claims t) (primary-at t) primary.Post
 primary-sub-chain t c = search needs
 
--- src/licensees.rt:242:11
-primary-chain-requires : (t : ℕ) → primary-lts.Need-chain-requires (
-  threshold-reads.Asked,
-  threshold-reads.Learnt,
-  licensee-reads.Asked,
-  licensee-reads.Learnt,
-  token-at-reads.Asked,
-  token-at-reads.Learnt,
-  chain-below t,
-  chain.Post,
-  closed-reads.Asked,
-  closed-reads.Learnt,
-) (primary-at t) primary.Post
+primary-chain-requires : (t : ℕ) → primary-lts.Need-chain-requires (primary-claims t) (primary-at t) primary.Post
 primary-chain-requires t c κs = search needs
 
--- src/licensees.rt:254:27
-primary-enum-known-reason : (t : ℕ) → primary-lts.Need-enum-known-reason (
-  threshold-reads.Asked,
-  threshold-reads.Learnt,
-  licensee-reads.Asked,
-  licensee-reads.Learnt,
-  token-at-reads.Asked,
-  token-at-reads.Learnt,
-  chain-below t,
-  chain.Post,
-  closed-reads.Asked,
-  closed-reads.Learnt,
-) (primary-at t) primary.Post
+primary-enum-known-reason : (t : ℕ) → primary-lts.Need-enum-known-reason (primary-claims t) (primary-at t) primary.Post
 primary-enum-known-reason t c = search needs
 
--- src/licensees.rt:255:24
-primary-enum-known-state : (t : ℕ) → primary-lts.Need-enum-known-state (
-  threshold-reads.Asked,
-  threshold-reads.Learnt,
-  licensee-reads.Asked,
-  licensee-reads.Learnt,
-  token-at-reads.Asked,
-  token-at-reads.Learnt,
-  chain-below t,
-  chain.Post,
-  closed-reads.Asked,
-  closed-reads.Learnt,
-) (primary-at t) primary.Post
+primary-enum-known-state : (t : ℕ) → primary-lts.Need-enum-known-state (primary-claims t) (primary-at t) primary.Post
 primary-enum-known-state t c = search needs
 
--- src/licensees.rt:255:41
-primary-closed-requires : (t : ℕ) → primary-lts.Need-closed-requires (
-  threshold-reads.Asked,
-  threshold-reads.Learnt,
-  licensee-reads.Asked,
-  licensee-reads.Learnt,
-  token-at-reads.Asked,
-  token-at-reads.Learnt,
-  chain-below t,
-  chain.Post,
-  closed-reads.Asked,
-  closed-reads.Learnt,
-) (primary-at t) primary.Post
+primary-closed-requires : (t : ℕ) → primary-lts.Need-closed-requires (primary-claims t) (primary-at t) primary.Post
 primary-closed-requires t c κs = search needs
 
--- src/licensees.rt:216:1
-primary-same-length-7 : (t : ℕ) → primary-lts.Need-same-length-7 (
-  threshold-reads.Asked,
-  threshold-reads.Learnt,
-  licensee-reads.Asked,
-  licensee-reads.Learnt,
-  token-at-reads.Asked,
-  token-at-reads.Learnt,
-  chain-below t,
-  chain.Post,
-  closed-reads.Asked,
-  closed-reads.Learnt,
-) (primary-at t) primary.Post
+primary-same-length-7 : (t : ℕ) → primary-lts.Need-same-length-7 (primary-claims t) (primary-at t) primary.Post
 primary-same-length-7 t c = search needs
 
--- src/licensees.rt:216:1
-primary-same-length-8 : (t : ℕ) → primary-lts.Need-same-length-8 (
-  threshold-reads.Asked,
-  threshold-reads.Learnt,
-  licensee-reads.Asked,
-  licensee-reads.Learnt,
-  token-at-reads.Asked,
-  token-at-reads.Learnt,
-  chain-below t,
-  chain.Post,
-  closed-reads.Asked,
-  closed-reads.Learnt,
-) (primary-at t) primary.Post
+primary-same-length-8 : (t : ℕ) → primary-lts.Need-same-length-8 (primary-claims t) (primary-at t) primary.Post
 primary-same-length-8 t c = search needs
 
--- src/licensees.rt:216:1
-primary-same-length-9 : (t : ℕ) → primary-lts.Need-same-length-9 (
-  threshold-reads.Asked,
-  threshold-reads.Learnt,
-  licensee-reads.Asked,
-  licensee-reads.Learnt,
-  token-at-reads.Asked,
-  token-at-reads.Learnt,
-  chain-below t,
-  chain.Post,
-  closed-reads.Asked,
-  closed-reads.Learnt,
-) (primary-at t) primary.Post
+primary-same-length-9 : (t : ℕ) → primary-lts.Need-same-length-9 (primary-claims t) (primary-at t) primary.Post
 primary-same-length-9 t c = search needs
 
--- src/licensees.rt:216:1
-primary-returns-4 : (t : ℕ) → primary-lts.Need-returns-4 (
-  threshold-reads.Asked,
-  threshold-reads.Learnt,
-  licensee-reads.Asked,
-  licensee-reads.Learnt,
-  token-at-reads.Asked,
-  token-at-reads.Learnt,
-  chain-below t,
-  chain.Post,
-  closed-reads.Asked,
-  closed-reads.Learnt,
-) (primary-at t) primary.Post
+primary-returns-4 : (t : ℕ) → primary-lts.Need-returns-4 (primary-claims t) (primary-at t) primary.Post
 primary-returns-4 t c = search primary-aside
 
--- src/licensees.rt:216:1
-primary-same-length-10 : (t : ℕ) → primary-lts.Need-same-length-10 (
-  threshold-reads.Asked,
-  threshold-reads.Learnt,
-  licensee-reads.Asked,
-  licensee-reads.Learnt,
-  token-at-reads.Asked,
-  token-at-reads.Learnt,
-  chain-below t,
-  chain.Post,
-  closed-reads.Asked,
-  closed-reads.Learnt,
-) (primary-at t) primary.Post
+primary-same-length-10 : (t : ℕ) → primary-lts.Need-same-length-10 (primary-claims t) (primary-at t) primary.Post
 primary-same-length-10 t c = search needs
 
--- src/licensees.rt:216:1
-primary-same-length-11 : (t : ℕ) → primary-lts.Need-same-length-11 (
-  threshold-reads.Asked,
-  threshold-reads.Learnt,
-  licensee-reads.Asked,
-  licensee-reads.Learnt,
-  token-at-reads.Asked,
-  token-at-reads.Learnt,
-  chain-below t,
-  chain.Post,
-  closed-reads.Asked,
-  closed-reads.Learnt,
-) (primary-at t) primary.Post
+primary-same-length-11 : (t : ℕ) → primary-lts.Need-same-length-11 (primary-claims t) (primary-at t) primary.Post
 primary-same-length-11 t c = search needs
 
--- src/licensees.rt:216:1
-primary-same-length-12 : (t : ℕ) → primary-lts.Need-same-length-12 (
-  threshold-reads.Asked,
-  threshold-reads.Learnt,
-  licensee-reads.Asked,
-  licensee-reads.Learnt,
-  token-at-reads.Asked,
-  token-at-reads.Learnt,
-  chain-below t,
-  chain.Post,
-  closed-reads.Asked,
-  closed-reads.Learnt,
-) (primary-at t) primary.Post
+primary-same-length-12 : (t : ℕ) → primary-lts.Need-same-length-12 (primary-claims t) (primary-at t) primary.Post
 primary-same-length-12 t c = search needs
 
--- src/licensees.rt:216:1
-primary-returns-5 : (t : ℕ) → primary-lts.Need-returns-5 (
-  threshold-reads.Asked,
-  threshold-reads.Learnt,
-  licensee-reads.Asked,
-  licensee-reads.Learnt,
-  token-at-reads.Asked,
-  token-at-reads.Learnt,
-  chain-below t,
-  chain.Post,
-  closed-reads.Asked,
-  closed-reads.Learnt,
-) (primary-at t) primary.Post
+primary-returns-5 : (t : ℕ) → primary-lts.Need-returns-5 (primary-claims t) (primary-at t) primary.Post
 primary-returns-5 t c = search primary-on
 
 pub +chain+more+operand+primary-spec : {M : Type 1} → statement M
-+chain+more+operand+primary-spec = close μ-chain μ-more μ-operand μ-primary (λ t. chain-lts.spec (
-  operand-below t,
-  operand.Post,
-  more-below t,
-  more.Post,
-)
++chain+more+operand+primary-spec = close μ-chain μ-more μ-operand μ-primary (λ t. chain-lts.spec (chain-claims t)
     (chain-at t)
     chain.Post
     (chain-operand-requires t)

@@ -7,19 +7,15 @@ use Rattle.fields.proofs.licensees.closed.Lts as lts
 use Rattle.fields.proofs.list.refused.Reads as refused-reads
 use Rattle.lexical.proofs.token_at.Reads as token-at-reads
 
--- src/licensees.rt:53:9
 refused-requires : tie.Need-refused-requires
 refused-requires c κs = search needs
 
--- src/licensees.rt:53:9
 returns : tie.Need-returns
 returns c = search closed-not
 
--- src/licensees.rt:55:9
 token-at-requires : tie.Need-token-at-requires
 token-at-requires c κs = search needs
 
--- src/licensees.rt:49:1
 returns-2 : tie.Need-returns-2
 returns-2 c = search closed-on
 

@@ -7,19 +7,15 @@ use Rattle.fields.proofs.licensees.finished.Lts as lts
 use Rattle.fields.proofs.list.refused.Reads as refused-reads
 use Rattle.fields.proofs.out.is_ending.Reads as is-ending-reads
 
--- src/licensees.rt:185:8
 is-ending-requires : tie.Need-is-ending-requires
 is-ending-requires c κs = search needs
 
--- src/licensees.rt:186:9
 returns : tie.Need-returns
 returns c = search end-on
 
--- src/licensees.rt:188:5
 refused-requires : tie.Need-refused-requires
 refused-requires c κs = search needs
 
--- src/licensees.rt:182:1
 returns-2 : tie.Need-returns-2
 returns-2 c = search end-not
 

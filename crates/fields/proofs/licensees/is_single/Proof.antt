@@ -4,15 +4,12 @@ use Rattle.fields.proofs.licensees.is_single.Tie as tie
 use Rattle.fields.proofs.licensees.is_single.Reads as reads
 use Rattle.fields.proofs.licensees.is_single.Lts as lts
 
--- src/licensees.rt:64:9
 returns : tie.Need-returns
 returns c = search single-not
 
--- src/licensees.rt:67:9
 returns-2 : tie.Need-returns-2
 returns-2 c = search single-literal
 
--- src/licensees.rt:60:1
 returns-3 : tie.Need-returns-3
 returns-3 c = search single-name
 

@@ -4,11 +4,9 @@ use Rattle.fields.proofs.licensees.join_of.Tie as tie
 use Rattle.fields.proofs.licensees.join_of.Reads as reads
 use Rattle.fields.proofs.licensees.join_of.Lts as lts
 
--- src/licensees.rt:43:9
 returns : tie.Need-returns
 returns c = search join-all
 
--- src/licensees.rt:39:1
 returns-2 : tie.Need-returns-2
 returns-2 c = search join-any
 

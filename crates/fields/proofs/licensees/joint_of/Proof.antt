@@ -4,11 +4,9 @@ use Rattle.fields.proofs.licensees.joint_of.Tie as tie
 use Rattle.fields.proofs.licensees.joint_of.Reads as reads
 use Rattle.fields.proofs.licensees.joint_of.Lts as lts
 
--- src/licensees.rt:33:9
 returns : tie.Need-returns
 returns c = search joint-all
 
--- src/licensees.rt:29:1
 returns-2 : tie.Need-returns-2
 returns-2 c = search joint-any
 

@@ -9,79 +9,60 @@ use Rattle.fields.proofs.licensees.finished.Reads as finished-reads
 use Rattle.fields.proofs.list.push.Reads as push-reads
 use Rattle.fields.proofs.out.is_ending.Reads as is-ending-reads
 
--- src/licensees.rt:207:9
 returns : tie.Need-returns
 returns c = search field-past
 
--- src/licensees.rt:212:8
 sub-if2 : tie.Need-sub-if2
 sub-if2 c = search needs
 
--- src/licensees.rt:213:9
 returns-2 : tie.Need-returns-2
 returns-2 c = search field-short
 
--- src/licensees.rt:218:8
 is-ending-requires : tie.Need-is-ending-requires
 is-ending-requires c κs = search needs
 
--- src/licensees.rt:219:13
 push-requires : tie.Need-push-requires
 push-requires c κs = search needs
 
--- src/licensees.rt:220:9
 same-length : tie.Need-same-length
 same-length c = search needs
 
--- src/licensees.rt:220:9
 returns-3 : tie.Need-returns-3
 returns-3 c = search field-empty
 
--- src/licensees.rt:236:11
 chain-requires : tie.Need-chain-requires
 chain-requires c κs = search needs
 
--- src/licensees.rt:237:27
 enum-known-reason : tie.Need-enum-known-reason
 enum-known-reason c = search needs
 
--- src/licensees.rt:238:24
 enum-known-state : tie.Need-enum-known-state
 enum-known-state c = search needs
 
--- src/licensees.rt:238:41
 finished-requires : tie.Need-finished-requires
 finished-requires c κs = search needs
 
--- src/licensees.rt:192:1
 same-length-2 : tie.Need-same-length-2
 same-length-2 c = search needs
 
--- src/licensees.rt:192:1
 same-length-3 : tie.Need-same-length-3
 same-length-3 c = search needs
 
--- src/licensees.rt:192:1
 same-length-4 : tie.Need-same-length-4
 same-length-4 c = search needs
 
--- src/licensees.rt:192:1
 returns-4 : tie.Need-returns-4
 returns-4 c = search field-aside
 
--- src/licensees.rt:192:1
 same-length-5 : tie.Need-same-length-5
 same-length-5 c = search needs
 
--- src/licensees.rt:192:1
 same-length-6 : tie.Need-same-length-6
 same-length-6 c = search needs
 
--- src/licensees.rt:192:1
 same-length-7 : tie.Need-same-length-7
 same-length-7 c = search needs
 
--- src/licensees.rt:192:1
 returns-5 : tie.Need-returns-5
 returns-5 c = search field-on
 

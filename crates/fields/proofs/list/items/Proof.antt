@@ -5,15 +5,12 @@ use Rattle.fields.proofs.list.items.Tie as tie
 use Rattle.fields.proofs.list.items.Reads as reads
 use Rattle.fields.proofs.list.items.Lts as lts
 
--- src/list.rt:144:9
 returns : tie.Need-returns
 returns c = (search items-less, search needs)
 
--- src/list.rt:147:9
 returns-2 : tie.Need-returns-2
 returns-2 c = (search items-many, search needs)
 
--- src/list.rt:139:1
 returns-3 : tie.Need-returns-3
 returns-3 c = (search items-are, search needs)
 

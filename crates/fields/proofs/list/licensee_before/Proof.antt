@@ -11,91 +11,69 @@ use Rattle.fields.proofs.identifier.identifier_fault.Reads as identifie
 use Rattle.fields.proofs.identifier.is_whole.Reads as is-whole-reads
 use Rattle.fields.proofs.list.placed.Reads as placed-reads
 
--- src/list.rt:148:8
 is-whole-requires : tie.Need-is-whole-requires
 is-whole-requires c κs = search needs
 
--- src/list.rt:150:13
 returns : tie.Need-returns
 returns c = search whole-most
 
--- src/list.rt:155:60
 add-entered : tie.Need-add-entered
 add-entered c = let w = c .before .before .before .before .before .is-whole in let f = whole-fits _ _ (w .result) (w .ensures) (c .before .before .before .before .if1 .taken) in search f
 
--- src/list.rt:155:73
 sub-entered : tie.Need-sub-entered
 sub-entered c = let w = c .before .before .before .before .before .is-whole in let f = whole-some _ _ (w .result) (w .ensures) (c .before .before .before .before .if1 .taken) in search f
 
--- src/list.rt:155:57
 sub-entered-2 : tie.Need-sub-entered-2
 sub-entered-2 c = let w = c .before .before .before .before .before .is-whole in let f = whole-from _ _ (w .result) (w .ensures) (c .before .before .before .before .if1 .taken) in search f
 
--- src/list.rt:155:57
 part-entered-start : tie.Need-part-entered-start
 part-entered-start c = let w = c .before .before .before .before .before .is-whole in let f = whole-from _ _ (w .result) (w .ensures) (c .before .before .before .before .if1 .taken) in search f
 
--- src/list.rt:155:57
 part-entered-end : tie.Need-part-entered-end
 part-entered-end c = let w = c .before .before .before .before .before .is-whole in let f = whole-within _ _ (w .result) (w .ensures) (c .before .before .before .before .if1 .taken) in search f
 
--- src/list.rt:155:13
 entered-requires : tie.Need-entered-requires
 entered-requires c κs = search needs
 
--- src/list.rt:156:9
 placed-requires : tie.Need-placed-requires
 placed-requires c κs = search needs
 
--- src/list.rt:156:9
 same-length : tie.Need-same-length
 same-length c = search needs
 
--- src/list.rt:156:9
 same-length-2 : tie.Need-same-length-2
 same-length-2 c = search needs
 
--- src/list.rt:156:9
 same-length-3 : tie.Need-same-length-3
 same-length-3 c = search needs
 
--- src/list.rt:156:9
 returns-2 : tie.Need-returns-2
 returns-2 c = search whole-placed
 
--- src/list.rt:158:9
 identifier-fault-requires : tie.Need-identifier-fault-requires
 identifier-fault-requires c κs = search needs
 
--- src/list.rt:160:9
 returns-3 : tie.Need-returns-3
 returns-3 c = search licensee-fault
 
--- src/list.rt:166:9
 returns-4 : tie.Need-returns-4
 returns-4 c = search licensee-most
 
--- src/list.rt:171:9
 enter-token-requires : tie.Need-enter-token-requires
 enter-token-requires c κs = search needs
 
--- src/list.rt:172:5
 placed-requires-2 : tie.Need-placed-requires-2
 placed-requires-2 c κs = search needs
 
--- src/list.rt:124:1
 same-length-4 : tie.Need-same-length-4
 same-length-4 c = search needs
 
--- src/list.rt:124:1
 same-length-5 : tie.Need-same-length-5
 same-length-5 c = search needs
 
--- src/list.rt:124:1
 same-length-6 : tie.Need-same-length-6
 same-length-6 c = search needs
 
--- src/list.rt:124:1
 returns-5 : tie.Need-returns-5
 returns-5 c = search licensee-placed
 

@@ -21,115 +21,87 @@ Inv-loop s consts constants pool₀ places₀ code₀ k st state₀ t₀ pool pl
 abbrev μ-loop : tie.MeasureT-loop
 μ-loop s consts constants pool₀ places₀ code₀ k st state₀ t₀ pool places code state t = 16 - state .listed
 
--- src/list.rt:260:5
 loop-holds : tie.Need-loop-holds Inv-loop μ-loop
 loop-holds c = search needs
 
--- src/list.rt:261:13
 token-at-requires : tie.Need-token-at-requires Inv-loop μ-loop
 token-at-requires c κs = search needs
 
--- src/list.rt:262:15
 licensee-before-requires : tie.Need-licensee-before-requires Inv-loop μ-loop
 licensee-before-requires c κs = search needs
 
--- src/list.rt:277:31
 enum-known-reason : tie.Need-enum-known-reason Inv-loop μ-loop
 enum-known-reason c = search needs
 
--- src/list.rt:278:17
 same-length : tie.Need-same-length Inv-loop μ-loop
 same-length c = search needs
 
--- src/list.rt:278:17
 same-length-2 : tie.Need-same-length-2 Inv-loop μ-loop
 same-length-2 c = search needs
 
--- src/list.rt:278:17
 same-length-3 : tie.Need-same-length-3 Inv-loop μ-loop
 same-length-3 c = search needs
 
--- src/list.rt:278:17
 returns : tie.Need-returns Inv-loop μ-loop
 returns c = search item-aside
 
--- src/list.rt:280:35
 enum-known-u : tie.Need-enum-known-u Inv-loop μ-loop
 enum-known-u c = search needs
 
--- src/list.rt:282:21
 list-end-requires : tie.Need-list-end-requires Inv-loop μ-loop
 list-end-requires c κs = search needs
 
--- src/list.rt:282:21
 same-length-4 : tie.Need-same-length-4 Inv-loop μ-loop
 same-length-4 c = search needs
 
--- src/list.rt:282:21
 same-length-5 : tie.Need-same-length-5 Inv-loop μ-loop
 same-length-5 c = search needs
 
--- src/list.rt:282:21
 same-length-6 : tie.Need-same-length-6 Inv-loop μ-loop
 same-length-6 c = search needs
 
--- src/list.rt:282:21
 returns-2 : tie.Need-returns-2 Inv-loop μ-loop
 returns-2 c = search item-close
 
--- src/list.rt:285:21
 refused-requires : tie.Need-refused-requires Inv-loop μ-loop
 refused-requires c κs = search needs
 
--- src/list.rt:285:21
 same-length-7 : tie.Need-same-length-7 Inv-loop μ-loop
 same-length-7 c = search needs
 
--- src/list.rt:285:21
 same-length-8 : tie.Need-same-length-8 Inv-loop μ-loop
 same-length-8 c = search needs
 
--- src/list.rt:285:21
 same-length-9 : tie.Need-same-length-9 Inv-loop μ-loop
 same-length-9 c = search needs
 
--- src/list.rt:285:21
 returns-3 : tie.Need-returns-3 Inv-loop μ-loop
 returns-3 c = search item-other
 
--- src/list.rt:287:20
 rest-requires : tie.Need-rest-requires Inv-loop μ-loop
 rest-requires c κs = search needs
 
--- src/list.rt:287:42
 rest-requires-2 : tie.Need-rest-requires-2 Inv-loop μ-loop
 rest-requires-2 c κs = search needs
 
--- src/list.rt:288:21
 same-length-10 : tie.Need-same-length-10 Inv-loop μ-loop
 same-length-10 c = search needs
 
--- src/list.rt:288:21
 same-length-11 : tie.Need-same-length-11 Inv-loop μ-loop
 same-length-11 c = search needs
 
--- src/list.rt:288:21
 same-length-12 : tie.Need-same-length-12 Inv-loop μ-loop
 same-length-12 c = search needs
 
--- src/list.rt:288:21
 returns-4 : tie.Need-returns-4 Inv-loop μ-loop
 returns-4 c = search item-stuck
 
--- src/list.rt:294:17
 token-at-requires-2 : tie.Need-token-at-requires-2 Inv-loop μ-loop
 token-at-requires-2 c κs = search needs
 
--- src/list.rt:260:5
 loop-less : tie.Need-loop-less Inv-loop μ-loop
 loop-less c = item-less _ _ _ _ _ _ _ _ _ _ _ (c .before .before .before .before .before .before .before .before .before .before .before .before .before .before .before .before .before .before .before .before .before .before .loop .inv .3) _ _ _ _ (c .before .before .before .before .before .before .before .before .before .before .before .before .before .before .before .before .before .licensee-before .ensures) _ _ (c .before .before .before .before .before .before .before .before .before .u .given .1) (c .before .before .before .before .before .before .if1 .left) (c .before .before .before .before .if2 .left) _ _ (c .before .before .before .rest .ensures) (c .before .before .rest2 .ensures) (c .before .if3 .left)
 
--- src/list.rt:260:5
 loop-again : tie.Need-loop-again Inv-loop μ-loop
 loop-again c = ((let w = c .before .before .before .before .before .before .before .before .before .before .before .before .before .before .before .before .before .before .before .before .before .before .loop .inv .0 in search needs), (let w = c .before .before .before .before .before .before .before .before .before .before .before .before .before .before .before .before .before .before .before .before .before .before .loop .inv .1 in search needs), (let w = c .before .before .before .before .before .before .before .before .before .before .before .before .before .before .before .before .before .before .before .before .before .before .loop .inv .2 in search needs), item-more _ _ _ _ _ _ _ _ _ _ _ (c .before .before .before .before .before .before .before .before .before .before .before .before .before .before .before .before .before .before .before .before .before .before .loop .inv .3) _ _ _ _ (c .before .before .before .before .before .before .before .before .before .before .before .before .before .before .before .before .before .licensee-before .ensures) _ _ (c .before .before .before .before .before .before .before .before .before .u .given .1) (c .before .before .before .before .before .before .if1 .left) (c .before .before .before .before .if2 .left) _ _ (c .before .before .before .rest .ensures) (c .before .before .rest2 .ensures) _ (c .before .if3 .left) (c .token-at2 .ensures))
 

@@ -10,35 +10,27 @@ use Rattle.fields.proofs.list.items.Reads as items-reads
 use Rattle.fields.proofs.list.push.Reads as push-reads
 use Rattle.lexical.proofs.token_at.Reads as token-at-reads
 
--- src/list.rt:156:18
 items-requires : tie.Need-items-requires
 items-requires c κs = search needs
 
--- src/list.rt:156:9
 byte-requires : tie.Need-byte-requires
 byte-requires c κs = search needs
 
--- src/list.rt:158:9
 returns : tie.Need-returns
 returns c = search list-few
 
--- src/list.rt:163:36
 k-of-requires : tie.Need-k-of-requires
 k-of-requires c κs = search needs
 
--- src/list.rt:163:9
 push-requires : tie.Need-push-requires
 push-requires c κs = search needs
 
--- src/list.rt:164:9
 token-at-requires : tie.Need-token-at-requires
 token-at-requires c κs = search needs
 
--- src/list.rt:153:1
 same-length : tie.Need-same-length
 same-length c = search needs
 
--- src/list.rt:153:1
 returns-2 : tie.Need-returns-2
 returns-2 c = search list-enough
 

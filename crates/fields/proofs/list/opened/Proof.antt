@@ -8,39 +8,30 @@ use Rattle.fields.proofs.list.list.Reads as list-reads
 use Rattle.fields.proofs.list.refused.Reads as refused-reads
 use Rattle.lexical.proofs.token_at.Reads as token-at-reads
 
--- src/list.rt:233:9
 refused-requires : tie.Need-refused-requires
 refused-requires c κs = search needs
 
--- src/list.rt:233:9
 returns : tie.Need-returns
 returns c = search opened-not
 
--- src/list.rt:236:9
 returns-2 : tie.Need-returns-2
 returns-2 c = search opened-most
 
--- src/list.rt:241:9
 token-at-requires : tie.Need-token-at-requires
 token-at-requires c κs = search needs
 
--- src/list.rt:242:5
 list-requires : tie.Need-list-requires
 list-requires c κs = search needs
 
--- src/list.rt:218:1
 same-length : tie.Need-same-length
 same-length c = search needs
 
--- src/list.rt:218:1
 same-length-2 : tie.Need-same-length-2
 same-length-2 c = search needs
 
--- src/list.rt:218:1
 same-length-3 : tie.Need-same-length-3
 same-length-3 c = search needs
 
--- src/list.rt:218:1
 returns-3 : tie.Need-returns-3
 returns-3 c = search opened-list
 

@@ -5,27 +5,21 @@ use Rattle.fields.proofs.list.push.Tie as tie
 use Rattle.fields.proofs.list.push.Reads as reads
 use Rattle.fields.proofs.list.push.Lts as lts
 
--- src/list.rt:58:9
 returns : tie.Need-returns
 returns c = (search above-full, search pushed-full)
 
--- src/list.rt:60:5
 mul-code : tie.Need-mul-code
 mul-code c = search needs
 
--- src/list.rt:60:5
 slice-write-code : tie.Need-slice-write-code
 slice-write-code c = search needs
 
--- src/list.rt:61:5
 add-result : tie.Need-add-result
 add-result c = search needs
 
--- src/list.rt:53:1
 same-length : tie.Need-same-length
 same-length c = search needs
 
--- src/list.rt:53:1
 returns-2 : tie.Need-returns-2
 returns-2 c = (search above-room, search pushed-room)
 

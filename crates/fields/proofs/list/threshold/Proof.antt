@@ -10,55 +10,42 @@ use Rattle.fields.proofs.list.small.Reads as small-reads
 use Rattle.lexical.proofs.token_at.Reads as token-at-reads
 use Rattle.lexical.proofs.number_at.Reads as number-at-reads
 
--- src/list.rt:259:9
 number-at-requires : tie.Need-number-at-requires
 number-at-requires c κs = search needs
 
--- src/list.rt:261:9
 returns : tie.Need-returns
 returns c = search threshold-none
 
--- src/list.rt:267:9
 returns-2 : tie.Need-returns-2
 returns-2 c = search threshold-high
 
--- src/list.rt:272:9
 token-at-requires : tie.Need-token-at-requires
 token-at-requires c κs = search needs
 
--- src/list.rt:274:9
 refused-requires : tie.Need-refused-requires
 refused-requires c κs = search needs
 
--- src/list.rt:274:9
 returns-3 : tie.Need-returns-3
 returns-3 c = search threshold-not
 
--- src/list.rt:276:9
 token-at-requires-2 : tie.Need-token-at-requires-2
 token-at-requires-2 c κs = search needs
 
--- src/list.rt:277:54
 small-requires : tie.Need-small-requires
 small-requires c κs = search needs
 
--- src/list.rt:277:5
 opened-requires : tie.Need-opened-requires
 opened-requires c κs = search needs
 
--- src/list.rt:246:1
 same-length : tie.Need-same-length
 same-length c = search needs
 
--- src/list.rt:246:1
 same-length-2 : tie.Need-same-length-2
 same-length-2 c = search needs
 
--- src/list.rt:246:1
 same-length-3 : tie.Need-same-length-3
 same-length-3 c = search needs
 
--- src/list.rt:246:1
 returns-4 : tie.Need-returns-4
 returns-4 c = search threshold-of
 

@@ -7,19 +7,15 @@ use Rattle.fields.proofs.out.ended.Lts as lts
 use Rattle.fields.proofs.out.is_ending.Reads as is-ending-reads
 use Rattle.fields.proofs.out.unexpected.Reads as unexpected-reads
 
--- src/out.rt:57:8
 is-ending-requires : tie.Need-is-ending-requires
 is-ending-requires c κs = search needs
 
--- src/out.rt:58:9
 returns : tie.Need-returns
 returns c = search ended-on
 
--- src/out.rt:60:5
 unexpected-requires : tie.Need-unexpected-requires
 unexpected-requires c κs = search needs
 
--- src/out.rt:54:1
 returns-2 : tie.Need-returns-2
 returns-2 c = search ended-not
 

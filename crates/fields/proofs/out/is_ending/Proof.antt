@@ -6,17 +6,14 @@ use Rattle.fields.proofs.out.is_ending.Tie as tie
 use Rattle.fields.proofs.out.is_ending.Reads as reads
 use Rattle.fields.proofs.out.is_ending.Lts as lts
 
--- src/out.rt:22:9
 returns : tie.Need-returns
 unfolding ending
 returns c = search (needs, tests)
 
--- src/out.rt:25:9
 returns-2 : tie.Need-returns-2
 unfolding ending
 returns-2 c = search (needs, tests)
 
--- src/out.rt:18:1
 returns-3 : tie.Need-returns-3
 unfolding ending
 returns-3 c = search (needs, tests)

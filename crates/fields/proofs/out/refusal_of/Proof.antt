@@ -6,17 +6,14 @@ use Rattle.fields.proofs.out.refusal_of.Tie as tie
 use Rattle.fields.proofs.out.refusal_of.Reads as reads
 use Rattle.fields.proofs.out.refusal_of.Lts as lts
 
--- src/out.rt:35:9
 returns : tie.Need-returns
 unfolding refusal
 returns c = search (needs, tests)
 
--- src/out.rt:38:9
 returns-2 : tie.Need-returns-2
 unfolding refusal
 returns-2 c = search (needs, tests)
 
--- src/out.rt:31:1
 returns-3 : tie.Need-returns-3
 unfolding refusal
 returns-3 c = search (needs, tests)

@@ -5,51 +5,39 @@ use Rattle.fields.proofs.out.word.Tie as tie
 use Rattle.fields.proofs.out.word.Reads as reads
 use Rattle.fields.proofs.out.word.Lts as lts
 
--- src/out.rt:70:9
 slice-aggregate-result : tie.Need-slice-aggregate-result
 slice-aggregate-result c = search needs
 
--- src/out.rt:70:9
 returns : tie.Need-returns
 returns c = search word-none
 
--- src/out.rt:73:9
 slice-aggregate-result-2 : tie.Need-slice-aggregate-result-2
 slice-aggregate-result-2 c = search needs
 
--- src/out.rt:73:9
 returns-2 : tie.Need-returns-2
 returns-2 c = search word-out
 
--- src/out.rt:76:16
 sub-result : tie.Need-sub-result
 sub-result c = search needs
 
--- src/out.rt:76:16
 part-result-start : tie.Need-part-result-start
 part-result-start c = search needs
 
--- src/out.rt:76:16
 part-result-end : tie.Need-part-result-end
 part-result-end c = search needs
 
--- src/out.rt:76:9
 returns-3 : tie.Need-returns-3
 returns-3 c = search word-cut
 
--- src/out.rt:78:5
 sub-result-2 : tie.Need-sub-result-2
 sub-result-2 c = search needs
 
--- src/out.rt:78:5
 part-result-start-2 : tie.Need-part-result-start-2
 part-result-start-2 c = search needs
 
--- src/out.rt:78:5
 part-result-end-2 : tie.Need-part-result-end-2
 part-result-end-2 c = search needs
 
--- src/out.rt:64:1
 returns-4 : tie.Need-returns-4
 returns-4 c = search word-whole
 

@@ -7,19 +7,15 @@ use Rattle.fields.proofs.signature.is_fitting.Lts as lts
 use Rattle.lexical.proofs.literal.is_sized.Reads as is-sized-reads
 use Rattle.lexical.proofs.literal_length.Reads as literal-length-reads
 
--- src/signature.rt:23:8
 is-sized-requires : tie.Need-is-sized-requires
 is-sized-requires c κs = search needs
 
--- src/signature.rt:24:9
 returns : tie.Need-returns
 returns c = search fitting-sized
 
--- src/signature.rt:26:5
 literal-length-requires : tie.Need-literal-length-requires
 literal-length-requires c κs = search needs
 
--- src/signature.rt:20:1
 returns-2 : tie.Need-returns-2
 returns-2 c = search fitting-told
 

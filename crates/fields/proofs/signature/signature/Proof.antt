@@ -7,23 +7,18 @@ use Rattle.fields.proofs.signature.signature.Lts as lts
 use Rattle.fields.proofs.out.unexpected.Reads as unexpected-reads
 use Rattle.fields.proofs.signature.is_fitting.Reads as is-fitting-reads
 
--- src/signature.rt:19:9
 unexpected-requires : tie.Need-unexpected-requires
 unexpected-requires c κs = search needs
 
--- src/signature.rt:19:9
 returns : tie.Need-returns
 returns c = search signature-none
 
--- src/signature.rt:21:23
 is-fitting-requires : tie.Need-is-fitting-requires
 is-fitting-requires c κs = search needs
 
--- src/signature.rt:22:9
 returns-2 : tie.Need-returns-2
 returns-2 c = search signature-long
 
--- src/signature.rt:15:1
 returns-3 : tie.Need-returns-3
 returns-3 c = search signature-read
 

@@ -8,23 +8,18 @@ use Rattle.fields.proofs.out.ended.Reads as ended-reads
 use Rattle.fields.proofs.version.is_two.Reads as is-two-reads
 use Rattle.lexical.proofs.token_at.Reads as token-at-reads
 
--- src/version.rt:56:8
 is-two-requires : tie.Need-is-two-requires
 is-two-requires c κs = search needs
 
--- src/version.rt:57:22
 token-at-requires : tie.Need-token-at-requires
 token-at-requires c κs = search needs
 
--- src/version.rt:57:9
 ended-requires : tie.Need-ended-requires
 ended-requires c κs = search needs
 
--- src/version.rt:57:9
 returns : tie.Need-returns
 returns c = search literal-two
 
--- src/version.rt:53:1
 returns-2 : tie.Need-returns-2
 returns-2 c = search literal-other
 

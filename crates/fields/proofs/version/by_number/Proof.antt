@@ -8,27 +8,21 @@ use Rattle.fields.proofs.out.ended.Reads as ended-reads
 use Rattle.lexical.proofs.token_at.Reads as token-at-reads
 use Rattle.lexical.proofs.number_at.Reads as number-at-reads
 
--- src/version.rt:23:9
 number-at-requires : tie.Need-number-at-requires
 number-at-requires c κs = search needs
 
--- src/version.rt:25:9
 returns : tie.Need-returns
 returns c = search number-high
 
--- src/version.rt:31:22
 token-at-requires : tie.Need-token-at-requires
 token-at-requires c κs = search needs
 
--- src/version.rt:31:9
 ended-requires : tie.Need-ended-requires
 ended-requires c κs = search needs
 
--- src/version.rt:31:9
 returns-2 : tie.Need-returns-2
 returns-2 c = search number-two
 
--- src/version.rt:20:1
 returns-3 : tie.Need-returns-3
 returns-3 c = search number-other
 

@@ -7,31 +7,24 @@ use Rattle.fields.proofs.version.is_two.Lts as lts
 use Rattle.lexical.proofs.decode_into.Reads as decode-into-reads
 use Rattle.lexical.proofs.literal_length.Reads as literal-length-reads
 
--- src/version.rt:43:8
 literal-length-requires : tie.Need-literal-length-requires
 literal-length-requires c κs = search needs
 
--- src/version.rt:44:9
 returns : tie.Need-returns
 returns c = search two-length
 
--- src/version.rt:47:30
 slice-aggregate-decode-into : tie.Need-slice-aggregate-decode-into
 slice-aggregate-decode-into c = search needs
 
--- src/version.rt:47:8
 decode-into-requires : tie.Need-decode-into-requires
 decode-into-requires c κs = search needs
 
--- src/version.rt:48:16
 array-read-result : tie.Need-array-read-result
 array-read-result c = search needs
 
--- src/version.rt:48:9
 returns-2 : tie.Need-returns-2
 returns-2 c = search two-is
 
--- src/version.rt:40:1
 returns-3 : tie.Need-returns-3
 returns-3 c = search two-never
 

@@ -8,27 +8,21 @@ use Rattle.fields.proofs.out.unexpected.Reads as unexpected-reads
 use Rattle.fields.proofs.version.by_literal.Reads as by-literal-reads
 use Rattle.fields.proofs.version.by_number.Reads as by-number-reads
 
--- src/version.rt:70:9
 by-number-requires : tie.Need-by-number-requires
 by-number-requires c κs = search needs
 
--- src/version.rt:70:9
 returns : tie.Need-returns
 returns c = search version-digits
 
--- src/version.rt:73:9
 by-literal-requires : tie.Need-by-literal-requires
 by-literal-requires c κs = search needs
 
--- src/version.rt:73:9
 returns-2 : tie.Need-returns-2
 returns-2 c = search version-literal
 
--- src/version.rt:75:5
 unexpected-requires : tie.Need-unexpected-requires
 unexpected-requires c κs = search needs
 
--- src/version.rt:66:1
 returns-3 : tie.Need-returns-3
 returns-3 c = search version-none
 

@@ -5,19 +5,15 @@ use Rattle.lexical.proofs.class.begins_name.Tie as tie
 use Rattle.lexical.proofs.class.begins_name.Reads as reads
 use Rattle.lexical.proofs.class.begins_name.Lts as lts
 
--- src/class.rt:344:9
 returns : tie.Need-returns
 returns c = search name-low
 
--- src/class.rt:347:9
 returns-2 : tie.Need-returns-2
 returns-2 c = search name-small
 
--- src/class.rt:350:9
 returns-3 : tie.Need-returns-3
 returns-3 c = search name-capital
 
--- src/class.rt:340:1
 returns-4 : tie.Need-returns-4
 returns-4 c = search name-bar
 

@@ -6,11 +6,9 @@ use Rattle.lexical.proofs.class.begins_number.Reads as reads
 use Rattle.lexical.proofs.class.begins_number.Lts as lts
 use Rattle.lexical.proofs.class.is_numeral.Reads as is-numeral-reads
 
--- src/class.rt:347:5
 is-numeral-requires : tie.Need-is-numeral-requires
 is-numeral-requires c κs = search needs
 
--- src/class.rt:344:1
 returns : tie.Need-returns
 returns c = search has-digit
 

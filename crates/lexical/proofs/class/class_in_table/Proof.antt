@@ -5,11 +5,9 @@ use Rattle.lexical.proofs.class.class_in_table.Tie as tie
 use Rattle.lexical.proofs.class.class_in_table.Reads as reads
 use Rattle.lexical.proofs.class.class_in_table.Lts as lts
 
--- src/class.rt:381:5
 array-read-result : tie.Need-array-read-result
 array-read-result c = search (needs, class-rule)
 
--- src/class.rt:377:1
 returns : tie.Need-returns
 returns c = search (needs, class-rule)
 

@@ -7,56 +7,45 @@ use Rattle.lexical.proofs.class.class_of.Reads as reads
 use Rattle.lexical.proofs.class.class_of.Lts as lts
 use Rattle.lexical.proofs.class.class_of_rare.Reads as class-of-rare-reads
 
--- src/class.rt:439:9
 returns : tie.Need-returns
 unfolding classOf
 returns c = search (class-at 40)
 
--- src/class.rt:442:9
 returns-2 : tie.Need-returns-2
 unfolding classOf
 returns-2 c = search (class-at 41)
 
--- src/class.rt:445:9
 returns-3 : tie.Need-returns-3
 unfolding classOf
 returns-3 c = search (class-at 44)
 
--- src/class.rt:448:9
 returns-4 : tie.Need-returns-4
 unfolding classOf
 returns-4 c = search (class-at 59)
 
--- src/class.rt:451:9
 returns-5 : tie.Need-returns-5
 unfolding classOf
 returns-5 c = search (class-at 46)
 
--- src/class.rt:454:9
 returns-6 : tie.Need-returns-6
 unfolding classOf
 returns-6 c = search (class-at 36)
 
--- src/class.rt:457:9
 returns-7 : tie.Need-returns-7
 unfolding classOf
 returns-7 c = search (class-at 64)
 
--- src/class.rt:460:9
 returns-8 : tie.Need-returns-8
 unfolding classOf
 returns-8 c = search (class-at 43)
 
--- src/class.rt:463:9
 returns-9 : tie.Need-returns-9
 unfolding classOf
 returns-9 c = search (class-at 42)
 
--- src/class.rt:465:5
 class-of-rare-requires : tie.Need-class-of-rare-requires
 class-of-rare-requires c κs = search needs
 
--- src/class.rt:435:1
 returns-10 : tie.Need-returns-10
 returns-10 c = search needs
 

@@ -7,46 +7,37 @@ use Rattle.lexical.proofs.class.class_of_first.Reads as reads
 use Rattle.lexical.proofs.class.class_of_first.Lts as lts
 use Rattle.lexical.proofs.class.class_in_table.Reads as class-by-table-reads
 
--- src/class.rt:389:9
 returns : tie.Need-returns
 unfolding classOf
 returns c = search (class-at 61)
 
--- src/class.rt:392:9
 returns-2 : tie.Need-returns-2
 unfolding classOf
 returns-2 c = search (class-at 33)
 
--- src/class.rt:395:9
 returns-3 : tie.Need-returns-3
 unfolding classOf
 returns-3 c = search (class-at 60)
 
--- src/class.rt:398:9
 returns-4 : tie.Need-returns-4
 unfolding classOf
 returns-4 c = search (class-at 62)
 
--- src/class.rt:401:9
 returns-5 : tie.Need-returns-5
 unfolding classOf
 returns-5 c = search (class-at 38)
 
--- src/class.rt:404:9
 returns-6 : tie.Need-returns-6
 unfolding classOf
 returns-6 c = search (class-at 45)
 
--- src/class.rt:407:9
 returns-7 : tie.Need-returns-7
 unfolding classOf
 returns-7 c = search (class-at 124)
 
--- src/class.rt:409:5
 class-by-table-requires : tie.Need-class-by-table-requires
 class-by-table-requires c κs = search needs
 
--- src/class.rt:385:1
 returns-8 : tie.Need-returns-8
 returns-8 c = search needs
 

@@ -7,36 +7,29 @@ use Rattle.lexical.proofs.class.class_of_rare.Reads as reads
 use Rattle.lexical.proofs.class.class_of_rare.Lts as lts
 use Rattle.lexical.proofs.class.class_of_first.Reads as class-of-first-reads
 
--- src/class.rt:417:9
 returns : tie.Need-returns
 unfolding classOf
 returns c = search (class-at 123)
 
--- src/class.rt:420:9
 returns-2 : tie.Need-returns-2
 unfolding classOf
 returns-2 c = search (class-at 125)
 
--- src/class.rt:423:9
 returns-3 : tie.Need-returns-3
 unfolding classOf
 returns-3 c = search (class-at 47)
 
--- src/class.rt:426:9
 returns-4 : tie.Need-returns-4
 unfolding classOf
 returns-4 c = search (class-at 37)
 
--- src/class.rt:429:9
 returns-5 : tie.Need-returns-5
 unfolding classOf
 returns-5 c = search (class-at 94)
 
--- src/class.rt:431:5
 class-of-first-requires : tie.Need-class-of-first-requires
 class-of-first-requires c κs = search needs
 
--- src/class.rt:413:1
 returns-6 : tie.Need-returns-6
 returns-6 c = search needs
 

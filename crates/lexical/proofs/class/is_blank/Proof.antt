@@ -7,16 +7,13 @@ use Rattle.lexical.proofs.class.is_blank.Tie as tie
 use Rattle.lexical.proofs.class.is_blank.Reads as reads
 use Rattle.lexical.proofs.class.is_blank.Lts as lts
 
--- src/class.rt:303:9
 returns : tie.Need-returns
 returns c = search blank-high
 
--- src/class.rt:306:9
 returns-2 : tie.Need-returns-2
 unfolding blank
 returns-2 c = search (needs, tests)
 
--- src/class.rt:299:1
 returns-3 : tie.Need-returns-3
 unfolding blank
 returns-3 c = search (needs, tests)

@@ -7,23 +7,18 @@ use Rattle.lexical.proofs.class.is_break.Lts as lts
 use Rattle.lexical.proofs.class.is_hash.Reads as is-hash-reads
 use Rattle.lexical.proofs.class.is_newline.Reads as is-newline-reads
 
--- src/class.rt:384:9
 returns : tie.Need-returns
 returns c = search break-high
 
--- src/class.rt:386:8
 is-newline-requires : tie.Need-is-newline-requires
 is-newline-requires c κs = search needs
 
--- src/class.rt:387:9
 returns-2 : tie.Need-returns-2
 returns-2 c = search break-newline
 
--- src/class.rt:389:5
 is-hash-requires : tie.Need-is-hash-requires
 is-hash-requires c κs = search needs
 
--- src/class.rt:380:1
 returns-3 : tie.Need-returns-3
 returns-3 c = search break-hash
 

@@ -5,7 +5,6 @@ use Rattle.lexical.proofs.class.is_hash.Tie as tie
 use Rattle.lexical.proofs.class.is_hash.Reads as reads
 use Rattle.lexical.proofs.class.is_hash.Lts as lts
 
--- src/class.rt:356:1
 returns : tie.Need-returns
 returns c = search has-hash
 

@@ -6,11 +6,9 @@ use Rattle.lexical.proofs.class.is_indent.Reads as reads
 use Rattle.lexical.proofs.class.is_indent.Lts as lts
 use Rattle.lexical.proofs.class.is_blank.Reads as is-blank-reads
 
--- src/class.rt:329:5
 is-blank-requires : tie.Need-is-blank-requires
 is-blank-requires c κs = search needs
 
--- src/class.rt:326:1
 returns : tie.Need-returns
 returns c = search has-blank
 

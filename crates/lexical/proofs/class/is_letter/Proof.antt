@@ -6,23 +6,18 @@ use Rattle.lexical.proofs.class.is_letter.Reads as reads
 use Rattle.lexical.proofs.class.is_letter.Lts as lts
 use Rattle.lexical.proofs.class.is_within.Reads as is-within-reads
 
--- src/class.rt:309:8
 is-within-requires : tie.Need-is-within-requires
 is-within-requires c κs = search needs
 
--- src/class.rt:310:9
 returns : tie.Need-returns
 returns c = search letter-small
 
--- src/class.rt:312:8
 is-within-requires-2 : tie.Need-is-within-requires-2
 is-within-requires-2 c κs = search needs
 
--- src/class.rt:313:9
 returns-2 : tie.Need-returns-2
 returns-2 c = search letter-capital
 
--- src/class.rt:306:1
 returns-3 : tie.Need-returns-3
 returns-3 c = search letter-bar
 

@@ -5,7 +5,6 @@ use Rattle.lexical.proofs.class.is_newline.Tie as tie
 use Rattle.lexical.proofs.class.is_newline.Reads as reads
 use Rattle.lexical.proofs.class.is_newline.Lts as lts
 
--- src/class.rt:332:1
 returns : tie.Need-returns
 returns c = search has-newline
 

@@ -6,11 +6,9 @@ use Rattle.lexical.proofs.class.is_numeral.Reads as reads
 use Rattle.lexical.proofs.class.is_numeral.Lts as lts
 use Rattle.lexical.proofs.class.is_within.Reads as is-within-reads
 
--- src/class.rt:321:5
 is-within-requires : tie.Need-is-within-requires
 is-within-requires c κs = search needs
 
--- src/class.rt:318:1
 returns : tie.Need-returns
 returns c = search numeral-within
 

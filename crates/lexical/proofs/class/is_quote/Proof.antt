@@ -5,7 +5,6 @@ use Rattle.lexical.proofs.class.is_quote.Tie as tie
 use Rattle.lexical.proofs.class.is_quote.Reads as reads
 use Rattle.lexical.proofs.class.is_quote.Lts as lts
 
--- src/class.rt:350:1
 returns : tie.Need-returns
 returns c = search has-quote
 

@@ -5,11 +5,9 @@ use Rattle.lexical.proofs.class.is_within.Tie as tie
 use Rattle.lexical.proofs.class.is_within.Reads as reads
 use Rattle.lexical.proofs.class.is_within.Lts as lts
 
--- src/class.rt:290:9
 returns : tie.Need-returns
 returns c = search (needs, tests)
 
--- src/class.rt:286:1
 returns-2 : tie.Need-returns-2
 returns-2 c = search (needs, tests)
 

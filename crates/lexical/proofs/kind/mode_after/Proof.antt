@@ -7,21 +7,17 @@ use Rattle.lexical.proofs.kind.mode_after.Reads as reads
 use Rattle.lexical.proofs.kind.mode_after.Lts as lts
 use Rattle.lexical.proofs.kind.mode_of.Reads as mode-of-reads
 
--- src/kind.rt:120:9
 returns : tie.Need-returns
 unfolding modeAfter
 returns c = search (needs, tests)
 
--- src/kind.rt:123:9
 returns-2 : tie.Need-returns-2
 unfolding modeAfter
 returns-2 c = search (needs, tests)
 
--- src/kind.rt:125:5
 mode-of-requires : tie.Need-mode-of-requires
 mode-of-requires c κs = search (needs, tests)
 
--- src/kind.rt:116:1
 returns-3 : tie.Need-returns-3
 unfolding modeAfter
 returns-3 c = search (needs, tests)

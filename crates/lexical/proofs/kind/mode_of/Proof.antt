@@ -6,17 +6,14 @@ use Rattle.lexical.proofs.kind.mode_of.Tie as tie
 use Rattle.lexical.proofs.kind.mode_of.Reads as reads
 use Rattle.lexical.proofs.kind.mode_of.Lts as lts
 
--- src/kind.rt:60:9
 returns : tie.Need-returns
 unfolding opened
 returns c = search (needs, tests)
 
--- src/kind.rt:63:9
 returns-2 : tie.Need-returns-2
 unfolding opened
 returns-2 c = search (needs, tests)
 
--- src/kind.rt:56:1
 returns-3 : tie.Need-returns-3
 unfolding opened
 returns-3 c = search (needs, tests)

@@ -6,17 +6,14 @@ use Rattle.lexical.proofs.kind.reason_of.Tie as tie
 use Rattle.lexical.proofs.kind.reason_of.Reads as reads
 use Rattle.lexical.proofs.kind.reason_of.Lts as lts
 
--- src/kind.rt:120:9
 returns : tie.Need-returns
 unfolding reasonOf
 returns c = search (needs, tests)
 
--- src/kind.rt:123:9
 returns-2 : tie.Need-returns-2
 unfolding reasonOf
 returns-2 c = search (needs, tests)
 
--- src/kind.rt:116:1
 returns-3 : tie.Need-returns-3
 unfolding reasonOf
 returns-3 c = search (needs, tests)

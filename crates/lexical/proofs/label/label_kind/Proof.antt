@@ -6,91 +6,69 @@ use Rattle.lexical.proofs.label.label_kind.Reads as reads
 use Rattle.lexical.proofs.label.label_kind.Lts as lts
 use Rattle.lexical.proofs.word.stands_at.Reads as stands-at-reads
 
--- src/label.rt:11:24
 slice-aggregate-stands-at : tie.Need-slice-aggregate-stands-at
 slice-aggregate-stands-at c = search needs
 
--- src/label.rt:11:8
 stands-at-requires : tie.Need-stands-at-requires
 stands-at-requires c κs = search needs
 
--- src/label.rt:12:9
 returns : tie.Need-returns
 returns c = search is-keynote-version
 
--- src/label.rt:14:24
 slice-aggregate-stands-at-2 : tie.Need-slice-aggregate-stands-at-2
 slice-aggregate-stands-at-2 c = search needs
 
--- src/label.rt:14:8
 stands-at-requires-2 : tie.Need-stands-at-requires-2
 stands-at-requires-2 c κs = search needs
 
--- src/label.rt:15:9
 returns-2 : tie.Need-returns-2
 returns-2 c = search is-local-constants
 
--- src/label.rt:17:24
 slice-aggregate-stands-at-3 : tie.Need-slice-aggregate-stands-at-3
 slice-aggregate-stands-at-3 c = search needs
 
--- src/label.rt:17:8
 stands-at-requires-3 : tie.Need-stands-at-requires-3
 stands-at-requires-3 c κs = search needs
 
--- src/label.rt:18:9
 returns-3 : tie.Need-returns-3
 returns-3 c = search is-authorizer
 
--- src/label.rt:20:24
 slice-aggregate-stands-at-4 : tie.Need-slice-aggregate-stands-at-4
 slice-aggregate-stands-at-4 c = search needs
 
--- src/label.rt:20:8
 stands-at-requires-4 : tie.Need-stands-at-requires-4
 stands-at-requires-4 c κs = search needs
 
--- src/label.rt:21:9
 returns-4 : tie.Need-returns-4
 returns-4 c = search is-licensees
 
--- src/label.rt:23:24
 slice-aggregate-stands-at-5 : tie.Need-slice-aggregate-stands-at-5
 slice-aggregate-stands-at-5 c = search needs
 
--- src/label.rt:23:8
 stands-at-requires-5 : tie.Need-stands-at-requires-5
 stands-at-requires-5 c κs = search needs
 
--- src/label.rt:24:9
 returns-5 : tie.Need-returns-5
 returns-5 c = search is-conditions
 
--- src/label.rt:26:24
 slice-aggregate-stands-at-6 : tie.Need-slice-aggregate-stands-at-6
 slice-aggregate-stands-at-6 c = search needs
 
--- src/label.rt:26:8
 stands-at-requires-6 : tie.Need-stands-at-requires-6
 stands-at-requires-6 c κs = search needs
 
--- src/label.rt:27:9
 returns-6 : tie.Need-returns-6
 returns-6 c = search is-comment
 
--- src/label.rt:29:24
 slice-aggregate-stands-at-7 : tie.Need-slice-aggregate-stands-at-7
 slice-aggregate-stands-at-7 c = search needs
 
--- src/label.rt:29:8
 stands-at-requires-7 : tie.Need-stands-at-requires-7
 stands-at-requires-7 c κs = search needs
 
--- src/label.rt:30:9
 returns-7 : tie.Need-returns-7
 returns-7 c = search is-signature
 
--- src/label.rt:8:1
 returns-8 : tie.Need-returns-8
 returns-8 c = search is-none
 

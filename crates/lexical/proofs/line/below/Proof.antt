@@ -7,19 +7,15 @@ use Rattle.lexical.proofs.line.below.Lts as lts
 use Rattle.lexical.proofs.line.lines_from.Reads as lines-from-reads
 use Rattle.lexical.proofs.token.literal_from.Reads as literal-from-reads
 
--- src/line.rt:179:9
 literal-from-requires : tie.Need-literal-from-requires
 literal-from-requires c κs = search needs
 
--- src/line.rt:179:9
 returns : tie.Need-returns
 returns c = search below-open
 
--- src/line.rt:181:5
 lines-from-requires : tie.Need-lines-from-requires
 lines-from-requires c κs = search needs
 
--- src/line.rt:175:1
 returns-2 : tie.Need-returns-2
 returns-2 c = search below-lines
 

@@ -8,23 +8,18 @@ use Rattle.lexical.proofs.line.rest_of_line.Reads as rest-of-line-reads
 use Rattle.lexical.proofs.line.visible_at.Reads as visible-at-reads
 use Rattle.lexical.proofs.scan.skip.Reads as skip-reads
 
--- src/line.rt:69:9
 rest-of-line-requires : tie.Need-rest-of-line-requires
 rest-of-line-requires c κs = search needs
 
--- src/line.rt:69:9
 returns : tie.Need-returns
 returns c = search in-comment
 
--- src/line.rt:71:9
 skip-requires : tie.Need-skip-requires
 skip-requires c κs = search needs
 
--- src/line.rt:72:5
 visible-at-requires : tie.Need-visible-at-requires
 visible-at-requires c κs = search needs
 
--- src/line.rt:65:1
 returns-2 : tie.Need-returns-2
 returns-2 c = search in-field
 

@@ -10,35 +10,27 @@ use Rattle.lexical.proofs.line.rest_of_line.Reads as rest-of-line-reads
 use Rattle.lexical.proofs.scan.byte_at.Reads as byte-at-reads
 use Rattle.lexical.proofs.token.settle.Reads as settle-reads
 
--- src/line.rt:100:13
 in-line-requires : tie.Need-in-line-requires
 in-line-requires c κs = search needs
 
--- src/line.rt:101:9
 settle-requires : tie.Need-settle-requires
 settle-requires c κs = search needs
 
--- src/line.rt:101:9
 returns : tie.Need-returns
 returns c = search indented-field
 
--- src/line.rt:103:9
 byte-at-requires : tie.Need-byte-at-requires
 byte-at-requires c κs = search needs
 
--- src/line.rt:104:8
 is-hash-requires : tie.Need-is-hash-requires
 is-hash-requires c κs = search needs
 
--- src/line.rt:105:9
 rest-of-line-requires : tie.Need-rest-of-line-requires
 rest-of-line-requires c κs = search needs
 
--- src/line.rt:105:9
 returns-2 : tie.Need-returns-2
 returns-2 c = search indented-hash
 
--- src/line.rt:96:1
 returns-3 : tie.Need-returns-3
 returns-3 c = search indented-bad
 

@@ -6,19 +6,15 @@ use Rattle.lexical.proofs.line.is_blank_to.Reads as reads
 use Rattle.lexical.proofs.line.is_blank_to.Lts as lts
 use Rattle.lexical.proofs.class.is_newline.Reads as is-newline-reads
 
--- src/line.rt:86:9
 returns : tie.Need-returns
 returns c = search blank-end
 
--- src/line.rt:88:16
 shared-slice-read-is-newline : tie.Need-shared-slice-read-is-newline
 shared-slice-read-is-newline c = search needs
 
--- src/line.rt:88:5
 is-newline-requires : tie.Need-is-newline-requires
 is-newline-requires c κs = search needs
 
--- src/line.rt:82:1
 returns-2 : tie.Need-returns-2
 returns-2 c = search blank-line
 

@@ -7,19 +7,15 @@ use Rattle.lexical.proofs.line.label_token.Lts as lts
 use Rattle.lexical.proofs.label.label_kind.Reads as label-kind-reads
 use Rattle.lexical.proofs.token.width.Reads as width-reads
 
--- src/line.rt:107:9
 label-kind-requires : tie.Need-label-kind-requires
 label-kind-requires c κs = search needs
 
--- src/line.rt:111:18
 width-requires : tie.Need-width-requires
 width-requires c κs = search needs
 
--- src/line.rt:111:14
 add-t5 : tie.Need-add-t5
 add-t5 c = search label-fits
 
--- src/line.rt:104:1
 returns : tie.Need-returns
 returns c = search label-made
 

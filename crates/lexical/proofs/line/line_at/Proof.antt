@@ -12,55 +12,42 @@ use Rattle.lexical.proofs.line.label_token.Reads as label-token-reads
 use Rattle.lexical.proofs.line.rest_of_line.Reads as rest-of-line-reads
 use Rattle.lexical.proofs.scan.skip.Reads as skip-reads
 
--- src/line.rt:126:9
 returns : tie.Need-returns
 returns c = search line-end
 
--- src/line.rt:132:9
 skip-requires : tie.Need-skip-requires
 skip-requires c κs = search needs
 
--- src/line.rt:133:8
 is-blank-to-requires : tie.Need-is-blank-to-requires
 is-blank-to-requires c κs = search needs
 
--- src/line.rt:134:9
 returns-2 : tie.Need-returns-2
 returns-2 c = search line-blank
 
--- src/line.rt:140:13
 shared-slice-read-b : tie.Need-shared-slice-read-b
 shared-slice-read-b c = search needs
 
--- src/line.rt:141:8
 is-hash-requires : tie.Need-is-hash-requires
 is-hash-requires c κs = search needs
 
--- src/line.rt:142:9
 rest-of-line-requires : tie.Need-rest-of-line-requires
 rest-of-line-requires c κs = search needs
 
--- src/line.rt:142:9
 returns-3 : tie.Need-returns-3
 returns-3 c = search line-hash
 
--- src/line.rt:144:8
 is-indent-requires : tie.Need-is-indent-requires
 is-indent-requires c κs = search needs
 
--- src/line.rt:145:9
 indented-line-requires : tie.Need-indented-line-requires
 indented-line-requires c κs = search needs
 
--- src/line.rt:145:9
 returns-4 : tie.Need-returns-4
 returns-4 c = search line-indented
 
--- src/line.rt:147:5
 label-token-requires : tie.Need-label-token-requires
 label-token-requires c κs = search needs
 
--- src/line.rt:122:1
 returns-5 : tie.Need-returns-5
 returns-5 c = search line-label
 

@@ -16,27 +16,21 @@ Inv-loop s mode from i₀ i = linesFrom s mode i ≡ linesFrom s mode from
 abbrev μ-loop : tie.MeasureT-loop
 μ-loop s mode from i₀ i = length s - i
 
--- src/line.rt:149:5
 loop-holds : tie.Need-loop-holds Inv-loop μ-loop
 loop-holds c = search needs
 
--- src/line.rt:150:13
 line-at-requires : tie.Need-line-at-requires Inv-loop μ-loop
 line-at-requires c κs = search needs
 
--- src/line.rt:152:13
 returns : tie.Need-returns Inv-loop μ-loop
 returns c = search lines-found
 
--- src/line.rt:149:5
 loop-less : tie.Need-loop-less Inv-loop μ-loop
 loop-less c = search lines-less
 
--- src/line.rt:149:5
 loop-again : tie.Need-loop-again Inv-loop μ-loop
 loop-again c = search lines-more
 
--- src/line.rt:145:1
 returns-2 : tie.Need-returns-2 Inv-loop μ-loop
 returns-2 c = search lines-end
 

@@ -6,31 +6,24 @@ use Rattle.lexical.proofs.line.rest_of_line.Reads as reads
 use Rattle.lexical.proofs.line.rest_of_line.Lts as lts
 use Rattle.lexical.proofs.scan.skip.Reads as skip-reads
 
--- src/line.rt:17:9
 skip-requires : tie.Need-skip-requires
 skip-requires c κs = search needs
 
--- src/line.rt:19:9
 returns : tie.Need-returns
 returns c = search rest-end
 
--- src/line.rt:25:8
 shared-slice-read-if2 : tie.Need-shared-slice-read-if2
 shared-slice-read-if2 c = search needs
 
--- src/line.rt:26:9
 returns-2 : tie.Need-returns-2
 returns-2 c = search rest-nul
 
--- src/line.rt:34:16
 add-t4 : tie.Need-add-t4
 add-t4 c = search needs
 
--- src/line.rt:35:14
 add-t10 : tie.Need-add-t10
 add-t10 c = search needs
 
--- src/line.rt:14:1
 returns-3 : tie.Need-returns-3
 returns-3 c = search rest-next
 

@@ -7,27 +7,21 @@ use Rattle.lexical.proofs.line.token_at.Lts as lts
 use Rattle.lexical.proofs.line.below.Reads as below-reads
 use Rattle.lexical.proofs.line.in_line.Reads as in-line-reads
 
--- src/line.rt:189:9
 below-requires : tie.Need-below-requires
 below-requires c κs = search needs
 
--- src/line.rt:189:9
 returns : tie.Need-returns
 returns c = search token-first
 
--- src/line.rt:191:9
 in-line-requires : tie.Need-in-line-requires
 in-line-requires c κs = search needs
 
--- src/line.rt:193:9
 below-requires-2 : tie.Need-below-requires-2
 below-requires-2 c κs = search needs
 
--- src/line.rt:193:9
 returns-2 : tie.Need-returns-2
 returns-2 c = search token-below
 
--- src/line.rt:185:1
 returns-3 : tie.Need-returns-3
 returns-3 c = search token-here
 

@@ -9,47 +9,36 @@ use Rattle.lexical.proofs.class.is_newline.Reads as is-newline-reads
 use Rattle.lexical.proofs.line.rest_of_line.Reads as rest-of-line-reads
 use Rattle.lexical.proofs.token.token_from.Reads as token-from-reads
 
--- src/line.rt:51:9
 returns : tie.Need-returns
 returns c = search visible-end
 
--- src/line.rt:57:13
 shared-slice-read-b : tie.Need-shared-slice-read-b
 shared-slice-read-b c = search needs
 
--- src/line.rt:58:8
 is-break-requires : tie.Need-is-break-requires
 is-break-requires c κs = search needs
 
--- src/line.rt:59:12
 is-newline-requires : tie.Need-is-newline-requires
 is-newline-requires c κs = search needs
 
--- src/line.rt:62:24
 add-t13 : tie.Need-add-t13
 add-t13 c = search needs
 
--- src/line.rt:63:22
 add-t14 : tie.Need-add-t14
 add-t14 c = search needs
 
--- src/line.rt:60:13
 returns-2 : tie.Need-returns-2
 returns-2 c = search visible-next
 
--- src/line.rt:66:9
 rest-of-line-requires : tie.Need-rest-of-line-requires
 rest-of-line-requires c κs = search needs
 
--- src/line.rt:66:9
 returns-3 : tie.Need-returns-3
 returns-3 c = search visible-hash
 
--- src/line.rt:68:5
 token-from-requires : tie.Need-token-from-requires
 token-from-requires c κs = search needs
 
--- src/line.rt:47:1
 returns-4 : tie.Need-returns-4
 returns-4 c = search visible-token
 

@@ -7,27 +7,21 @@ use Rattle.lexical.proofs.literal.bare_end.Lts as lts
 use Rattle.lexical.proofs.literal.closes_at.Reads as closes-at-reads
 use Rattle.lexical.proofs.literal.plain_end.Reads as plain-end-reads
 
--- src/literal.rt:183:9
 returns : tie.Need-returns
 returns c = search bare-past
 
--- src/literal.rt:185:26
 add-plain-end : tie.Need-add-plain-end
 add-plain-end c = search needs
 
--- src/literal.rt:185:9
 plain-end-requires : tie.Need-plain-end-requires
 plain-end-requires c κs = search needs
 
--- src/literal.rt:186:8
 closes-at-requires : tie.Need-closes-at-requires
 closes-at-requires c κs = search needs
 
--- src/literal.rt:187:9
 returns-2 : tie.Need-returns-2
 returns-2 c = search bare-closed
 
--- src/literal.rt:179:1
 returns-3 : tie.Need-returns-3
 returns-3 c = search bare-open
 

@@ -10,71 +10,54 @@ use Rattle.lexical.proofs.literal.plain_end.Reads as plain-end-reads
 use Rattle.lexical.proofs.literal.units_length.Reads as units-length-reads
 use Rattle.text.proofs.copy_at.Reads as copy-at-reads
 
--- src/literal.rt:236:9
 decode-units-requires : tie.Need-decode-units-requires
 decode-units-requires c κs = search length-none
 
--- src/literal.rt:236:9
 same-length : tie.Need-same-length
 same-length c = search needs
 
--- src/literal.rt:236:9
 returns : tie.Need-returns
 returns c = search needs
 
--- src/literal.rt:238:26
 add-plain-end : tie.Need-add-plain-end
 add-plain-end c = search needs
 
--- src/literal.rt:238:9
 plain-end-requires : tie.Need-plain-end-requires
 plain-end-requires c κs = search needs
 
--- src/literal.rt:239:8
 closes-at-requires : tie.Need-closes-at-requires
 closes-at-requires c κs = search needs
 
--- src/literal.rt:240:36
 add-copy-at : tie.Need-add-copy-at
 add-copy-at c = search needs
 
--- src/literal.rt:240:33
 sub-copy-at : tie.Need-sub-copy-at
 sub-copy-at c = search plain-from
 
--- src/literal.rt:240:33
 part-copy-at-start : tie.Need-part-copy-at-start
 part-copy-at-start c = search plain-from
 
--- src/literal.rt:240:33
 part-copy-at-end : tie.Need-part-copy-at-end
 part-copy-at-end c = search plain-within
 
--- src/literal.rt:240:9
 copy-at-requires : tie.Need-copy-at-requires
 copy-at-requires c κs = search needs
 
--- src/literal.rt:240:9
 same-length-2 : tie.Need-same-length-2
 same-length-2 c = search needs
 
--- src/literal.rt:240:9
 returns-2 : tie.Need-returns-2
 returns-2 c = search into-plain
 
--- src/literal.rt:242:9
 units-length-requires : tie.Need-units-length-requires
 units-length-requires c κs = search needs
 
--- src/literal.rt:243:5
 decode-units-requires-2 : tie.Need-decode-units-requires-2
 decode-units-requires-2 c κs = search needs
 
--- src/literal.rt:232:1
 same-length-3 : tie.Need-same-length-3
 same-length-3 c = search needs
 
--- src/literal.rt:232:1
 returns-3 : tie.Need-returns-3
 returns-3 c = search needs
 

@@ -6,35 +6,27 @@ use Rattle.lexical.proofs.literal.decode_units.Reads as reads
 use Rattle.lexical.proofs.literal.decode_units.Lts as lts
 use Rattle.lexical.proofs.literal.write.Reads as write-reads
 
--- src/literal.rt:219:9
 returns : tie.Need-returns
 returns c = search into-none
 
--- src/literal.rt:221:8
 sub-if2 : tie.Need-sub-if2
 sub-if2 c = search needs
 
--- src/literal.rt:222:9
 returns-2 : tie.Need-returns-2
 returns-2 c = search into-full
 
--- src/literal.rt:225:9
 returns-3 : tie.Need-returns-3
 returns-3 c = search into-past
 
--- src/literal.rt:227:14
 add-write : tie.Need-add-write
 add-write c = search needs
 
--- src/literal.rt:227:5
 write-requires : tie.Need-write-requires
 write-requires c κs = search into-room
 
--- src/literal.rt:214:1
 same-length : tie.Need-same-length
 same-length c = search needs
 
--- src/literal.rt:214:1
 returns-4 : tie.Need-returns-4
 returns-4 c = search into-all
 

@@ -6,56 +6,44 @@ use Rattle.lexical.proofs.literal.is_near.Tie as tie
 use Rattle.lexical.proofs.literal.is_near.Reads as reads
 use Rattle.lexical.proofs.literal.is_near.Lts as lts
 
--- src/literal.rt:139:9
 returns : tie.Need-returns
 unfolding near
 returns c = search (needs, tests)
 
--- src/literal.rt:142:9
 returns-2 : tie.Need-returns-2
 unfolding near
 returns-2 c = search (needs, tests)
 
--- src/literal.rt:144:15
 sub-if3 : tie.Need-sub-if3
 sub-if3 c = search (needs, tests)
 
--- src/literal.rt:145:9
 returns-3 : tie.Need-returns-3
 unfolding near
 returns-3 c = search (needs, tests)
 
--- src/literal.rt:147:8
 sub-if4 : tie.Need-sub-if4
 sub-if4 c = search (needs, tests)
 
--- src/literal.rt:148:9
 returns-4 : tie.Need-returns-4
 unfolding near
 returns-4 c = search (needs, tests)
 
--- src/literal.rt:150:10
 sub-if5 : tie.Need-sub-if5
 sub-if5 c = search (needs, tests)
 
--- src/literal.rt:150:8
 shared-slice-read-if5 : tie.Need-shared-slice-read-if5
 shared-slice-read-if5 c = search (needs, tests)
 
--- src/literal.rt:151:9
 returns-5 : tie.Need-returns-5
 unfolding near
 returns-5 c = search (needs, tests)
 
--- src/literal.rt:153:7
 sub-result : tie.Need-sub-result
 sub-result c = search (needs, tests)
 
--- src/literal.rt:153:5
 shared-slice-read-result : tie.Need-shared-slice-read-result
 shared-slice-read-result c = search (needs, tests)
 
--- src/literal.rt:135:1
 returns-6 : tie.Need-returns-6
 unfolding near
 returns-6 c = search (needs, tests)

@@ -6,35 +6,27 @@ use Rattle.lexical.proofs.literal.is_plain.Reads as reads
 use Rattle.lexical.proofs.literal.is_plain.Lts as lts
 use Rattle.lexical.proofs.unit.is_barred.Reads as is-barred-reads
 
--- src/literal.rt:28:9
 returns : tie.Need-returns
 returns c = search plain-above
 
--- src/literal.rt:31:9
 returns-2 : tie.Need-returns-2
 returns-2 c = search plain-slash
 
--- src/literal.rt:34:9
 returns-3 : tie.Need-returns-3
 returns-3 c = search plain-high
 
--- src/literal.rt:37:9
 returns-4 : tie.Need-returns-4
 returns-4 c = search plain-quote
 
--- src/literal.rt:40:9
 returns-5 : tie.Need-returns-5
 returns-5 c = search plain-middle
 
--- src/literal.rt:42:8
 is-barred-requires : tie.Need-is-barred-requires
 is-barred-requires c κs = search needs
 
--- src/literal.rt:43:9
 returns-6 : tie.Need-returns-6
 returns-6 c = search plain-bar
 
--- src/literal.rt:24:1
 returns-7 : tie.Need-returns-7
 returns-7 c = search plain-low
 

@@ -7,19 +7,15 @@ use Rattle.lexical.proofs.literal.is_short.Lts as lts
 use Rattle.lexical.proofs.literal.is_near.Reads as is-near-reads
 use Rattle.lexical.proofs.literal.literal_length.Reads as literal-length-reads
 
--- src/literal.rt:160:8
 is-near-requires : tie.Need-is-near-requires
 is-near-requires c κs = search needs
 
--- src/literal.rt:161:9
 returns : tie.Need-returns
 returns c = search short-near
 
--- src/literal.rt:163:9
 literal-length-requires : tie.Need-literal-length-requires
 literal-length-requires c κs = search needs
 
--- src/literal.rt:157:1
 returns-2 : tie.Need-returns-2
 returns-2 c = search short-counted
 

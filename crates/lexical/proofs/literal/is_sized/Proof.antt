@@ -8,23 +8,18 @@ use Rattle.lexical.proofs.literal.is_near.Reads as is-near-reads
 use Rattle.lexical.proofs.literal.is_plain.Reads as is-plain-reads
 use Rattle.lexical.proofs.scan.byte_at.Reads as byte-at-reads
 
--- src/literal.rt:172:8
 is-near-requires : tie.Need-is-near-requires
 is-near-requires c κs = search needs
 
--- src/literal.rt:173:25
 byte-at-requires : tie.Need-byte-at-requires
 byte-at-requires c κs = search needs
 
--- src/literal.rt:173:9
 is-plain-requires : tie.Need-is-plain-requires
 is-plain-requires c κs = search needs
 
--- src/literal.rt:173:9
 returns : tie.Need-returns
 returns c = search sized-near
 
--- src/literal.rt:169:1
 returns-2 : tie.Need-returns-2
 returns-2 c = search sized-far
 

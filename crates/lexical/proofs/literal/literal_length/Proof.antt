@@ -8,39 +8,30 @@ use Rattle.lexical.proofs.literal.closes_at.Reads as closes-at-reads
 use Rattle.lexical.proofs.literal.plain_end.Reads as plain-end-reads
 use Rattle.lexical.proofs.literal.units_length.Reads as units-length-reads
 
--- src/literal.rt:124:9
 returns : tie.Need-returns
 returns c = search length-none
 
--- src/literal.rt:126:26
 add-plain-end : tie.Need-add-plain-end
 add-plain-end c = search needs
 
--- src/literal.rt:126:9
 plain-end-requires : tie.Need-plain-end-requires
 plain-end-requires c κs = search needs
 
--- src/literal.rt:127:8
 closes-at-requires : tie.Need-closes-at-requires
 closes-at-requires c κs = search needs
 
--- src/literal.rt:128:21
 add-result : tie.Need-add-result
 add-result c = search needs
 
--- src/literal.rt:128:16
 sub-result : tie.Need-sub-result
 sub-result c = search plain-from
 
--- src/literal.rt:128:9
 returns-2 : tie.Need-returns-2
 returns-2 c = search length-plain
 
--- src/literal.rt:130:5
 units-length-requires : tie.Need-units-length-requires
 units-length-requires c κs = search needs
 
--- src/literal.rt:120:1
 returns-3 : tie.Need-returns-3
 returns-3 c = search needs
 

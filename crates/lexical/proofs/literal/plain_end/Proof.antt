@@ -16,35 +16,27 @@ Inv-loop s from i₀ i = past plain s i ≡ past plain s from
 abbrev μ-loop : tie.MeasureT-loop
 μ-loop s from i₀ i = length s - i
 
--- src/literal.rt:50:5
 loop-holds : tie.Need-loop-holds Inv-loop μ-loop
 loop-holds c = search (needs, scan)
 
--- src/literal.rt:51:21
 shared-slice-read-is-plain : tie.Need-shared-slice-read-is-plain Inv-loop μ-loop
 shared-slice-read-is-plain c = search (needs, scan)
 
--- src/literal.rt:51:12
 is-plain-requires : tie.Need-is-plain-requires Inv-loop μ-loop
 is-plain-requires c κs = search (needs, scan)
 
--- src/literal.rt:52:13
 add-i : tie.Need-add-i Inv-loop μ-loop
 add-i c = search (needs, scan)
 
--- src/literal.rt:50:5
 loop-less : tie.Need-loop-less Inv-loop μ-loop
 loop-less c = search (needs, scan)
 
--- src/literal.rt:50:5
 loop-again : tie.Need-loop-again Inv-loop μ-loop
 loop-again c = search (needs, scan)
 
--- src/literal.rt:54:13
 returns : tie.Need-returns Inv-loop μ-loop
 returns c = search (needs, scan)
 
--- src/literal.rt:46:1
 returns-2 : tie.Need-returns-2 Inv-loop μ-loop
 returns-2 c = search (needs, scan)
 

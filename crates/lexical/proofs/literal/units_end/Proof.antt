@@ -17,51 +17,39 @@ Inv-loop s from i₀ i = literalEnd s i ≡ literalEnd s from
 abbrev μ-loop : tie.MeasureT-loop
 μ-loop s from i₀ i = length s - i
 
--- src/literal.rt:82:5
 loop-holds : tie.Need-loop-holds Inv-loop μ-loop
 loop-holds c = search needs
 
--- src/literal.rt:83:12
 shared-slice-read-if1 : tie.Need-shared-slice-read-if1 Inv-loop μ-loop
 shared-slice-read-if1 c = search needs
 
--- src/literal.rt:84:20
 add-result : tie.Need-add-result Inv-loop μ-loop
 add-result c = search needs
 
--- src/literal.rt:84:13
 returns : tie.Need-returns Inv-loop μ-loop
 returns c = search end-here
 
--- src/literal.rt:86:13
 unit-at-requires : tie.Need-unit-at-requires Inv-loop μ-loop
 unit-at-requires c κs = search needs
 
--- src/literal.rt:88:20
 add-result-2 : tie.Need-add-result-2 Inv-loop μ-loop
 add-result-2 c = search needs
 
--- src/literal.rt:88:13
 returns-2 : tie.Need-returns-2 Inv-loop μ-loop
 returns-2 c = let u = c .before .before .unit-at in end-closes _ _ (u .result) (u .ensures) _ (c .before .before .before .before .before .before .loop .inv) (c .if2 .taken)
 
--- src/literal.rt:91:13
 returns-3 : tie.Need-returns-3 Inv-loop μ-loop
 returns-3 c = search end-spoils
 
--- src/literal.rt:93:9
 add-i : tie.Need-add-i Inv-loop μ-loop
 add-i c = search width-fits
 
--- src/literal.rt:82:5
 loop-less : tie.Need-loop-less Inv-loop μ-loop
 loop-less c = search width-less
 
--- src/literal.rt:82:5
 loop-again : tie.Need-loop-again Inv-loop μ-loop
 loop-again c = search end-more
 
--- src/literal.rt:78:1
 returns-4 : tie.Need-returns-4 Inv-loop μ-loop
 returns-4 c = search end-end
 

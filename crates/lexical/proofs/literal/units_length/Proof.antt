@@ -18,55 +18,42 @@ Inv-loop s start i₀ n₀ i n = (n + length (given (unitsAt s i)) ≡ length (d
 abbrev μ-loop : tie.MeasureT-loop
 μ-loop s start i₀ n₀ i n = length s - i
 
--- src/literal.rt:103:9
 returns : tie.Need-returns Inv-loop μ-loop
 returns c = search length-none
 
--- src/literal.rt:105:17
 add-i : tie.Need-add-i Inv-loop μ-loop
 add-i c = search needs
 
--- src/literal.rt:107:5
 loop-holds : tie.Need-loop-holds Inv-loop μ-loop
 loop-holds c = (search length-start, search needs)
 
--- src/literal.rt:108:12
 shared-slice-read-if2 : tie.Need-shared-slice-read-if2 Inv-loop μ-loop
 shared-slice-read-if2 c = search needs
 
--- src/literal.rt:109:13
 returns-2 : tie.Need-returns-2 Inv-loop μ-loop
 returns-2 c = search length-quote
 
--- src/literal.rt:111:13
 unit-at-requires : tie.Need-unit-at-requires Inv-loop μ-loop
 unit-at-requires c κs = search needs
 
--- src/literal.rt:113:13
 returns-3 : tie.Need-returns-3 Inv-loop μ-loop
 returns-3 c = search length-last
 
--- src/literal.rt:115:14
 count-requires : tie.Need-count-requires Inv-loop μ-loop
 count-requires c κs = search needs
 
--- src/literal.rt:115:9
 add-n : tie.Need-add-n Inv-loop μ-loop
 add-n c = search needs
 
--- src/literal.rt:116:9
 add-i-2 : tie.Need-add-i-2 Inv-loop μ-loop
 add-i-2 c = search width-fits
 
--- src/literal.rt:107:5
 loop-less : tie.Need-loop-less Inv-loop μ-loop
 loop-less c = search width-less
 
--- src/literal.rt:107:5
 loop-again : tie.Need-loop-again Inv-loop μ-loop
 loop-again c = (search length-more, search length-low)
 
--- src/literal.rt:99:1
 returns-4 : tie.Need-returns-4 Inv-loop μ-loop
 returns-4 c = search length-end
 

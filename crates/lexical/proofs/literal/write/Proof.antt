@@ -19,59 +19,45 @@ Inv-loop s from buf₀ at i₀ top₀ buf i top = (sets buf top (given (unitsAt 
 abbrev μ-loop : tie.MeasureT-loop
 μ-loop s from buf₀ at i₀ top₀ buf i top = length s - i
 
--- src/literal.rt:252:5
 loop-holds : tie.Need-loop-holds Inv-loop μ-loop
 loop-holds c = (search needs, search needs, search needs)
 
--- src/literal.rt:253:12
 shared-slice-read-if1 : tie.Need-shared-slice-read-if1 Inv-loop μ-loop
 shared-slice-read-if1 c = search needs
 
--- src/literal.rt:254:13
 same-length : tie.Need-same-length Inv-loop μ-loop
 same-length c = search needs
 
--- src/literal.rt:254:13
 returns : tie.Need-returns Inv-loop μ-loop
 returns c = search write-quote
 
--- src/literal.rt:256:13
 unit-at-requires : tie.Need-unit-at-requires Inv-loop μ-loop
 unit-at-requires c κs = search needs
 
--- src/literal.rt:258:13
 same-length-2 : tie.Need-same-length-2 Inv-loop μ-loop
 same-length-2 c = search needs
 
--- src/literal.rt:258:13
 returns-2 : tie.Need-returns-2 Inv-loop μ-loop
 returns-2 c = search write-last
 
--- src/literal.rt:261:13
 slice-write-buf : tie.Need-slice-write-buf Inv-loop μ-loop
 slice-write-buf c = search room-here
 
--- src/literal.rt:262:13
 add-top : tie.Need-add-top Inv-loop μ-loop
 add-top c = search room-fits
 
--- src/literal.rt:264:9
 add-i : tie.Need-add-i Inv-loop μ-loop
 add-i c = let u = c .before .before .before .before .before .unit-at in search (width-fits _ _ (u .result) (u .ensures))
 
--- src/literal.rt:252:5
 loop-less : tie.Need-loop-less Inv-loop μ-loop
 loop-less c = search width-less
 
--- src/literal.rt:252:5
 loop-again : tie.Need-loop-again Inv-loop μ-loop
 loop-again c = ⊎-elim (λ w. (search write-one, search room-one, search kept-one)) (λ w. (search write-none, search room-none, search kept-none)) (c .before .if3 .came)
 
--- src/literal.rt:246:1
 same-length-3 : tie.Need-same-length-3 Inv-loop μ-loop
 same-length-3 c = search needs
 
--- src/literal.rt:246:1
 returns-3 : tie.Need-returns-3 Inv-loop μ-loop
 returns-3 c = search write-end
 

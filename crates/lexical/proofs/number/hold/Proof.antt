@@ -6,12 +6,10 @@ use Rattle.lexical.proofs.number.hold.Tie as tie
 use Rattle.lexical.proofs.number.hold.Reads as reads
 use Rattle.lexical.proofs.number.hold.Lts as lts
 
--- src/number.rt:30:9
 returns : tie.Need-returns
 unfolding held
 returns c = search (needs, tests)
 
--- src/number.rt:26:1
 returns-2 : tie.Need-returns-2
 unfolding held
 returns-2 c = search (needs, tests)

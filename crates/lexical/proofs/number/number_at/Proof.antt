@@ -7,35 +7,27 @@ use Rattle.lexical.proofs.number.number_at.Lts as lts
 use Rattle.lexical.proofs.number.digit.Reads as digit-reads
 use Rattle.lexical.proofs.number.number_from.Reads as number-from-reads
 
--- src/number.rt:57:9
 returns : tie.Need-returns
 returns c = search number-out
 
--- src/number.rt:60:9
 returns-2 : tie.Need-returns-2
 returns-2 c = search number-none
 
--- src/number.rt:62:8
 sub-if3 : tie.Need-sub-if3
 sub-if3 c = search needs
 
--- src/number.rt:63:9
 number-from-requires : tie.Need-number-from-requires
 number-from-requires c κs = search needs
 
--- src/number.rt:63:9
 returns-3 : tie.Need-returns-3
 returns-3 c = search needs
 
--- src/number.rt:65:11
 shared-slice-read-digit : tie.Need-shared-slice-read-digit
 shared-slice-read-digit c = search needs
 
--- src/number.rt:65:5
 digit-requires : tie.Need-digit-requires
 digit-requires c κs = search needs
 
--- src/number.rt:53:1
 returns-4 : tie.Need-returns-4
 returns-4 c = search number-one
 

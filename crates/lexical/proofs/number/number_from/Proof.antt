@@ -17,47 +17,36 @@ Inv-loop s start end i₀ v₀ i v = (numberRest s i end v ≡ numberAt s start 
 abbrev μ-loop : tie.MeasureT-loop
 μ-loop s start end i₀ v₀ i v = end - i
 
--- src/number.rt:41:5
 loop-holds : tie.Need-loop-holds Inv-loop μ-loop
 loop-holds c = (search number-start, search needs)
 
--- src/number.rt:43:13
 returns : tie.Need-returns Inv-loop μ-loop
 returns c = search number-past
 
--- src/number.rt:45:18
 mul-hold : tie.Need-mul-hold Inv-loop μ-loop
 mul-hold c = search needs
 
--- src/number.rt:45:33
 shared-slice-read-digit : tie.Need-shared-slice-read-digit Inv-loop μ-loop
 shared-slice-read-digit c = search needs
 
--- src/number.rt:45:27
 digit-requires : tie.Need-digit-requires Inv-loop μ-loop
 digit-requires c κs = search needs
 
--- src/number.rt:45:18
 add-hold : tie.Need-add-hold Inv-loop μ-loop
 add-hold c = search needs
 
--- src/number.rt:45:9
 hold-requires : tie.Need-hold-requires Inv-loop μ-loop
 hold-requires c κs = search needs
 
--- src/number.rt:46:9
 add-i : tie.Need-add-i Inv-loop μ-loop
 add-i c = search needs
 
--- src/number.rt:41:5
 loop-less : tie.Need-loop-less Inv-loop μ-loop
 loop-less c = search needs
 
--- src/number.rt:41:5
 loop-again : tie.Need-loop-again Inv-loop μ-loop
 loop-again c = (search number-more, search number-low)
 
--- src/number.rt:36:1
 returns-2 : tie.Need-returns-2 Inv-loop μ-loop
 returns-2 c = search number-end
 

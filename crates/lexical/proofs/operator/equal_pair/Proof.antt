@@ -6,32 +6,26 @@ use Rattle.lexical.proofs.operator.equal_pair.Tie as tie
 use Rattle.lexical.proofs.operator.equal_pair.Reads as reads
 use Rattle.lexical.proofs.operator.equal_pair.Lts as lts
 
--- src/operator.rt:12:9
 returns : tie.Need-returns
 unfolding equalPair
 returns c = search (needs, tests)
 
--- src/operator.rt:15:9
 returns-2 : tie.Need-returns-2
 unfolding equalPair
 returns-2 c = search (needs, tests)
 
--- src/operator.rt:18:9
 returns-3 : tie.Need-returns-3
 unfolding equalPair
 returns-3 c = search (needs, tests)
 
--- src/operator.rt:21:9
 returns-4 : tie.Need-returns-4
 unfolding equalPair
 returns-4 c = search (needs, tests)
 
--- src/operator.rt:24:9
 returns-5 : tie.Need-returns-5
 unfolding equalPair
 returns-5 c = search (needs, tests)
 
--- src/operator.rt:8:1
 returns-6 : tie.Need-returns-6
 unfolding equalPair
 returns-6 c = search (needs, tests)

@@ -6,22 +6,18 @@ use Rattle.lexical.proofs.operator.is_of.Tie as tie
 use Rattle.lexical.proofs.operator.is_of.Reads as reads
 use Rattle.lexical.proofs.operator.is_of.Lts as lts
 
--- src/operator.rt:72:9
 returns : tie.Need-returns
 unfolding isOf
 returns c = search (needs, tests)
 
--- src/operator.rt:75:9
 returns-2 : tie.Need-returns-2
 unfolding isOf
 returns-2 c = search (needs, tests)
 
--- src/operator.rt:78:9
 returns-3 : tie.Need-returns-3
 unfolding isOf
 returns-3 c = search (needs, tests)
 
--- src/operator.rt:68:1
 returns-4 : tie.Need-returns-4
 unfolding isOf
 returns-4 c = search (needs, tests)

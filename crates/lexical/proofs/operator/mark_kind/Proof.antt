@@ -6,12 +6,10 @@ use Rattle.lexical.proofs.operator.mark_kind.Tie as tie
 use Rattle.lexical.proofs.operator.mark_kind.Reads as reads
 use Rattle.lexical.proofs.operator.mark_kind.Lts as lts
 
--- src/operator.rt:62:9
 returns : tie.Need-returns
 unfolding markKind
 returns c = search (needs, tests)
 
--- src/operator.rt:58:1
 returns-2 : tie.Need-returns-2
 unfolding markKind
 returns-2 c = search (needs, tests)

@@ -8,27 +8,21 @@ use Rattle.lexical.proofs.operator.is_of.Reads as is-of-reads
 use Rattle.lexical.proofs.operator.mark_kind.Reads as mark-kind-reads
 use Rattle.lexical.proofs.operator.pair_of.Reads as pair-of-reads
 
--- src/operator.rt:87:8
 is-of-requires : tie.Need-is-of-requires
 is-of-requires c κs = search needs
 
--- src/operator.rt:88:9
 returns : tie.Need-returns
 returns c = search operator-of
 
--- src/operator.rt:90:9
 pair-of-requires : tie.Need-pair-of-requires
 pair-of-requires c κs = search needs
 
--- src/operator.rt:92:9
 mark-kind-requires : tie.Need-mark-kind-requires
 mark-kind-requires c κs = search needs
 
--- src/operator.rt:92:9
 returns-2 : tie.Need-returns-2
 returns-2 c = search operator-mark
 
--- src/operator.rt:84:1
 returns-3 : tie.Need-returns-3
 returns-3 c = search operator-pair
 

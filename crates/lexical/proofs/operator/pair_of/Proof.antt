@@ -7,46 +7,37 @@ use Rattle.lexical.proofs.operator.pair_of.Reads as reads
 use Rattle.lexical.proofs.operator.pair_of.Lts as lts
 use Rattle.lexical.proofs.operator.equal_pair.Reads as equal-pair-reads
 
--- src/operator.rt:34:9
 equal-pair-requires : tie.Need-equal-pair-requires
 equal-pair-requires c κs = search (needs, tests)
 
--- src/operator.rt:34:9
 returns : tie.Need-returns
 unfolding pairOf
 returns c = search (needs, tests)
 
--- src/operator.rt:38:13
 returns-2 : tie.Need-returns-2
 unfolding pairOf
 returns-2 c = search (needs, tests)
 
--- src/operator.rt:40:9
 returns-3 : tie.Need-returns-3
 unfolding pairOf
 returns-3 c = search (needs, tests)
 
--- src/operator.rt:44:13
 returns-4 : tie.Need-returns-4
 unfolding pairOf
 returns-4 c = search (needs, tests)
 
--- src/operator.rt:46:9
 returns-5 : tie.Need-returns-5
 unfolding pairOf
 returns-5 c = search (needs, tests)
 
--- src/operator.rt:50:13
 returns-6 : tie.Need-returns-6
 unfolding pairOf
 returns-6 c = search (needs, tests)
 
--- src/operator.rt:52:9
 returns-7 : tie.Need-returns-7
 unfolding pairOf
 returns-7 c = search (needs, tests)
 
--- src/operator.rt:30:1
 returns-8 : tie.Need-returns-8
 unfolding pairOf
 returns-8 c = search (needs, tests)

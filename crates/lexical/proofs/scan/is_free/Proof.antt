@@ -6,12 +6,10 @@ use Rattle.lexical.proofs.scan.is_free.Tie as tie
 use Rattle.lexical.proofs.scan.is_free.Reads as reads
 use Rattle.lexical.proofs.scan.is_free.Lts as lts
 
--- src/scan.rt:50:9
 returns : tie.Need-returns
 unfolding free
 returns c = search (needs, tests)
 
--- src/scan.rt:46:1
 returns-2 : tie.Need-returns-2
 unfolding free
 returns-2 c = search (needs, tests)

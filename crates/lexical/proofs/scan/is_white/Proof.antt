@@ -6,15 +6,12 @@ use Rattle.lexical.proofs.scan.is_white.Reads as reads
 use Rattle.lexical.proofs.scan.is_white.Lts as lts
 use Rattle.lexical.proofs.class.is_blank.Reads as is-blank-reads
 
--- src/scan.rt:39:8
 is-blank-requires : tie.Need-is-blank-requires
 is-blank-requires c κs = search needs
 
--- src/scan.rt:40:9
 returns : tie.Need-returns
 returns c = search white-blank
 
--- src/scan.rt:36:1
 returns-2 : tie.Need-returns-2
 returns-2 c = search white-newline
 

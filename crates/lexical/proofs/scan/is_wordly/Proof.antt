@@ -7,19 +7,15 @@ use Rattle.lexical.proofs.scan.is_wordly.Lts as lts
 use Rattle.lexical.proofs.class.is_letter.Reads as is-letter-reads
 use Rattle.lexical.proofs.class.is_numeral.Reads as is-numeral-reads
 
--- src/scan.rt:59:8
 is-letter-requires : tie.Need-is-letter-requires
 is-letter-requires c κs = search needs
 
--- src/scan.rt:60:9
 returns : tie.Need-returns
 returns c = search word-letter
 
--- src/scan.rt:62:5
 is-numeral-requires : tie.Need-is-numeral-requires
 is-numeral-requires c κs = search needs
 
--- src/scan.rt:56:1
 returns-2 : tie.Need-returns-2
 returns-2 c = search word-numeral
 

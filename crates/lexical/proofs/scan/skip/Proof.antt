@@ -16,35 +16,27 @@ Inv-loop s at k i₀ i = past (inRun k) s i ≡ past (inRun k) s at
 abbrev μ-loop : tie.MeasureT-loop
 μ-loop s at k i₀ i = length s - i
 
--- src/scan.rt:62:5
 loop-holds : tie.Need-loop-holds Inv-loop μ-loop
 loop-holds c = search (needs, scan)
 
--- src/scan.rt:63:22
 shared-slice-read-in-run : tie.Need-shared-slice-read-in-run Inv-loop μ-loop
 shared-slice-read-in-run c = search (needs, scan)
 
--- src/scan.rt:63:12
 in-run-requires : tie.Need-in-run-requires Inv-loop μ-loop
 in-run-requires c κs = search (needs, scan)
 
--- src/scan.rt:64:13
 add-i : tie.Need-add-i Inv-loop μ-loop
 add-i c = search (needs, scan)
 
--- src/scan.rt:62:5
 loop-less : tie.Need-loop-less Inv-loop μ-loop
 loop-less c = search (needs, scan)
 
--- src/scan.rt:62:5
 loop-again : tie.Need-loop-again Inv-loop μ-loop
 loop-again c = search (needs, scan)
 
--- src/scan.rt:66:13
 returns : tie.Need-returns Inv-loop μ-loop
 returns c = search (needs, scan)
 
--- src/scan.rt:58:1
 returns-2 : tie.Need-returns-2 Inv-loop μ-loop
 returns-2 c = search (needs, scan)
 

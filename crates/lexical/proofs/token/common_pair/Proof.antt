@@ -6,37 +6,30 @@ use Rattle.lexical.proofs.token.common_pair.Tie as tie
 use Rattle.lexical.proofs.token.common_pair.Reads as reads
 use Rattle.lexical.proofs.token.common_pair.Lts as lts
 
--- src/token.rt:204:13
 returns : tie.Need-returns
 unfolding commonPair
 returns c = search (needs, tests)
 
--- src/token.rt:207:13
 returns-2 : tie.Need-returns-2
 unfolding commonPair
 returns-2 c = search (needs, tests)
 
--- src/token.rt:210:13
 returns-3 : tie.Need-returns-3
 unfolding commonPair
 returns-3 c = search (needs, tests)
 
--- src/token.rt:212:9
 returns-4 : tie.Need-returns-4
 unfolding commonPair
 returns-4 c = search (needs, tests)
 
--- src/token.rt:215:9
 returns-5 : tie.Need-returns-5
 unfolding commonPair
 returns-5 c = search (needs, tests)
 
--- src/token.rt:218:9
 returns-6 : tie.Need-returns-6
 unfolding commonPair
 returns-6 c = search (needs, tests)
 
--- src/token.rt:199:1
 returns-7 : tie.Need-returns-7
 unfolding commonPair
 returns-7 c = search (needs, tests)

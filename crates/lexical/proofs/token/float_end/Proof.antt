@@ -6,35 +6,27 @@ use Rattle.lexical.proofs.token.float_end.Reads as reads
 use Rattle.lexical.proofs.token.float_end.Lts as lts
 use Rattle.lexical.proofs.scan.skip.Reads as skip-reads
 
--- src/token.rt:95:9
 returns : tie.Need-returns
 returns c = search float-past
 
--- src/token.rt:97:8
 shared-slice-read-if2 : tie.Need-shared-slice-read-if2
 shared-slice-read-if2 c = search needs
 
--- src/token.rt:98:9
 returns-2 : tie.Need-returns-2
 returns-2 c = search float-none
 
--- src/token.rt:100:21
 add-skip : tie.Need-add-skip
 add-skip c = search needs
 
--- src/token.rt:100:9
 skip-requires : tie.Need-skip-requires
 skip-requires c κs = search needs
 
--- src/token.rt:101:13
 add-if3 : tie.Need-add-if3
 add-if3 c = search needs
 
--- src/token.rt:102:9
 returns-3 : tie.Need-returns-3
 returns-3 c = search float-bare
 
--- src/token.rt:91:1
 returns-4 : tie.Need-returns-4
 returns-4 c = search float-full
 

@@ -6,27 +6,22 @@ use Rattle.lexical.proofs.token.is_lone.Tie as tie
 use Rattle.lexical.proofs.token.is_lone.Reads as reads
 use Rattle.lexical.proofs.token.is_lone.Lts as lts
 
--- src/token.rt:148:9
 returns : tie.Need-returns
 unfolding lone
 returns c = search (needs, tests)
 
--- src/token.rt:151:9
 returns-2 : tie.Need-returns-2
 unfolding lone
 returns-2 c = search (needs, tests)
 
--- src/token.rt:154:9
 returns-3 : tie.Need-returns-3
 unfolding lone
 returns-3 c = search (needs, tests)
 
--- src/token.rt:157:9
 returns-4 : tie.Need-returns-4
 unfolding lone
 returns-4 c = search (needs, tests)
 
--- src/token.rt:144:1
 returns-5 : tie.Need-returns-5
 unfolding lone
 returns-5 c = search (needs, tests)

@@ -6,15 +6,12 @@ use Rattle.lexical.proofs.token.literal_from.Reads as reads
 use Rattle.lexical.proofs.token.literal_from.Lts as lts
 use Rattle.lexical.proofs.literal.units_end.Reads as units-end-reads
 
--- src/token.rt:112:9
 units-end-requires : tie.Need-units-end-requires
 units-end-requires c κs = search needs
 
--- src/token.rt:114:9
 returns : tie.Need-returns
 returns c = search units-open
 
--- src/token.rt:109:1
 returns-2 : tie.Need-returns-2
 returns-2 c = search units-closed
 

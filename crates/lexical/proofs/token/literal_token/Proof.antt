@@ -8,31 +8,24 @@ use Rattle.lexical.proofs.token.literal_token.Lts as lts
 use Rattle.lexical.proofs.literal.closes_at.Reads as closes-at-reads
 use Rattle.lexical.proofs.literal.plain_end.Reads as plain-end-reads
 
--- src/token.rt:87:9
 returns : tie.Need-returns
 returns c = search literal-past
 
--- src/token.rt:93:26
 add-plain-end : tie.Need-add-plain-end
 add-plain-end c = search needs
 
--- src/token.rt:93:9
 plain-end-requires : tie.Need-plain-end-requires
 plain-end-requires c κs = search needs
 
--- src/token.rt:94:8
 closes-at-requires : tie.Need-closes-at-requires
 closes-at-requires c κs = search needs
 
--- src/token.rt:98:18
 add-t7 : tie.Need-add-t7
 add-t7 c = search quote-fits
 
--- src/token.rt:95:9
 returns-2 : tie.Need-returns-2
 returns-2 c = search literal-closed
 
--- src/token.rt:83:1
 returns-3 : tie.Need-returns-3
 returns-3 c = search literal-open
 

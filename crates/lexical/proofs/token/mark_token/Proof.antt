@@ -8,27 +8,21 @@ use Rattle.lexical.proofs.class.class_of.Reads as class-of-reads
 use Rattle.lexical.proofs.token.is_lone.Reads as is-lone-reads
 use Rattle.lexical.proofs.token.operator_token.Reads as operator-token-reads
 
--- src/token.rt:203:9
 class-of-requires : tie.Need-class-of-requires
 class-of-requires c κs = search needs
 
--- src/token.rt:204:8
 is-lone-requires : tie.Need-is-lone-requires
 is-lone-requires c κs = search needs
 
--- src/token.rt:208:18
 add-t7 : tie.Need-add-t7
 add-t7 c = search lone-fits
 
--- src/token.rt:205:9
 returns : tie.Need-returns
 returns c = search lone-made
 
--- src/token.rt:211:5
 operator-token-requires : tie.Need-operator-token-requires
 operator-token-requires c κs = search class-passed
 
--- src/token.rt:199:1
 returns-2 : tie.Need-returns-2
 returns-2 c = search needs
 

@@ -7,23 +7,18 @@ use Rattle.lexical.proofs.token.number_token.Lts as lts
 use Rattle.lexical.proofs.scan.skip.Reads as skip-reads
 use Rattle.lexical.proofs.token.float_end.Reads as float-end-reads
 
--- src/token.rt:162:21
 add-skip : tie.Need-add-skip
 add-skip c = search number-fits
 
--- src/token.rt:162:9
 skip-requires : tie.Need-skip-requires
 skip-requires c κs = search needs
 
--- src/token.rt:163:9
 float-end-requires : tie.Need-float-end-requires
 float-end-requires c κs = search needs
 
--- src/token.rt:165:9
 returns : tie.Need-returns
 returns c = search number-digits
 
--- src/token.rt:158:1
 returns-2 : tie.Need-returns-2
 returns-2 c = search number-float
 

@@ -7,19 +7,15 @@ use Rattle.lexical.proofs.token.operator_at.Lts as lts
 use Rattle.lexical.proofs.operator.operator_kind.Reads as operator-kind-reads
 use Rattle.lexical.proofs.scan.byte_at.Reads as byte-at-reads
 
--- src/token.rt:61:28
 byte-at-requires : tie.Need-byte-at-requires
 byte-at-requires c κs = search needs
 
--- src/token.rt:61:46
 byte-at-requires-2 : tie.Need-byte-at-requires-2
 byte-at-requires-2 c κs = search needs
 
--- src/token.rt:61:5
 operator-kind-requires : tie.Need-operator-kind-requires
 operator-kind-requires c κs = search needs
 
--- src/token.rt:57:1
 returns : tie.Need-returns
 returns c = search operator-here
 

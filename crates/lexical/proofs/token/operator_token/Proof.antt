@@ -7,19 +7,15 @@ use Rattle.lexical.proofs.token.operator_token.Lts as lts
 use Rattle.lexical.proofs.token.operator_at.Reads as operator-at-reads
 use Rattle.lexical.proofs.token.width.Reads as width-reads
 
--- src/token.rt:68:9
 operator-at-requires : tie.Need-operator-at-requires
 operator-at-requires c κs = search needs
 
--- src/token.rt:72:18
 width-requires : tie.Need-width-requires
 width-requires c κs = search needs
 
--- src/token.rt:72:14
 add-t7 : tie.Need-add-t7
 add-t7 c = search operator-fits
 
--- src/token.rt:64:1
 returns : tie.Need-returns
 returns c = search operator-made
 

@@ -6,19 +6,15 @@ use Rattle.lexical.proofs.token.settle.Reads as reads
 use Rattle.lexical.proofs.token.settle.Lts as lts
 use Rattle.lexical.proofs.token.literal_from.Reads as literal-from-reads
 
--- src/token.rt:132:9
 returns : tie.Need-returns
 returns c = search settle-other
 
--- src/token.rt:135:9
 returns-2 : tie.Need-returns-2
 returns-2 c = search settle-line
 
--- src/token.rt:137:5
 literal-from-requires : tie.Need-literal-from-requires
 literal-from-requires c κs = search needs
 
--- src/token.rt:128:1
 returns-3 : tie.Need-returns-3
 returns-3 c = search settle-open
 

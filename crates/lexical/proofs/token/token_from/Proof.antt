@@ -14,71 +14,54 @@ use Rattle.lexical.proofs.token.mark_token.Reads as mark-token-reads
 use Rattle.lexical.proofs.token.number_token.Reads as number-token-reads
 use Rattle.text.proofs.word_end.Reads as word-end-reads
 
--- src/token.rt:243:9
 byte-at-requires : tie.Need-byte-at-requires
 byte-at-requires c κs = search needs
 
--- src/token.rt:244:8
 begins-name-requires : tie.Need-begins-name-requires
 begins-name-requires c κs = search needs
 
--- src/token.rt:245:35
 add-word-end : tie.Need-add-word-end
 add-word-end c = search name-fits
 
--- src/token.rt:245:13
 word-end-requires : tie.Need-word-end-requires
 word-end-requires c κs = search needs
 
--- src/token.rt:246:9
 returns : tie.Need-returns
 returns c = search from-name
 
--- src/token.rt:252:8
 begins-number-requires : tie.Need-begins-number-requires
 begins-number-requires c κs = search needs
 
--- src/token.rt:253:9
 number-token-requires : tie.Need-number-token-requires
 number-token-requires c κs = search digit-passed
 
--- src/token.rt:253:9
 returns-2 : tie.Need-returns-2
 returns-2 c = search from-number
 
--- src/token.rt:255:8
 is-quote-requires : tie.Need-is-quote-requires
 is-quote-requires c κs = search needs
 
--- src/token.rt:256:9
 literal-token-requires : tie.Need-literal-token-requires
 literal-token-requires c κs = search needs
 
--- src/token.rt:256:9
 returns-3 : tie.Need-returns-3
 returns-3 c = search from-literal
 
--- src/token.rt:258:28
 byte-at-requires-2 : tie.Need-byte-at-requires-2
 byte-at-requires-2 c κs = search needs
 
--- src/token.rt:258:9
 common-pair-requires : tie.Need-common-pair-requires
 common-pair-requires c κs = search needs
 
--- src/token.rt:263:18
 add-t14 : tie.Need-add-t14
 add-t14 c = search pair-fits
 
--- src/token.rt:260:9
 returns-4 : tie.Need-returns-4
 returns-4 c = search from-pair
 
--- src/token.rt:266:9
 mark-token-requires : tie.Need-mark-token-requires
 mark-token-requires c κs = search first-byte
 
--- src/token.rt:240:1
 returns-5 : tie.Need-returns-5
 returns-5 c = search from-operator
 

@@ -6,52 +6,42 @@ use Rattle.lexical.proofs.token.width.Tie as tie
 use Rattle.lexical.proofs.token.width.Reads as reads
 use Rattle.lexical.proofs.token.width.Lts as lts
 
--- src/token.rt:23:9
 returns : tie.Need-returns
 unfolding widthOf
 returns c = search (needs, tests)
 
--- src/token.rt:26:9
 returns-2 : tie.Need-returns-2
 unfolding widthOf
 returns-2 c = search (needs, tests)
 
--- src/token.rt:29:9
 returns-3 : tie.Need-returns-3
 unfolding widthOf
 returns-3 c = search (needs, tests)
 
--- src/token.rt:32:9
 returns-4 : tie.Need-returns-4
 unfolding widthOf
 returns-4 c = search (needs, tests)
 
--- src/token.rt:35:9
 returns-5 : tie.Need-returns-5
 unfolding widthOf
 returns-5 c = search (needs, tests)
 
--- src/token.rt:38:9
 returns-6 : tie.Need-returns-6
 unfolding widthOf
 returns-6 c = search (needs, tests)
 
--- src/token.rt:41:9
 returns-7 : tie.Need-returns-7
 unfolding widthOf
 returns-7 c = search (needs, tests)
 
--- src/token.rt:44:9
 returns-8 : tie.Need-returns-8
 unfolding widthOf
 returns-8 c = search (needs, tests)
 
--- src/token.rt:47:9
 returns-9 : tie.Need-returns-9
 unfolding widthOf
 returns-9 c = search (needs, tests)
 
--- src/token.rt:19:1
 returns-10 : tie.Need-returns-10
 unfolding widthOf
 returns-10 c = search (needs, tests)

@@ -6,21 +6,17 @@ use Rattle.lexical.proofs.unit.coded_unit.Tie as tie
 use Rattle.lexical.proofs.unit.coded_unit.Reads as reads
 use Rattle.lexical.proofs.unit.coded_unit.Lts as lts
 
--- src/unit.rt:52:9
 returns : tie.Need-returns
 unfolding coded
 returns c = search (needs, tests)
 
--- src/unit.rt:59:9
 returns-2 : tie.Need-returns-2
 unfolding coded
 returns-2 c = search (needs, tests)
 
--- src/unit.rt:68:15
 cast-t5 : tie.Need-cast-t5
 cast-t5 c = search (needs, tests)
 
--- src/unit.rt:48:1
 returns-3 : tie.Need-returns-3
 unfolding coded
 returns-3 c = search (needs, tests)

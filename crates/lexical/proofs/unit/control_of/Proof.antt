@@ -6,27 +6,22 @@ use Rattle.lexical.proofs.unit.control_of.Tie as tie
 use Rattle.lexical.proofs.unit.control_of.Reads as reads
 use Rattle.lexical.proofs.unit.control_of.Lts as lts
 
--- src/unit.rt:33:9
 returns : tie.Need-returns
 unfolding control
 returns c = search (needs, tests)
 
--- src/unit.rt:36:9
 returns-2 : tie.Need-returns-2
 unfolding control
 returns-2 c = search (needs, tests)
 
--- src/unit.rt:39:9
 returns-3 : tie.Need-returns-3
 unfolding control
 returns-3 c = search (needs, tests)
 
--- src/unit.rt:42:9
 returns-4 : tie.Need-returns-4
 unfolding control
 returns-4 c = search (needs, tests)
 
--- src/unit.rt:29:1
 returns-5 : tie.Need-returns-5
 unfolding control
 returns-5 c = search (needs, tests)

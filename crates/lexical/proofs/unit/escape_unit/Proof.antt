@@ -8,31 +8,24 @@ use Rattle.lexical.proofs.unit.control_of.Reads as control-of-reads
 use Rattle.lexical.proofs.unit.is_octal.Reads as is-octal-reads
 use Rattle.lexical.proofs.unit.octal_unit.Reads as octal-unit-reads
 
--- src/unit.rt:101:9
 returns : tie.Need-returns
 returns c = search escape-nul
 
--- src/unit.rt:107:9
 control-of-requires : tie.Need-control-of-requires
 control-of-requires c κs = search needs
 
--- src/unit.rt:109:9
 returns-2 : tie.Need-returns-2
 returns-2 c = search escape-control
 
--- src/unit.rt:115:8
 is-octal-requires : tie.Need-is-octal-requires
 is-octal-requires c κs = search needs
 
--- src/unit.rt:116:9
 octal-unit-requires : tie.Need-octal-unit-requires
 octal-unit-requires c κs = search needs
 
--- src/unit.rt:116:9
 returns-3 : tie.Need-returns-3
 returns-3 c = search escape-octal
 
--- src/unit.rt:97:1
 returns-4 : tie.Need-returns-4
 returns-4 c = search escape-bare
 

@@ -8,39 +8,30 @@ use Rattle.lexical.proofs.scan.byte_at.Reads as byte-at-reads
 use Rattle.lexical.proofs.scan.skip.Reads as skip-reads
 use Rattle.lexical.proofs.unit.escape_unit.Reads as escape-unit-reads
 
--- src/unit.rt:149:9
 byte-at-requires : tie.Need-byte-at-requires
 byte-at-requires c κs = search needs
 
--- src/unit.rt:151:25
 add-skip : tie.Need-add-skip
 add-skip c = search needs
 
--- src/unit.rt:151:13
 skip-requires : tie.Need-skip-requires
 skip-requires c κs = search needs
 
--- src/unit.rt:154:20
 sub-t8 : tie.Need-sub-t8
 sub-t8 c = search drops-some
 
--- src/unit.rt:152:9
 returns : tie.Need-returns
 returns c = search unit-drops
 
--- src/unit.rt:158:9
 byte-at-requires-2 : tie.Need-byte-at-requires-2
 byte-at-requires-2 c κs = search needs
 
--- src/unit.rt:159:9
 byte-at-requires-3 : tie.Need-byte-at-requires-3
 byte-at-requires-3 c κs = search needs
 
--- src/unit.rt:160:5
 escape-unit-requires : tie.Need-escape-unit-requires
 escape-unit-requires c κs = search needs
 
--- src/unit.rt:144:1
 returns-2 : tie.Need-returns-2
 returns-2 c = search unit-escape
 

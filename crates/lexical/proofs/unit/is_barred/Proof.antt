@@ -6,17 +6,14 @@ use Rattle.lexical.proofs.unit.is_barred.Tie as tie
 use Rattle.lexical.proofs.unit.is_barred.Reads as reads
 use Rattle.lexical.proofs.unit.is_barred.Lts as lts
 
--- src/unit.rt:130:9
 returns : tie.Need-returns
 unfolding barred
 returns c = search (needs, tests)
 
--- src/unit.rt:133:9
 returns-2 : tie.Need-returns-2
 unfolding barred
 returns-2 c = search (needs, tests)
 
--- src/unit.rt:126:1
 returns-3 : tie.Need-returns-3
 unfolding barred
 returns-3 c = search (needs, tests)

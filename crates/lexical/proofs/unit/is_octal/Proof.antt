@@ -6,12 +6,10 @@ use Rattle.lexical.proofs.unit.is_octal.Tie as tie
 use Rattle.lexical.proofs.unit.is_octal.Reads as reads
 use Rattle.lexical.proofs.unit.is_octal.Lts as lts
 
--- src/unit.rt:23:9
 returns : tie.Need-returns
 unfolding octal
 returns c = search (needs, tests)
 
--- src/unit.rt:19:1
 returns-2 : tie.Need-returns-2
 unfolding octal
 returns-2 c = search (needs, tests)

@@ -8,67 +8,51 @@ use Rattle.lexical.proofs.number.digit.Reads as digit-reads
 use Rattle.lexical.proofs.unit.coded_unit.Reads as coded-unit-reads
 use Rattle.lexical.proofs.unit.is_octal.Reads as is-octal-reads
 
--- src/unit.rt:76:8
 is-octal-requires : tie.Need-is-octal-requires
 is-octal-requires c κs = search needs
 
--- src/unit.rt:77:12
 is-octal-requires-2 : tie.Need-is-octal-requires-2
 is-octal-requires-2 c κs = search needs
 
--- src/unit.rt:78:31
 digit-requires : tie.Need-digit-requires
 digit-requires c κs = search needs
 
--- src/unit.rt:78:31
 mul-coded-unit : tie.Need-mul-coded-unit
 mul-coded-unit c = search needs
 
--- src/unit.rt:78:47
 digit-requires-2 : tie.Need-digit-requires-2
 digit-requires-2 c κs = search needs
 
--- src/unit.rt:78:47
 mul-coded-unit-2 : tie.Need-mul-coded-unit-2
 mul-coded-unit-2 c = search needs
 
--- src/unit.rt:78:31
 add-coded-unit : tie.Need-add-coded-unit
 add-coded-unit c = search needs
 
--- src/unit.rt:78:62
 digit-requires-3 : tie.Need-digit-requires-3
 digit-requires-3 c κs = search needs
 
--- src/unit.rt:78:31
 add-coded-unit-2 : tie.Need-add-coded-unit-2
 add-coded-unit-2 c = search needs
 
--- src/unit.rt:78:13
 coded-unit-requires : tie.Need-coded-unit-requires
 coded-unit-requires c κs = search needs
 
--- src/unit.rt:78:13
 returns : tie.Need-returns
 returns c = search octal-three
 
--- src/unit.rt:81:31
 digit-requires-4 : tie.Need-digit-requires-4
 digit-requires-4 c κs = search needs
 
--- src/unit.rt:81:13
 coded-unit-requires-2 : tie.Need-coded-unit-requires-2
 coded-unit-requires-2 c κs = search needs
 
--- src/unit.rt:81:13
 returns-2 : tie.Need-returns-2
 returns-2 c = search octal-two
 
--- src/unit.rt:83:9
 returns-3 : tie.Need-returns-3
 returns-3 c = search octal-short
 
--- src/unit.rt:73:1
 returns-4 : tie.Need-returns-4
 returns-4 c = search octal-one
 

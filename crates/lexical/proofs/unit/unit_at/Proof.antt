@@ -7,35 +7,27 @@ use Rattle.lexical.proofs.unit.unit_at.Lts as lts
 use Rattle.lexical.proofs.unit.escaped_at.Reads as escaped-at-reads
 use Rattle.lexical.proofs.unit.is_barred.Reads as is-barred-reads
 
--- src/unit.rt:168:9
 returns : tie.Need-returns
 returns c = search unit-end
 
--- src/unit.rt:170:13
 shared-slice-read-a : tie.Need-shared-slice-read-a
 shared-slice-read-a c = search needs
 
--- src/unit.rt:172:9
 returns-2 : tie.Need-returns-2
 returns-2 c = search unit-quote
 
--- src/unit.rt:179:9
 escaped-at-requires : tie.Need-escaped-at-requires
 escaped-at-requires c κs = search needs
 
--- src/unit.rt:179:9
 returns-3 : tie.Need-returns-3
 returns-3 c = search needs
 
--- src/unit.rt:181:8
 is-barred-requires : tie.Need-is-barred-requires
 is-barred-requires c κs = search needs
 
--- src/unit.rt:182:9
 returns-4 : tie.Need-returns-4
 returns-4 c = search unit-barred
 
--- src/unit.rt:164:1
 returns-5 : tie.Need-returns-5
 returns-5 c = search unit-plain
 

@@ -5,15 +5,12 @@ use Rattle.lexical.proofs.word.has_room.Tie as tie
 use Rattle.lexical.proofs.word.has_room.Reads as reads
 use Rattle.lexical.proofs.word.has_room.Lts as lts
 
--- src/word.rt:31:9
 returns : tie.Need-returns
 returns c = search room-none
 
--- src/word.rt:33:10
 sub-result : tie.Need-sub-result
 sub-result c = search needs
 
--- src/word.rt:27:1
 returns-2 : tie.Need-returns-2
 returns-2 c = search room-rest
 

@@ -6,19 +6,15 @@ use Rattle.lexical.proofs.word.is_word.Reads as reads
 use Rattle.lexical.proofs.word.is_word.Lts as lts
 use Rattle.lexical.proofs.word.stands_at.Reads as stands-at-reads
 
--- src/word.rt:39:9
 returns : tie.Need-returns
 returns c = search spells-none
 
--- src/word.rt:42:9
 returns-2 : tie.Need-returns-2
 returns-2 c = search spells-short
 
--- src/word.rt:44:5
 stands-at-requires : tie.Need-stands-at-requires
 stands-at-requires c κs = search needs
 
--- src/word.rt:35:1
 returns-3 : tie.Need-returns-3
 returns-3 c = search spells-word
 

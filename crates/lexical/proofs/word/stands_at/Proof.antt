@@ -8,23 +8,18 @@ use Rattle.lexical.proofs.word.has_room.Reads as has-room-reads
 use Rattle.lexical.proofs.word.stands_in.Reads as stands-in-reads
 use Rattle.lexical.proofs.word.stands_past.Reads as stands-past-reads
 
--- src/word.rt:71:8
 has-room-requires : tie.Need-has-room-requires
 has-room-requires c κs = search needs
 
--- src/word.rt:72:9
 stands-in-requires : tie.Need-stands-in-requires
 stands-in-requires c κs = search room-there
 
--- src/word.rt:72:9
 returns : tie.Need-returns
 returns c = search needs
 
--- src/word.rt:74:5
 stands-past-requires : tie.Need-stands-past-requires
 stands-past-requires c κs = search needs
 
--- src/word.rt:68:1
 returns-2 : tie.Need-returns-2
 returns-2 c = search needs
 

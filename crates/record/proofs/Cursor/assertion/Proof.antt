@@ -6,27 +6,21 @@ use Rattle.record.proofs.Cursor.assertion.Reads as reads
 use Rattle.record.proofs.Cursor.assertion.Lts as lts
 use Rattle.record.proofs.Cursor.field.Reads as field-reads
 
--- src/lib.rt:219:13
 returns : tie.Need-returns
 returns c = search assertion-none
 
--- src/lib.rt:221:28
 shared-slice-read-if2 : tie.Need-shared-slice-read-if2
 shared-slice-read-if2 c = search needs
 
--- src/lib.rt:222:13
 returns-2 : tie.Need-returns-2
 returns-2 c = search assertion-standing
 
--- src/lib.rt:224:33
 add-t5 : tie.Need-add-t5
 add-t5 c = search needs
 
--- src/lib.rt:225:9
 field-requires : tie.Need-field-requires
 field-requires c κs = search needs
 
--- src/lib.rt:214:5
 returns-3 : tie.Need-returns-3
 returns-3 c = search assertion-field
 

@@ -7,31 +7,24 @@ use Rattle.record.proofs.Cursor.compliance_value.Lts as lts
 use Rattle.record.proofs.Cursor.plain.Reads as plain-reads
 use Rattle.record.proofs.repeated.Reads as repeated-reads
 
--- src/lib.rt:160:15
 plain-requires : tie.Need-plain-requires
 plain-requires c κs = search needs
 
--- src/lib.rt:161:30
 enum-known-number : tie.Need-enum-known-number
 enum-known-number c = search needs
 
--- src/lib.rt:162:25
 enum-known-value : tie.Need-enum-known-value
 enum-known-value c = search needs
 
--- src/lib.rt:163:20
 repeated-requires : tie.Need-repeated-requires
 repeated-requires c κs = search needs
 
--- src/lib.rt:164:21
 returns : tie.Need-returns
 returns c = search value-again
 
--- src/lib.rt:157:5
 returns-2 : tie.Need-returns-2
 returns-2 c = search value-refused
 
--- src/lib.rt:157:5
 returns-3 : tie.Need-returns-3
 returns-3 c = search value-to
 

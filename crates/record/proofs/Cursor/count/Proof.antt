@@ -6,31 +6,24 @@ use Rattle.record.proofs.Cursor.count.Reads as reads
 use Rattle.record.proofs.Cursor.count.Lts as lts
 use Rattle.record.proofs.wide.Reads as wide-reads
 
--- src/lib.rt:70:13
 returns : tie.Need-returns
 returns c = search count-none
 
--- src/lib.rt:72:22
 shared-slice-read-wide : tie.Need-shared-slice-read-wide
 shared-slice-read-wide c = search needs
 
--- src/lib.rt:72:13
 wide-requires : tie.Need-wide-requires
 wide-requires c κs = search needs
 
--- src/lib.rt:74:13
 returns-2 : tie.Need-returns-2
 returns-2 c = search count-below
 
--- src/lib.rt:77:13
 returns-3 : tie.Need-returns-3
 returns-3 c = search count-above
 
--- src/lib.rt:81:32
 add-t7 : tie.Need-add-t7
 add-t7 c = search needs
 
--- src/lib.rt:65:5
 returns-4 : tie.Need-returns-4
 returns-4 c = search count-to
 

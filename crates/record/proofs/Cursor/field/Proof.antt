@@ -7,27 +7,21 @@ use Rattle.record.proofs.Cursor.field.Lts as lts
 use Rattle.record.proofs.Cursor.content.Reads as content-reads
 use Rattle.record.proofs.Cursor.length.Reads as length-reads
 
--- src/lib.rt:130:15
 length-requires : tie.Need-length-requires
 length-requires c κs = search needs
 
--- src/lib.rt:131:30
 enum-known-number : tie.Need-enum-known-number
 enum-known-number c = search needs
 
--- src/lib.rt:132:25
 enum-known-value : tie.Need-enum-known-value
 enum-known-value c = search needs
 
--- src/lib.rt:132:42
 content-requires : tie.Need-content-requires
 content-requires c κs = search needs
 
--- src/lib.rt:127:5
 returns : tie.Need-returns
 returns c = search field-refused
 
--- src/lib.rt:127:5
 returns-2 : tie.Need-returns-2
 returns-2 c = search field-to
 

@@ -6,35 +6,27 @@ use Rattle.record.proofs.Cursor.length.Reads as reads
 use Rattle.record.proofs.Cursor.length.Lts as lts
 use Rattle.text.proofs.pair_at.Reads as pair-at-reads
 
--- src/lib.rt:91:13
 returns : tie.Need-returns
 returns c = search length-past
 
--- src/lib.rt:93:12
 sub-if2 : tie.Need-sub-if2
 sub-if2 c = search needs
 
--- src/lib.rt:94:13
 returns-2 : tie.Need-returns-2
 returns-2 c = search length-short
 
--- src/lib.rt:96:13
 pair-at-requires : tie.Need-pair-at-requires
 pair-at-requires c κs = search needs
 
--- src/lib.rt:98:13
 returns-3 : tie.Need-returns-3
 returns-3 c = search length-below
 
--- src/lib.rt:101:13
 returns-4 : tie.Need-returns-4
 returns-4 c = length-above _ _ _ _ (c .before .before .before .before .if1 .left) (c .before .before .before .if2 .left) _ (c .before .before .pair-at .ensures) (c .before .if3 .left) (c .if4 .taken)
 
--- src/lib.rt:105:32
 add-t7 : tie.Need-add-t7
 add-t7 c = search needs
 
--- src/lib.rt:86:5
 returns-5 : tie.Need-returns-5
 returns-5 c = search length-to
 

@@ -8,39 +8,30 @@ use Rattle.record.proofs.Cursor.field.Reads as field-reads
 use Rattle.text.proofs.counted_at.Reads as counted-at-reads
 use Rattle.text.proofs.front.Reads as front-reads
 
--- src/lib.rt:140:15
 field-requires : tie.Need-field-requires
 field-requires c κs = search needs
 
--- src/lib.rt:141:30
 enum-known-number : tie.Need-enum-known-number
 enum-known-number c = search needs
 
--- src/lib.rt:142:25
 enum-known-value : tie.Need-enum-known-value
 enum-known-value c = search needs
 
--- src/lib.rt:143:21
 counted-at-requires : tie.Need-counted-at-requires
 counted-at-requires c κs = search needs
 
--- src/lib.rt:144:21
 front-requires : tie.Need-front-requires
 front-requires c κs = search needs
 
--- src/lib.rt:148:29
 add-t15 : tie.Need-add-t15
 add-t15 c = let w = byte-room _ _ _ _ (c .before .before .counted-at .ensures) (c .if1 .taken) in search needs
 
--- src/lib.rt:146:21
 returns : tie.Need-returns
 returns c = search plain-byte
 
--- src/lib.rt:137:5
 returns-2 : tie.Need-returns-2
 returns-2 c = search plain-refused
 
--- src/lib.rt:137:5
 returns-3 : tie.Need-returns-3
 returns-3 c = search plain-to
 

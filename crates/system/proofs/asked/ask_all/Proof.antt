@@ -16,51 +16,39 @@ Inv-loop query requesters pool₀ places₀ direct₀ index₀ i₀ pool places 
 abbrev μ-loop : tie.MeasureT-loop
 μ-loop query requesters pool₀ places₀ direct₀ index₀ i₀ pool places direct index i = length requesters - i
 
--- src/asked.rt:55:5
 loop-holds : tie.Need-loop-holds Inv-loop μ-loop
 loop-holds c = search (needs, all-start)
 
--- src/asked.rt:56:17
 mul-p : tie.Need-mul-p Inv-loop μ-loop
 mul-p c = search needs
 
--- src/asked.rt:56:17
 shared-slice-read-p : tie.Need-shared-slice-read-p Inv-loop μ-loop
 shared-slice-read-p c = search needs
 
--- src/asked.rt:57:50
 counted-at-requires : tie.Need-counted-at-requires Inv-loop μ-loop
 counted-at-requires c κs = search needs
 
--- src/asked.rt:57:9
 ask-requires : tie.Need-ask-requires Inv-loop μ-loop
 ask-requires c κs = search needs
 
--- src/asked.rt:58:9
 add-i : tie.Need-add-i Inv-loop μ-loop
 add-i c = search needs
 
--- src/asked.rt:55:5
 loop-less : tie.Need-loop-less Inv-loop μ-loop
 loop-less c = search needs
 
--- src/asked.rt:55:5
 loop-again : tie.Need-loop-again Inv-loop μ-loop
 loop-again c = (search needs, search needs, search needs, all-more _ _ _ _ _ _ _ _ (c .before .before .before .before .before .before .before .before .before .before .before .before .before .loop .inv .3) (c .before .before .before .before .before .before .before .before .before .before .before .before .loop-test .taken) _ _ _ _ _ _ refl (c .before .before .before .before .before .before .before .counted-at .ensures) (c .before .before .before .before .before .before .ask .ensures))
 
--- src/asked.rt:43:1
 same-length : tie.Need-same-length Inv-loop μ-loop
 same-length c = search needs
 
--- src/asked.rt:43:1
 same-length-2 : tie.Need-same-length-2 Inv-loop μ-loop
 same-length-2 c = search needs
 
--- src/asked.rt:43:1
 same-length-3 : tie.Need-same-length-3 Inv-loop μ-loop
 same-length-3 c = search needs
 
--- src/asked.rt:43:1
 returns : tie.Need-returns Inv-loop μ-loop
 returns c = search all-end
 

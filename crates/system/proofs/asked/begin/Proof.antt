@@ -6,43 +6,33 @@ use Rattle.system.proofs.asked.begin.Lts as lts
 use Rattle.fields.proofs.identifier.enter.Reads as enter-reads
 use Rattle.system.specs.Working.Asking.{begin-full, begin-at}
 
--- src/asked.rt:67:37
 slice-aggregate-enter : tie.Need-slice-aggregate-enter
 slice-aggregate-enter c = search needs
 
--- src/asked.rt:67:11
 enter-requires : tie.Need-enter-requires
 enter-requires c κs = search needs
 
--- src/asked.rt:68:24
 enum-told : tie.Need-enum-told
 enum-told c = search needs
 
--- src/asked.rt:71:13
 enum-known-count : tie.Need-enum-known-count
 enum-known-count c = search needs
 
--- src/asked.rt:64:1
 same-length : tie.Need-same-length
 same-length c = search needs
 
--- src/asked.rt:64:1
 same-length-2 : tie.Need-same-length-2
 same-length-2 c = search needs
 
--- src/asked.rt:64:1
 returns : tie.Need-returns
 returns c = search begin-full
 
--- src/asked.rt:64:1
 same-length-3 : tie.Need-same-length-3
 same-length-3 c = search needs
 
--- src/asked.rt:64:1
 same-length-4 : tie.Need-same-length-4
 same-length-4 c = search needs
 
--- src/asked.rt:64:1
 returns-2 : tie.Need-returns-2
 returns-2 c = search begin-at
 

@@ -5,15 +5,12 @@ use Rattle.system.proofs.each.behind.Reads as reads
 use Rattle.system.proofs.each.behind.Lts as lts
 use Rattle.system.specs.Working.Each.{behind-on, behind-all}
 
--- src/each.rt:87:16
 add-result : tie.Need-add-result
 add-result c = search needs
 
--- src/each.rt:87:9
 returns : tie.Need-returns
 returns c = search behind-on
 
--- src/each.rt:83:1
 returns-2 : tie.Need-returns-2
 returns-2 c = search behind-all
 

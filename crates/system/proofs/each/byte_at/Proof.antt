@@ -5,15 +5,12 @@ use Rattle.system.proofs.each.byte_at.Reads as reads
 use Rattle.system.proofs.each.byte_at.Lts as lts
 use Rattle.system.specs.Working.Each.{byte-past}
 
--- src/each.rt:20:9
 returns : tie.Need-returns
 returns c = search byte-past
 
--- src/each.rt:22:5
 shared-slice-read-result : tie.Need-shared-slice-read-result
 shared-slice-read-result c = search needs
 
--- src/each.rt:16:1
 returns-2 : tie.Need-returns-2
 returns-2 c = search needs
 

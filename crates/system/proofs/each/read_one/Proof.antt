@@ -8,39 +8,30 @@ use Rattle.assertion.proofs.read.Reads as read-reads
 use Rattle.system.proofs.each.standing_at.Reads as standing-at-reads
 use Rattle.text.proofs.counted_at.Reads as counted-at-reads
 
--- src/each.rt:54:9
 standing-at-requires : tie.Need-standing-at-requires
 standing-at-requires c κs = search needs
 
--- src/each.rt:56:9
 counted-at-requires : tie.Need-counted-at-requires
 counted-at-requires c κs = search needs
 
--- src/each.rt:64:9
 slice-aggregate-read : tie.Need-slice-aggregate-read
 slice-aggregate-read c = search needs
 
--- src/each.rt:55:5
 read-requires : tie.Need-read-requires
 read-requires c κs = search needs
 
--- src/each.rt:36:1
 same-length : tie.Need-same-length
 same-length c = search needs
 
--- src/each.rt:36:1
 same-length-2 : tie.Need-same-length-2
 same-length-2 c = search needs
 
--- src/each.rt:36:1
 same-length-3 : tie.Need-same-length-3
 same-length-3 c = search needs
 
--- src/each.rt:36:1
 same-length-4 : tie.Need-same-length-4
 same-length-4 c = search needs
 
--- src/each.rt:36:1
 returns : tie.Need-returns
 returns c = search one-is
 

@@ -6,19 +6,15 @@ use Rattle.system.proofs.each.standing_at.Lts as lts
 use Rattle.system.proofs.each.byte_at.Reads as byte-at-reads
 use Rattle.system.specs.Working.Each.{standing-low}
 
--- src/each.rt:30:9
 byte-at-requires : tie.Need-byte-at-requires
 byte-at-requires c κs = search needs
 
--- src/each.rt:30:9
 returns : tie.Need-returns
 returns c = search standing-low
 
--- src/each.rt:32:5
 byte-at-requires-2 : tie.Need-byte-at-requires-2
 byte-at-requires-2 c κs = search needs
 
--- src/each.rt:26:1
 returns-2 : tie.Need-returns-2
 returns-2 c = search needs
 

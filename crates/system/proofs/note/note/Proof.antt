@@ -7,51 +7,39 @@ use Rattle.system.proofs.note.put_entry.Reads as put-entry-reads
 use Rattle.system.proofs.note.put_row.Reads as put-row-reads
 use Rattle.system.specs.Working.NotingWays.{note-dropped, note-kept}
 
--- src/note.rt:83:28
 enum-known-r : tie.Need-enum-known-r
 enum-known-r c = search needs
 
--- src/note.rt:84:13
 put-entry-requires : tie.Need-put-entry-requires
 put-entry-requires c κs = search needs
 
--- src/note.rt:88:13
 enum-known-r-2 : tie.Need-enum-known-r-2
 enum-known-r-2 c = search needs
 
--- src/note.rt:94:13
 put-entry-requires-2 : tie.Need-put-entry-requires-2
 put-entry-requires-2 c κs = search needs
 
--- src/note.rt:95:17
 put-row-requires : tie.Need-put-row-requires
 put-row-requires c κs = search needs
 
--- src/note.rt:71:1
 same-length : tie.Need-same-length
 same-length c = search needs
 
--- src/note.rt:71:1
 returns : tie.Need-returns
 returns c = search note-dropped
 
--- src/note.rt:71:1
 same-length-2 : tie.Need-same-length-2
 same-length-2 c = search needs
 
--- src/note.rt:71:1
 same-length-3 : tie.Need-same-length-3
 same-length-3 c = search needs
 
--- src/note.rt:71:1
 same-length-4 : tie.Need-same-length-4
 same-length-4 c = search needs
 
--- src/note.rt:71:1
 same-length-5 : tie.Need-same-length-5
 same-length-5 c = search needs
 
--- src/note.rt:71:1
 returns-2 : tie.Need-returns-2
 returns-2 c = search note-kept
 

@@ -6,39 +6,30 @@ use Rattle.system.proofs.note.put_header.Lts as lts
 use Rattle.system.proofs.note.low.Reads as low-reads
 use Rattle.system.specs.Working.NotingWays.{header-none, header-second, header-third, header-in}
 
--- src/note.rt:111:9
 returns : tie.Need-returns
 returns c = search header-none
 
--- src/note.rt:113:16
 mul-size : tie.Need-mul-size
 mul-size c = search needs
 
--- src/note.rt:114:15
 low-requires : tie.Need-low-requires
 low-requires c κs = search needs
 
--- src/note.rt:114:5
 slice-write-page : tie.Need-slice-write-page
 slice-write-page c = search needs
 
--- src/note.rt:115:15
 low-requires-2 : tie.Need-low-requires-2
 low-requires-2 c κs = search needs
 
--- src/note.rt:115:5
 slice-write-page-2 : tie.Need-slice-write-page-2
 slice-write-page-2 c = search header-second
 
--- src/note.rt:116:5
 slice-write-page-3 : tie.Need-slice-write-page-3
 slice-write-page-3 c = search header-third
 
--- src/note.rt:107:1
 same-length : tie.Need-same-length
 same-length c = search needs
 
--- src/note.rt:107:1
 returns-2 : tie.Need-returns-2
 returns-2 c = search header-in
 

@@ -13,125 +13,95 @@ use Rattle.system.proofs.solved.grown.Reads as grown-reads
 use Rattle.system.proofs.solved.solve_rows.Reads as solve-rows-reads
 use Rattle.system.proofs.solved.top_of.Reads as top-of-reads
 
--- src/solved.rt:181:9
 top-of-requires : tie.Need-top-of-requires
 top-of-requires c κs = search needs
 
--- src/solved.rt:182:5
 put-header-requires : tie.Need-put-header-requires
 put-header-requires c κs = search needs
 
--- src/solved.rt:199:9
 slice-aggregate-read-each : tie.Need-slice-aggregate-read-each
 slice-aggregate-read-each c = search needs
 
--- src/solved.rt:200:9
 slice-aggregate-read-each-2 : tie.Need-slice-aggregate-read-each-2
 slice-aggregate-read-each-2 c = search needs
 
--- src/solved.rt:201:9
 slice-aggregate-read-each-3 : tie.Need-slice-aggregate-read-each-3
 slice-aggregate-read-each-3 c = search needs
 
--- src/solved.rt:202:9
 slice-aggregate-read-each-4 : tie.Need-slice-aggregate-read-each-4
 slice-aggregate-read-each-4 c = search needs
 
--- src/solved.rt:189:9
 read-each-requires : tie.Need-read-each-requires
 read-each-requires c κs = search needs
 
--- src/solved.rt:216:13
 front-bytes-requires : tie.Need-front-bytes-requires
 front-bytes-requires c κs = search needs
 
--- src/solved.rt:217:13
 front-bytes-requires-2 : tie.Need-front-bytes-requires-2
 front-bytes-requires-2 c κs = search needs
 
--- src/solved.rt:218:13
 front-places-requires : tie.Need-front-places-requires
 front-places-requires c κs = search needs
 
--- src/solved.rt:219:13
 slice-aggregate-grown : tie.Need-slice-aggregate-grown
 slice-aggregate-grown c = search needs
 
--- src/solved.rt:221:13
 slice-aggregate-grown-2 : tie.Need-slice-aggregate-grown-2
 slice-aggregate-grown-2 c = search needs
 
--- src/solved.rt:222:13
 slice-aggregate-grown-3 : tie.Need-slice-aggregate-grown-3
 slice-aggregate-grown-3 c = search needs
 
--- src/solved.rt:223:13
 slice-aggregate-grown-4 : tie.Need-slice-aggregate-grown-4
 slice-aggregate-grown-4 c = search needs
 
--- src/solved.rt:209:9
 grown-requires : tie.Need-grown-requires
 grown-requires c κs = search needs
 
--- src/solved.rt:209:9
 same-length : tie.Need-same-length
 same-length c = c .before .before .before .before .before .before .before .before .before .before .before .before .before .before .before .before .before .before .before .before .before .before .before .before .before .before .before .before .before .before .before .before .before .read-each .kept .1 .1 .1 .1 .1 .1 .0
 
--- src/solved.rt:209:9
 same-length-2 : tie.Need-same-length-2
 same-length-2 c = c .before .before .before .before .before .before .before .before .before .before .before .before .before .before .before .before .before .before .before .before .before .before .before .before .before .before .before .before .before .before .before .before .before .read-each .kept .1 .1 .1 .1 .1 .1 .1 .0
 
--- src/solved.rt:209:9
 same-length-3 : tie.Need-same-length-3
 same-length-3 c = c .before .before .before .before .before .before .before .before .before .before .before .before .before .before .before .before .before .before .before .before .before .before .before .before .before .before .before .before .before .before .before .before .before .read-each .kept .1 .1 .1 .1 .1 .1 .1 .1 .0
 
--- src/solved.rt:209:9
 same-length-4 : tie.Need-same-length-4
 same-length-4 c = c .before .before .before .before .before .before .grown .kept .1 .1 .1 .1 .1 .1 .1 .1 .1 .1 .1 .1 .1 .1 .0 ∙ c .before .before .before .before .before .before .before .before .before .before .before .before .before .before .before .before .before .before .before .before .before .before .before .before .before .before .before .before .before .before .before .before .before .read-each .kept .1 .1 .1 .1 .1 .1 .1 .1 .1 .1 .1 .1 .1 .0 ∙ c .before .before .before .before .before .before .before .before .before .before .before .before .before .before .before .before .before .before .before .before .before .before .before .before .before .before .before .before .before .before .before .before .before .before .before .before .before .before .before .before .before .before .before .before .put-header .kept .0
 
--- src/solved.rt:209:9
 returns : tie.Need-returns
 returns c =
     fill-rest _ _ _ _ _ _ _ _ _ _ _ _ (c .before .before .before .before .before .before .before .before .before .before .before .before .before .before .before .before .before .before .before .before .before .before .before .before .before .before .before .before .before .before .before .before .before .before .before .before .before .before .before .before .before .before .before .before .before .before .top-of .ensures) _ (c .before .before .before .before .before .before .before .before .before .before .before .before .before .before .before .before .before .before .before .before .before .before .before .before .before .before .before .before .before .before .before .before .before .before .before .before .before .before .before .before .before .before .before .before .put-header .ensures) _ _ _ _ _ _ _ (c .before .before .before .before .before .before .before .before .before .before .before .before .before .before .before .before .before .before .before .before .before .before .before .before .before .before .before .before .before .before .before .before .before .read-each .ensures) (c .before .before .before .before .before .before .before .before .before .before .before .before .before .before .before .before .before .before .if1 .taken)
     _ _ _ (c .before .before .before .before .before .before .before .before .before .before .before .before .before .before .before .before .front-bytes .ensures) (c .before .before .before .before .before .before .before .before .before .before .before .before .before .before .front-bytes2 .ensures) (c .before .before .before .before .before .before .before .before .before .before .before .before .front-places .ensures) _ _ (c .before .before .before .before .before .before .grown .ensures)
 
--- src/solved.rt:229:16
 slice-aggregate-solve-rows : tie.Need-slice-aggregate-solve-rows
 slice-aggregate-solve-rows c = search needs
 
--- src/solved.rt:229:26
 slice-aggregate-solve-rows-2 : tie.Need-slice-aggregate-solve-rows-2
 slice-aggregate-solve-rows-2 c = search needs
 
--- src/solved.rt:229:34
 slice-aggregate-solve-rows-3 : tie.Need-slice-aggregate-solve-rows-3
 slice-aggregate-solve-rows-3 c = search needs
 
--- src/solved.rt:229:41
 slice-aggregate-solve-rows-4 : tie.Need-slice-aggregate-solve-rows-4
 slice-aggregate-solve-rows-4 c = search needs
 
--- src/solved.rt:229:5
 solve-rows-requires : tie.Need-solve-rows-requires
 solve-rows-requires c κs = search needs
 
--- src/solved.rt:162:1
 same-length-5 : tie.Need-same-length-5
 same-length-5 c = search needs
 
--- src/solved.rt:162:1
 same-length-6 : tie.Need-same-length-6
 same-length-6 c = search needs
 
--- src/solved.rt:162:1
 same-length-7 : tie.Need-same-length-7
 same-length-7 c = search needs
 
--- src/solved.rt:162:1
 same-length-8 : tie.Need-same-length-8
 same-length-8 c = c .before .before .before .before .before .before .before .before .before .before .before .before .before .before .before .before .before .before .before .before .read-each .kept .1 .1 .1 .1 .1 .1 .1 .1 .1 .1 .1 .1 .1 .0 ∙ c .before .before .before .before .before .before .before .before .before .before .before .before .before .before .before .before .before .before .before .before .before .before .before .before .before .before .before .before .before .before .before .put-header .kept .0
 
--- src/solved.rt:162:1
 returns-2 : tie.Need-returns-2
 returns-2 c =
     fill-all _ _ _ _ _ _ _ _ _ _ _ _ (c .before .before .before .before .before .before .before .before .before .before .before .before .before .before .before .before .before .before .before .before .before .before .before .before .before .before .before .before .before .before .before .before .before .top-of .ensures) _ (c .before .before .before .before .before .before .before .before .before .before .before .before .before .before .before .before .before .before .before .before .before .before .before .before .before .before .before .before .before .before .before .put-header .ensures) _ _ _ _ _ _ _ (c .before .before .before .before .before .before .before .before .before .before .before .before .before .before .before .before .before .before .before .before .read-each .ensures) (c .before .before .before .before .before .if1 .left) _ (c .solve-rows .ensures)

@@ -9,71 +9,54 @@ use Rattle.system.proofs.solved.copy_places.Reads as copy-places-reads
 use Rattle.system.proofs.solved.solve_rows.Reads as solve-rows-reads
 use Rattle.text.proofs.copy_at.Reads as copy-at-reads
 
--- src/solved.rt:137:19
 slice-aggregate-copy-at : tie.Need-slice-aggregate-copy-at
 slice-aggregate-copy-at c = search needs
 
--- src/solved.rt:137:5
 copy-at-requires : tie.Need-copy-at-requires
 copy-at-requires c κs = search needs
 
--- src/solved.rt:138:19
 slice-aggregate-copy-at-2 : tie.Need-slice-aggregate-copy-at-2
 slice-aggregate-copy-at-2 c = search needs
 
--- src/solved.rt:138:5
 copy-at-requires-2 : tie.Need-copy-at-requires-2
 copy-at-requires-2 c κs = search needs
 
--- src/solved.rt:139:17
 slice-aggregate-copy-places : tie.Need-slice-aggregate-copy-places
 slice-aggregate-copy-places c = search needs
 
--- src/solved.rt:139:5
 copy-places-requires : tie.Need-copy-places-requires
 copy-places-requires c κs = search needs
 
--- src/solved.rt:147:9
 slice-aggregate-read-each : tie.Need-slice-aggregate-read-each
 slice-aggregate-read-each c = search needs
 
--- src/solved.rt:148:9
 slice-aggregate-read-each-2 : tie.Need-slice-aggregate-read-each-2
 slice-aggregate-read-each-2 c = search needs
 
--- src/solved.rt:149:9
 slice-aggregate-read-each-3 : tie.Need-slice-aggregate-read-each-3
 slice-aggregate-read-each-3 c = search needs
 
--- src/solved.rt:140:9
 read-each-requires : tie.Need-read-each-requires
 read-each-requires c κs = search needs
 
--- src/solved.rt:158:5
 solve-rows-requires : tie.Need-solve-rows-requires
 solve-rows-requires c κs = search needs
 
--- src/solved.rt:113:1
 same-length : tie.Need-same-length
 same-length c = search needs
 
--- src/solved.rt:113:1
 same-length-2 : tie.Need-same-length-2
 same-length-2 c = search needs
 
--- src/solved.rt:113:1
 same-length-3 : tie.Need-same-length-3
 same-length-3 c = search needs
 
--- src/solved.rt:113:1
 same-length-4 : tie.Need-same-length-4
 same-length-4 c = search needs
 
--- src/solved.rt:113:1
 same-length-5 : tie.Need-same-length-5
 same-length-5 c = search needs
 
--- src/solved.rt:113:1
 returns : tie.Need-returns
 returns c =
     grown-is _ _ _ _ _ _ _ _ _ _ _ _ _ _ _ _ (laid-is _ _ _ _ (c .before .before .before .before .before .before .before .before .before .before .before .before .before .before .before .before .before .before .before .before .before .before .before .before .before .before .before .before .before .before .before .before .before .before .copy-at .ensures)) (laid-is _ _ _ _ (c .before .before .before .before .before .before .before .before .before .before .before .before .before .before .before .before .before .before .before .before .before .before .before .before .before .before .before .before .before .before .before .copy-at2 .ensures)) (laid-is _ _ _ _ (c .before .before .before .before .before .before .before .before .before .before .before .before .before .before .before .before .before .before .before .before .before .before .before .before .before .before .before .before .copy-places .ensures))

@@ -8,31 +8,24 @@ use Rattle.compliance.proofs.solve.Reads as solve-reads
 use Rattle.system.proofs.solved.front_bytes.Reads as front-bytes-reads
 use Rattle.system.proofs.solved.front_pairs.Reads as front-pairs-reads
 
--- src/solved.rt:103:9
 front-pairs-requires : tie.Need-front-pairs-requires
 front-pairs-requires c κs = search needs
 
--- src/solved.rt:104:9
 front-bytes-requires : tie.Need-front-bytes-requires
 front-bytes-requires c κs = search needs
 
--- src/solved.rt:105:9
 front-pairs-requires-2 : tie.Need-front-pairs-requires-2
 front-pairs-requires-2 c κs = search needs
 
--- src/solved.rt:106:9
 front-pairs-requires-3 : tie.Need-front-pairs-requires-3
 front-pairs-requires-3 c κs = search needs
 
--- src/solved.rt:107:9
 front-bytes-requires-2 : tie.Need-front-bytes-requires-2
 front-bytes-requires-2 c κs = search needs
 
--- src/solved.rt:102:5
 solve-requires : tie.Need-solve-requires
 solve-requires c κs = search needs
 
--- src/solved.rt:91:1
 returns : tie.Need-returns
 returns c = search rows-are
 

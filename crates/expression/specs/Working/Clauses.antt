@@ -1,4 +1,4 @@
--- What the machine's operations give: those of expressions, and those that bring a clause to a rank. Assumes nothing.
+-- What the numbers of the machine's operations give: those of expressions, and those that bring a clause to a rank. Assumes nothing.
 use mathlib.Core.List.{List}
 use Prim.Native.Nat.{ℕ, max}
 use lib.Dec.{eqb, leb}
@@ -6,12 +6,9 @@ use Rattle.text.specs.Choice.{pick}
 use Rattle.syntax.specs.Op.{CONVERT, NEGATE, OPPOSITE, EITHER, VALUED, NESTED}
 use Rattle.expression.specs.Value.{Value, rank, operand}
 use Rattle.expression.specs.Operands.{rankIn}
-use Rattle.expression.specs.Operations.{binaryOf, converted, negative, opposite}
+use Rattle.expression.specs.Operations.{converted, negative, opposite}
 use Rattle.expression.specs.Conditions.{rankOf, gate, top}
-
--- the higher of two ranks: a clause's is brought to its program's
-abbrev pub RAISE : ℕ
-RAISE = 34
+use Rattle.expression.specs.Working.Numbered.{binaryBy}
 
 -- an operation on one value: an expression's, or a clause that is a test
 unfoldable pub applied : List (List ℕ) → ℕ → Value → Value
@@ -23,6 +20,6 @@ applied vals op v =
 -- an operation on two values: an expression's, or a clause with a string or with a program
 unfoldable pub combined : List (List ℕ) → ℕ → Value → Value → Value
 combined vals op v w =
-    pick (leb op EITHER) (binaryOf op v w)
+    pick (leb op EITHER) (binaryBy op v w)
     (pick (eqb op VALUED) (rank (gate v (rankOf vals w)))
     (pick (eqb op NESTED) (rank (gate v (rankIn (operand w)))) (rank (max (rankIn (operand v)) (rankIn (operand w))))))
