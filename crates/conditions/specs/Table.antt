@@ -4,7 +4,7 @@ use Prim.Native.Nat.{ℕ, _+_}
 use lib.Dec.{eqb, ltb, leb}
 use Rattle.text.specs.Choice.{pick}
 use Rattle.lexical.specs.Kind
-use Rattle.syntax.specs.Operator.{Unary, Binary, Side, Relation, Sort, a-string, an-integer, a-test, unaryTakes, unaryGives, binaryTakes, binaryGives}
+use Rattle.syntax.specs.Operator.{Unary, Binary, Side, Sort, a-string, an-integer, a-test, binaryTakes}
 use Rattle.syntax.specs.Operator as Operator
 
 -- what is wanted: a test, a string or an integer

@@ -1,14 +1,13 @@
 -- Expressions are read to their end or to a fault of document 01, at most an entry a byte, in a depth that brackets and rows bound. Assumes nothing.
-use mathlib.Core.Path.{_≡_, refl}
-use mathlib.Core.Bool.{Bool, true, false}
+use mathlib.Core.Path.{_≡_}
 use mathlib.Core.List.{List}
 use Prim.Native.Nat.{ℕ, zero, suc, _+_, _-_, _*_, _<_, _≤_}
 use native.Mathlib.Omega.{arith}
 use lib.Dec.{eqb, leb}
 use lib.ListN.{length}
 use borrow.Author.Tests.{leb-true, leb-false, eqb-true}
-use Rattle.text.specs.Choice.{pick, split}
-use Rattle.text.specs.Loop.{Step, next, done, loop}
+use Rattle.text.specs.Choice.{split}
+use Rattle.text.specs.Loop.{Step}
 use Rattle.lexical.specs.Kind
 use Rattle.lexical.specs.Bounds.{chosen}
 use Rattle.lexical.specs.declared.token.Token.{Token}
@@ -17,12 +16,11 @@ use Rattle.syntax.specs.Operation.{unaryNumber, binaryNumber}
 use Rattle.conditions.specs.Table
 use Rattle.conditions.specs.Working.Numbered
 use Rattle.conditions.specs.Word.{nextAt}
-use Rattle.conditions.specs.Working.Emit.{Ran, ran, onFound, refused, settledTop, settled, finishAt, closedAt}
+use Rattle.conditions.specs.Working.Emit.{Ran, ran, settledTop, settled, finishAt, closedAt}
 use Rattle.conditions.specs.Working.Expression
-use Rattle.conditions.specs.Working.Pace.{Sound, within, real, next-sound, next-after, debt, debt-most, settled-most, Paced, paced-aside, paced-found, paced-refused, paced-on, finish-paced, leaf-paced, seven, eight, Goes, goes-on, ends, loop-holds}
+use Rattle.conditions.specs.Working.Pace.{Sound, real, next-sound, next-after, debt, settled-most, Paced, paced-aside, paced-found, paced-refused, paced-on, finish-paced, leaf-paced, seven, eight, Goes, goes-on, ends, loop-holds}
 use Rattle.conditions.specs.Working.TieTable.{operator-number, prefix-number, unary-row, unary-want, right-want, right-level, binds-number, alike-prefix, alike-infix}
 use Rattle.conditions.specs.Working.Reach.{allowed-real, spread, spread-level, operand-level-most, prefix-level, operand-wanted, inside-most, inside-wanted, level-most, binds-level, operator-token, right-wanted}
-use Rattle.conditions.specs.declared.emit.Out.{Out}
 use Rattle.conditions.specs.declared.emit.Out.the-variants.{Found, Aside}
 
 -- the depth that an expression needs: 16 brackets, seven levels, and 16 prefix operators in a row at each

@@ -3,11 +3,10 @@ use mathlib.Core.Path.{_≡_, refl}
 use mathlib.Core.Bool.{Bool, true, false}
 use mathlib.Core.List.{List}
 use Prim.Native.Nat.{ℕ, zero, suc, _+_, _-_, _<_, _≤_}
-use native.Mathlib.Omega.{arith}
 use lib.Dec.{eqb, leb}
 use lib.ListN.{length}
 use Rattle.text.specs.Choice.{pick}
-use Rattle.text.specs.Loop.{Step, next, done, loop}
+use Rattle.text.specs.Loop.{Step}
 use Rattle.lexical.specs.Kind
 use Rattle.lexical.specs.declared.token.Token.{Token}
 use Rattle.syntax.specs.Operator.{Unary, Binary, unaryTakes, unaryGives, binaryTakes, binaryGives}
@@ -15,21 +14,18 @@ use Rattle.syntax.specs.Operation.{unaryNumber, binaryNumber}
 use Rattle.syntax.specs.Operation as Operation
 use Rattle.syntax.specs.Theorems.Numbers.{number-fits}
 use Rattle.syntax.specs.Expr.{Expr, unary, binary}
-use Rattle.syntax.specs.Code.{Codes}
 use Rattle.conditions.specs.Table
 use Rattle.conditions.specs.Word.{nextAt}
 use Rattle.syntax.specs.Parsed.{Parsed, ok, aside, unexpected}
-use Rattle.conditions.specs.Parsed.{Part, part, onPart}
-use Rattle.conditions.specs.Operand.{readLeaf, settledTree, applied}
+use Rattle.conditions.specs.Parsed.{Part, part}
+use Rattle.conditions.specs.Operand.{settledTree, applied}
 use Rattle.conditions.specs.Expression as Read
-use Rattle.conditions.specs.Working.Emit.{Ran, ran, onFound, refused, settledTop, settled, finishAt, closedAt}
-use Rattle.conditions.specs.Working.Leaf.{leafRead}
+use Rattle.conditions.specs.Working.Emit.{Ran, ran, refused, settledTop, settled, finishAt, closedAt}
 use Rattle.conditions.specs.Working.Expression as Write
 use Rattle.conditions.specs.Working.Written.{Grown, keeps-self, kept, under}
 use Rattle.conditions.specs.Working.Same.{PartCodes, Same, same-aside, same-part, same-refused, same-on, both, start-within, Steps, both-next, both-done, loop-same}
 use Rattle.conditions.specs.Working.TieTable.{alike-prefix, alike-infix, operator-number, prefix-number, unary-row, unary-want, binary-row, right-want, right-level, binds-number}
 use Rattle.conditions.specs.Working.TieOperand.{leaf-same, settle-grown, unary-same, binary-same}
-use Rattle.conditions.specs.declared.emit.Out.{Out}
 use Rattle.conditions.specs.declared.emit.Out.the-variants.{Found, Aside}
 
 module _ (s : List ℕ) (short : length s < 65536) where

@@ -1,5 +1,5 @@
 -- Operands of one token and operators belong to their code. Assumes nothing.
-use mathlib.Core.Path.{_≡_, refl, sym, ap, _∙_}
+use mathlib.Core.Path.{_≡_, refl, sym}
 use mathlib.Core.Bool.{Bool, true, false}
 use mathlib.Core.List.{List, [], _∷_, _++_}
 use Prim.Native.Nat.{ℕ, _+_, _<_, _≤_}
@@ -23,15 +23,14 @@ use Rattle.conditions.specs.Table.{sortOf}
 use Rattle.conditions.specs.Table
 use Rattle.conditions.specs.Working.Numbered
 use Rattle.conditions.specs.Word.{nextAt, wordSort}
-use Rattle.syntax.specs.Parsed.{Parsed, ok, aside, unexpected}
-use Rattle.conditions.specs.Parsed.{Part, part}
+use Rattle.syntax.specs.Parsed.{ok}
+use Rattle.conditions.specs.Parsed.{part}
 use Rattle.conditions.specs.Operand.{readLiteral, readName, readDigits, readFloat, readLeaf, settledTree, applied}
-use Rattle.conditions.specs.Working.Emit.{Ran, ran, refused, above, put, settledTop, settled, finishAt}
+use Rattle.conditions.specs.Working.Emit.{Ran, ran, above, put, settledTop, settled, finishAt}
 use Rattle.conditions.specs.Working.Leaf.{literalRead, nameRead, digitsRead, floatRead, leafRead, leafFound, nameAs}
 use Rattle.conditions.specs.Working.Written.{Grown, Then, then, grown-as, grown-then, grown-none, grown-put, append-assoc, keeps-self, kept, under}
 use Rattle.conditions.specs.Working.Same.{PartCodes, whole, bare, Same, same-aside, same-part, same-refused, both, start-within}
-use Rattle.conditions.specs.declared.emit.Out.{Out}
-use Rattle.conditions.specs.declared.emit.Out.the-variants.{Found, Aside}
+use Rattle.conditions.specs.declared.emit.Out.the-variants.{Found}
 
 pub pick-small : (n : ℕ) (f : Bool) (a b : ℕ) → a < n → b < n → pick f a b < n
 pick-small n true a b h k = h

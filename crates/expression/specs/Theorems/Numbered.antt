@@ -9,7 +9,7 @@ use Rattle.syntax.specs.Operation.{unaryNumber, binaryNumber}
 use Rattle.expression.specs.Value.{Value}
 use Rattle.expression.specs.Operations.{relates, onTexts, onIntegers, unaryOf, binaryOf}
 use Rattle.expression.specs.Working.Numbered.{relatesBy, arithmetic, textual, logical, ofTexts, ofIntegers, ofTests, isTextual, binaryBy}
-use Rattle.expression.specs.Working.Clauses.{applied, combined}
+use Rattle.expression.specs.Working.Clauses.{applied}
 
 -- the machine looks "$" up by itself
 pub unary-number : (vals : List (List ℕ)) (look : List ℕ → List ℕ) (op : Unary) (v : Value) → isLookup op ≡ false → applied vals (unaryNumber op) v ≡ unaryOf look op v

@@ -7,7 +7,7 @@ use native.Mathlib.Omega.{arith}
 use lib.Dec.{eqb, leb, ltb}
 use lib.ListN.{length}
 use borrow.Author.Tests.{eqb-true, leb-true, leb-false, ltb-true, ltb-false}
-use Rattle.text.specs.Choice.{pick, split, clash}
+use Rattle.text.specs.Choice.{pick, split}
 use Rattle.text.specs.Loop.{Step}
 use Rattle.lexical.specs.Kind
 use Rattle.lexical.specs.Bounds.{chosen}

@@ -7,7 +7,7 @@ use native.Mathlib.Omega.{arith}
 use lib.Dec.{eqb, leb, ltb}
 use lib.ListN.{length, take, drop, length-append}
 use lib.Seq.{take-at, drop-at, getD-append-add, take-append-add}
-use borrow.Author.Tests.{le-ltb, le-leb, eq-eqb, ltb-false}
+use borrow.Author.Tests.{le-ltb, le-leb, ltb-false}
 use Rattle.text.specs.Choice.{pick, split}
 use Rattle.syntax.specs.Operator as Operator
 use Rattle.expression.specs.Value.{Value, text, integer, test, rank, fault, operand, bytesOf, onText}

@@ -1,6 +1,6 @@
 -- Working laws: how many bytes the values of operations have. Assumes nothing.
 use mathlib.Core.Path.{_≡_, refl}
-use mathlib.Core.Bool.{Bool, true, false, not}
+use mathlib.Core.Bool.{Bool, true, false}
 use mathlib.Core.List.{List, [], _++_}
 use Prim.Native.Nat.{ℕ, _≤_}
 use native.Mathlib.Omega.{arith}
@@ -9,18 +9,17 @@ use lib.ListN.{length, take}
 use lib.Seq.{take-length}
 use borrow.Author.Tests.{ltb-false, ne-eqb}
 use Rattle.text.specs.Choice.{pick, split}
-use Rattle.text.specs.Decimal.{integer as signed, decimal}
 use Rattle.text.specs.declared.Integer.{Integer}
 use Rattle.syntax.specs.Operator.{Unary, Binary, unaryGives, binaryGives}
 use Rattle.syntax.specs.Operator as Operator
 use Rattle.syntax.specs.Operation.{comparisonNumber, binaryNumber}
 use Rattle.syntax.specs.Theorems.Numbers.{comparison-between}
 use Rattle.syntax.specs.Expr.{Expr, literal, name, number, truth, unary, binary}
-use Rattle.expression.specs.Value.{Value, text, integer, test, rank, fault, bytesOf, onText, onInteger, onTest}
+use Rattle.expression.specs.Value.{Value, text, integer, test, rank, fault, bytesOf, onText}
 use Rattle.expression.specs.Integers.{ranged}
 use Rattle.expression.specs.Names.{Environment, lookup}
 use Rattle.expression.specs.Operations.{held, converted, negative, opposite, unaryOf}
-use Rattle.expression.specs.Working.Numbered.{arithmetic, textual, logical, ofTexts, ofIntegers, ofTests, isTextual, binaryBy}
+use Rattle.expression.specs.Working.Numbered.{textual, ofTexts, ofIntegers, ofTests, isTextual, binaryBy}
 use Rattle.expression.specs.Conditions.{evaluate}
 use Rattle.expression.specs.Working.Clauses.{applied, combined}
 use Rattle.expression.specs.Theorems.Numbered.{binary-number}
