@@ -28,17 +28,33 @@ pub struct Kept {
     pub metadata: Metadata,
 }
 
+/// How often a file that is replaced while it is opened is opened again.
+const ATTEMPTS: usize = 100;
+
 pub fn read(paths: &Paths, access: Access) -> Result<Kept, Trouble> {
+    for _ in 0..ATTEMPTS {
+        if let Some(kept) = attempt(paths, access)? {
+            return Ok(kept);
+        }
+    }
+    Err(Trouble::file(format!("{}: this file is replaced again and again while it is read", paths.shown())))
+}
+
+/// Nothing where another call has replaced the file since it was opened: it has no name any more.
+fn attempt(paths: &Paths, access: Access) -> Result<Option<Kept>, Trouble> {
     let file = open(paths, access)?;
     let with = |error| Trouble::with(&paths.shown(), &error);
     let metadata = file.metadata().map_err(with)?;
+    if metadata.nlink() == 0 {
+        return Ok(None);
+    }
     if let Some(why) = unfit(&metadata, access) {
         return Err(Trouble::file(format!("{}: {why}", paths.shown())));
     }
     // One byte more than a register has, to know whether there are more.
     let bytes = taken(&mut &file, BYTES + 1).map_err(with)?.bytes;
     match Register::new(&bytes) {
-        Ok(register) => Ok(Kept { register, metadata }),
+        Ok(register) => Ok(Some(Kept { register, metadata })),
         Err(refusal) => {
             let (number, place, words) = (refusal.number, refusal.place, refused::no_register(refusal, &bytes));
             let file = paths.shown();
@@ -67,7 +83,7 @@ fn unfit(metadata: &Metadata, access: Access) -> Option<&'static str> {
         _ if metadata.is_symlink() => Some("this is a symbolic link; name the file itself"),
         _ if metadata.is_dir() => Some("this is a directory"),
         _ if !metadata.is_file() => Some("this is no regular file"),
-        Access::Write if metadata.nlink() != 1 => {
+        Access::Write if metadata.nlink() > 1 => {
             Some("this file has several names (hard links), and only one of them would get the new register")
         }
         Access::Write if metadata.permissions().readonly() => Some("this file is closed to writing"),
