@@ -81,8 +81,8 @@ fn rest_from(id: &[u8], k: usize) -> &[u8]
     &id[k..]
 }
 
-// Are these the same principal, where their bytes may differ?
-fn same_key(a: &[u8], b: &[u8]) -> bool
+// Are these the same principal? Mostly their bytes are the same, or their lengths differ.
+pub fn same_principal(a: &[u8], b: &[u8]) -> bool
     ensures { λ r. ⌜ r ≡ same (now (a .entry)) (now (b .entry)) ⌝ }
 {
     if a.len() != b.len() {
@@ -105,16 +105,6 @@ fn same_key(a: &[u8], b: &[u8]) -> bool
         return text::same_bytes(rest_from(a, k), rest_from(b, k));
     }
     false
-}
-
-// Are these the same principal? Mostly their bytes are the same; all else stands apart, so that this much is done where it is called.
-pub fn same_principal(a: &[u8], b: &[u8]) -> bool
-    ensures { λ r. ⌜ r ≡ same (now (a .entry)) (now (b .entry)) ⌝ }
-{
-    if text::same_bytes(a, b) {
-        return true;
-    }
-    same_key(a, b)
 }
 
 // Are these the bytes of POLICY?
