@@ -86,7 +86,7 @@ fn place_at(s: &[u8], at: usize) -> Place
 }
 
 // The register in bytes that are one. It is filled from its last place to its first.
-pub fn read(s: &[u8]) -> Register
+pub(crate) fn read(s: &[u8]) -> Register
     requires { ⌜ length (now s) ≡ 841 ⌝ }
     ensures { λ r. ⌜ contents r ≡ record { entries = entriesAt 64 (now (s .entry)) 9; issued = eightAt (now (s .entry)) 1 } ⌝ }
 {
@@ -202,7 +202,7 @@ fn put_places(bytes: &mut [u8], register: Register)
 }
 
 // Writes a register.
-pub fn write(bytes: &mut [u8], register: Register)
+pub(crate) fn write(bytes: &mut [u8], register: Register)
     requires { ⌜ length (now bytes) ≡ 841 ⌝ }
     ensures { λ _. ⌜ now (bytes .exit) ≡ encode (contents register) ⌝ }
 {
