@@ -21,6 +21,7 @@ pub mod Filled
 pub mod Solved
 pub mod Answers
 pub mod More
+pub mod Paper
 pub mod Hearing
 pub mod Instances
 pub mod PaperInstances
