@@ -8,6 +8,7 @@ ghost use Rattle.pattern.specs.Working.Scan as S;
 ghost use Rattle.pattern.specs.Working.Parse as R;
 ghost use Rattle.pattern.specs.Working.Sim as M;
 ghost use Rattle.pattern.specs.Verdict.{Verdict};
+ghost use Rattle.pattern.specs.Test.{testOf};
 
 // A set of places of a pattern: 256 bits.
 pub struct Places {
@@ -1013,6 +1014,7 @@ fn test_with(t: &mut [u64], p: &[u8], s: &[u8]) -> Answer
 // Whether the pattern p matches anywhere in s, or is no pattern.
 pub fn pattern_test(p: &[u8], s: &[u8]) -> Answer
     ensures { λ r. ⌜ Verdict (now (p .entry)) (now (s .entry)) r ⌝ }
+    ensures { λ r. ⌜ r ≡ testOf (now (p .entry)) (now (s .entry)) ⌝ }
 {
     let mut t = [0u64; 1024];
     test_with(&mut t, p, s)

@@ -77,7 +77,7 @@ module _ (P : Value → Type 0) where
       pub of-tests : (op : ℕ) (v w : Value) → P (ofTests op v w)
       unfolding ofTests logical
       of-tests op v w =
-          of-test (λ t. logical op t w) v (λ t. of-pick (eqb op 28) (of-pick t (of-test test w told) (told false)) (of-pick t (told true) (of-test test w told)))
+          of-test (λ t. logical op t w) v (λ t. of-pick (eqb op 29) (of-pick t (of-test test w told) (told false)) (of-pick t (told true) (of-test test w told)))
 
       pub of-converted : (v : Value) → P (converted v)
       unfolding converted
@@ -133,8 +133,8 @@ binary-unranked : (op : ℕ) (v w : Value) → Unranked (binaryBy op v w)
 unfolding binaryBy
 binary-unranked op v w =
     of-pick Unranked (isTextual op) (texts-unranked op v w)
-    (of-pick Unranked (leb op 27) (of-integers Unranked fault-unranked integer-unranked test-unranked op v w)
-    (of-pick Unranked (leb op 29) (of-tests Unranked fault-unranked integer-unranked test-unranked op v w) fault-unranked))
+    (of-pick Unranked (leb op 28) (of-integers Unranked fault-unranked integer-unranked test-unranked op v w)
+    (of-pick Unranked (leb op 30) (of-tests Unranked fault-unranked integer-unranked test-unranked op v w) fault-unranked))
 
 value-unranked : (env : Environment) (e : Expr) → Unranked (evaluate env e)
 unfolding evaluate

@@ -116,9 +116,9 @@ front-texts op fault w = front-plain fault _ plain-fault
 pub front-combined : (vals : List (List ℕ)) (op : ℕ) (v w : Value) → Front (combined vals op v w) (bytesOf v ++ bytesOf w)
 unfolding combined binaryBy
 front-combined vals op v w =
-    front-pick (leb op 29) {a = binaryBy op v w}
-    (front-pick (isTextual op) {a = ofTexts op v w} (front-texts op v w) (front-plain _ _ (plain-pick (leb op 27) (plain-integers op v w) (plain-pick (leb op 29) (plain-tests op v w) plain-fault))))
-    (front-plain _ _ (plain-pick (eqb op 32) (plain-rank _) (plain-pick (eqb op 33) (plain-rank _) (plain-rank _))))
+    front-pick (leb op 30) {a = binaryBy op v w}
+    (front-pick (isTextual op) {a = ofTexts op v w} (front-texts op v w) (front-plain _ _ (plain-pick (leb op 28) (plain-integers op v w) (plain-pick (leb op 30) (plain-tests op v w) plain-fault))))
+    (front-plain _ _ (plain-pick (eqb op 33) (plain-rank _) (plain-pick (eqb op 34) (plain-rank _) (plain-rank _))))
 
 -- a value of at most 4,096 bytes
 record Short (v : Value) : Type 0 where
@@ -148,7 +148,7 @@ short-binary : (op : ℕ) (v w : Value) → Short (binaryBy op v w)
 unfolding binaryBy
 short-binary op v w =
     short-pick (isTextual op) {a = ofTexts op v w} (short-texts op v w)
-    (short-plain _ (plain-pick (leb op 27) (plain-integers op v w) (plain-pick (leb op 29) (plain-tests op v w) plain-fault)))
+    (short-plain _ (plain-pick (leb op 28) (plain-integers op v w) (plain-pick (leb op 30) (plain-tests op v w) plain-fault)))
 
 plain-texts : (op : ℕ) (v w : Value) → eqb op 9 ≡ false → Plain (ofTexts op v w)
 unfolding ofTexts textual
@@ -158,7 +158,7 @@ plain-texts op v w h =
 plain-binary : (op : ℕ) (v w : Value) → eqb op 9 ≡ false → Plain (binaryBy op v w)
 unfolding binaryBy
 plain-binary op v w h =
-    plain-pick (isTextual op) (plain-texts op v w h) (plain-pick (leb op 27) (plain-integers op v w) (plain-pick (leb op 29) (plain-tests op v w) plain-fault))
+    plain-pick (isTextual op) (plain-texts op v w h) (plain-pick (leb op 28) (plain-integers op v w) (plain-pick (leb op 30) (plain-tests op v w) plain-fault))
 
 -- a value has at most the span of what its operator gives
 span-unary : (look : List ℕ → List ℕ) (op : Unary) (v : Value) → length (bytesOf (unaryOf look op v)) ≤ spanOf (unaryGives op)
@@ -177,8 +177,8 @@ span-binary Operator.remainder v w = rw (plain-binary 13 v w refl .none) (omega 
 span-binary Operator.plus v w = rw (plain-binary 14 v w refl .none) (omega arith)
 span-binary Operator.minus v w = rw (plain-binary 15 v w refl .none) (omega arith)
 span-binary (Operator.comparison side r) v w = rw (plain-binary (comparisonNumber side r) v w (ne-eqb (comparisonNumber side r) 9 (λ z. omega (arith, z, comparison-between side r .0))) .none) (omega arith)
-span-binary Operator.both v w = rw (plain-binary 28 v w refl .none) (omega arith)
-span-binary Operator.either v w = rw (plain-binary 29 v w refl .none) (omega arith)
+span-binary Operator.both v w = rw (plain-binary 29 v w refl .none) (omega arith)
+span-binary Operator.either v w = rw (plain-binary 30 v w refl .none) (omega arith)
 
 -- an expression's value has at most its span
 pub within-span : (env : Environment) (e : Expr) → length (bytesOf (evaluate env e)) ≤ span e

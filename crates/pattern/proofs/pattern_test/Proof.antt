@@ -1,4 +1,5 @@
 use Rattle.pattern.specs.Working.Verdicts.{zeros-verdict}
+use Rattle.pattern.specs.Test.{test-is}
 use borrow.Author.Needs.{needs}
 use Rattle.pattern.proofs.pattern_test.Statement.{statement}
 use Rattle.pattern.proofs.pattern_test.Tie as tie
@@ -13,7 +14,7 @@ test-with-requires : tie.Need-test-with-requires
 test-with-requires c κs = search needs
 
 returns : tie.Need-returns
-returns c = search zeros-verdict
+returns c = (search zeros-verdict, search test-is)
 
 pub pattern-test-spec : {M : Type 1} → statement M
 pattern-test-spec = tie.close (tie.spec slice-aggregate-test-with test-with-requires returns)
