@@ -17,6 +17,7 @@ use Rattle.expression.specs.Operands.{kindOf}
 use Rattle.expression.specs.Integers.{ranged, apart, plus, minus, times, over, remainder, power, negated}
 use Rattle.expression.specs.Names.{Environment, lookup}
 use Rattle.expression.specs.Operations.{held, converted, negative, opposite, unaryOf}
+use Rattle.expression.specs.Theorems.Matched.{matched-cases}
 use Rattle.expression.specs.Working.Numbered.{arithmetic, textual, logical, ofTexts, ofIntegers, ofTests, isTextual, binaryBy}
 use Rattle.expression.specs.Conditions.{evaluate}
 use Rattle.expression.specs.Theorems.Numbered.{binary-number}
@@ -127,7 +128,8 @@ texts-unranked : (op : ℕ) (v w : Value) → Unranked (ofTexts op v w)
 unfolding ofTexts textual
 texts-unranked op v w =
     of-text Unranked fault-unranked (λ a. onText (λ b. textual op a b) w) v
-    (λ a. of-text Unranked fault-unranked (λ b. textual op a b) w (λ b. of-pick Unranked (eqb op 9) (held-unranked (a ++ b)) (test-unranked _)))
+    (λ a. of-text Unranked fault-unranked (λ b. textual op a b) w (λ b. of-pick Unranked (eqb op 9) (held-unranked (a ++ b))
+    (of-pick Unranked (eqb op 22) (matched-cases Unranked fault-unranked test-unranked a b) (test-unranked _))))
 
 binary-unranked : (op : ℕ) (v w : Value) → Unranked (binaryBy op v w)
 unfolding binaryBy
