@@ -1,8 +1,10 @@
--- Some examples of M01 to M05, in the definition's words: the matcher is computed, and `zeros-verdict` turns its answer into what the definition says.
+-- The examples that OPEN-POINTS-02 rules, M01 to M06, in the definition's words: the matcher is computed, and what it answers is the verdict.
 -- Assumes nothing.
-use mathlib.Core.Path.{refl}
-use mathlib.Core.List.{List, [], _∷_}
+use mathlib.Core.Path.{_≡_, refl, ap}
+use mathlib.Core.List.{List, [], _∷_, map}
 use Prim.Native.Nat.{ℕ}
+use Prim.Native.Char.{code}
+use Prim.Native.String.{String, [] as nothing, _∷_ as _then_}
 use lib.Count.{trailingZeros}
 use Rattle.text.specs.Loop.{turns, loop}
 use Rattle.pattern.specs.Bytes.{special, stands, opensName}
@@ -11,85 +13,151 @@ use Rattle.pattern.specs.Working.Scan.{endsRange, ranges, within, rangeA
 use Rattle.pattern.specs.Working.Parse.{eatAt, repeated, atomAt}
 use Rattle.pattern.specs.Working.Sim.{flag, visit, sweepOne, sweep, stepAt, chosen, runFrom, runs, answered, testWith}
 use Rattle.pattern.specs.Verdict.{Verdict}
-use Rattle.pattern.specs.Working.Verdicts.{zeros-verdict}
+use Rattle.pattern.specs.Working.Verdicts.{zeros, zeros-verdict}
 use Rattle.pattern.specs.declared.Answer.the-variants.{Yes, No, Error}
+use Rattle.pattern.specs.declared.Answer.{Answer}
 
--- `(^)*a` on `ba`
-pub anchor-star : Verdict (40 ∷ 94 ∷ 41 ∷ 42 ∷ 97 ∷ []) (98 ∷ 97 ∷ []) Yes
-unfolding turns loop special stands opensName nowhere power onlyAt join gated startPart endPart bytePart sequence choice orEmpty orAt wordAt addRow row addIf linkWord link endsRange ranges within rangeAt byteAt dashAt itemAt setRest negated hitOf setAt acceptsAt oneEnd eatAt repeated atomAt flag visit sweepOne sweep stepAt chosen runFrom runs answered testWith
-anchor-star = zeros-verdict (40 ∷ 94 ∷ 41 ∷ 42 ∷ 97 ∷ []) (98 ∷ 97 ∷ []) Yes refl
+-- the bytes of a text
+unfoldable pub bytes : String → List ℕ
+bytes nothing = []
+bytes (c then s) = code c ∷ bytes s
 
--- `(^)+a` on `ba`
-pub anchor-plus : Verdict (40 ∷ 94 ∷ 41 ∷ 43 ∷ 97 ∷ []) (98 ∷ 97 ∷ []) No
-unfolding turns loop special stands opensName nowhere power onlyAt join gated startPart endPart bytePart sequence choice orEmpty orAt wordAt addRow row addIf linkWord link endsRange ranges within rangeAt byteAt dashAt itemAt setRest negated hitOf setAt acceptsAt oneEnd eatAt repeated atomAt flag visit sweepOne sweep stepAt chosen runFrom runs answered testWith
-anchor-plus = zeros-verdict (40 ∷ 94 ∷ 41 ∷ 43 ∷ 97 ∷ []) (98 ∷ 97 ∷ []) No refl
+-- a pattern, a string and the answer
+pub data Row : Type 0 where
+  asked : List ℕ → List ℕ → Answer → Row
 
--- `a^b` on `ab`
-pub anchor-inside : Verdict (97 ∷ 94 ∷ 98 ∷ []) (97 ∷ 98 ∷ []) No
-unfolding turns loop special stands opensName nowhere power onlyAt join gated startPart endPart bytePart sequence choice orEmpty orAt wordAt addRow row addIf linkWord link endsRange ranges within rangeAt byteAt dashAt itemAt setRest negated hitOf setAt acceptsAt oneEnd eatAt repeated atomAt flag visit sweepOne sweep stepAt chosen runFrom runs answered testWith
-anchor-inside = zeros-verdict (97 ∷ 94 ∷ 98 ∷ []) (97 ∷ 98 ∷ []) No refl
+unfoldable pub says : String → String → Answer → Row
+says p s a = asked (bytes p) (bytes s) a
 
--- `x*^a` on `a`
-pub anchor-late : Verdict (120 ∷ 42 ∷ 94 ∷ 97 ∷ []) (97 ∷ []) Yes
-unfolding turns loop special stands opensName nowhere power onlyAt join gated startPart endPart bytePart sequence choice orEmpty orAt wordAt addRow row addIf linkWord link endsRange ranges within rangeAt byteAt dashAt itemAt setRest negated hitOf setAt acceptsAt oneEnd eatAt repeated atomAt flag visit sweepOne sweep stepAt chosen runFrom runs answered testWith
-anchor-late = zeros-verdict (120 ∷ 42 ∷ 94 ∷ 97 ∷ []) (97 ∷ []) Yes refl
+unfoldable answerIn : Row → Answer
+answerIn (asked p s a) = a
 
--- `$^` on ``
-pub both-ends : Verdict (36 ∷ 94 ∷ []) ([]) Yes
-unfolding turns loop special stands opensName nowhere power onlyAt join gated startPart endPart bytePart sequence choice orEmpty orAt wordAt addRow row addIf linkWord link endsRange ranges within rangeAt byteAt dashAt itemAt setRest negated hitOf setAt acceptsAt oneEnd eatAt repeated atomAt flag visit sweepOne sweep stepAt chosen runFrom runs answered testWith
-both-ends = zeros-verdict (36 ∷ 94 ∷ []) ([]) Yes refl
+unfoldable computed : Row → Answer
+computed (asked p s a) = testWith zeros p s
 
--- `a$` on `a\n`
-pub last-newline : Verdict (97 ∷ 36 ∷ []) (97 ∷ 10 ∷ []) No
-unfolding turns loop special stands opensName nowhere power onlyAt join gated startPart endPart bytePart sequence choice orEmpty orAt wordAt addRow row addIf linkWord link endsRange ranges within rangeAt byteAt dashAt itemAt setRest negated hitOf setAt acceptsAt oneEnd eatAt repeated atomAt flag visit sweepOne sweep stepAt chosen runFrom runs answered testWith
-last-newline = zeros-verdict (97 ∷ 36 ∷ []) (97 ∷ 10 ∷ []) No refl
+-- the verdicts are the answers
+pub data Ruled : List Row → Type 0 where
+  none : Ruled []
+  also : {p s : List ℕ} {a : Answer} {l : List Row} → Verdict p s a → Ruled l → Ruled (asked p s a ∷ l)
 
--- `` on ``
-pub nothing : Verdict ([]) ([]) Error
-unfolding turns loop special stands opensName nowhere power onlyAt join gated startPart endPart bytePart sequence choice orEmpty orAt wordAt addRow row addIf linkWord link endsRange ranges within rangeAt byteAt dashAt itemAt setRest negated hitOf setAt acceptsAt oneEnd eatAt repeated atomAt flag visit sweepOne sweep stepAt chosen runFrom runs answered testWith
-nothing = zeros-verdict ([]) ([]) Error refl
+head : List Answer → Answer
+head [] = Error
+head (a ∷ l) = a
 
--- `^*` on ``
-pub repeated-anchor : Verdict (94 ∷ 42 ∷ []) ([]) Error
-unfolding turns loop special stands opensName nowhere power onlyAt join gated startPart endPart bytePart sequence choice orEmpty orAt wordAt addRow row addIf linkWord link endsRange ranges within rangeAt byteAt dashAt itemAt setRest negated hitOf setAt acceptsAt oneEnd eatAt repeated atomAt flag visit sweepOne sweep stepAt chosen runFrom runs answered testWith
-repeated-anchor = zeros-verdict (94 ∷ 42 ∷ []) ([]) Error refl
+tail : List Answer → List Answer
+tail [] = []
+tail (a ∷ l) = l
 
--- `(a*)*` on ``
-pub loop-of-loop : Verdict (40 ∷ 97 ∷ 42 ∷ 41 ∷ 42 ∷ []) ([]) Yes
-unfolding turns loop special stands opensName nowhere power onlyAt join gated startPart endPart bytePart sequence choice orEmpty orAt wordAt addRow row addIf linkWord link endsRange ranges within rangeAt byteAt dashAt itemAt setRest negated hitOf setAt acceptsAt oneEnd eatAt repeated atomAt flag visit sweepOne sweep stepAt chosen runFrom runs answered testWith
-loop-of-loop = zeros-verdict (40 ∷ 97 ∷ 42 ∷ 41 ∷ 42 ∷ []) ([]) Yes refl
+ruled : (l : List Row) → map answerIn l ≡ map computed l → Ruled l
+unfolding answerIn computed head tail
+ruled [] e = none
+ruled (asked p s a ∷ l) e = also (zeros-verdict p s a (ap head e)) (ruled l (ap tail e))
 
--- `a{2}` on `aa`
-pub counted : Verdict (97 ∷ 123 ∷ 50 ∷ 125 ∷ []) (97 ∷ 97 ∷ []) Error
-unfolding turns loop special stands opensName nowhere power onlyAt join gated startPart endPart bytePart sequence choice orEmpty orAt wordAt addRow row addIf linkWord link endsRange ranges within rangeAt byteAt dashAt itemAt setRest negated hitOf setAt acceptsAt oneEnd eatAt repeated atomAt flag visit sweepOne sweep stepAt chosen runFrom runs answered testWith
-counted = zeros-verdict (97 ∷ 123 ∷ 50 ∷ 125 ∷ []) (97 ∷ 97 ∷ []) Error refl
+abbrev pub rows : List Row
+rows =
+    says "^*" "" Error
+    ∷ says "^+a" "a" Error
+    ∷ says "a$?" "a" Error
+    ∷ says "(^)*a" "ba" Yes
+    ∷ says "(^)+a" "ba" No
+    ∷ says "(^)+a" "ab" Yes
+    ∷ says "a^b" "ab" No
+    ∷ says "a^b" "a^b" No
+    ∷ says "x*^a" "a" Yes
+    ∷ says "^^a$$" "a" Yes
+    ∷ says "^$" "" Yes
+    ∷ says "$^" "" Yes
+    ∷ asked (bytes "a$") (97 ∷ 10 ∷ []) No
+    ∷ says "(a|^b)c" "xbc" No
+    ∷ says "(a|^b)c" "bc" Yes
+    ∷ says "" "" Error
+    ∷ says "|a" "a" Error
+    ∷ says "a|" "a" Error
+    ∷ says "a||b" "a" Error
+    ∷ says "()" "a" Error
+    ∷ says "(|a)" "a" Error
+    ∷ says "*a" "a" Error
+    ∷ says "(*a)" "a" Error
+    ∷ says "a|*" "a" Error
+    ∷ says "a**" "a" Error
+    ∷ says "a+?" "a" Error
+    ∷ says "(a*)*" "" Yes
+    ∷ says "(a" "a" Error
+    ∷ says "a)" "a)" Error
+    ∷ says ")" ")" Error
+    ∷ says "((((a)|b)))c" "abc" Yes
+    ∷ says "a{2}" "aa" Error
+    ∷ says "{" "{" Error
+    ∷ asked (92 ∷ 123 ∷ 50 ∷ 125 ∷ []) (bytes "{2}") Yes
+    ∷ says "a}" "a}" Yes
+    ∷ says "]" "]" Yes
+    ∷ asked (92 ∷ 93 ∷ []) (bytes "]") Error
+    ∷ asked (92 ∷ 125 ∷ []) (bytes "}") Error
+    ∷ says "-" "a-b" Yes
+    ∷ says "^[]]$" "]" Yes
+    ∷ says "^[^]]$" "]" No
+    ∷ says "[]" "]" Error
+    ∷ says "[^]" "a" Error
+    ∷ says "^[a]]$" "a]" Yes
+    ∷ says "^[]a]$" "a" Yes
+    ∷ says "^[]-a]$" "^" Yes
+    ∷ says "^[^]-a]$" "^" No
+    ∷ says "^[a-]]$" "-]" Yes
+    ∷ says "^[-]$" "-" Yes
+    ∷ says "^[--]$" "-" Yes
+    ∷ says "^[^--]$" "-" No
+    ∷ says "[---]" "-" Error
+    ∷ says "^[-a]$" "-" Yes
+    ∷ says "^[a-]$" "-" Yes
+    ∷ says "^[a-c-]$" "-" Yes
+    ∷ says "[a-c-e]" "a" Error
+    ∷ says "[--a]" "a" Error
+    ∷ says "[+--]" "," Error
+    ∷ says "[a--]" "a" Error
+    ∷ says "^[-a-c]$" "b" Yes
+    ∷ says "^[]-]$" "-" Yes
+    ∷ says "[b-a]" "a" Error
+    ∷ says "^[a-a]$" "a" Yes
+    ∷ says "^[.]$" "a" No
+    ∷ says "^[:=.]$" ":" Yes
+    ∷ says "[[:alpha:]]" "a" Error
+    ∷ says "[[.a.]]" "a" Error
+    ∷ says "[a[=]" "a" Error
+    ∷ says "^[[]$" "[" Yes
+    ∷ says "^[a[]$" "[" Yes
+    ∷ says "^[[-a]$" "^" Yes
+    ∷ says "^[A-[]$" "[" Yes
+    ∷ says "[A-[:]" "A" Error
+    ∷ says "[^[:a]" "b" Error
+    ∷ asked (94 ∷ 91 ∷ 65 ∷ 45 ∷ 92 ∷ 93 ∷ 36 ∷ []) (bytes "Z") Yes
+    ∷ says "^[^^]$" "^" No
+    ∷ says "^[a^]$" "^" Yes
+    ∷ asked (94 ∷ 91 ∷ 92 ∷ 93 ∷ 36 ∷ []) (92 ∷ []) Yes
+    ∷ asked (94 ∷ 91 ∷ 92 ∷ 110 ∷ 93 ∷ 36 ∷ []) (bytes "n") Yes
+    ∷ asked (91 ∷ 92 ∷ 93 ∷ 93 ∷ []) (bytes "]") No
+    ∷ asked (94 ∷ 91 ∷ 92 ∷ 93 ∷ 93 ∷ 36 ∷ []) (92 ∷ 93 ∷ []) Yes
+    ∷ says "[a" "a" Error
+    ∷ says "[a-" "a" Error
+    ∷ says "^[*.$(|]+$" "$(|*." Yes
+    ∷ asked (94 ∷ 91 ∷ 128 ∷ 45 ∷ 255 ∷ 93 ∷ 36 ∷ []) (233 ∷ []) Yes
+    ∷ asked (92 ∷ 46 ∷ []) (bytes "a") No
+    ∷ asked (92 ∷ 110 ∷ []) (bytes "n") Error
+    ∷ asked (97 ∷ 92 ∷ []) (bytes "a") Error
+    ∷ asked (92 ∷ 47 ∷ []) (bytes "/") Error
+    ∷ asked (40 ∷ 97 ∷ 41 ∷ 92 ∷ 49 ∷ []) (bytes "aa") Error
+    ∷ asked (92 ∷ 94 ∷ 92 ∷ 46 ∷ 92 ∷ 91 ∷ 92 ∷ 36 ∷ 92 ∷ 40 ∷ 92 ∷ 41 ∷ 92 ∷ 124 ∷ 92 ∷ 42 ∷ 92 ∷ 43 ∷ 92 ∷ 63 ∷ 92 ∷ 123 ∷ 92 ∷ 92 ∷ []) (94 ∷ 46 ∷ 91 ∷ 36 ∷ 40 ∷ 41 ∷ 124 ∷ 42 ∷ 43 ∷ 63 ∷ 123 ∷ 92 ∷ []) Yes
+    ∷ asked (bytes "^.$") (10 ∷ []) Yes
+    ∷ asked (bytes "a.c") (120 ∷ 97 ∷ 10 ∷ 99 ∷ []) Yes
+    ∷ asked (bytes "^[^a]$") (10 ∷ []) Yes
+    ∷ says "A" "a" No
+    ∷ asked (bytes "^..$") (195 ∷ 169 ∷ []) Yes
+    ∷ says "b*" "aaa" Yes
+    ∷ says "ab?c+" "xxaccc" Yes
+    ∷ says "^(ab|c)+$" "abcab" Yes
+    ∷ says "^(ab|c)+$" "abca" No
+    ∷ says "^(a|ab)(c|bcd)$" "abcd" Yes ∷ []
 
--- `^[]-a]$` on `^`
-pub bracket-first : Verdict (94 ∷ 91 ∷ 93 ∷ 45 ∷ 97 ∷ 93 ∷ 36 ∷ []) (94 ∷ []) Yes
-unfolding turns loop special stands opensName nowhere power onlyAt join gated startPart endPart bytePart sequence choice orEmpty orAt wordAt addRow row addIf linkWord link endsRange ranges within rangeAt byteAt dashAt itemAt setRest negated hitOf setAt acceptsAt oneEnd eatAt repeated atomAt flag visit sweepOne sweep stepAt chosen runFrom runs answered testWith
-bracket-first = zeros-verdict (94 ∷ 91 ∷ 93 ∷ 45 ∷ 97 ∷ 93 ∷ 36 ∷ []) (94 ∷ []) Yes refl
-
--- `^[^--]$` on `-`
-pub dashes : Verdict (94 ∷ 91 ∷ 94 ∷ 45 ∷ 45 ∷ 93 ∷ 36 ∷ []) (45 ∷ []) No
-unfolding turns loop special stands opensName nowhere power onlyAt join gated startPart endPart bytePart sequence choice orEmpty orAt wordAt addRow row addIf linkWord link endsRange ranges within rangeAt byteAt dashAt itemAt setRest negated hitOf setAt acceptsAt oneEnd eatAt repeated atomAt flag visit sweepOne sweep stepAt chosen runFrom runs answered testWith
-dashes = zeros-verdict (94 ∷ 91 ∷ 94 ∷ 45 ∷ 45 ∷ 93 ∷ 36 ∷ []) (45 ∷ []) No refl
-
--- `[a-c-e]` on `a`
-pub dash-between : Verdict (91 ∷ 97 ∷ 45 ∷ 99 ∷ 45 ∷ 101 ∷ 93 ∷ []) (97 ∷ []) Error
-unfolding turns loop special stands opensName nowhere power onlyAt join gated startPart endPart bytePart sequence choice orEmpty orAt wordAt addRow row addIf linkWord link endsRange ranges within rangeAt byteAt dashAt itemAt setRest negated hitOf setAt acceptsAt oneEnd eatAt repeated atomAt flag visit sweepOne sweep stepAt chosen runFrom runs answered testWith
-dash-between = zeros-verdict (91 ∷ 97 ∷ 45 ∷ 99 ∷ 45 ∷ 101 ∷ 93 ∷ []) (97 ∷ []) Error refl
-
--- `[[:alpha:]]` on `a`
-pub named-class : Verdict (91 ∷ 91 ∷ 58 ∷ 97 ∷ 108 ∷ 112 ∷ 104 ∷ 97 ∷ 58 ∷ 93 ∷ 93 ∷ []) (97 ∷ []) Error
-unfolding turns loop special stands opensName nowhere power onlyAt join gated startPart endPart bytePart sequence choice orEmpty orAt wordAt addRow row addIf linkWord link endsRange ranges within rangeAt byteAt dashAt itemAt setRest negated hitOf setAt acceptsAt oneEnd eatAt repeated atomAt flag visit sweepOne sweep stepAt chosen runFrom runs answered testWith
-named-class = zeros-verdict (91 ∷ 91 ∷ 58 ∷ 97 ∷ 108 ∷ 112 ∷ 104 ∷ 97 ∷ 58 ∷ 93 ∷ 93 ∷ []) (97 ∷ []) Error refl
-
--- `\n` on `n`
-pub escape-other : Verdict (92 ∷ 110 ∷ []) (110 ∷ []) Error
-unfolding turns loop special stands opensName nowhere power onlyAt join gated startPart endPart bytePart sequence choice orEmpty orAt wordAt addRow row addIf linkWord link endsRange ranges within rangeAt byteAt dashAt itemAt setRest negated hitOf setAt acceptsAt oneEnd eatAt repeated atomAt flag visit sweepOne sweep stepAt chosen runFrom runs answered testWith
-escape-other = zeros-verdict (92 ∷ 110 ∷ []) (110 ∷ []) Error refl
-
--- `\.` on `a`
-pub dot-escaped : Verdict (92 ∷ 46 ∷ []) (97 ∷ []) No
-unfolding turns loop special stands opensName nowhere power onlyAt join gated startPart endPart bytePart sequence choice orEmpty orAt wordAt addRow row addIf linkWord link endsRange ranges within rangeAt byteAt dashAt itemAt setRest negated hitOf setAt acceptsAt oneEnd eatAt repeated atomAt flag visit sweepOne sweep stepAt chosen runFrom runs answered testWith
-dot-escaped = zeros-verdict (92 ∷ 46 ∷ []) (97 ∷ []) No refl
+-- "error" where the bytes are no pattern, "yes" where the pattern's tree is found in the string, "no" where it isn't
+pub rows-ruled : Ruled rows
+unfolding turns loop special stands opensName nowhere power onlyAt join gated startPart endPart bytePart sequence choice orEmpty orAt wordAt addRow row addIf linkWord link endsRange ranges within rangeAt byteAt dashAt itemAt setRest negated hitOf setAt acceptsAt oneEnd eatAt repeated atomAt flag visit sweepOne sweep stepAt chosen runFrom runs answered testWith bytes says answerIn computed
+rows-ruled = ruled rows refl
