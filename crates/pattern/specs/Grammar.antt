@@ -60,6 +60,9 @@ mutual
     a-group : {i j k : ℕ} {a : Re} → At p i 40 → Expr p (i + 1) j a → At p j 41 → k ≡ j + 1 → Atom p i k a
 
 -- "a pattern over 256 bytes" is none
+abbrev pub mostPattern : ℕ
+mostPattern = 256
+
 pub record Pattern (p : List ℕ) (r : Re) : Type 0 where
-  pub short : length p ≤ 256
+  pub short : length p ≤ mostPattern
   pub whole : Expr p 0 (length p) r

@@ -6,6 +6,7 @@ pub mod Places
 pub mod Scan
 pub mod Parse
 pub mod Sim
+pub mod Skip
 pub mod Bits
 pub mod Meaning
 pub mod Table

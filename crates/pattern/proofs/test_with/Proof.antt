@@ -5,8 +5,8 @@ use Rattle.pattern.proofs.test_with.Tie as tie
 use Rattle.pattern.proofs.test_with.Reads as reads
 use Rattle.pattern.proofs.test_with.Lts as lts
 use Rattle.pattern.proofs.answered.Reads as answered-reads
-use Rattle.pattern.proofs.expression.Reads as expression-reads
-use Rattle.pattern.proofs.runs.Reads as runs-reads
+use Rattle.pattern.proofs.reader.expression.Reads as expression-reads
+use Rattle.pattern.proofs.run.runs.Reads as runs-reads
 
 returns : tie.Need-returns
 returns c = search way-test-long

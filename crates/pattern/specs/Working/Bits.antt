@@ -14,7 +14,7 @@ use Rattle.text.specs.Choice.{clash, split, bool-iff}
 use Rattle.pattern.specs.Working.Logic.{or-cases, or-left, or-right, and-left, and-right, and-both}
 use Rattle.text.specs.Choice.{pick}
 use Rattle.pattern.specs.Working.Places.{nowhere, power, onlyAt, join, gated}
-use Rattle.pattern.specs.declared.Places.{Places}
+use Rattle.pattern.specs.declared.places.Places.{Places}
 
 unfoldable pub bit : ℕ → ℕ → Bool
 bit x zero = eqb (x % 2) 1

@@ -24,9 +24,9 @@ use Rattle.pattern.specs.Working.Sim.{stepAt, chosen, runFrom, runs, way
 use Rattle.pattern.specs.Working.Bits.{has}
 use Rattle.pattern.specs.Working.Meaning.{partOf, nb-is, ns-is, nm-is, ne-is, fs-is, fm-is, lm-is, le-is}
 use Rattle.pattern.specs.Working.Sweep.{Passed, next-sound, next-first, next-follows, hit-sound, hit-shows}
-use Rattle.pattern.specs.declared.Places.{Places}
-use Rattle.pattern.specs.declared.Part.{Part}
-use Rattle.pattern.specs.declared.Swept.{Swept}
+use Rattle.pattern.specs.declared.places.Places.{Places}
+use Rattle.pattern.specs.declared.places.Part.{Part}
+use Rattle.pattern.specs.declared.run.Swept.{Swept}
 
 nul-mono : (r : Re) → nul false false r ≡ true → nul true false r ≡ true
 unfolding nul

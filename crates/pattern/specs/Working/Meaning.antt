@@ -18,8 +18,8 @@ use Rattle.pattern.specs.Tree.{Re, bol, eol, one, cat, alt, star, plus, 
 use Rattle.pattern.specs.Working.Sets.{nul, first, last, follow, Fits, f-bol, f-eol, f-one, f-cat, f-alt, f-star, f-plus, f-opt, fits-le}
 use Rattle.pattern.specs.Working.Places.{nowhere, onlyAt, join, gated, startPart, endPart, bytePart, sequence, choice, orEmpty, orAt, wordAt, addRow, row, addIf, linkTurn, linkWord, link}
 use Rattle.pattern.specs.Working.Bits.{bit, bit-zero, bit-or, has, has-nowhere, has-join, has-gated, has-only}
-use Rattle.pattern.specs.declared.Places.{Places}
-use Rattle.pattern.specs.declared.Part.{Part}
+use Rattle.pattern.specs.declared.places.Places.{Places}
+use Rattle.pattern.specs.declared.places.Part.{Part}
 
 unfoldable pub partOf : Re → Part
 partOf bol = startPart

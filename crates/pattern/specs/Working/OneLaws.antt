@@ -15,8 +15,8 @@ use Rattle.pattern.specs.Working.Scan
 use Rattle.pattern.specs.Bytes.{special, stands}
 use Rattle.pattern.specs.Working.Scan.{setRest, setAt, negated, hitOf, acceptsAt, oneEnd}
 use Rattle.pattern.specs.Working.SetLaws.{set-shows, set-sound, unfit-end, end-at}
-use Rattle.pattern.specs.declared.Scan.{Scan as Scanned}
-use Rattle.pattern.specs.declared.Scan.the-variants.{Unfit, End}
+use Rattle.pattern.specs.declared.atoms.Scan.{Scan as Scanned}
+use Rattle.pattern.specs.declared.atoms.Scan.the-variants.{Unfit, End}
 
 set-of : (p : List ℕ) (c : ℕ) {i j : ℕ} {xs : List Item} → At p i 91 → i + 1 < length p → (getD p (i + 1) 0 ≡ 94 → ⊥) → Items p true (i + 1) j xs → setAt p i c ≡ End j (inItems xs c)
 set-of p c {i} a l n x = sym (Scan.way-set-plain p i (a .inside) c l n _ refl) ∙ set-shows p c x false

@@ -11,12 +11,12 @@ use Rattle.text.specs.Choice.{pick}
 use Rattle.text.specs.Loop.{Step, next, done, loop, loop-next, loop-done}
 use Rattle.pattern.specs.Working.Places.{startPart, endPart, bytePart, sequence, choice, orEmpty, link}
 use Rattle.pattern.specs.Working.Scan.{oneEnd}
-use Rattle.pattern.specs.declared.Places.{Places}
-use Rattle.pattern.specs.declared.Part.{Part}
-use Rattle.pattern.specs.declared.Scan.{Scan}
-use Rattle.pattern.specs.declared.Scan.the-variants.{Unfit, End}
-use Rattle.pattern.specs.declared.Parsed.{Parsed}
-use Rattle.pattern.specs.declared.Parsed.the-variants.{Bad, Got}
+use Rattle.pattern.specs.declared.places.Places.{Places}
+use Rattle.pattern.specs.declared.places.Part.{Part}
+use Rattle.pattern.specs.declared.atoms.Scan.{Scan}
+use Rattle.pattern.specs.declared.atoms.Scan.the-variants.{Unfit, End}
+use Rattle.pattern.specs.declared.reader.Parsed.{Parsed}
+use Rattle.pattern.specs.declared.reader.Parsed.the-variants.{Bad, Got}
 
 -- past the byte b, or where it was
 unfoldable pub eatAt : List ℕ → ℕ → ℕ → ℕ

@@ -20,8 +20,8 @@ use Rattle.pattern.specs.Working.OneLaws.{one-shows, special-40, special
 use Rattle.pattern.specs.Working.Meaning.{partOf, tableOf}
 use Rattle.pattern.specs.Working.Parse
 use Rattle.pattern.specs.Working.Parse.{eatAt, Ran, ran, repeated, atomAt, pieceAt, branchRestAt, branchAt, exprRestAt, exprAt}
-use Rattle.pattern.specs.declared.Part.{Part}
-use Rattle.pattern.specs.declared.Parsed.the-variants.{Bad, Got}
+use Rattle.pattern.specs.declared.places.Part.{Part}
+use Rattle.pattern.specs.declared.reader.Parsed.the-variants.{Bad, Got}
 
 eat-at : {p : List ℕ} {i b : ℕ} → At p i b → eatAt p i b ≡ i + 1
 unfolding eatAt

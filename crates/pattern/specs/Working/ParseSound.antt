@@ -19,10 +19,10 @@ use Rattle.pattern.specs.Working.OneLaws.{one-sound}
 use Rattle.pattern.specs.Working.Meaning.{partOf, tableOf}
 use Rattle.pattern.specs.Working.Parse
 use Rattle.pattern.specs.Working.Parse.{eatAt, Ran, ran, onGot, onEnd, atomBody, repeated, pieceBody, onPiece, branchTurn, branchLoop, onBranch, exprTurn, exprLoop, atomAt, pieceAt, branchRestAt, branchAt, exprRestAt, exprAt}
-use Rattle.pattern.specs.declared.Part.{Part}
-use Rattle.pattern.specs.declared.Scan.{Scan}
-use Rattle.pattern.specs.declared.Scan.the-variants.{Unfit, End}
-use Rattle.pattern.specs.declared.Parsed.the-variants.{Bad, Got}
+use Rattle.pattern.specs.declared.places.Part.{Part}
+use Rattle.pattern.specs.declared.atoms.Scan.{Scan}
+use Rattle.pattern.specs.declared.atoms.Scan.the-variants.{Unfit, End}
+use Rattle.pattern.specs.declared.reader.Parsed.the-variants.{Bad, Got}
 
 pub bad-got : {P : Type 0} {t u : List ℕ} {f : Part} {n : ℕ} → ran Bad t ≡ ran (Got f n) u → P
 bad-got e = absurd (let z : _≡_ {A = ℕ} 0 1 = cc in omega arith)

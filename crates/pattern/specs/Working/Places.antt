@@ -11,8 +11,8 @@ use lib.Dec.{eqb, ltb, leb}
 use lib.ListN.{length, getD, set}
 use Rattle.text.specs.Choice.{pick}
 use Rattle.text.specs.Loop.{Step, next, done, loop, loop-next, loop-done}
-use Rattle.pattern.specs.declared.Places.{Places}
-use Rattle.pattern.specs.declared.Part.{Part}
+use Rattle.pattern.specs.declared.places.Places.{Places}
+use Rattle.pattern.specs.declared.places.Part.{Part}
 
 unfoldable pub nowhere : Places
 nowhere = record { a = 0; b = 0; c = 0; d = 0 }

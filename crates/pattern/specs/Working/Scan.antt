@@ -11,10 +11,10 @@ use borrow.Author.Tests.{lt-ltb, le-ltb, le-leb, lt-leb, eq-eqb, ne-eqb}
 use Rattle.text.specs.Choice.{pick}
 use Rattle.text.specs.Loop.{Step, next, done, loop, loop-next, loop-done}
 use Rattle.pattern.specs.Bytes.{special, stands, opensName}
-use Rattle.pattern.specs.declared.Taken.{Taken}
-use Rattle.pattern.specs.declared.Taken.the-variants.{Wrong, Closed, Item}
-use Rattle.pattern.specs.declared.Scan.{Scan}
-use Rattle.pattern.specs.declared.Scan.the-variants.{Unfit, End}
+use Rattle.pattern.specs.declared.atoms.Taken.{Taken}
+use Rattle.pattern.specs.declared.atoms.Taken.the-variants.{Wrong, Closed, Item}
+use Rattle.pattern.specs.declared.atoms.Scan.{Scan}
+use Rattle.pattern.specs.declared.atoms.Scan.the-variants.{Unfit, End}
 
 -- the byte at i can end a range
 unfoldable pub endsRange : List ℕ → ℕ → Bool

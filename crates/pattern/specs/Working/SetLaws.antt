@@ -16,9 +16,9 @@ use Rattle.pattern.specs.Grammar.{At, Self, Items, i-close, i-first-dash
 use Rattle.pattern.specs.Working.Scan
 use Rattle.pattern.specs.Bytes.{stands, opensName}
 use Rattle.pattern.specs.Working.Scan.{endsRange, ranges, within, rangeAt, byteAt, dashAt, itemAt, setRest}
-use Rattle.pattern.specs.declared.Taken.{Taken}
-use Rattle.pattern.specs.declared.Taken.the-variants.{Wrong, Closed, Item as Took}
-use Rattle.pattern.specs.declared.Scan.the-variants.{Unfit, End}
+use Rattle.pattern.specs.declared.atoms.Taken.{Taken}
+use Rattle.pattern.specs.declared.atoms.Taken.the-variants.{Wrong, Closed, Item as Took}
+use Rattle.pattern.specs.declared.atoms.Scan.the-variants.{Unfit, End}
 
 self-range : (b c : ℕ) → inItem (range b b) c ≡ eqb b c
 unfolding inItem

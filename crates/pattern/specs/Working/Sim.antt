@@ -15,11 +15,11 @@ use Rattle.text.specs.Loop.{Step, next, done, loop, loop-next, loop-done}
 use Rattle.pattern.specs.Working.Places.{join, row}
 use Rattle.pattern.specs.Working.Scan.{acceptsAt}
 use Rattle.pattern.specs.Working.Parse.{Ran, ran, exprAt}
-use Rattle.pattern.specs.declared.Places.{Places}
-use Rattle.pattern.specs.declared.Part.{Part}
-use Rattle.pattern.specs.declared.Swept.{Swept}
-use Rattle.pattern.specs.declared.Parsed.{Parsed}
-use Rattle.pattern.specs.declared.Parsed.the-variants.{Bad, Got}
+use Rattle.pattern.specs.declared.places.Places.{Places}
+use Rattle.pattern.specs.declared.places.Part.{Part}
+use Rattle.pattern.specs.declared.run.Swept.{Swept}
+use Rattle.pattern.specs.declared.reader.Parsed.{Parsed}
+use Rattle.pattern.specs.declared.reader.Parsed.the-variants.{Bad, Got}
 use Rattle.pattern.specs.declared.Answer.{Answer}
 use Rattle.pattern.specs.declared.Answer.the-variants.{Yes, No, Error}
 

@@ -16,8 +16,8 @@ use Rattle.pattern.specs.Working.Scan.{acceptsAt}
 use Rattle.pattern.specs.Working.Sim.{swept, flag, visit, sweepOne, sweep, stepAt, way-sweep-end, way-sweep-done, way-sweep-more}
 use Rattle.pattern.specs.Working.Bits.{bit, has, has-join}
 use Rattle.pattern.specs.Working.Table.{covers, covers-in, covers-step, covers-zero, covers-above, bit-next, bit-first, outside, four}
-use Rattle.pattern.specs.declared.Places.{Places}
-use Rattle.pattern.specs.declared.Swept.{Swept}
+use Rattle.pattern.specs.declared.places.Places.{Places}
+use Rattle.pattern.specs.declared.run.Swept.{Swept}
 
 pub covers-low : (x lo hi p : ℕ) → covers x lo hi p ≡ true → lo ≤ p
 unfolding covers

@@ -15,7 +15,7 @@ use Rattle.pattern.specs.Working.Sets.{first, last, follow, Fits, f-bol,
 use Rattle.pattern.specs.Working.Places.{addRow, row, addIf, linkWord, link, way-link-end, way-link-done, way-link-more}
 use Rattle.pattern.specs.Working.Bits.{bit, bit-zero, has}
 use Rattle.pattern.specs.Working.Meaning.{partOf, tableOf, add-row-has, add-row-length, fm-is, lm-is}
-use Rattle.pattern.specs.declared.Places.{Places}
+use Rattle.pattern.specs.declared.places.Places.{Places}
 
 -- the word x, whose first place is lo, has the place p, which is below hi
 unfoldable pub covers : ℕ → ℕ → ℕ → ℕ → Bool

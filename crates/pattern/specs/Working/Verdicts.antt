@@ -25,8 +25,8 @@ use Rattle.pattern.specs.Working.Parse.{Ran, ran, exprAt}
 use Rattle.pattern.specs.Working.ParseSound.{As, expr-at-sure, bad-got, got-part, got-next, got-table}
 use Rattle.pattern.specs.Working.ParseShows.{expr-all, t-end}
 use Rattle.pattern.specs.Working.Sim.{runs, answered, onParsed, testWith}
-use Rattle.pattern.specs.declared.Part.{Part}
-use Rattle.pattern.specs.declared.Parsed.the-variants.{Bad, Got}
+use Rattle.pattern.specs.declared.places.Part.{Part}
+use Rattle.pattern.specs.declared.reader.Parsed.the-variants.{Bad, Got}
 use Rattle.pattern.specs.declared.Answer.{Answer}
 use Rattle.pattern.specs.declared.Answer.the-variants.{Yes, No, Error}
 use Rattle.pattern.specs.Verdict.{Verdict, v-yes, v-no, v-error}
