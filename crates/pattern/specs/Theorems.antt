@@ -1,2 +1,3 @@
+pub mod Unique
 pub mod Single
 pub mod Examples

@@ -1,5 +1,5 @@
 -- What "~=" gives: a test or a fault, and which, in the words of the patterns' grammar and of what a pattern matches. Assumes nothing.
-use mathlib.Core.Path.{_≡_, refl, ap}
+use mathlib.Core.Path.{_≡_, ap}
 use mathlib.Core.Bool.{Bool, true, false}
 use mathlib.Core.List.{List}
 use Prim.Native.Nat.{ℕ}
@@ -7,8 +7,9 @@ use Rattle.pattern.specs.Tree.{Re}
 use Rattle.pattern.specs.Match.{Found}
 use Rattle.pattern.specs.Grammar.{Pattern}
 use Rattle.pattern.specs.Verdict.{Verdict, v-yes, v-no, v-error}
-use Rattle.pattern.specs.Test.{Tested, tested, testOf}
+use Rattle.pattern.specs.Test.{tested, testOf}
 use Rattle.pattern.specs.Theorems.Single.{verdict-one}
+use Rattle.pattern.specs.Theorems.Examples.{bytes, no-pattern, pattern-found, pattern-missed}
 use Rattle.pattern.specs.declared.Answer.{Answer}
 use Rattle.pattern.specs.declared.Answer.the-variants.{Yes, No, Error}
 use Rattle.expression.specs.Value.{Value, test, fault}
@@ -39,3 +40,13 @@ match-fails a b r p n = matched-is a b No (v-no r p n)
 -- "invalid, as is all else and a pattern over 256 bytes: an error in the test"
 pub match-errs : (a b : List ℕ) → ((r : Re) → Pattern b r → ⊥) → matched a b ≡ fault
 match-errs a b n = matched-is a b Error (v-error n)
+
+-- a test of each kind
+pub holds-here : matched (bytes "ba") (bytes "(^)*a") ≡ test true
+holds-here = matched-is (bytes "ba") (bytes "(^)*a") Yes pattern-found
+
+pub fails-here : matched (bytes "ba") (bytes "(^)+a") ≡ test false
+fails-here = matched-is (bytes "ba") (bytes "(^)+a") No pattern-missed
+
+pub errs-here : matched (bytes "") (bytes "^*") ≡ fault
+errs-here = matched-is (bytes "") (bytes "^*") Error no-pattern

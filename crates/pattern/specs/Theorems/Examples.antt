@@ -5,7 +5,6 @@ use mathlib.Core.List.{List, [], _∷_, map}
 use Prim.Native.Nat.{ℕ}
 use Prim.Native.Char.{code}
 use Prim.Native.String.{String, [] as nothing, _∷_ as _then_}
-use lib.Count.{trailingZeros}
 use Rattle.text.specs.Loop.{turns, loop}
 use Rattle.pattern.specs.Bytes.{special, stands, opensName}
 use Rattle.pattern.specs.Working.Places.{nowhere, power, onlyAt, join, gated, startPart, endPart, bytePart, sequence, choice, orEmpty, orAt, wordAt, addRow, row, addIf, linkWord, link}
@@ -161,3 +160,22 @@ rows =
 pub rows-ruled : Ruled rows
 unfolding turns loop special stands opensName nowhere power onlyAt join gated startPart endPart bytePart sequence choice orEmpty orAt wordAt addRow row addIf linkWord link endsRange ranges within rangeAt byteAt dashAt itemAt setRest negated hitOf setAt acceptsAt oneEnd eatAt repeated atomAt flag visit sweepOne sweep stepAt chosen runFrom runs answered testWith bytes says answerIn computed
 rows-ruled = ruled rows refl
+
+ruled-first : {p s : List ℕ} {a : Answer} {l : List Row} → Ruled (asked p s a ∷ l) → Verdict p s a
+ruled-first (also v r) = v
+
+ruled-rest : {p s : List ℕ} {a : Answer} {l : List Row} → Ruled (asked p s a ∷ l) → Ruled l
+ruled-rest (also v r) = r
+
+-- one row of each kind: no pattern; a pattern that is found, and one that isn't
+pub no-pattern : Verdict (bytes "^*") (bytes "") Error
+unfolding says
+no-pattern = ruled-first rows-ruled
+
+pub pattern-found : Verdict (bytes "(^)*a") (bytes "ba") Yes
+unfolding says
+pattern-found = ruled-first (ruled-rest (ruled-rest (ruled-rest rows-ruled)))
+
+pub pattern-missed : Verdict (bytes "(^)+a") (bytes "ba") No
+unfolding says
+pattern-missed = ruled-first (ruled-rest (ruled-rest (ruled-rest (ruled-rest rows-ruled))))

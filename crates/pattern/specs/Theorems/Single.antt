@@ -1,20 +1,18 @@
--- The verdict on a pattern and a string is the only one, whichever tree the bytes are read as. Assumes nothing.
-use mathlib.Core.Path.{_≡_, refl}
+-- The verdict on a pattern and a string is the only one. Assumes nothing.
+use mathlib.Core.Path.{_≡_, refl, subst}
 use mathlib.Core.List.{List}
-use Prim.Native.Nat.{ℕ, zero, _≤_}
-use native.Mathlib.Omega.{arith}
-use lib.ListN.{length, length-replicate}
+use Prim.Native.Nat.{ℕ}
 use Rattle.pattern.specs.Tree.{Re}
 use Rattle.pattern.specs.Match.{Found}
 use Rattle.pattern.specs.Grammar.{Pattern}
 use Rattle.pattern.specs.Verdict.{Verdict, v-yes, v-no, v-error}
-use Rattle.pattern.specs.Working.Verdicts.{zeros, word-zero, same-meaning}
+use Rattle.pattern.specs.Theorems.Unique.{one-tree}
 use Rattle.pattern.specs.declared.Answer.{Answer}
 use Rattle.pattern.specs.declared.Answer.the-variants.{Yes, No, Error}
 
 -- bytes that are a pattern have one meaning
 pub one-meaning : (p s : List ℕ) (r q : Re) → Pattern p r → Pattern p q → Found s r → Found s q
-one-meaning p s r q w v f = same-meaning zeros word-zero (omega (arith, length-replicate 1024 zero)) p s r q w v f
+one-meaning p s r q w v f = subst (Found s) (one-tree p r q w v) f
 
 -- the answer is the only one
 pub verdict-one : (p s : List ℕ) (a b : Answer) → Verdict p s a → Verdict p s b → a ≡ b

@@ -1,18 +1,14 @@
 -- What the four words of a set of places hold. Assumes nothing.
-use mathlib.Core.Path.{_≡_, refl, sym, ap, ap₂, _∙_, subst}
+use mathlib.Core.Path.{_≡_, refl, sym, _∙_}
 use mathlib.Core.Bool.{Bool, true, false, _&&_, _||_}
-use mathlib.Core.Logic.{_⊎_, inl, inr, ⊎-elim}
-use mathlib.Core.List.{List}
-use Prim.Native.Nat.{ℕ, zero, suc, _+_, _-_, _*_, _/_, _%_, _^_, _<_, _≤_, max}
+use Prim.Native.Nat.{ℕ, zero, suc, _-_, _/_, _%_, _^_, _<_, _≤_}
 use native.Mathlib.Omega.{arith}
-use native.Mathlib.Nat.{mod-lt, mul-mod-left, mul-div-cancel, pow-suc, zero-lt-suc, mul-comm, one-mul}
-use lib.Bits.{bitOr, or-shr, or-step, or-mod}
+use native.Mathlib.Nat.{mod-lt, mul-mod-left, mul-div-cancel, pow-suc, zero-lt-suc, one-mul}
+use lib.Bits.{bitOr, or-shr, or-mod}
 use lib.Pow.{shl-exact}
-use lib.Dec.{eqb, ltb, leb, eqb·zero-suc, eqb·suc-zero, eqb·suc-suc}
-use borrow.Author.Tests.{lt-ltb, le-ltb, le-leb, lt-leb, eq-eqb, ne-eqb, ltb-true, ltb-false, leb-true, leb-false, eqb-true, eqb-false}
-use Rattle.text.specs.Choice.{clash, split, bool-iff}
-use Rattle.pattern.specs.Working.Logic.{or-cases, or-left, or-right, and-left, and-right, and-both}
-use Rattle.text.specs.Choice.{pick}
+use lib.Dec.{eqb, ltb, eqb·zero-suc, eqb·suc-zero, eqb·suc-suc}
+use borrow.Author.Tests.{lt-ltb, eq-eqb, ne-eqb, ltb-true, ltb-false, eqb-true}
+use Rattle.text.specs.Choice.{split, bool-iff, pick}
 use Rattle.pattern.specs.Working.Places.{nowhere, power, onlyAt, join, gated}
 use Rattle.pattern.specs.declared.places.Places.{Places}
 

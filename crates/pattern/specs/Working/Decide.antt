@@ -1,20 +1,19 @@
 -- The matcher answers yes exactly where a match is found. Assumes nothing.
-use mathlib.Core.Path.{_≡_, refl, sym, ap, ap₂, _∙_, subst}
-use mathlib.Core.Bool.{Bool, true, false, _&&_, _||_}
-use mathlib.Core.Logic.{_⊎_, inl, inr, ⊎-elim}
+use mathlib.Core.Path.{_≡_, refl, sym, _∙_, subst}
+use mathlib.Core.Bool.{Bool, true, false}
+use mathlib.Core.Logic.{⊎-elim}
 use mathlib.Core.List.{List}
-use Prim.Native.Nat.{ℕ, zero, suc, _+_, _-_, _*_, _<_, _≤_}
+use Prim.Native.Nat.{ℕ, zero, suc, _+_, _-_, _<_, _≤_}
 use native.Mathlib.Omega.{arith}
 use native.Mathlib.Numerals.{add-one}
 use native.Mathlib.Nat.{le-refl}
 use lib.Dec.{eqb, ltb, leb}
 use lib.ListN.{length, getD}
-use borrow.Author.Tests.{lt-ltb, le-ltb, le-leb, lt-leb, eq-eqb, ne-eqb, ltb-true, ltb-false, leb-true, leb-false, eqb-true, eqb-false}
+use borrow.Author.Tests.{eq-eqb, ltb-true, ltb-false, leb-true, leb-false, eqb-true, eqb-false}
 use Rattle.text.specs.Choice.{clash, split}
 use Rattle.pattern.specs.Working.Logic.{or-cases, or-left, or-right, and-left, and-right, and-both}
-use Rattle.text.specs.Choice.{pick}
 use Rattle.pattern.specs.Tree.{Re, bol, eol, one, cat, alt, star, plus, opt}
-use Rattle.pattern.specs.Match.{Matches, Found}
+use Rattle.pattern.specs.Match.{Found}
 use Rattle.pattern.specs.Working.Sets.{nul, first, last, follow, Fits}
 use Rattle.pattern.specs.Working.Run.{Run, begin, next, starts, ends, Done, d-empty, d-run, inside-start, inside-end, run-less, run-inside, complete}
 use Rattle.pattern.specs.Working.Sound.{run-in, empty-sound, sound}
@@ -22,10 +21,9 @@ use Rattle.pattern.specs.Working.Places.{row}
 use Rattle.pattern.specs.Working.Scan.{acceptsAt}
 use Rattle.pattern.specs.Working.Sim.{stepAt, chosen, runFrom, runs, way-run-end, way-run-hit, way-run-more, way-runs-empty, way-runs-start, way-runs-end, way-runs-from}
 use Rattle.pattern.specs.Working.Bits.{has}
-use Rattle.pattern.specs.Working.Meaning.{partOf, nb-is, ns-is, nm-is, ne-is, fs-is, fm-is, lm-is, le-is}
+use Rattle.pattern.specs.Working.Meaning.{partOf, nb-is, ns-is, ne-is, fs-is, fm-is, lm-is, le-is}
 use Rattle.pattern.specs.Working.Sweep.{Passed, next-sound, next-first, next-follows, hit-sound, hit-shows}
 use Rattle.pattern.specs.declared.places.Places.{Places}
-use Rattle.pattern.specs.declared.places.Part.{Part}
 use Rattle.pattern.specs.declared.run.Swept.{Swept}
 
 nul-mono : (r : Re) → nul false false r ≡ true → nul true false r ≡ true

@@ -1,14 +1,14 @@
 -- Derivations go forward, their trees' places are their own, and how they begin. Assumes nothing.
-use mathlib.Core.Path.{_≡_, refl, sym, ap, _∙_, subst}
-use mathlib.Core.Bool.{Bool, true, false}
-use mathlib.Core.List.{List, [], _∷_}
-use Prim.Native.Nat.{ℕ, zero, suc, _+_, _-_, _<_, _≤_}
+use mathlib.Core.Path.{_≡_, sym, _∙_}
+use mathlib.Core.Bool.{Bool, true}
+use mathlib.Core.List.{List}
+use Prim.Native.Nat.{ℕ, _+_, _<_, _≤_}
 use native.Mathlib.Omega.{arith}
 use lib.ListN.{length, getD}
 use Rattle.pattern.specs.Class.{Item, Class}
-use Rattle.pattern.specs.Tree.{Re, bol, eol, one, cat, alt, star, plus, opt}
-use Rattle.pattern.specs.Working.Sets.{Fits, f-bol, f-eol, f-one, f-cat, f-alt, f-star, f-plus, f-opt, fits-le}
-use Rattle.pattern.specs.Grammar.{At, Self, Items, i-close, i-first-dash, i-last-dash, i-byte, i-range, One, o-any, o-escape, o-byte, o-set, o-not, Expr, e-one, e-or, Branch, b-one, b-more, Piece, p-bol, p-eol, p-atom, p-star, p-plus, p-opt, Atom, a-one, a-group}
+use Rattle.pattern.specs.Tree.{Re}
+use Rattle.pattern.specs.Working.Sets.{Fits, f-bol, f-eol, f-one, f-cat, f-alt, f-star, f-plus, f-opt}
+use Rattle.pattern.specs.Grammar.{Items, i-close, i-first-dash, i-last-dash, i-byte, i-range, One, o-any, o-escape, o-byte, o-set, o-not, Expr, e-one, e-or, Branch, b-one, b-more, Piece, p-bol, p-eol, p-atom, p-star, p-plus, p-opt, Atom, a-one, a-group}
 use Rattle.pattern.specs.Bytes.{special}
 use Rattle.pattern.specs.Working.Scan.{acceptsAt}
 use Rattle.pattern.specs.Working.OneLaws.{accepts-is, other}

@@ -1,23 +1,19 @@
 -- What the parser's parts and table say of a tree: they are its sets of places. Assumes nothing.
-use mathlib.Core.Path.{_≡_, refl, sym, ap, ap₂, _∙_, subst}
+use mathlib.Core.Path.{_≡_, refl, sym}
 use mathlib.Core.Bool.{Bool, true, false, _&&_, _||_}
 use mathlib.Core.List.{List}
-use Prim.Native.Nat.{ℕ, zero, suc, _+_, _-_, _*_, _/_, _%_, _<_, _≤_}
+use Prim.Native.Nat.{ℕ, _+_, _*_, _<_, _≤_}
 use native.Mathlib.Omega.{arith}
 use lib.Bits.{bitOr}
-use lib.Dec.{eqb, ltb, leb}
-use lib.ListN.{length, getD, set, length-set}
+use lib.Dec.{eqb, ltb}
+use lib.ListN.{length, getD, length-set}
 use lib.Seq.{getD-set-same, getD-set-other}
-use borrow.Author.Tests.{lt-ltb, le-ltb, le-leb, lt-leb, eq-eqb, ne-eqb, ltb-true, ltb-false, leb-true, leb-false, eqb-true, eqb-false}
-use Rattle.text.specs.Choice.{clash, split, bool-iff}
-use Rattle.pattern.specs.Working.Logic.{or-cases, or-left, or-right, and-left, and-right, and-both}
-use Rattle.text.specs.Choice.{pick}
-use Rattle.text.specs.Loop.{loop-next, loop-done}
-use Rattle.pattern.specs.Class.{Class}
+use borrow.Author.Tests.{lt-ltb, eqb-true, eqb-false}
+use Rattle.text.specs.Choice.{split}
 use Rattle.pattern.specs.Tree.{Re, bol, eol, one, cat, alt, star, plus, opt}
-use Rattle.pattern.specs.Working.Sets.{nul, first, last, follow, Fits, f-bol, f-eol, f-one, f-cat, f-alt, f-star, f-plus, f-opt, fits-le}
-use Rattle.pattern.specs.Working.Places.{nowhere, onlyAt, join, gated, startPart, endPart, bytePart, sequence, choice, orEmpty, orAt, wordAt, addRow, row, addIf, linkTurn, linkWord, link}
-use Rattle.pattern.specs.Working.Bits.{bit, bit-zero, bit-or, has, has-nowhere, has-join, has-gated, has-only}
+use Rattle.pattern.specs.Working.Sets.{nul, first, last, Fits, f-bol, f-eol, f-one, f-cat, f-alt, f-star, f-plus, f-opt, fits-le}
+use Rattle.pattern.specs.Working.Places.{join, gated, startPart, endPart, bytePart, sequence, choice, orEmpty, orAt, wordAt, addRow, row, link}
+use Rattle.pattern.specs.Working.Bits.{has, has-nowhere, has-join, has-gated, has-only}
 use Rattle.pattern.specs.declared.places.Places.{Places}
 use Rattle.pattern.specs.declared.places.Part.{Part}
 

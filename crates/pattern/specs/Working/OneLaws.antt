@@ -1,14 +1,13 @@
 -- The scan of an atom for one byte finds exactly those of the grammar, and they accept what their class says. Assumes nothing.
 use mathlib.Core.Path.{_≡_, refl, sym, ap, _∙_, subst}
-use mathlib.Core.Bool.{Bool, true, false, _&&_, _||_, not}
-use mathlib.Core.List.{List, [], _∷_}
-use Prim.Native.Nat.{ℕ, zero, suc, _+_, _-_, _<_, _≤_}
+use mathlib.Core.Bool.{Bool, true, false, not}
+use mathlib.Core.List.{List}
+use Prim.Native.Nat.{ℕ, _+_, _<_}
 use native.Mathlib.Omega.{arith}
-use lib.Dec.{eqb, ltb, leb}
+use lib.Dec.{eqb, leb}
 use lib.ListN.{length, getD}
-use borrow.Author.Tests.{lt-ltb, le-ltb, le-leb, lt-leb, eq-eqb, ne-eqb, ltb-true, ltb-false, leb-true, leb-false, eqb-true, eqb-false}
+use borrow.Author.Tests.{lt-ltb, lt-leb, ne-eqb, leb-false, eqb-true, eqb-false}
 use Rattle.text.specs.Choice.{clash, split}
-use Rattle.text.specs.Choice.{pick}
 use Rattle.pattern.specs.Class.{Item, Class, any, only, among, besides, inItems, accepts}
 use Rattle.pattern.specs.Grammar.{At, Items, One, o-any, o-escape, o-byte, o-set, o-not}
 use Rattle.pattern.specs.Working.Scan

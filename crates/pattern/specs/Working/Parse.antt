@@ -1,17 +1,16 @@
 -- The parser as the code has it: what is known of the pattern's part, where it ends, and the table that it leaves. Assumes nothing.
 use mathlib.Core.Path.{_≡_, refl, sym, ap, _∙_}
-use mathlib.Core.Bool.{Bool, true, false}
+use mathlib.Core.Bool.{Bool}
 use mathlib.Core.List.{List}
 use Prim.Native.Nat.{ℕ, zero, suc, _+_, _-_, _<_, _≤_}
 use native.Mathlib.Omega.{arith}
 use lib.Dec.{eqb, ltb, leb}
 use lib.ListN.{length, getD}
-use borrow.Author.Tests.{lt-ltb, le-ltb, le-leb, lt-leb, eq-eqb, ne-eqb}
+use borrow.Author.Tests.{le-leb, lt-leb, eq-eqb, ne-eqb}
 use Rattle.text.specs.Choice.{pick}
 use Rattle.text.specs.Loop.{Step, next, done, loop, loop-next, loop-done}
 use Rattle.pattern.specs.Working.Places.{startPart, endPart, bytePart, sequence, choice, orEmpty, link}
 use Rattle.pattern.specs.Working.Scan.{oneEnd}
-use Rattle.pattern.specs.declared.places.Places.{Places}
 use Rattle.pattern.specs.declared.places.Part.{Part}
 use Rattle.pattern.specs.declared.atoms.Scan.{Scan}
 use Rattle.pattern.specs.declared.atoms.Scan.the-variants.{Unfit, End}

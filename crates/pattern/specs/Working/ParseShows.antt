@@ -1,19 +1,17 @@
 -- The parser accepts each pattern of the grammar, with what its tree says. Assumes nothing.
-use mathlib.Core.Path.{_≡_, refl, sym, ap, _∙_, subst}
-use mathlib.Core.Bool.{Bool, true, false}
-use mathlib.Core.List.{List, [], _∷_}
-use Prim.Native.Nat.{ℕ, zero, suc, _+_, _-_, _*_, _<_, _≤_}
+use mathlib.Core.Path.{_≡_, refl, sym, ap, _∙_}
+use mathlib.Core.Bool.{true}
+use mathlib.Core.List.{List}
+use Prim.Native.Nat.{ℕ, _+_, _-_, _*_, _≤_}
 use native.Mathlib.Omega.{arith}
-use lib.Dec.{eqb, ltb, leb}
+use lib.Dec.{eqb, ltb}
 use lib.ListN.{length, getD}
-use borrow.Author.Tests.{lt-ltb, le-ltb, le-leb, lt-leb, eq-eqb, ne-eqb, ltb-true, ltb-false, leb-true, leb-false, eqb-true, eqb-false}
-use Rattle.text.specs.Choice.{clash, split}
-use Rattle.text.specs.Choice.{pick}
-use Rattle.pattern.specs.Class.{Class}
-use Rattle.pattern.specs.Tree.{Re, bol, eol, one, cat, alt, star, plus, opt}
-use Rattle.pattern.specs.Grammar.{At, One, Expr, e-one, e-or, Branch, b-one, b-more, Piece, p-bol, p-eol, p-atom, p-star, p-plus, p-opt, Atom, a-one, a-group}
-use Rattle.pattern.specs.Working.GrammarLaws.{one-less, expr-less, branch-less, piece-less, atom-less, Begins, one-begins, piece-begins}
-use Rattle.pattern.specs.Working.Places.{startPart, endPart, bytePart, sequence, choice, orEmpty, link}
+use borrow.Author.Tests.{lt-ltb, eq-eqb, ltb-true, eqb-true}
+use Rattle.text.specs.Choice.{split}
+use Rattle.pattern.specs.Tree.{Re}
+use Rattle.pattern.specs.Grammar.{At, Expr, e-one, e-or, Branch, b-one, b-more, Piece, p-bol, p-eol, p-atom, p-star, p-plus, p-opt, Atom, a-one, a-group}
+use Rattle.pattern.specs.Working.GrammarLaws.{one-less, expr-less, branch-less, piece-less, Begins, one-begins, piece-begins}
+use Rattle.pattern.specs.Working.Places.{startPart, endPart, bytePart, sequence, choice, link}
 use Rattle.pattern.specs.Bytes.{special}
 use Rattle.pattern.specs.Working.Scan.{oneEnd}
 use Rattle.pattern.specs.Working.OneLaws.{one-shows, special-40, special-94, special-36, special-124, special-41, special-42, special-43, special-63}
@@ -21,7 +19,7 @@ use Rattle.pattern.specs.Working.Meaning.{partOf, tableOf}
 use Rattle.pattern.specs.Working.Parse
 use Rattle.pattern.specs.Working.Parse.{eatAt, Ran, ran, repeated, atomAt, pieceAt, branchRestAt, branchAt, exprRestAt, exprAt}
 use Rattle.pattern.specs.declared.places.Part.{Part}
-use Rattle.pattern.specs.declared.reader.Parsed.the-variants.{Bad, Got}
+use Rattle.pattern.specs.declared.reader.Parsed.the-variants.{Got}
 
 eat-at : {p : List ℕ} {i b : ℕ} → At p i b → eatAt p i b ≡ i + 1
 unfolding eatAt

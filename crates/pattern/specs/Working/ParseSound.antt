@@ -1,24 +1,21 @@
 -- What the parser accepts is a pattern of the grammar, and what it leaves is its tree's. Assumes nothing.
 use mathlib.Core.Path.{_≡_, refl, sym, ap, _∙_, subst}
-use mathlib.Core.Bool.{Bool, true, false}
-use mathlib.Core.List.{List, [], _∷_}
+use mathlib.Core.Bool.{false}
+use mathlib.Core.List.{List}
 use Prim.Native.Nat.{ℕ, zero, suc, _+_, _-_, _<_, _≤_}
 use native.Mathlib.Omega.{arith}
 use lib.Dec.{eqb, ltb, leb}
 use lib.ListN.{length, getD}
-use borrow.Author.Tests.{lt-ltb, le-ltb, le-leb, lt-leb, eq-eqb, ne-eqb, ltb-true, ltb-false, leb-true, leb-false, eqb-true, eqb-false}
+use borrow.Author.Tests.{eq-eqb, ltb-true, leb-true, leb-false, eqb-true, eqb-false}
 use Rattle.text.specs.Choice.{clash, split}
-use Rattle.text.specs.Choice.{pick}
-use Rattle.text.specs.Loop.{loop, loop-next, loop-done}
-use Rattle.pattern.specs.Class.{Class}
 use Rattle.pattern.specs.Tree.{Re, bol, eol, one, cat, alt, star, plus, opt}
-use Rattle.pattern.specs.Grammar.{At, One, Expr, e-one, e-or, Branch, b-one, b-more, Piece, p-bol, p-eol, p-atom, p-star, p-plus, p-opt, Atom, a-one, a-group}
-use Rattle.pattern.specs.Working.Places.{startPart, endPart, bytePart, sequence, choice, orEmpty, link}
+use Rattle.pattern.specs.Grammar.{At, Expr, e-one, e-or, Branch, b-one, b-more, Piece, p-bol, p-eol, p-atom, p-star, p-plus, p-opt, Atom, a-one, a-group}
+use Rattle.pattern.specs.Working.Places.{startPart, endPart, sequence, choice, orEmpty, link}
 use Rattle.pattern.specs.Working.Scan.{oneEnd}
 use Rattle.pattern.specs.Working.OneLaws.{one-sound}
 use Rattle.pattern.specs.Working.Meaning.{partOf, tableOf}
 use Rattle.pattern.specs.Working.Parse
-use Rattle.pattern.specs.Working.Parse.{eatAt, Ran, ran, onGot, onEnd, atomBody, repeated, pieceBody, onPiece, branchTurn, branchLoop, onBranch, exprTurn, exprLoop, atomAt, pieceAt, branchRestAt, branchAt, exprRestAt, exprAt}
+use Rattle.pattern.specs.Working.Parse.{eatAt, Ran, ran, onGot, onEnd, atomBody, repeated, pieceBody, atomAt, pieceAt, branchRestAt, branchAt, exprRestAt, exprAt}
 use Rattle.pattern.specs.declared.places.Part.{Part}
 use Rattle.pattern.specs.declared.atoms.Scan.{Scan}
 use Rattle.pattern.specs.declared.atoms.Scan.the-variants.{Unfit, End}

@@ -1,19 +1,16 @@
 -- A run through the places of a tree: what a matcher that keeps a set of places follows. A match gives a run. Assumes nothing.
 use mathlib.Core.Path.{_≡_, refl, sym, _∙_, subst}
 use mathlib.Core.Bool.{Bool, true, false, _&&_, _||_}
-use mathlib.Core.Logic.{_⊎_, inl, inr, ⊎-elim}
 use mathlib.Core.List.{List}
-use Prim.Native.Nat.{ℕ, zero, suc, _+_, _<_, _≤_}
+use Prim.Native.Nat.{ℕ, suc, _<_, _≤_}
 use native.Mathlib.Omega.{arith}
 use lib.Dec.{eqb}
 use lib.ListN.{length, getD}
-use borrow.Author.Tests.{eqb-true, eqb-false, eq-eqb, ne-eqb}
-use Rattle.text.specs.Choice.{clash, split}
-use Rattle.pattern.specs.Working.Logic.{or-cases, or-left, or-right, and-left, and-right, and-both}
-use Rattle.pattern.specs.Class.{Class, accepts}
-use Rattle.pattern.specs.Tree.{Re, bol, eol, one, cat, alt, star, plus, opt}
+use borrow.Author.Tests.{eq-eqb, ne-eqb}
+use Rattle.pattern.specs.Working.Logic.{or-left, or-right, and-both}
+use Rattle.pattern.specs.Tree.{Re, one, cat, alt, star, plus, opt}
 use Rattle.pattern.specs.Match.{Matches, m-bol, m-eol, m-one, m-cat, m-left, m-right, m-none, m-more, m-plus, m-skip, m-take}
-use Rattle.pattern.specs.Working.Sets.{nul, first, last, follow, Fits, f-bol, f-eol, f-one, f-cat, f-alt, f-star, f-plus, f-opt}
+use Rattle.pattern.specs.Working.Sets.{nul, first, last, follow, Fits, f-one, f-cat, f-alt, f-star, f-plus, f-opt}
 
 -- which boundary is the string's start, which is its end
 unfoldable pub starts : ℕ → Bool

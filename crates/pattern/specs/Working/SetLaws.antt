@@ -1,16 +1,14 @@
 -- The scan of a set finds exactly the sets of the grammar. Assumes nothing.
 use mathlib.Core.Path.{_≡_, refl, sym, ap, _∙_, subst}
-use mathlib.Core.Bool.{Bool, true, false, _&&_, _||_, not}
-use mathlib.Core.Logic.{_⊎_, inl, inr, ⊎-elim}
+use mathlib.Core.Bool.{Bool, true, false, _||_}
 use mathlib.Core.List.{List, [], _∷_}
 use Prim.Native.Nat.{ℕ, zero, suc, _+_, _-_, _<_, _≤_}
 use native.Mathlib.Omega.{arith}
 use lib.Dec.{eqb, ltb, leb}
 use lib.ListN.{length, getD}
-use borrow.Author.Tests.{lt-ltb, le-ltb, le-leb, lt-leb, eq-eqb, ne-eqb, ltb-true, ltb-false, leb-true, leb-false, eqb-true, eqb-false}
+use borrow.Author.Tests.{lt-ltb, le-leb, lt-leb, eq-eqb, ne-eqb, ltb-true, ltb-false, leb-true, leb-false, eqb-true, eqb-false}
 use Rattle.text.specs.Choice.{clash, split, bool-iff}
 use Rattle.pattern.specs.Working.Logic.{and-left, and-right, and-both}
-use Rattle.text.specs.Choice.{pick}
 use Rattle.pattern.specs.Class.{Item, range, inItem, inItems}
 use Rattle.pattern.specs.Grammar.{At, Self, Items, i-close, i-first-dash, i-last-dash, i-byte, i-range}
 use Rattle.pattern.specs.Working.Scan

@@ -1,6 +1,6 @@
 -- The matcher as the code has it. Assumes nothing.
 use mathlib.Core.Path.{_≡_, refl, sym, ap, _∙_}
-use mathlib.Core.Bool.{Bool, true, false, _&&_, _||_}
+use mathlib.Core.Bool.{Bool, true, false}
 use mathlib.Core.List.{List}
 use Prim.Native.Nat.{ℕ, zero, suc, _+_, _-_, _/_, _%_, _^_, _<_, _≤_}
 use native.Mathlib.Omega.{arith}
@@ -9,8 +9,7 @@ use native.Mathlib.Nat.{div-one, div-div-eq-div-mul, pow-succ', add-zero}
 use lib.Dec.{eqb, ltb, leb}
 use lib.ListN.{length, getD}
 use borrow.Author.Tests.{lt-ltb, le-ltb, le-leb, lt-leb, eq-eqb, ne-eqb, leb-true, leb-false, eqb-true, eqb-false}
-use Rattle.text.specs.Choice.{split}
-use Rattle.text.specs.Choice.{pick}
+use Rattle.text.specs.Choice.{split, pick}
 use Rattle.text.specs.Loop.{Step, next, done, loop, loop-next, loop-done}
 use Rattle.pattern.specs.Working.Places.{join, row}
 use Rattle.pattern.specs.Working.Scan.{acceptsAt}

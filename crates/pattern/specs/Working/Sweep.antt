@@ -1,21 +1,19 @@
 -- What one byte of the string does to a set of places. Assumes nothing.
-use mathlib.Core.Path.{_≡_, refl, sym, ap, ap₂, _∙_, subst}
+use mathlib.Core.Path.{_≡_, refl, sym, ap, _∙_, subst}
 use mathlib.Core.Bool.{Bool, true, false, _&&_, _||_}
 use mathlib.Core.Logic.{_⊎_, inl, inr, ⊎-elim}
 use mathlib.Core.List.{List}
-use Prim.Native.Nat.{ℕ, zero, suc, _+_, _-_, _*_, _/_, _%_, _<_, _≤_}
+use Prim.Native.Nat.{ℕ, zero, suc, _+_, _-_, _/_, _%_, _<_, _≤_}
 use native.Mathlib.Omega.{arith}
 use lib.Dec.{eqb, ltb, leb}
-use lib.ListN.{length, getD}
-use borrow.Author.Tests.{lt-ltb, le-ltb, le-leb, lt-leb, eq-eqb, ne-eqb, ltb-true, ltb-false, leb-true, leb-false, eqb-true, eqb-false}
+use borrow.Author.Tests.{lt-ltb, le-ltb, eq-eqb, ltb-true, ltb-false, leb-true, leb-false, eqb-true, eqb-false}
 use Rattle.text.specs.Choice.{clash, split}
 use Rattle.pattern.specs.Working.Logic.{or-cases, or-left, or-right, and-left, and-right, and-both}
-use Rattle.text.specs.Choice.{pick}
-use Rattle.pattern.specs.Working.Places.{join, row}
+use Rattle.pattern.specs.Working.Places.{row}
 use Rattle.pattern.specs.Working.Scan.{acceptsAt}
 use Rattle.pattern.specs.Working.Sim.{swept, flag, visit, sweepOne, sweep, stepAt, way-sweep-end, way-sweep-done, way-sweep-more}
 use Rattle.pattern.specs.Working.Bits.{bit, has, has-join}
-use Rattle.pattern.specs.Working.Table.{covers, covers-in, covers-step, covers-zero, covers-above, bit-next, bit-first, outside, four}
+use Rattle.pattern.specs.Working.Table.{covers, covers-in, covers-step, covers-zero, bit-next, bit-first, outside}
 use Rattle.pattern.specs.declared.places.Places.{Places}
 use Rattle.pattern.specs.declared.run.Swept.{Swept}
 

@@ -1,18 +1,16 @@
 -- What the table of a tree holds: row p has the places that follow p. Assumes nothing.
-use mathlib.Core.Path.{_≡_, refl, sym, ap, ap₂, _∙_, subst}
+use mathlib.Core.Path.{_≡_, refl, ap, _∙_}
 use mathlib.Core.Bool.{Bool, true, false, _&&_, _||_}
 use mathlib.Core.List.{List}
-use Prim.Native.Nat.{ℕ, zero, suc, _+_, _-_, _*_, _/_, _%_, _<_, _≤_}
+use Prim.Native.Nat.{ℕ, zero, suc, _+_, _-_, _/_, _%_, _<_, _≤_}
 use native.Mathlib.Omega.{arith}
-use native.Mathlib.Nat.{le-trans, le-of-eq}
 use lib.Dec.{eqb, ltb, leb}
-use lib.ListN.{length, getD}
-use borrow.Author.Tests.{lt-ltb, le-ltb, le-leb, lt-leb, eq-eqb, ne-eqb, ltb-true, ltb-false, leb-true, leb-false, eqb-true, eqb-false}
-use Rattle.text.specs.Choice.{clash, split}
-use Rattle.text.specs.Choice.{pick}
+use lib.ListN.{length}
+use borrow.Author.Tests.{lt-ltb, le-ltb, le-leb, lt-leb, ne-eqb, ltb-true, ltb-false, leb-true, leb-false, eqb-true, eqb-false}
+use Rattle.text.specs.Choice.{split}
 use Rattle.pattern.specs.Tree.{Re, bol, eol, one, cat, alt, star, plus, opt}
 use Rattle.pattern.specs.Working.Sets.{first, last, follow, Fits, f-bol, f-eol, f-one, f-cat, f-alt, f-star, f-plus, f-opt, fits-le}
-use Rattle.pattern.specs.Working.Places.{addRow, row, addIf, linkWord, link, way-link-end, way-link-done, way-link-more}
+use Rattle.pattern.specs.Working.Places.{row, addIf, linkWord, link, way-link-end, way-link-done, way-link-more}
 use Rattle.pattern.specs.Working.Bits.{bit, bit-zero, has}
 use Rattle.pattern.specs.Working.Meaning.{partOf, tableOf, add-row-has, add-row-length, fm-is, lm-is}
 use Rattle.pattern.specs.declared.places.Places.{Places}

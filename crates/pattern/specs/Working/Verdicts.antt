@@ -2,40 +2,37 @@
 use mathlib.Core.Path.{_≡_, refl, sym, ap, _∙_, subst}
 use mathlib.Core.Bool.{Bool, true, false, _||_}
 use mathlib.Core.List.{List}
-use Prim.Native.Nat.{ℕ, zero, suc, _+_, _-_, _*_, _<_, _≤_}
+use Prim.Native.Nat.{ℕ, zero, _+_, _*_, _<_, _≤_}
 use native.Mathlib.Omega.{arith}
 use native.Mathlib.Nat.{le-refl}
-use lib.Dec.{eqb, ltb, leb}
-use lib.ListN.{length, getD, replicate, length-replicate, getD-replicate}
-use borrow.Author.Tests.{lt-ltb, le-ltb, eq-eqb, ne-eqb, ltb-true, ltb-false, eqb-true, eqb-false}
+use lib.Dec.{eqb, ltb}
+use lib.ListN.{length, replicate, length-replicate, getD-replicate}
+use borrow.Author.Tests.{ltb-true, ltb-false, eqb-true, eqb-false}
 use Rattle.text.specs.Choice.{clash, split}
-use Rattle.text.specs.Choice.{pick}
 use Rattle.pattern.specs.Tree.{Re}
 use Rattle.pattern.specs.Match.{Found}
 use Rattle.pattern.specs.Grammar.{Expr, Pattern}
 use Rattle.pattern.specs.Working.GrammarLaws.{expr-fits}
-use Rattle.pattern.specs.Working.Sets.{Fits, follow}
+use Rattle.pattern.specs.Working.Sets.{follow}
 use Rattle.pattern.specs.Working.Places.{row, wordAt, nowhere}
-use Rattle.pattern.specs.Working.Scan.{acceptsAt}
 use Rattle.pattern.specs.Working.Bits.{has, has-nowhere}
 use Rattle.pattern.specs.Working.Meaning.{partOf, tableOf}
 use Rattle.pattern.specs.Working.Table.{table-has}
 use Rattle.pattern.specs.Working.Decide.{runs-sound, runs-shows}
 use Rattle.pattern.specs.Working.Parse.{Ran, ran, exprAt}
-use Rattle.pattern.specs.Working.ParseSound.{As, expr-at-sure, bad-got, got-part, got-next, got-table}
+use Rattle.pattern.specs.Working.ParseSound.{expr-at-sure, bad-got, got-next}
 use Rattle.pattern.specs.Working.ParseShows.{expr-all, t-end}
 use Rattle.pattern.specs.Working.Sim.{runs, answered, onParsed, testWith}
 use Rattle.pattern.specs.declared.places.Part.{Part}
 use Rattle.pattern.specs.declared.reader.Parsed.the-variants.{Bad, Got}
 use Rattle.pattern.specs.declared.Answer.{Answer}
-use Rattle.pattern.specs.declared.Answer.the-variants.{Yes, No, Error}
 use Rattle.pattern.specs.Verdict.{Verdict, v-yes, v-no, v-error}
 
 -- an empty table
 abbrev pub zeros : List ℕ
 zeros = replicate 1024 0
 
-pub word-zero : (i : ℕ) → wordAt zeros i ≡ 0
+word-zero : (i : ℕ) → wordAt zeros i ≡ 0
 unfolding wordAt
 word-zero i = split (ltb i 1024) (λ e. rw (length-replicate 1024 (the-zero), e) (getD-replicate 1024 i 0 0 (ltb-true _ _ e))) (λ e. rw (length-replicate 1024 the-zero, e))
   where
@@ -87,12 +84,6 @@ module _ (t : List ℕ) (empty : (i : ℕ) → wordAt t i ≡ 0) (size : 1024 �
   test-verdict p s = split (ltb 256 (length p))
       (λ e. rw e (v-error (λ r w. omega (arith, ltb-true 256 (length p) e, w .short))))
       (λ e. rw e (parsed-verdict p s (ltb-false 256 (length p) e) (exprAt 2000 p 0 t) refl))
-
-  -- bytes that are a pattern have one meaning
-  pub same-meaning : (p s : List ℕ) (r q : Re) → Pattern p r → Pattern p q → Found s r → Found s q
-  same-meaning p s r q w v f =
-      let e = sym (parsed p s r w) ∙ parsed p s q v in
-      answer-sound p s q v (subst (λ (g : Part). runs p s (tableOf q t) g ≡ true) (got-part e) (subst (λ (u : List ℕ). runs p s u (partOf r) ≡ true) (got-table e) (answer-shows p s r w f)))
 
 pub zeros-verdict : (p s : List ℕ) (a : Answer) → a ≡ testWith zeros p s → Verdict p s a
 zeros-verdict p s a e = subst (Verdict p s) (sym e) (test-verdict zeros word-zero (omega (arith, length-replicate 1024 zero)) p s)
