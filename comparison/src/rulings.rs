@@ -166,8 +166,16 @@ Licensees: Alice || Bob\nConditions: (app_domain == \"RFC822-EMAIL\") && ({test}
         ruling("e-mail of another", &draft("address > \"m\"", "angelos@dsl.cis.upenn.edu"), Ruled::Rank(0)),
         ruling("e-mail by pattern", &draft(pattern, mab), Ruled::Solved(1, 4, 5)),
         ruling("e-mail by pattern, another's", &asked_by("DSA:4401ff92", pattern, "mab@att.com"), Ruled::Rank(0)),
-        ruling("e-mail by pattern, no dot", &asked_by("DSA:4401ff92", pattern, "a@keynoteXresearch.att.com"), Ruled::Rank(0)),
-        ruling("e-mail by pattern, any byte", &asked_by("DSA:4401ff92", anywhere, "a@keynoteXresearch"), Ruled::Rank(1)),
+        ruling(
+            "e-mail by pattern, no dot",
+            &asked_by("DSA:4401ff92", pattern, "a@keynoteXresearch.att.com"),
+            Ruled::Rank(0),
+        ),
+        ruling(
+            "e-mail by pattern, any byte",
+            &asked_by("DSA:4401ff92", anywhere, "a@keynoteXresearch"),
+            Ruled::Rank(1),
+        ),
         ruling("e-mail by no pattern", &draft("address ~= \"(\"", mab), Ruled::Rank(0)),
     ]
 }

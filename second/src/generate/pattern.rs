@@ -156,8 +156,9 @@ pub fn string(random: &mut Random, pattern: &[u8]) -> Vec<u8> {
         _ => (0..random.below(8)).for_each(|_| string.push(*random.pick(LETTERS))),
     }
     match random.below(6) {
-        0 => string.insert(0, *random.pick(LETTERS)),
-        1 => string.push(*random.pick(LETTERS)),
+        // A newline is no end of the string.
+        0 => string.insert(0, *random.pick(b"abc\n\n")),
+        1 => string.push(*random.pick(b"abc\n\n")),
         2 if !string.is_empty() => {
             let place = random.below(string.len());
             string[place] = *random.pick(LETTERS);
