@@ -21,6 +21,7 @@ pub mod line;
 pub mod literal;
 pub mod paper;
 pub mod parse;
+pub mod pattern;
 pub mod principal;
 pub mod print;
 pub mod random;

@@ -3,6 +3,7 @@
 use std::collections::BTreeMap;
 use std::fmt;
 
+use super::pattern_coverage::PatternCoverage;
 use crate::{check, limits, record, solution_by_bytes, Outcome};
 
 #[derive(Clone, Debug, Default, PartialEq, Eq)]
@@ -15,6 +16,7 @@ pub struct Coverage {
     /// Answers that would be other ones if spellings were principals, by what
     /// would be another.
     pub spellings: BTreeMap<&'static str, u64>,
+    pub patterns: PatternCoverage,
 }
 
 /// What equality of bytes may change.
@@ -38,8 +40,9 @@ impl Coverage {
         }
     }
 
-    /// Counts an answer that rests on keys with several spellings.
+    /// Counts an answer that rests on keys with several spellings, and its pattern tests.
     pub fn count_spellings(&mut self, record: &[u8], outcome: &Outcome) {
+        self.patterns.count(record);
         let Some(other) = solution_by_bytes(record).filter(|_| outcome.number == 0) else { return };
         let changed = [outcome.rank != other.rank, outcome.rounds != other.rounds, outcome.reached != other.reached];
         for (what, _) in SPELLINGS.iter().zip(changed).filter(|(_, changed)| *changed) {
@@ -68,6 +71,7 @@ impl Coverage {
         for what in SPELLINGS {
             need(self.spellings.contains_key(what), format!("spellings of one key that change the {what}"));
         }
+        missing.extend(self.patterns.missing());
         missing
     }
 }
@@ -79,6 +83,7 @@ impl fmt::Display for Coverage {
         writeln!(formatter, "ranks   {:?}", self.ranks)?;
         writeln!(formatter, "rounds  {:?}", self.rounds)?;
         writeln!(formatter, "reached {:?}", self.reached)?;
-        write!(formatter, "changed by spellings {:?}", self.spellings)
+        writeln!(formatter, "changed by spellings {:?}", self.spellings)?;
+        write!(formatter, "{}", self.patterns)
     }
 }
