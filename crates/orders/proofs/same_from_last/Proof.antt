@@ -1,4 +1,5 @@
-use Rattle.orders.specs.Working.Comparing.{last-none, last-some, last-unlike}
+use Rattle.text.specs.Working.Backward.{last-unlike}
+use Rattle.orders.specs.Working.Comparing.{last-none, last-some}
 use borrow.Author.Needs.{needs}
 use Rattle.orders.proofs.same_from_last.Statement.{statement}
 use Rattle.orders.proofs.same_from_last.Tie as tie

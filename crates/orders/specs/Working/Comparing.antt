@@ -52,9 +52,6 @@ last-none (x ∷ a) b h = let no : ⊥ = omega (arith, h) in absurd no
 pub last-some : (a b : List ℕ) → (length a ≡ 0 → ⊥) → length b ≡ 0 → false ≡ equal a b
 last-some a b h e = differ a b (λ q. h (ap length q ∙ e))
 
-pub last-unlike : (a b : List ℕ) → (getD a (length a - 1) 0 ≡ getD b (length b - 1) 0 → ⊥) → false ≡ equal a b
-last-unlike a b h = differ a b (λ q. h (ap (λ (c : List ℕ). getD c (length c - 1) 0) q))
-
 -- `same_backward`
 module _ (a b : List ℕ) (i low : ℕ) (inv : equal (take i a) (take i b) ≡ equal a b) (more : low < i) (inside : i ≤ length a) (long : length a ≡ length b) where
   some : 0 < i

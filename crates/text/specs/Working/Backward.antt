@@ -118,6 +118,10 @@ module _ (a b : List ℕ) (i low : ℕ) (inv : equal (take i a) (take i b) ≡ e
   above-last h e t te = above-cases (i - 8) (omega (arith, e, ha)) (omega (arith, h, e, from)) (omega (arith, e)) t te
 
 -- `same_bytes`
+pub last-unlike : (a b : List ℕ) → (getD a (length a - 1) 0 ≡ getD b (length b - 1) 0 → ⊥) → false ≡ equal a b
+last-unlike a b h =
+    split (equal a b) (λ e. absurd (h (ap (λ (c : List ℕ). getD c (length c - 1) 0) (equal-true a b e)))) (λ e. sym e)
+
 pub same-blocks : (a b : List ℕ) (k : ℕ) (t : Bool) → equal a b ≡ (t && equal (take (k * 64) a) (take (k * 64) b)) → t ≡ true
     → (r : Bool) → r ≡ equal (take (k * 64) a) (take (k * 64) b) → r ≡ equal a b
 same-blocks a b k t e tt r re = re ∙ sym (rw tt at e)
