@@ -164,9 +164,6 @@ pub fn same_bytes(a: &[u8], b: &[u8]) -> bool
     if a.len() < 8 {
         return same_few(a, b);
     }
-    if a[a.len() - 1] != b[b.len() - 1] {
-        return false;
-    }
     let k = a.len() / 64;
     if same_above(a, b, k * 64) {
         return same_below(a, b, k);

@@ -1,4 +1,4 @@
-use Rattle.text.specs.Working.Backward.{same-apart, last-unlike, same-blocks, same-differ}
+use Rattle.text.specs.Working.Backward.{same-apart, same-blocks, same-differ}
 use borrow.Author.Needs.{needs}
 use Rattle.text.proofs.same_bytes.Statement.{statement}
 use Rattle.text.proofs.same_bytes.Tie as tie
@@ -17,21 +17,6 @@ same-few-requires c κs = search needs
 returns-2 : tie.Need-returns-2
 returns-2 c = search needs
 
-sub-if3 : tie.Need-sub-if3
-sub-if3 c = search needs
-
-shared-slice-read-if3 : tie.Need-shared-slice-read-if3
-shared-slice-read-if3 c = search needs
-
-sub-if3-2 : tie.Need-sub-if3-2
-sub-if3-2 c = search needs
-
-shared-slice-read-if3-2 : tie.Need-shared-slice-read-if3-2
-shared-slice-read-if3-2 c = search needs
-
-returns-3 : tie.Need-returns-3
-returns-3 c = search last-unlike
-
 mul-same-above : tie.Need-mul-same-above
 mul-same-above c = search needs
 
@@ -41,11 +26,11 @@ same-above-requires c κs = search needs
 same-below-requires : tie.Need-same-below-requires
 same-below-requires c κs = search needs
 
-returns-4 : tie.Need-returns-4
-returns-4 c = search same-blocks
+returns-3 : tie.Need-returns-3
+returns-3 c = search same-blocks
 
-returns-5 : tie.Need-returns-5
-returns-5 c = search same-differ
+returns-4 : tie.Need-returns-4
+returns-4 c = search same-differ
 
 pub same-bytes-spec : {M : Type 1} → statement M
 same-bytes-spec =
@@ -54,13 +39,8 @@ same-bytes-spec =
     returns
     same-few-requires
     returns-2
-    sub-if3
-    shared-slice-read-if3
-    sub-if3-2
-    shared-slice-read-if3-2
-    returns-3
     mul-same-above
     same-above-requires
     same-below-requires
-    returns-4
-    returns-5)
+    returns-3
+    returns-4)

@@ -117,11 +117,18 @@ module _ (a b : List ℕ) (i low : ℕ) (inv : equal (take i a) (take i b) ≡ e
   pub above-last : i - low < 8 → 8 ≤ i → (t : Bool) → t ≡ alike a b (i - 8) 8 → equal a b ≡ (t && equal (take low a) (take low b))
   above-last h e t te = above-cases (i - 8) (omega (arith, e, ha)) (omega (arith, h, e, from)) (omega (arith, e)) t te
 
--- `same_bytes`
+-- strings whose last bytes differ, and empty ones
 pub last-unlike : (a b : List ℕ) → (getD a (length a - 1) 0 ≡ getD b (length b - 1) 0 → ⊥) → false ≡ equal a b
 last-unlike a b h =
     split (equal a b) (λ e. absurd (h (ap (λ (c : List ℕ). getD c (length c - 1) 0) (equal-true a b e)))) (λ e. sym e)
 
+pub both-none : (a b : List ℕ) → length a ≡ length b → length a ≡ 0 → true ≡ equal a b
+unfolding equal
+both-none [] [] h e = refl
+both-none [] (y ∷ b) h e = let no : ⊥ = omega (arith, h) in absurd no
+both-none (x ∷ a) b h e = let no : ⊥ = omega (arith, e) in absurd no
+
+-- `same_bytes`
 pub same-blocks : (a b : List ℕ) (k : ℕ) (t : Bool) → equal a b ≡ (t && equal (take (k * 64) a) (take (k * 64) b)) → t ≡ true
     → (r : Bool) → r ≡ equal (take (k * 64) a) (take (k * 64) b) → r ≡ equal a b
 same-blocks a b k t e tt r re = re ∙ sym (rw tt at e)
