@@ -9,6 +9,7 @@ use lexical::literal::decode_into;
 use lexical::literal::is_sized;
 use lexical::literal::literal_length;
 use lexical::token::Token;
+use limits::MOST_IDENTIFIER;
 ghost use mathlib.Core.Path.{_≡_};
 ghost use Prim.Native.Nat.{_+_, _-_, _≤_};
 ghost use lib.ListN.{length, take, drop};
@@ -17,8 +18,6 @@ ghost use Rattle.lexical.specs.Literal.{decodedAt};
 ghost use Rattle.fields.specs.Identifier.{sizeFault};
 ghost use Rattle.fields.specs.Working.Whole.{other, printed, clear, whole};
 ghost use Rattle.fields.specs.Working.Identifying.{entry, nameFaultIn, faultIn, enterIn, literalIn, tokenIn};
-
-pub const MOST_IDENTIFIER: usize = 256;
 
 // A principal's number in the index, with the index's count and end; or no room for it.
 pub enum Entry {
@@ -272,7 +271,7 @@ fn enter_decoded(
     if MOST_IDENTIFIER < n {
         return Entry::Full;
     }
-    let mut id = [0u8; 256];
+    let mut id = [0u8; MOST_IDENTIFIER];
     if decode_into(s, start, &mut id, 0) {
         return entered(pool, places, count, end, &id[..n]);
     }

@@ -18,8 +18,6 @@ ghost use Rattle.lexical.specs.Token.{token};
 ghost use Rattle.fields.specs.Licensees.{after};
 ghost use Rattle.fields.specs.Working.List.{ran, above, pushed, refusedLicensed, itemsOf, listedIn, placedIn, licenseeIn, listIn, openedIn, thresholdIn, wrote};
 
-pub const MOST_BRACKETS: usize = 16;
-
 // The index's count and end, the end of the code, and how many licensees were read.
 pub struct State {
     pub count: usize,

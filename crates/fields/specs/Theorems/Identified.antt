@@ -18,7 +18,7 @@ use Rattle.record.specs.Lies.{Lie, lie[], lie∷, AttributeAt}
 use Rattle.lexical.specs.Kind
 use Rattle.lexical.specs.Literal.{decodedAt}
 use Rattle.lexical.specs.declared.token.Token.{Token}
-use Rattle.fields.specs.Limits.{mostIdentifier}
+use Rattle.limits.specs.Limits.{mostIdentifier}
 use Rattle.principal.specs.Principal.{Principal, same}
 use Rattle.principal.specs.Members.{member}
 use Rattle.compliance.specs.Tables.{place}

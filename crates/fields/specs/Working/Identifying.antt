@@ -26,7 +26,7 @@ use Rattle.index.specs.Working.Adding.{After, entered, principalInto}
 use Rattle.index.specs.declared.Entered.{Entered}
 use Rattle.index.specs.declared.Entered.the-variants.{Now, Full as NoRoom}
 use Rattle.expression.specs.Tables.{firstFrom, settingIn}
-use Rattle.fields.specs.Limits.{mostIdentifier}
+use Rattle.limits.specs.Limits.{mostIdentifier}
 use Rattle.syntax.specs.Parsed.{refusal}
 use Rattle.fields.specs.Parsed.{wordOf}
 use Rattle.fields.specs.Identifier.{sizeFault}
