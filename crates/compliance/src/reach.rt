@@ -83,14 +83,7 @@ fn expand(ends: &[u16], code: &[u16], done: &mut [u8], n: usize, reach: &mut [u6
 }
 
 // Expands each assertion whose authorizer is reached, once.
-fn spread(
-    authors: &[u16],
-    ends: &[u16],
-    code: &[u16],
-    done: &mut [u8],
-    n: usize,
-    reach: &mut [u64],
-)
+fn spread(authors: &[u16], ends: &[u16], code: &[u16], done: &mut [u8], n: usize, reach: &mut [u64])
     ensures { λ _. ⌜ flagsIn n (now (reach .exit)) ≡ spreadFrom (now (authors .entry)) (now (ends .entry)) (now (code .entry)) (length (now (authors .entry))) (now (done .entry)) (flagsIn n (now (reach .entry))) ⌝ }
     ensures { λ _. ⌜ spareIn n (now (reach .exit)) ≡ spareIn n (now (reach .entry)) ⌝ }
 {

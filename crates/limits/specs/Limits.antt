@@ -50,12 +50,12 @@ leastSetting = 0
 abbrev pub mostSetting : ℕ
 mostSetting = 2048
 
--- "assertions, 0 to 32: a standing byte, length 1 to 8,192, text"
+-- "assertions, 0 to 200: a standing byte, length 1 to 8,192, text"
 abbrev pub leastAssertions : ℕ
 leastAssertions = 0
 
 abbrev pub mostAssertions : ℕ
-mostAssertions = 32
+mostAssertions = 200
 
 abbrev pub leastText : ℕ
 leastText = 1

@@ -1,7 +1,7 @@
 -- The answer over tables of numbers, in the code's shape, and the ways to it. Assumes nothing.
-use mathlib.Core.Path.{_≡_, refl, sym, ap, _∙_}
-use mathlib.Core.List.{List, _∷_}
-use Prim.Native.Nat.{ℕ, zero, suc, _+_, _-_, _*_, _/_, _≤_, _<_, zero-le}
+use mathlib.Core.Path.{_≡_, sym, ap, _∙_}
+use mathlib.Core.List.{List}
+use Prim.Native.Nat.{ℕ, zero, suc, _+_, _-_, _*_, _≤_, _<_, zero-le}
 use native.Mathlib.Omega.{arith}
 use lib.Dec.{eqb, ltb}
 use lib.ListN.{length, getD, take, replicate, length-replicate}
@@ -12,7 +12,7 @@ use Rattle.limits.specs.Limits.{mostAssertions, mostLicensees, mostPrincipals}
 use Rattle.compliance.specs.Working.Reach.{marked, spreadFrom}
 use Rattle.compliance.specs.Working.Rounds.{Settled, settledAt, changesOf, roundOf, settleFrom}
 use Rattle.compliance.specs.Working.RoundWays.{settle-same}
-use Rattle.compliance.specs.Working.Words.{flagsOf, flagsIn, spareIn, wordsFor, blank-flags, blank-spare, parted-at, parted-count}
+use Rattle.compliance.specs.Working.Words.{flagsOf, flagsIn, spareIn, wordsFor, take-blank, blank-flags, blank-spare, parted-at, parted-count}
 use Rattle.compliance.specs.declared.Solution.{Solution}
 
 -- the principals that the smaller tables are made for
@@ -60,11 +60,6 @@ blank-words m n ranks next reach done b found e = omega (arith, b .reachFew, e)
 
 pub blank-ranks : (m n : ℕ) (ranks next reach done : List ℕ) → Blank m n ranks next reach done → ranks ≡ replicate (length next) 0
 blank-ranks m n ranks next reach done b = b .noRanks ∙ rw (b .nextLong)
-
-take-blank : (n k : ℕ) → n ≤ k → take n (blank k) ≡ blank n
-take-blank zero k h = refl
-take-blank (suc n) zero h = absurd (omega arith)
-take-blank (suc n) (suc k) h = ap (λ (l : List ℕ). 0 ∷ l) (take-blank n k (omega arith))
 
 -- the first n numbers of a blank table of k
 module _ (k n : ℕ) (h : n ≤ k) where

@@ -1,17 +1,16 @@
 -- Flags as the binary digits of words, the lowest first, and the ways of the functions over them. Assumes nothing.
 use mathlib.Core.Path.{_≡_, refl, sym, ap, _∙_}
-use mathlib.Core.Bool.{Bool, true, false}
 use mathlib.Core.List.{List, [], _∷_, _++_, append-nil, append-assoc}
 use Prim.Native.Nat.{ℕ, zero, suc, _+_, _-_, _*_, _/_, _%_, _^_, _<_, _≤_}
 use native.Mathlib.Nat.{pow-suc, mod-eq-of-lt}
 use native.Mathlib.Omega.{arith}
 use native.Mathlib.Numerals.{add-one}
-use lib.Dec.{leb, eqb, ltb}
+use lib.Dec.{leb}
 use lib.Count.{ones, ones-step, ones-le}
-use lib.ListN.{length, getD, set, take, drop, replicate, length-append, take-append-drop, List·getD-eq-default}
-use lib.Seq.{set-out, set-getD, take-all}
+use lib.ListN.{length, getD, set, take, drop, replicate, length-append, take-append-drop, replicate-append-replicate, List·getD-append, List·getD-eq-default}
+use lib.Seq.{set-out, set-getD, set-append-left, getD-append-add, take-all, take-suc}
 use lib.Pow.{shr-shr, pow-lt}
-use borrow.Author.Tests.{le-leb, lt-leb, leb-true, leb-false, ltb-true, ltb-false}
+use borrow.Author.Tests.{leb-true, leb-false}
 use Rattle.text.specs.Choice.{pick, split}
 use Rattle.compliance.specs.Highest.{atLeast}
 
@@ -104,33 +103,20 @@ digits-room (suc d) n (suc k) h l e =
     let ih = digits-room d (n / 2) k (omega (arith, h, pow-suc 2 d)) (omega (arith, l)) (ap (λ (x : ℕ). x % 2) (halves n k) ∙ e) in
     omega (arith, ih, pow-suc 2 d, pow-suc 2 k)
 
--- flags of the word they lie in
-getD-left : (a b : List ℕ) (i : ℕ) → i < length a → getD (a ++ b) i 0 ≡ getD a i 0
-getD-left [] b i h = let no : ⊥ = omega (arith, h) in absurd no
-getD-left (x ∷ a) b zero h = refl
-getD-left (x ∷ a) b (suc i) h = getD-left a b i (omega (arith, h))
-
-getD-right : (a b : List ℕ) (i : ℕ) → getD (a ++ b) (length a + i) 0 ≡ getD b i 0
-getD-right [] b i = let z : 0 + i ≡ i = omega arith in ap (λ (x : ℕ). getD b x 0) z
-getD-right (x ∷ a) b i = let z : suc (length a) + i ≡ suc (length a + i) = omega arith in ap (λ (y : ℕ). getD (x ∷ (a ++ b)) y 0) z ∙ getD-right a b i
-
-pub set-left : (a b : List ℕ) (i v : ℕ) → i < length a → set (a ++ b) i v ≡ set a i v ++ b
-set-left [] b i v h = let no : ⊥ = omega (arith, h) in absurd no
-set-left (x ∷ a) b zero v h = refl
-set-left (x ∷ a) b (suc i) v h = ap (λ (l : List ℕ). x ∷ l) (set-left a b i v (omega (arith, h)))
+-- the flag k of the word j
+pub flag-at : (ws : List ℕ) (j k : ℕ) → j < length ws → k < 64 → getD (flagsOf ws) (j * 64 + k) 0 ≡ getD ws j 0 / 2 ^ k % 2
+unfolding flagsOf
+flag-at [] j k h l = let no : ⊥ = omega (arith, h) in absurd no
+flag-at (w ∷ ws) zero k h l = (let z : 0 * 64 + k ≡ k = omega arith in ap (λ (x : ℕ). getD (digits 64 w ++ flagsOf ws) x 0) z) ∙ List·getD-append (digits 64 w) (flagsOf ws) 0 k (omega (arith, l, digits-long 64 w)) ∙ digits-at 64 w k l
+flag-at (w ∷ ws) (suc j) k h l =
+    let z : suc j * 64 + k ≡ length (digits 64 w) + (j * 64 + k) = omega (arith, digits-long 64 w) in
+    ap (λ (x : ℕ). getD (digits 64 w ++ flagsOf ws) x 0) z ∙ getD-append-add (digits 64 w) (flagsOf ws) (j * 64 + k) 0 ∙ flag-at ws j k (omega (arith, h)) l
 
 set-right : (a b : List ℕ) (i v : ℕ) → set (a ++ b) (length a + i) v ≡ a ++ set b i v
 set-right [] b i v = let z : 0 + i ≡ i = omega arith in ap (λ (x : ℕ). set b x v) z
 set-right (x ∷ a) b i v =
-    let z : suc (length a) + i ≡ suc (length a + i) = omega arith in ap (λ (y : ℕ). set (x ∷ (a ++ b)) y v) z ∙ ap (λ (l : List ℕ). x ∷ l) (set-right a b i v)
-
-pub flag-at : (ws : List ℕ) (j k : ℕ) → j < length ws → k < 64 → getD (flagsOf ws) (j * 64 + k) 0 ≡ getD ws j 0 / 2 ^ k % 2
-unfolding flagsOf
-flag-at [] j k h l = let no : ⊥ = omega (arith, h) in absurd no
-flag-at (w ∷ ws) zero k h l = (let z : 0 * 64 + k ≡ k = omega arith in ap (λ (x : ℕ). getD (digits 64 w ++ flagsOf ws) x 0) z) ∙ getD-left (digits 64 w) (flagsOf ws) k (omega (arith, l, digits-long 64 w)) ∙ digits-at 64 w k l
-flag-at (w ∷ ws) (suc j) k h l =
-    let z : suc j * 64 + k ≡ length (digits 64 w) + (j * 64 + k) = omega (arith, digits-long 64 w) in
-    ap (λ (x : ℕ). getD (digits 64 w ++ flagsOf ws) x 0) z ∙ getD-right (digits 64 w) (flagsOf ws) (j * 64 + k) ∙ flag-at ws j k (omega (arith, h)) l
+    let z : suc (length a) + i ≡ suc (length a + i) = omega arith in
+    ap (λ (y : ℕ). set (x ∷ (a ++ b)) y v) z ∙ ap (λ (l : List ℕ). x ∷ l) (set-right a b i v)
 
 -- a word changed in its digit k
 pub flag-set : (ws : List ℕ) (j k v : ℕ) → j < length ws → k < 64 → digits 64 v ≡ set (digits 64 (getD ws j 0)) k 1 → flagsOf (set ws j v) ≡ set (flagsOf ws) (j * 64 + k) 1
@@ -138,7 +124,7 @@ unfolding flagsOf
 flag-set [] j k v h l e = let no : ⊥ = omega (arith, h) in absurd no
 flag-set (w ∷ ws) zero k v h l e =
     ap (λ (x : List ℕ). x ++ flagsOf ws) e
-    ∙ sym ((let z : 0 * 64 + k ≡ k = omega arith in ap (λ (x : ℕ). set (digits 64 w ++ flagsOf ws) x 1) z) ∙ set-left (digits 64 w) (flagsOf ws) k 1 (omega (arith, l, digits-long 64 w)))
+    ∙ sym ((let z : 0 * 64 + k ≡ k = omega arith in ap (λ (x : ℕ). set (digits 64 w ++ flagsOf ws) x 1) z) ∙ set-append-left (digits 64 w) (flagsOf ws) k 1 (omega (arith, l, digits-long 64 w)))
 flag-set (w ∷ ws) (suc j) k v h l e =
     let z : suc j * 64 + k ≡ length (digits 64 w) + (j * 64 + k) = omega (arith, digits-long 64 w) in
     ap (λ (x : List ℕ). digits 64 w ++ x) (flag-set ws j k v (omega (arith, h)) l e)
@@ -197,11 +183,6 @@ pub ones-few : (w : ℕ) → w < 2 ^ 64 → ones w ≤ 64
 ones-few w h = ones-le 64 w h
 
 -- `count`
-take-next : (l : List ℕ) (i : ℕ) → i < length l → take (i + 1) l ≡ take i l ++ (getD l i 0 ∷ [])
-take-next [] i h = let no : ⊥ = omega (arith, h) in absurd no
-take-next (x ∷ l) zero h = refl
-take-next (x ∷ l) (suc i) h = (let z : suc i + 1 ≡ suc (i + 1) = omega arith in ap (λ (y : ℕ). take y (x ∷ l)) z) ∙ ap (λ (y : List ℕ). x ∷ y) (take-next l i (omega (arith, h)))
-
 flags-append : (a b : List ℕ) → flagsOf (a ++ b) ≡ flagsOf a ++ flagsOf b
 unfolding flagsOf
 flags-append [] b = refl
@@ -215,7 +196,7 @@ module _ (ws : List ℕ) where
   module _ (i sum : ℕ) (e : sum ≡ atLeast 1 (flagsOf (take i ws))) where
     pub count-more : i < length ws → (r : ℕ) → r ≡ atLeast 1 (flagsOf (getD ws i 0 ∷ [])) → sum + r ≡ atLeast 1 (flagsOf (take (i + 1) ws))
     count-more h r re =
-        sym (ap (λ (l : List ℕ). atLeast 1 (flagsOf l)) (take-next ws i h) ∙ ap (atLeast 1) (flags-append (take i ws) (getD ws i 0 ∷ [])) ∙ at-least-append 1 (flagsOf (take i ws)) (flagsOf (getD ws i 0 ∷ []))
+        sym (ap (λ (l : List ℕ). atLeast 1 (flagsOf l)) (ap (λ (k : ℕ). take k ws) (add-one i) ∙ take-suc ws i 0 h) ∙ ap (atLeast 1) (flags-append (take i ws) (getD ws i 0 ∷ [])) ∙ at-least-append 1 (flagsOf (take i ws)) (flagsOf (getD ws i 0 ∷ []))
         ∙ (let z : atLeast 1 (flagsOf (take i ws)) + atLeast 1 (flagsOf (getD ws i 0 ∷ [])) ≡ sum + r = omega (arith, e, re) in z))
 
     pub count-all : length ws ≤ i → sum ≡ atLeast 1 (flagsOf ws)
@@ -239,16 +220,12 @@ unfolding digits
 digits-blank zero = refl
 digits-blank (suc d) = let z : 0 / 2 ≡ 0 = omega arith in ap (λ (x : ℕ). 0 ∷ digits d x) z ∙ ap (λ (l : List ℕ). 0 ∷ l) (digits-blank d)
 
-blank-append : (a b : ℕ) → replicate a 0 ++ replicate b 0 ≡ replicate {A = ℕ} (a + b) 0
-blank-append zero b = let z : b ≡ 0 + b = omega arith in ap (λ (x : ℕ). replicate x 0) z
-blank-append (suc a) b = let z : suc (a + b) ≡ suc a + b = omega arith in ap (λ (l : List ℕ). 0 ∷ l) (blank-append a b) ∙ ap (λ (x : ℕ). replicate x 0) z
-
 pub flags-blank : (m : ℕ) → flagsOf (replicate m 0) ≡ replicate (m * 64) 0
 unfolding flagsOf
 flags-blank zero = refl
 flags-blank (suc m) =
     let z : 64 + m * 64 ≡ suc m * 64 = omega arith in
-    ap (λ (l : List ℕ). l ++ flagsOf (replicate m 0)) (digits-blank 64) ∙ ap (λ (l : List ℕ). replicate 64 0 ++ l) (flags-blank m) ∙ blank-append 64 (m * 64)
+    ap (λ (l : List ℕ). l ++ flagsOf (replicate m 0)) (digits-blank 64) ∙ ap (λ (l : List ℕ). replicate 64 0 ++ l) (flags-blank m) ∙ replicate-append-replicate 64 (m * 64) 0
     ∙ ap (λ (x : ℕ). replicate x 0) z
 
 blank-at : (k i : ℕ) → getD {A = ℕ} (replicate k 0) i 0 ≡ 0
@@ -281,12 +258,12 @@ module _ (n : ℕ) (words : List ℕ) (k : ℕ) (none : spareIn n words ≡ repl
       ∙ (let z : atLeast 1 (flagsIn n words) + atLeast 1 (replicate k 0) ≡ atLeast 1 (flagsIn n words) = omega (arith, blank-count k) in z)
 
 -- words of zeros
-take-blank : (n k : ℕ) → n ≤ k → take n (replicate {A = ℕ} k 0) ≡ replicate n 0
+pub take-blank : (n k : ℕ) → n ≤ k → take n (replicate {A = ℕ} k 0) ≡ replicate n 0
 take-blank zero k h = refl
 take-blank (suc n) zero h = absurd (omega arith)
 take-blank (suc n) (suc k) h = ap (λ (l : List ℕ). 0 ∷ l) (take-blank n k (omega arith))
 
-drop-blank : (n k : ℕ) → drop n (replicate {A = ℕ} k 0) ≡ replicate (k - n) 0
+pub drop-blank : (n k : ℕ) → drop n (replicate {A = ℕ} k 0) ≡ replicate (k - n) 0
 drop-blank zero k = let z : k ≡ k - 0 = omega arith in ap (λ (x : ℕ). replicate x 0) z
 drop-blank (suc n) zero = let z : 0 ≡ 0 - suc n = omega arith in ap (λ (x : ℕ). replicate x 0) z
 drop-blank (suc n) (suc k) = let z : k - n ≡ suc k - suc n = omega arith in drop-blank n k ∙ ap (λ (x : ℕ). replicate x 0) z

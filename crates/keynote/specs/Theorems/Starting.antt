@@ -5,7 +5,7 @@ use Prim.Native.Nat.{ℕ, suc, _+_, _-_, _*_, _≤_}
 use native.Mathlib.Omega.{arith}
 use lib.ListN.{length, replicate, length-append}
 use borrow.Author.Tests.{le-leb, le-ltb, ne-eqb}
-use Rattle.limits.specs.Limits.{mostValue, mostRequester, mostIdentifier, mostPrincipals, mostValuesJoined, mostRequestersJoined}
+use Rattle.limits.specs.Limits.{mostValue, mostRequester, mostIdentifier, mostValuesJoined, mostRequestersJoined}
 use Rattle.text.specs.Copy.{put}
 use Rattle.text.specs.CopyLaws.{put-length}
 use Rattle.text.specs.Counted.{counted}
@@ -122,7 +122,7 @@ policy-short = omega arith
 first-zero : (n x : ℕ) → x ≡ 1 → replicate {A = ℕ} (suc n) 0 ≡ map (asking []) (policy ∷ []) ++ replicate {A = ℕ} (suc n - x) 0
 first-zero n x e = let z : suc n - x ≡ n = omega (arith, e) in rw (z, nobody-asks)
 
-module _ (requesters : List Principal) (top : ℕ) (pool places : List ℕ) (pl : length pool ≡ small .pool) (ll : length places ≡ small .places) (direct : List ℕ) (zero : direct ≡ replicate mostPrincipals 0) where
+module _ (requesters : List Principal) (top : ℕ) (pool places : List ℕ) (pl : length pool ≡ small .pool) (ll : length places ≡ small .places) (direct : List ℕ) (zero : direct ≡ replicate (small .places) 0) where
   first-rooted : {k : Kept} → EntryRead pool places 0 0 [] policy k → Rooted requesters top direct (onBegun k)
   first-rooted (entry-at c e pool′ places′ h t f g p l) =
       let hs : Holds pool′ places′ c e (policy ∷ []) = rw enter-first at h in
@@ -130,7 +130,7 @@ module _ (requesters : List Principal) (top : ℕ) (pool places : List ℕ) (pl 
         holds = hs;
         tight = t;
         few = f;
-        marks = zero ∙ first-zero (mostPrincipals - 1) c (hs .counted);
+        marks = zero ∙ first-zero (small .places - 1) c (hs .counted);
         filling = fill-start requesters top;
         pool-long = p ∙ pl;
         places-long = l ∙ ll;

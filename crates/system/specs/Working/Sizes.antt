@@ -1,6 +1,10 @@
 -- How large the tables of a query are. Assumes nothing.
-use Prim.Native.Nat.{ℕ}
-use Rattle.limits.specs.Limits.{mostConsts, mostPool, mostPrincipals}
+use mathlib.Core.Bool.{Bool, true}
+use mathlib.Core.List.{List, [], _∷_}
+use Prim.Native.Nat.{ℕ, _*_}
+use lib.Dec.{ltb}
+use Rattle.limits.specs.Limits.{mostCode, mostConsts, mostPool, mostPrincipals}
+use Rattle.text.specs.Choice.{pick}
 
 -- constants, identifiers, and the entries of these
 pub record Size : Type 0 where
@@ -12,10 +16,25 @@ pub record Size : Type 0 where
 abbrev pub small : Size
 small = record { consts = 4096; pool = 8192; places = 128 }
 
--- and for every one
+-- for most long records
+abbrev pub middle : Size
+middle = record { consts = mostConsts; pool = 76800; places = mostPrincipals }
+
+-- and for every query
 abbrev pub large : Size
 large = record { consts = mostConsts; pool = mostPool; places = mostPrincipals }
 
--- longer records mostly need the larger tables
-abbrev pub long : ℕ
-long = 16384
+-- the sizes behind the small one, each for what the one before has no room for
+abbrev pub larger-ones : List Size
+larger-ones = middle ∷ large ∷ []
+
+-- the assertions of most queries, and the instructions of their fields Licensees
+abbrev pub someRows : ℕ
+someRows = 32
+
+abbrev pub someCode : ℕ
+someCode = someRows * mostCode
+
+-- a record of so many bytes and assertions goes into larger tables at once
+unfoldable pub isLong : ℕ → ℕ → Bool
+isLong bytes texts = pick (ltb 16384 bytes) true (ltb someRows texts)

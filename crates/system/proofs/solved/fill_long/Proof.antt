@@ -25,6 +25,9 @@ front-bytes-requires-2 c κs = search needs
 front-places-requires : tie.Need-front-places-requires
 front-places-requires c κs = search needs
 
+front-bytes-requires-3 : tie.Need-front-bytes-requires-3
+front-bytes-requires-3 c κs = search needs
+
 slice-aggregate-grown : tie.Need-slice-aggregate-grown
 slice-aggregate-grown c = search needs
 
@@ -44,7 +47,7 @@ same-length : tie.Need-same-length
 same-length c = search needs
 
 returns : tie.Need-returns
-returns c = fill-at-once _ _ _ _ _ _ _ _ _ _ _ _ (c .before .before .before .before .before .before .before .before .before .before .before .before .before .before .before .before .before .before .before .top-of .ensures) _ (c .before .before .before .before .before .before .before .before .before .before .before .before .before .before .before .before .before .put-header .ensures) _ _ _ (c .before .before .before .before .before .before .before .before .before .before .before .before .before .before .front-bytes .ensures) (c .before .before .before .before .before .before .before .before .before .before .before .before .before .front-bytes2 .ensures) (c .before .before .before .before .before .before .before .before .before .before .before .before .front-places .ensures) _ (c .before .before .before .before .before .before .grown .ensures)
+returns c = fill-at-once _ _ _ _ _ _ _ _ _ _ _ _ (c .before .before .before .before .before .before .before .before .before .before .before .before .before .before .before .before .before .before .before .before .top-of .ensures) _ (c .before .before .before .before .before .before .before .before .before .before .before .before .before .before .before .before .before .before .put-header .ensures) _ _ _ _ (c .before .before .before .before .before .before .before .before .before .before .before .before .before .before .before .front-bytes .ensures) (c .before .before .before .before .before .before .before .before .before .before .before .before .before .before .front-bytes2 .ensures) (c .before .before .before .before .before .before .before .before .before .before .before .before .before .front-places .ensures) (c .before .before .before .before .before .before .before .before .before .before .before .before .front-bytes3 .ensures) _ (c .before .before .before .before .before .before .grown .ensures)
 
 pub fill-long-spec : {M : Type 1} → statement M
 fill-long-spec =
@@ -55,6 +58,7 @@ fill-long-spec =
     front-bytes-requires
     front-bytes-requires-2
     front-places-requires
+    front-bytes-requires-3
     slice-aggregate-grown
     slice-aggregate-grown-2
     slice-aggregate-grown-3

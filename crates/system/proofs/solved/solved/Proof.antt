@@ -9,6 +9,7 @@ use Rattle.system.proofs.asked.ask_all.Reads as ask-all-reads
 use Rattle.system.proofs.asked.begin.Reads as asked-begin-reads
 use Rattle.system.proofs.solved.fill.Reads as fill-reads
 use Rattle.system.proofs.solved.fill_long.Reads as fill-long-reads
+use Rattle.system.proofs.solved.is_long.Reads as is-long-reads
 
 slice-aggregate-begin : tie.Need-slice-aggregate-begin
 slice-aggregate-begin c = search needs
@@ -37,6 +38,9 @@ slice-aggregate-ask-all-3 c = search needs
 ask-all-requires : tie.Need-ask-all-requires
 ask-all-requires c κs = search needs
 
+is-long-requires : tie.Need-is-long-requires
+is-long-requires c κs = search needs
+
 slice-aggregate-fill-long : tie.Need-slice-aggregate-fill-long
 slice-aggregate-fill-long c = search needs
 
@@ -56,7 +60,7 @@ same-length : tie.Need-same-length
 same-length c = search needs
 
 returns : tie.Need-returns
-returns c = solve-long _ _ _ _ _ _ _ _ (c .before .before .before .before .before .before .before .before .before .before .before .before .before .before .before .before .before .before .before .before .before .before .begin .ensures) _ _ _ (c .before .before .before .before .before .before .before .before .before .before .before .before .before .before .before .before .before .before .begin2 .ensures) _ _ _ _ (c .before .before .before .before .before .before .before .before .before .before .before .before .ask-all .ensures) _ (c .before .before .before .before .before .before .before .before .if1 .taken) (c .before .before .fill-long .ensures)
+returns c = solve-long _ _ _ _ _ _ _ _ (c .before .before .before .before .before .before .before .before .before .before .before .before .before .before .before .before .before .before .before .before .before .before .before .begin .ensures) _ _ _ (c .before .before .before .before .before .before .before .before .before .before .before .before .before .before .before .before .before .before .before .begin2 .ensures) _ _ _ _ (c .before .before .before .before .before .before .before .before .before .before .before .before .before .ask-all .ensures) _ (c .before .before .before .before .before .before .before .before .before .is-long .ensures) _ (c .before .before .before .before .before .before .before .before .if1 .taken) (c .before .before .fill-long .ensures)
 
 slice-aggregate-fill : tie.Need-slice-aggregate-fill
 slice-aggregate-fill c = search needs
@@ -77,7 +81,7 @@ same-length-2 : tie.Need-same-length-2
 same-length-2 c = search needs
 
 returns-2 : tie.Need-returns-2
-returns-2 c = solve-is _ _ _ _ _ _ _ _ (c .before .before .before .before .before .before .before .before .before .before .before .before .before .before .before .before .before .before .before .before .before .before .before .before .before .begin .ensures) _ _ _ (c .before .before .before .before .before .before .before .before .before .before .before .before .before .before .before .before .before .before .before .before .before .begin2 .ensures) _ _ _ _ (c .before .before .before .before .before .before .before .before .before .before .before .before .before .before .before .ask-all .ensures) _ (c .before .before .before .before .before .before .before .before .before .before .before .if1 .left) (c .before .before .before .before .before .fill .ensures)
+returns-2 c = solve-is _ _ _ _ _ _ _ _ (c .before .before .before .before .before .before .before .before .before .before .before .before .before .before .before .before .before .before .before .before .before .before .before .before .before .before .begin .ensures) _ _ _ (c .before .before .before .before .before .before .before .before .before .before .before .before .before .before .before .before .before .before .before .before .before .before .begin2 .ensures) _ _ _ _ (c .before .before .before .before .before .before .before .before .before .before .before .before .before .before .before .before .ask-all .ensures) _ (c .before .before .before .before .before .before .before .before .before .before .before .before .is-long .ensures) _ (c .before .before .before .before .before .before .before .before .before .before .before .if1 .left) (c .before .before .before .before .before .fill .ensures)
 
 pub solved-spec : {M : Type 1} → statement M
 solved-spec =
@@ -92,6 +96,7 @@ solved-spec =
     slice-aggregate-ask-all-2
     slice-aggregate-ask-all-3
     ask-all-requires
+    is-long-requires
     slice-aggregate-fill-long
     slice-aggregate-fill-long-2
     slice-aggregate-fill-long-3
