@@ -95,11 +95,11 @@ gives q l page =
     page
 
 -- the solver over the fronts gives the system's three numbers
-solved-at : {size : Size} {room : ℕ} {q : Query} {start : ℕ} {direct sheet : List ℕ} {l : List Assertion} {i : ℕ} {e : Ends} {x : Store} {a c d page : List ℕ} (t : ℕ) → t ≡ top (q .values)
-    → Made size room q start direct l i e x a c d → (front : List ℕ) → page ≡ front ++ drop (3 + 3 * i) sheet
+solved-at : {size : Size} {room : ℕ} {q : Query} {start : ℕ} {direct : List ℕ} {l : List Assertion} {i : ℕ} {e : Ends} {x : Store} {a c d page : List ℕ} (t : ℕ) → t ≡ top (q .values)
+    → Made size room q start direct l i e x a c d → (front sheet : List ℕ) → page ≡ front ++ drop (3 + 3 * i) sheet
     → solvedBy (rowsGive a c d (x .code) direct e t) page ≡ gives q l (front ++ drop (3 + 3 * i) sheet)
 unfolding rowsGive
-solved-at {size = size} {q = q} {direct = direct} {sheet = sheet} {l = l} {i = i} {e = e} {x = x} {a = a} {c = c} {d = d} t te made front pe =
+solved-at {size = size} {q = q} {direct = direct} {l = l} {i = i} {e = e} {x = x} {a = a} {c = c} {d = d} t te made front sheet pe =
     let m : take (e .count) direct ≡ map (asking (q .requesters)) (made .names)
     = ap (take (e .count)) (made .stock .marks)
     ∙ take-at (map (asking (q .requesters)) (made .names)) (replicate (size .places - length (made .names)) 0) (e .count) (length-map (made .names) (asking (q .requesters)) ∙ sym (made .holds .counted)) in
@@ -208,12 +208,12 @@ module _ {s : List ℕ} {q : Query} {values names : List ℕ} {start t : ℕ} {s
       ≡ gives q (l ++ map (ranked q) (keptOf (map reading m))) ((front ++ entriesBytes (map reading m)) ++ drop (3 + 3 * (i + length m)) sheet)
 
   -- one is read, and the others as supposed
-  next-same : {m : List Supplied} (l : List Assertion) (i : ℕ) (front : List ℕ) (u : Supplied)
+  next-same : (m : List Supplied) (l : List Assertion) (i : ℕ) (front : List ℕ) (u : Supplied)
       → gives q (joining q l (reading u) ++ map (ranked q) (keptOf (map reading m)))
       (((front ++ entryBytes (reading u)) ++ entriesBytes (map reading m)) ++ drop (3 + 3 * (suc i + length m)) sheet)
       ≡ gives q (l ++ map (ranked q) (keptOf (map reading (u ∷ m)))) ((front ++ entriesBytes (map reading (u ∷ m))) ++ drop (3 + 3 * (i + length (u ∷ m))) sheet)
   unfolding entriesBytes
-  next-same {m = m} l i front u =
+  next-same m l i front u =
       let k : suc i + length m ≡ i + suc (length m) = omega arith in
       gives-same q sheet (joining-is q l (reading u) (map reading m)) (append-assoc front (entryBytes (reading u)) (entriesBytes (map reading m))) k
 
@@ -222,7 +222,7 @@ module _ {s : List ℕ} {q : Query} {values names : List ℕ} {start t : ℕ} {s
       → page ≡ front ++ drop (3 + 3 * i) sheet
       → solvedBy (rowsGive a c d (x .code) direct e t) page ≡ gives q (l ++ map (ranked q) (keptOf (map reading []))) ((front ++ entriesBytes (map reading [])) ++ drop (3 + 3 * (i + 0)) sheet)
   unfolding keptOf entriesBytes
-  solved-all direct l i front made pe = rw (append-nil l, append-nil front, add-zero i) (solved-at {sheet = sheet} t (fit .top-is) made front pe)
+  solved-all direct l i front made pe = rw (append-nil l, append-nil front, add-zero i) (solved-at t (fit .top-is) made front sheet pe)
 
   -- in large tables
   each-last : Solves large []
@@ -235,31 +235,31 @@ module _ {s : List ℕ} {q : Query} {values names : List ℕ} {start t : ℕ} {s
       (each-last texts vs m _ lies oks (small-tail smalls) direct (joining q l (reading u)) (suc i) (front ++ entryBytes (reading u))
       (onOne a c d page i e (oneIn all v x (e .count) (e .end) (e .size))) (omega (arith, h)) (k ∙ n) (drop-next texts i v vs de)
       (step made (omega (arith, h)) v u at not (ok .1 .1) (small-head smalls) front page fe pe)
-      ∙ next-same l i front u)
+      ∙ next-same m l i front u)
 
   -- in tables of a size that fits into the next
-  module _ {size next : Size} {sizes : List Size} (within : Within size next) (later : Solves next sizes) where
+  module _ (size next : Size) (sizes : List Size) (within : Within size next) (later : Solves next sizes) where
     each-more : Solves size (next ∷ sizes)
     unfolding eachFrom onStretch
     each-more texts _ _ seen lie[] each[] smalls direct l i front _ h n de (reached-at e x a c d page made fe pe) =
         rw (le-ltb i (length texts) (omega (arith, n))) (solved-all direct l i front made pe)
-    each-more texts ps _ seen (lie∷ {v = v} {vs = vs} {a = u} {l = m} at lies) (each∷ ok oks) smalls direct l i front _ h n de (reached-at e x a c d page made fe pe) =
+    each-more texts _ _ seen (lie∷ {v = v} {vs = vs} {a = u} {l = m} at lies) (each∷ ok oks) smalls direct l i front _ h n de (reached-at e x a c d page made fe pe) =
         split (fullAt all v e x)
         (λ f. rw (f, lt-ltb i (length texts) (omega (arith, n)), de)
-        (later texts ps (u ∷ m) seen (lie∷ at lies) (each∷ ok oks) smalls _ l i front _ h n de
+        (later texts (v ∷ vs) (u ∷ m) seen (lie∷ at lies) (each∷ ok oks) smalls _ l i front _ h n de
         (reached-at e _ a c d page (made-larger made next within (fit .start-low)) fe pe)))
         (λ f. let k : suc i + length m ≡ i + suc (length m) = omega arith in
         rw f
         (each-more texts vs m _ lies oks (small-tail smalls) direct (joining q l (reading u)) (suc i) (front ++ entryBytes (reading u))
         (onOne a c d page i e (oneIn all v x (e .count) (e .end) (e .size))) (omega (arith, h)) (k ∙ n) (drop-next texts i v vs de)
         (step made (omega (arith, h)) v u at f (ok .1 .1) (small-head smalls) front page fe pe)
-        ∙ next-same l i front u))
+        ∙ next-same m l i front u))
 
   each-middle : Solves middle (large ∷ [])
-  each-middle = each-more middle-large each-last
+  each-middle = each-more middle large [] middle-large each-last
 
   each-small : Solves small (middle ∷ large ∷ [])
-  each-small = each-more small-middle each-middle
+  each-small = each-more small middle (large ∷ []) small-middle each-middle
 
 -- before the first
 start-made : (s : List ℕ) (q : Query) (start : ℕ) (consts : List ℕ) (x : Index) (pool places direct : List ℕ) → Started s q start consts x pool places direct

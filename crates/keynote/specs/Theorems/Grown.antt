@@ -88,13 +88,13 @@ module _ {size : Size} {room : ℕ} {q : Query} {start : ℕ} {direct : List ℕ
   marked : take (e .count) direct ≡ marks
   marked = ap (take (e .count)) (made .stock .marks) ∙ take-at marks (replicate (size .places - length (made .names)) 0) (e .count) marks-long
 
-  fits : length marks ≤ length (replicate {A = ℕ} (next .places) 0)
-  fits = omega (arith, marks-long, few, length-replicate {A = ℕ} (next .places) 0)
+  marks-fit : length marks ≤ length (replicate {A = ℕ} (next .places) 0)
+  marks-fit = omega (arith, marks-long, few, length-replicate {A = ℕ} (next .places) 0)
 
   again : laid (replicate (next .places) 0) (take (e .count) direct) ≡ marks ++ replicate (next .places - length (made .names)) 0
   again =
       let n : length marks ≡ length (made .names) = length-map (made .names) (asking (q .requesters)) in
-      ap (laid (replicate (next .places) 0)) marked ∙ laid-front (replicate (next .places) 0) marks fits
+      ap (laid (replicate (next .places) 0)) marked ∙ laid-front (replicate (next .places) 0) marks marks-fit
       ∙ ap (λ (m : List ℕ). marks ++ m) (drop-blank (length marks) (next .places)) ∙ ap (λ (k : ℕ). marks ++ replicate (next .places - k) 0) n
 
   pub made-larger : Made next room q start (laid (replicate (next .places) 0) (take (e .count) direct)) l i e after a c d
