@@ -11,6 +11,7 @@ use constants::begin as begin_constants;
 use limits::MOST_ASSERTIONS;
 use limits::MOST_CODE;
 use limits::MOST_CONSTS;
+use limits::MOST_ENTERED;
 use limits::MOST_POOL;
 use limits::MOST_PRINCIPALS;
 use limits::MOST_PROGRAMS;
@@ -20,7 +21,7 @@ ghost use lib.ListN.{take};
 ghost use Prim.Native.Nat.{_-_, _%_};
 ghost use Rattle.text.specs.Copy.{copied, copyAt};
 ghost use Rattle.system.specs.Working.Each.{fixed};
-ghost use Rattle.system.specs.Working.Sizes.{middle, large, isLong};
+ghost use Rattle.system.specs.Working.Sizes.{middle, large};
 ghost use Rattle.system.specs.Working.Solving.{solvedBy, rowsGive, grownIn, filledIn, filledLong, solvedIn};
 
 // Tables for most queries: the two joined texts and 16 constants of a text, principals, and their identifiers.
@@ -35,20 +36,13 @@ const SOME_ROWS: usize = 32;
 
 const SOME_CODE: usize = SOME_ROWS * MOST_CODE;
 
-// The identifiers of most long records.
+// The identifiers of most long records, and those beside which there is room for an assertion's.
 const MIDDLE_POOL: usize = 76800;
+
+const MIDDLE_MOST: usize = MIDDLE_POOL - MOST_ENTERED;
 
 // Longer records, and those with more assertions, mostly need the larger tables.
 const LONG: usize = 16384;
-
-fn is_long(bytes: usize, texts: usize) -> bool
-    ensures { λ r. ⌜ r ≡ isLong bytes texts ⌝ }
-{
-    if LONG < bytes {
-        return true;
-    }
-    SOME_ROWS < texts
-}
 
 fn front_bytes(l: &[u8], n: usize) -> &[u8]
     ensures { λ r. ⌜ now r ≡ take n (now (l .entry)) ⌝ }
@@ -322,7 +316,8 @@ fn fill(
     solve_rows(&authors, &conds, &ends, &code, direct, e, top)
 }
 
-// The same for a long record: into the larger tables at once. A second call of `grown` also has the compiler keep those apart from the small ones.
+// The same for a long record or many assertions: into the middle tables at once, or into the large ones. That each of the functions called here is called
+// from two places also has the compiler keep their tables apart.
 fn fill_long(
     query: &[u8],
     values: &[usize],
@@ -350,6 +345,27 @@ fn fill_long(
         size: 0,
         kept: 0,
     };
+    if MIDDLE_MOST < e.end {
+        return grown_large(
+            query,
+            values,
+            names,
+            top,
+            start,
+            texts,
+            front_bytes(consts, start),
+            front_bytes(pool, e.end),
+            front_places(places, e.count),
+            front_bytes(direct, e.count),
+            &mut code,
+            &mut authors,
+            &mut conds,
+            &mut ends,
+            page,
+            0,
+            e,
+        );
+    }
     grown(
         query,
         values,
@@ -396,7 +412,22 @@ pub fn solved(
         &mut direct,
         alone,
     );
-    if is_long(query.len(), texts.len()) {
+    if LONG < query.len() {
+        return fill_long(
+            query,
+            values,
+            names,
+            texts,
+            start,
+            &consts,
+            &pool,
+            &places,
+            &direct,
+            index,
+            page,
+        );
+    }
+    if SOME_ROWS < texts.len() {
         return fill_long(
             query,
             values,

@@ -8,9 +8,9 @@ use native.Mathlib.Nat.{add-zero}
 use native.Mathlib.Numerals.{add-one}
 use lib.ListN.{length, getD, take, drop, replicate, length-replicate, length-map}
 use lib.Seq.{take-at, drop-drop}
-use lib.Dec.{leb}
+use lib.Dec.{leb, ltb}
 use borrow.Author.Tests.{le-leb, le-ltb, lt-ltb, leb-true}
-use Rattle.limits.specs.Limits.{mostAssertions, mostText, mostNamed, mostEntered, mostJoined, mostLengths, mostCode}
+use Rattle.limits.specs.Limits.{mostAssertions, mostText, mostNamed, mostEntered, mostJoined, mostLengths, mostCode, mostPrograms}
 use Rattle.text.specs.Choice.{split, clash}
 use Rattle.text.specs.Join.{joined}
 use Rattle.text.specs.Counted.{counted}
@@ -38,7 +38,7 @@ use Rattle.assertion.specs.Theorems.Ready.{Ready, ReadAs}
 use Rattle.assertion.specs.Theorems.Reads.{read-as}
 use Rattle.system.specs.Working.Noting.{endsOf, headerInto}
 use Rattle.system.specs.Working.Each.{Fixed, fixed, Store, store, oneIn, Each, onOne, full, fullAt, eachFrom}
-use Rattle.system.specs.Working.Sizes.{Size, small, middle, large, someRows, someCode}
+use Rattle.system.specs.Working.Sizes.{Size, small, middle, large, middleMost, someRows, someCode}
 use Rattle.system.specs.Working.Solving.{Solved, solvedBy, topOf, rowsGive, grownIn, onStretch, filledIn, filledLong}
 use Rattle.system.specs.declared.asked.Index.{Index}
 use Rattle.system.specs.declared.note.Ends.{Ends}
@@ -50,7 +50,7 @@ use Rattle.keynote.specs.Theorems.Started.{Started, startNames}
 use Rattle.keynote.specs.Theorems.Stocked.{asked-covers}
 use Rattle.keynote.specs.Theorems.Paged.{header-is}
 use Rattle.keynote.specs.Theorems.Made.{Made, Reached, joining, joining-is, before, noted-made}
-use Rattle.keynote.specs.Theorems.Grown.{Within, made-larger, small-middle, middle-large}
+use Rattle.keynote.specs.Theorems.Grown.{Within, made-larger, small-middle, small-large, middle-large}
 use Rattle.keynote.specs.Theorems.Made.{reached as reached-at}
 
 -- as many places as items
@@ -353,15 +353,25 @@ module _ (s : List ℕ) (q : Query) (page : List ℕ) (start : ℕ) (consts : Li
         (made someRows few (omega arith)) (front-start (3 * length texts)) (head-is someRows few (omega arith)))
         ∙ page-is
 
-    -- in middle tables at once
-    long-from : length (q .assertions) ≤ mostAssertions → filledLong s values names texts start consts pool places direct x page
-        ≡ solvedAs q page
-    unfolding filledLong grownIn
-    long-from few =
-        each-middle (fit mostAssertions few (omega arith)) texts texts (q .assertions) [] tl oks smalls _ [] 0 (1 ∷ pairBytes (3 * length texts)) _ (omega arith) (omega (arith, n)) refl
-        (reached-at (endsOf (x .count) (x .end) 0 0) _ (replicate mostAssertions 0) (replicate mostAssertions 0) (replicate mostAssertions 0) (headerInto page (length texts))
-        (made-larger (made mostAssertions few (omega arith)) middle small-middle (st .start-low)) (front-start (3 * length texts)) (head-is mostAssertions few (omega arith)))
-        ∙ page-is
+    -- in tables of any size that the small ones fit into, at once
+    module _ (few : length (q .assertions) ≤ mostAssertions) where
+      grown-from : (size : Size) (sizes : List Size) → Within small size → Solves (fit mostAssertions few (omega arith)) size sizes
+          → grownIn size sizes (fixed s values names (topOf values) start) texts (take start consts) (take (x .end) pool) (take (x .count) places) (take (x .count) direct)
+          (replicate mostPrograms 0) (replicate mostAssertions 0) (replicate mostAssertions 0) (replicate mostAssertions 0) (headerInto page (length texts)) 0 (endsOf (x .count) (x .end) 0 0)
+          ≡ solvedAs q page
+      unfolding grownIn
+      grown-from size sizes within solves =
+          solves texts texts (q .assertions) [] tl oks smalls _ [] 0 (1 ∷ pairBytes (3 * length texts)) _ (omega arith) (omega (arith, n)) refl
+          (reached-at (endsOf (x .count) (x .end) 0 0) _ (replicate mostAssertions 0) (replicate mostAssertions 0) (replicate mostAssertions 0) (headerInto page (length texts))
+          (made-larger (made mostAssertions few (omega arith)) size within (st .start-low)) (front-start (3 * length texts)) (head-is mostAssertions few (omega arith)))
+          ∙ page-is
+
+      long-from : filledLong s values names texts start consts pool places direct x page ≡ solvedAs q page
+      unfolding filledLong
+      long-from =
+          split (ltb middleMost (x .end))
+          (λ h. rw h (grown-from large [] small-large (each-last (fit mostAssertions few (omega arith)))))
+          (λ h. rw h (grown-from middle (large ∷ []) small-middle (each-middle (fit mostAssertions few (omega arith)))))
 
 small-readings : (s : List ℕ) (q : Query) → Bytes s → readRecord s ≡ accepted q → AllSmall (map reading (q .assertions))
 unfolding readings

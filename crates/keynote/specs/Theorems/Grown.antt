@@ -119,5 +119,8 @@ module _ {size : Size} {room : ℕ} {q : Query} {start : ℕ} {direct : List ℕ
 pub small-middle : Within small middle
 small-middle = record { begins = omega arith; consts = omega arith; pool = omega arith; places = omega arith }
 
+pub small-large : Within small large
+small-large = record { begins = omega arith; consts = omega arith; pool = omega arith; places = omega arith }
+
 pub middle-large : Within middle large
 middle-large = record { begins = omega arith; consts = omega arith; pool = omega arith; places = omega arith }

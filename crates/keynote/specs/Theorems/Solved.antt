@@ -3,7 +3,9 @@ use mathlib.Core.Path.{_≡_, refl, _∙_}
 use mathlib.Core.List.{List, [], _++_}
 use Prim.Native.Nat.{ℕ, _+_, _≤_}
 use native.Mathlib.Omega.{arith}
+use lib.Dec.{ltb}
 use lib.ListN.{length, take, replicate, length-replicate}
+use borrow.Author.Tests.{ltb-false}
 use Rattle.limits.specs.Limits.{mostValuesJoined, mostRequestersJoined, mostJoined}
 use Rattle.text.specs.CopyLaws.{put-length}
 use Rattle.text.specs.Copy.{put}
@@ -22,9 +24,9 @@ use Rattle.constants.specs.Constants.{Written, written, begunInto}
 use Rattle.constants.specs.Theorems.Begun.{begun-is}
 use Rattle.expression.specs.Conditions.{top}
 use Rattle.system.specs.declared.asked.Index.{Index}
-use Rattle.system.specs.Working.Sizes.{small, someRows, isLong}
+use Rattle.system.specs.Working.Sizes.{small, someRows, longRecord}
 use Rattle.system.specs.Working.Asking.{Asked, Begun, begun}
-use Rattle.system.specs.Working.Solving.{filledIn, filledLong, onAsked, onBegun, onWritten, solvedIn, short-rows}
+use Rattle.system.specs.Working.Solving.{filledIn, filledLong, onAsked, onBegun, onWritten, solvedIn}
 use Rattle.keynote.specs.Outcome.{needed}
 use Rattle.keynote.specs.Theorems.Filled.{valuesAt, requestersAt, attributesAt, assertionsAt, solvedAs, long-is, filled-is}
 use Rattle.keynote.specs.Theorems.Started.{startNames, Started}
@@ -91,8 +93,9 @@ module _ (s : List ℕ) (q : Query) (b : Bytes s) (e : readRecord s ≡ accepted
         → onAsked s (valuesAt q) (attributesAt q) (assertionsAt q) start consts page a ≡ solvedAs q page
     on-asked (staged x pool places direct st) =
         let both = filled start consts x pool places direct (started-is s q valid start consts begins low long x pool places direct st) in
-        split (isLong (length s) (length (assertionsAt q))) (λ h. rw h (both .0))
-        (λ h. rw h (both .1 (omega (arith, short-rows (length s) (length (assertionsAt q)) h, places-length assertionSize 3 (assertionsStart q) (q .assertions)))))
+        split (ltb longRecord (length s)) (λ h. rw h (both .0))
+        (λ h. rw h (split (ltb someRows (length (assertionsAt q))) (λ k. rw k (both .0))
+        (λ k. rw k (both .1 (omega (arith, ltb-false someRows (length (assertionsAt q)) k, places-length assertionSize 3 (assertionsStart q) (q .assertions)))))))
 
     on-begun : {k : Begun} → Rooted (q .requesters) (top (q .values)) (replicate (small .places) 0) k
         → onBegun s (valuesAt q) (requestersAt q) (attributesAt q) (assertionsAt q) start consts page k ≡ solvedAs q page

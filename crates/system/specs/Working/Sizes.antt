@@ -1,10 +1,7 @@
 -- How large the tables of a query are. Assumes nothing.
-use mathlib.Core.Bool.{Bool, true}
 use mathlib.Core.List.{List, [], _∷_}
-use Prim.Native.Nat.{ℕ, _*_}
-use lib.Dec.{ltb}
-use Rattle.limits.specs.Limits.{mostCode, mostConsts, mostPool, mostPrincipals}
-use Rattle.text.specs.Choice.{pick}
+use Prim.Native.Nat.{ℕ, _-_, _*_}
+use Rattle.limits.specs.Limits.{mostEntered, mostCode, mostConsts, mostPool, mostPrincipals}
 
 -- constants, identifiers, and the entries of these
 pub record Size : Type 0 where
@@ -19,6 +16,10 @@ small = record { consts = 4096; pool = 8192; places = 128 }
 -- for most long records
 abbrev pub middle : Size
 middle = record { consts = mostConsts; pool = 76800; places = mostPrincipals }
+
+-- the identifiers beside which those of an assertion more have room there
+abbrev pub middleMost : ℕ
+middleMost = 76800 - mostEntered
 
 -- and for every query
 abbrev pub large : Size
@@ -35,6 +36,6 @@ someRows = 32
 abbrev pub someCode : ℕ
 someCode = someRows * mostCode
 
--- a record of so many bytes and assertions goes into larger tables at once
-unfoldable pub isLong : ℕ → ℕ → Bool
-isLong bytes texts = pick (ltb 16384 bytes) true (ltb someRows texts)
+-- longer records mostly need larger tables
+abbrev pub longRecord : ℕ
+longRecord = 16384

@@ -1,13 +1,13 @@
 -- Working definitions: a query solved by the tables. Assumes nothing.
 use mathlib.Core.Path.{_≡_, refl, sym, ap, _∙_}
-use mathlib.Core.Bool.{Bool, true, false}
+use mathlib.Core.Bool.{Bool}
 use mathlib.Core.List.{List, [], _∷_, map}
 use Prim.Native.Nat.{ℕ, _-_, _%_, _<_, _≤_}
 use lib.Dec.{ltb}
 use lib.ListN.{length, take, drop, replicate, length-replicate}
-use borrow.Author.Tests.{lt-ltb, le-ltb, ltb-false}
+use borrow.Author.Tests.{lt-ltb, le-ltb}
 use Rattle.limits.specs.Limits.{mostAssertions, mostPrograms}
-use Rattle.text.specs.Choice.{pick, split, clash}
+use Rattle.text.specs.Choice.{pick}
 use Rattle.text.specs.Copy.{Copied, copied, copyAt}
 use Rattle.text.specs.Counted.{counted}
 use Rattle.text.specs.Join.{joined}
@@ -17,7 +17,7 @@ use Rattle.constants.specs.Constants.{Written, written, begunInto}
 use Rattle.system.specs.Working.Asking.{Asked, asked, allFrom, Begun, begun, beginIn}
 use Rattle.system.specs.Working.Noting.{endsOf, headerInto}
 use Rattle.system.specs.Working.Each.{Fixed, fixed, Store, store, eachBy, Went, wentBy, eachFrom}
-use Rattle.system.specs.Working.Sizes.{Size, small, middle, large, larger-ones, someRows, someCode, isLong}
+use Rattle.system.specs.Working.Sizes.{Size, small, middle, large, larger-ones, someRows, someCode, longRecord, middleMost}
 use Rattle.system.specs.declared.asked.Index.{Index}
 use Rattle.system.specs.declared.note.Ends.{Ends}
 
@@ -64,16 +64,20 @@ filledIn s values names texts start consts pool places direct x page =
     (eachFrom (fixed s values names (topOf values) start) texts 0
     (eachBy (endsOf (x .count) (x .end) 0 0) (store consts pool places (replicate someCode 0)) (replicate someRows 0) (replicate someRows 0) (replicate someRows 0) (headerInto page (length texts))))
 
--- all of them read into larger tables
+-- all of them read into middle tables, or into large ones where those have no room for an assertion more
 unfoldable pub filledLong : List ℕ → List ℕ → List ℕ → List ℕ → ℕ → List ℕ → List ℕ → List ℕ → List ℕ → Index → List ℕ → Solved
 filledLong s values names texts start consts pool places direct x page =
-    grownIn middle (large ∷ []) (fixed s values names (topOf values) start) texts (take start consts) (take (x .end) pool) (take (x .count) places) (take (x .count) direct) (replicate mostPrograms 0)
-    (replicate mostAssertions 0) (replicate mostAssertions 0) (replicate mostAssertions 0) (headerInto page (length texts)) 0 (endsOf (x .count) (x .end) 0 0)
+    pick (ltb middleMost (x .end))
+    (grownIn large [] (fixed s values names (topOf values) start) texts (take start consts) (take (x .end) pool) (take (x .count) places) (take (x .count) direct) (replicate mostPrograms 0)
+    (replicate mostAssertions 0) (replicate mostAssertions 0) (replicate mostAssertions 0) (headerInto page (length texts)) 0 (endsOf (x .count) (x .end) 0 0))
+    (grownIn middle (large ∷ []) (fixed s values names (topOf values) start) texts (take start consts) (take (x .end) pool) (take (x .count) places) (take (x .count) direct) (replicate mostPrograms 0)
+    (replicate mostAssertions 0) (replicate mostAssertions 0) (replicate mostAssertions 0) (headerInto page (length texts)) 0 (endsOf (x .count) (x .end) 0 0))
 
--- small tables first, but for a long record
+-- small tables first, but for a long record, or one with many assertions
 abbrev pub onAsked : List ℕ → List ℕ → List ℕ → List ℕ → ℕ → List ℕ → List ℕ → Asked → Solved
 onAsked s values names texts start consts page (asked x pool places direct) =
-    pick (isLong (length s) (length texts)) (filledLong s values names texts start consts pool places direct x page) (filledIn s values names texts start consts pool places direct x page)
+    pick (ltb longRecord (length s)) (filledLong s values names texts start consts pool places direct x page)
+    (pick (ltb someRows (length texts)) (filledLong s values names texts start consts pool places direct x page) (filledIn s values names texts start consts pool places direct x page))
 
 abbrev pub onBegun : List ℕ → List ℕ → List ℕ → List ℕ → List ℕ → ℕ → List ℕ → List ℕ → Begun → Solved
 onBegun s values requesters names texts start consts page (begun x pool places) =
@@ -87,22 +91,6 @@ unfoldable pub solvedIn : List ℕ → List ℕ → List ℕ → List ℕ → Li
 solvedIn s values requesters names texts page =
     onWritten s values requesters names texts page
     (begunInto (replicate (small .consts) 0) (joined (map (counted s) values)) (joined (map (counted s) requesters)))
-
--- `is_long`
-module _ (bytes texts : ℕ) where
-  pub long-bytes : 16384 < bytes → true ≡ isLong bytes texts
-  unfolding isLong
-  long-bytes h = rw (lt-ltb _ _ h)
-
-  pub long-texts : bytes ≤ 16384 → ltb someRows texts ≡ isLong bytes texts
-  unfolding isLong
-  long-texts h = rw (le-ltb _ _ h)
-
-pub short-rows : (bytes texts : ℕ) → isLong bytes texts ≡ false → texts ≤ someRows
-unfolding isLong
-short-rows bytes texts h = split (ltb 16384 bytes)
-    (λ e. let z : true ≡ false = rw e at h in clash refl z)
-    (λ e. ltb-false someRows texts (rw e at h))
 
 -- `top_of`
 pub top-none : (n : ℕ) → n ≡ 0 → 0 ≡ (n - 1) % 256
@@ -182,27 +170,39 @@ module _ (s values names texts : List ℕ) (start : ℕ) (consts pool places dir
   fill-rest h old-consts old-pool old-places old-direct ce pe le de r page′ re = re ∙ rw (← went, lt-ltb _ _ h, te, ce, pe, le, de)
 
 -- `fill_long`
-pub fill-at-once : (s values names texts : List ℕ) (start : ℕ) (consts pool places direct : List ℕ) (x : Index) (page : List ℕ)
-    → (top : ℕ) → top ≡ (length values - 1) % 256 → (head : List ℕ) → head ≡ headerInto page (length texts)
-    → (old-consts old-pool old-places old-direct : List ℕ)
-    → old-consts ≡ take start consts → old-pool ≡ take (x .end) pool → old-places ≡ take (x .count) places → old-direct ≡ take (x .count) direct
-    → (r : Solved)
-    → r ≡ grownIn middle (large ∷ []) (fixed s values names top start) texts old-consts old-pool old-places old-direct (replicate mostPrograms 0)
-    (replicate mostAssertions 0) (replicate mostAssertions 0) (replicate mostAssertions 0) head 0 (endsOf (x .count) (x .end) 0 0)
-    → r ≡ filledLong s values names texts start consts pool places direct x page
-unfolding filledLong
-fill-at-once s values names texts start consts pool places direct x page top te head he old-consts old-pool old-places old-direct ce pe le de r re = re ∙ rw (te, he, ce, pe, le, de)
+module _ (s values names texts : List ℕ) (start : ℕ) (consts pool places direct : List ℕ) (x : Index) (page : List ℕ)
+    (top : ℕ) (te : top ≡ (length values - 1) % 256) (head : List ℕ) (he : head ≡ headerInto page (length texts))
+    (old-consts old-pool old-places old-direct : List ℕ)
+    (ce : old-consts ≡ take start consts) (pe : old-pool ≡ take (x .end) pool) (le : old-places ≡ take (x .count) places) (de : old-direct ≡ take (x .count) direct) (r : Solved) where
+  pub fill-large : middleMost < x .end
+      → r ≡ grownIn large [] (fixed s values names top start) texts old-consts old-pool old-places old-direct (replicate mostPrograms 0)
+      (replicate mostAssertions 0) (replicate mostAssertions 0) (replicate mostAssertions 0) head 0 (endsOf (x .count) (x .end) 0 0)
+      → r ≡ filledLong s values names texts start consts pool places direct x page
+  unfolding filledLong
+  fill-large h re = re ∙ rw (te, he, ce, pe, le, de, lt-ltb middleMost (x .end) h)
+
+  pub fill-middle : x .end ≤ middleMost
+      → r ≡ grownIn middle (large ∷ []) (fixed s values names top start) texts old-consts old-pool old-places old-direct (replicate mostPrograms 0)
+      (replicate mostAssertions 0) (replicate mostAssertions 0) (replicate mostAssertions 0) head 0 (endsOf (x .count) (x .end) 0 0)
+      → r ≡ filledLong s values names texts start consts pool places direct x page
+  unfolding filledLong
+  fill-middle h re = re ∙ rw (te, he, ce, pe, le, de, le-ltb middleMost (x .end) h)
 
 -- `solved`
 module _ (s values requesters names texts page : List ℕ) (start : ℕ) (consts : List ℕ)
     (we : written start consts ≡ begunInto (replicate (small .consts) 0) (joined (map (counted s) values)) (joined (map (counted s) requesters)))
     (x : Index) (pool places : List ℕ) (be : begun x pool places ≡ beginIn (replicate (small .pool) 0) (replicate (small .places) 0))
     (y : Index) (pool′ places′ direct : List ℕ) (ae : asked y pool′ places′ direct ≡ allFrom s requesters (asked x pool places (replicate (small .places) 0)))
-    (b : Bool) (le : b ≡ isLong (length s) (length texts)) (r : Solved) where
-  pub solve-long : b ≡ true → r ≡ filledLong s values names texts start consts pool′ places′ direct y page → r ≡ solvedIn s values requesters names texts page
+    (r : Solved) where
+  pub solve-long : longRecord < length s → r ≡ filledLong s values names texts start consts pool′ places′ direct y page → r ≡ solvedIn s values requesters names texts page
   unfolding solvedIn
-  solve-long h re = re ∙ rw (← we, ← be, ← ae, ← le, h)
+  solve-long h re = re ∙ rw (← we, ← be, ← ae, lt-ltb longRecord (length s) h)
 
-  pub solve-is : b ≡ false → r ≡ filledIn s values names texts start consts pool′ places′ direct y page → r ≡ solvedIn s values requesters names texts page
+  pub solve-many : length s ≤ longRecord → someRows < length texts → r ≡ filledLong s values names texts start consts pool′ places′ direct y page
+      → r ≡ solvedIn s values requesters names texts page
   unfolding solvedIn
-  solve-is h re = re ∙ rw (← we, ← be, ← ae, ← le, h)
+  solve-many h k re = re ∙ rw (← we, ← be, ← ae, le-ltb longRecord (length s) h, lt-ltb someRows (length texts) k)
+
+  pub solve-is : length s ≤ longRecord → length texts ≤ someRows → r ≡ filledIn s values names texts start consts pool′ places′ direct y page → r ≡ solvedIn s values requesters names texts page
+  unfolding solvedIn
+  solve-is h k re = re ∙ rw (← we, ← be, ← ae, le-ltb longRecord (length s) h, le-ltb someRows (length texts) k)

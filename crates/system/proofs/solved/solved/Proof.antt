@@ -1,4 +1,4 @@
-use Rattle.system.specs.Working.Solving.{solve-long, solve-is}
+use Rattle.system.specs.Working.Solving.{solve-long, solve-many, solve-is}
 use borrow.Author.Needs.{needs}
 use Rattle.system.proofs.solved.solved.Statement.{statement}
 use Rattle.system.proofs.solved.solved.Tie as tie
@@ -9,7 +9,6 @@ use Rattle.system.proofs.asked.ask_all.Reads as ask-all-reads
 use Rattle.system.proofs.asked.begin.Reads as asked-begin-reads
 use Rattle.system.proofs.solved.fill.Reads as fill-reads
 use Rattle.system.proofs.solved.fill_long.Reads as fill-long-reads
-use Rattle.system.proofs.solved.is_long.Reads as is-long-reads
 
 slice-aggregate-begin : tie.Need-slice-aggregate-begin
 slice-aggregate-begin c = search needs
@@ -38,9 +37,6 @@ slice-aggregate-ask-all-3 c = search needs
 ask-all-requires : tie.Need-ask-all-requires
 ask-all-requires c κs = search needs
 
-is-long-requires : tie.Need-is-long-requires
-is-long-requires c κs = search needs
-
 slice-aggregate-fill-long : tie.Need-slice-aggregate-fill-long
 slice-aggregate-fill-long c = search needs
 
@@ -60,7 +56,28 @@ same-length : tie.Need-same-length
 same-length c = search needs
 
 returns : tie.Need-returns
-returns c = solve-long _ _ _ _ _ _ _ _ (c .before .before .before .before .before .before .before .before .before .before .before .before .before .before .before .before .before .before .before .before .before .before .before .begin .ensures) _ _ _ (c .before .before .before .before .before .before .before .before .before .before .before .before .before .before .before .before .before .before .before .begin2 .ensures) _ _ _ _ (c .before .before .before .before .before .before .before .before .before .before .before .before .before .ask-all .ensures) _ (c .before .before .before .before .before .before .before .before .before .is-long .ensures) _ (c .before .before .before .before .before .before .before .before .if1 .taken) (c .before .before .fill-long .ensures)
+returns c = solve-long _ _ _ _ _ _ _ _ (c .before .before .before .before .before .before .before .before .before .before .before .before .before .before .before .before .before .before .before .before .before .before .begin .ensures) _ _ _ (c .before .before .before .before .before .before .before .before .before .before .before .before .before .before .before .before .before .before .begin2 .ensures) _ _ _ _ (c .before .before .before .before .before .before .before .before .before .before .before .before .ask-all .ensures) _ (c .before .before .before .before .before .before .before .before .if1 .taken) (c .before .before .fill-long .ensures)
+
+slice-aggregate-fill-long-5 : tie.Need-slice-aggregate-fill-long-5
+slice-aggregate-fill-long-5 c = search needs
+
+slice-aggregate-fill-long-6 : tie.Need-slice-aggregate-fill-long-6
+slice-aggregate-fill-long-6 c = search needs
+
+slice-aggregate-fill-long-7 : tie.Need-slice-aggregate-fill-long-7
+slice-aggregate-fill-long-7 c = search needs
+
+slice-aggregate-fill-long-8 : tie.Need-slice-aggregate-fill-long-8
+slice-aggregate-fill-long-8 c = search needs
+
+fill-long-requires-2 : tie.Need-fill-long-requires-2
+fill-long-requires-2 c κs = search needs
+
+same-length-2 : tie.Need-same-length-2
+same-length-2 c = search needs
+
+returns-2 : tie.Need-returns-2
+returns-2 c = solve-many _ _ _ _ _ _ _ _ (c .before .before .before .before .before .before .before .before .before .before .before .before .before .before .before .before .before .before .before .before .before .before .before .begin .ensures) _ _ _ (c .before .before .before .before .before .before .before .before .before .before .before .before .before .before .before .before .before .before .before .begin2 .ensures) _ _ _ _ (c .before .before .before .before .before .before .before .before .before .before .before .before .before .ask-all .ensures) _ (c .before .before .before .before .before .before .before .before .before .if1 .left) (c .before .before .before .before .before .before .before .before .if2 .taken) (c .before .before .fill-long2 .ensures)
 
 slice-aggregate-fill : tie.Need-slice-aggregate-fill
 slice-aggregate-fill c = search needs
@@ -77,11 +94,11 @@ slice-aggregate-fill-4 c = search needs
 fill-requires : tie.Need-fill-requires
 fill-requires c κs = search needs
 
-same-length-2 : tie.Need-same-length-2
-same-length-2 c = search needs
+same-length-3 : tie.Need-same-length-3
+same-length-3 c = search needs
 
-returns-2 : tie.Need-returns-2
-returns-2 c = solve-is _ _ _ _ _ _ _ _ (c .before .before .before .before .before .before .before .before .before .before .before .before .before .before .before .before .before .before .before .before .before .before .before .before .before .before .begin .ensures) _ _ _ (c .before .before .before .before .before .before .before .before .before .before .before .before .before .before .before .before .before .before .before .before .before .before .begin2 .ensures) _ _ _ _ (c .before .before .before .before .before .before .before .before .before .before .before .before .before .before .before .before .ask-all .ensures) _ (c .before .before .before .before .before .before .before .before .before .before .before .before .is-long .ensures) _ (c .before .before .before .before .before .before .before .before .before .before .before .if1 .left) (c .before .before .before .before .before .fill .ensures)
+returns-3 : tie.Need-returns-3
+returns-3 c = solve-is _ _ _ _ _ _ _ _ (c .before .before .before .before .before .before .before .before .before .before .before .before .before .before .before .before .before .before .before .before .before .before .before .before .before .before .begin .ensures) _ _ _ (c .before .before .before .before .before .before .before .before .before .before .before .before .before .before .before .before .before .before .before .before .before .before .begin2 .ensures) _ _ _ _ (c .before .before .before .before .before .before .before .before .before .before .before .before .before .before .before .before .ask-all .ensures) _ (c .before .before .before .before .before .before .before .before .before .before .before .before .if1 .left) (c .before .before .before .before .before .before .before .before .before .before .before .if2 .left) (c .before .before .before .before .before .fill .ensures)
 
 pub solved-spec : {M : Type 1} → statement M
 solved-spec =
@@ -96,7 +113,6 @@ solved-spec =
     slice-aggregate-ask-all-2
     slice-aggregate-ask-all-3
     ask-all-requires
-    is-long-requires
     slice-aggregate-fill-long
     slice-aggregate-fill-long-2
     slice-aggregate-fill-long-3
@@ -104,10 +120,17 @@ solved-spec =
     fill-long-requires
     same-length
     returns
+    slice-aggregate-fill-long-5
+    slice-aggregate-fill-long-6
+    slice-aggregate-fill-long-7
+    slice-aggregate-fill-long-8
+    fill-long-requires-2
+    same-length-2
+    returns-2
     slice-aggregate-fill
     slice-aggregate-fill-2
     slice-aggregate-fill-3
     slice-aggregate-fill-4
     fill-requires
-    same-length-2
-    returns-2)
+    same-length-3
+    returns-3)
