@@ -25,11 +25,11 @@ ghost use Rattle.system.specs.Working.Sizes.{middle, large};
 ghost use Rattle.system.specs.Working.Solving.{solvedBy, rowsGive, grownIn, filledIn, filledLong, solvedIn};
 
 // Tables for most queries: the two joined texts and 16 constants of a text, principals, and their identifiers.
-const SOME_CONSTS: usize = 4096;
+const SOME_CONSTS: usize = 3200;
 
 const SOME_PRINCIPALS: usize = 128;
 
-const SOME_POOL: usize = 8192;
+const SOME_POOL: usize = 7168;
 
 // Their assertions, and the instructions of the fields Licensees.
 const SOME_ROWS: usize = 32;

@@ -124,3 +124,7 @@ small-large = record { begins = omega arith; consts = omega arith; pool = omega 
 
 pub middle-large : Within middle large
 middle-large = record { begins = omega arith; consts = omega arith; pool = omega arith; places = omega arith }
+
+-- and where it doesn't hold: middle tables don't fit into small ones
+pub middle-not-small : Within middle small → ⊥
+middle-not-small w = omega (arith, w .pool)

@@ -11,7 +11,7 @@ pub record Size : Type 0 where
 
 -- tables for most queries
 abbrev pub small : Size
-small = record { consts = 4096; pool = 8192; places = 128 }
+small = record { consts = 3200; pool = 7168; places = 128 }
 
 -- for most long records
 abbrev pub middle : Size
