@@ -12,6 +12,7 @@ use Rattle.principal.specs.Principal.{Principal}
 use Rattle.principal.specs.Members.{member}
 use Rattle.compliance.specs.Licensees.{Expression, given, licensees}
 use Rattle.compliance.specs.Tables.{place, compiled, Formed}
+use Rattle.index.specs.Entry.{mostNames}
 use Rattle.index.specs.Index.{enterAll, Holds}
 use Rattle.expression.specs.Names.{environment}
 use Rattle.expression.specs.Conditions.{conditions}
@@ -36,7 +37,7 @@ pub record Ready (q : Query) (g : Given) (x : Tables) (names : List Principal) (
   pub tight : end ≤ 258 * count
   pub places-room : count + 17 ≤ length (x .places)
   pub pool-room : end + 17 * 258 ≤ length (x .pool)
-  pub numbers : length names + 17 ≤ 32768
+  pub numbers : length names + 17 ≤ mostNames
   pub code-room : size + 48 ≤ length (x .code)
 
 -- the tables after an assertion: as long as before, and the two joined texts stand

@@ -9,7 +9,7 @@ use lib.ListN.{length, getD, take, List·getD-map}
 use lib.Seq.{getD-take}
 use borrow.Author.Tests.{lt-leb, eqb-true, eqb-false}
 use Rattle.text.specs.Choice.{split}
-use Rattle.index.specs.Entry.{nameAt}
+use Rattle.index.specs.Entry.{mostNames, nameAt}
 use Rattle.record.specs.Query.{Attribute}
 use Rattle.record.specs.Lies.{Lie, AttributeAt}
 use Rattle.principal.specs.Principal.{Principal, same, same-left, policy}
@@ -25,9 +25,9 @@ use Rattle.syntax.specs.Stood.{Stood, stood-at}
 use Rattle.fields.specs.Parsed.{ending, ended, behind}
 use Rattle.fields.specs.Identifier.{identifierFault, identified, identifier}
 use Rattle.fields.specs.Authorizer.{verified, authorized, authorizer}
-use Rattle.fields.specs.Working.Identifying.{Kept, entry}
+use Rattle.index.specs.Working.Entering.{Kept, numbered}
 use Rattle.fields.specs.Working.Authorizing.{Made, made, policyAt, barredAt, authorizerEnd, onEntry, authorizerIn}
-use Rattle.fields.specs.declared.identifier.Entry.the-variants.{At}
+use Rattle.index.specs.declared.Numbered.the-variants.{At}
 use Rattle.fields.specs.declared.authorizer.Author.the-variants.{On, Aside}
 use Rattle.fields.specs.Theorems.Together.{refusal-some}
 use Rattle.fields.specs.Theorems.Identified.{fault-is, token-is, identified-few, holds-before, EntryRead, entry-at, entry-read}
@@ -65,7 +65,7 @@ module _ (s : List ℕ) (standing : ℕ) (pool places : List ℕ) (count end : �
         (λ f. rw f (author-on id (place (enter names id) id) c e n pool′ places′ sn refl new low near samePool samePlaces))
         (λ f. rw f (set-aside (refusal (n .kind)) (n .start) (refusal-some (n .kind))))
 
-    barred-read : AuthorRead s pool places count end names (authorized standing t id (behind s Kind.IN-FIELD t)) (onEntry s standing t (entry (At (place (enter names id) id) c e) pool′ places′))
+    barred-read : AuthorRead s pool places count end names (authorized standing t id (behind s Kind.IN-FIELD t)) (onEntry s standing t (numbered (At (place (enter names id) id) c e) pool′ places′))
     unfolding authorized barredAt
     barred-read =
         let q : policyAt pool′ places′ (place (enter names id) id) ≡ same id policy = policy-is new id (enter-member names id) in
@@ -81,7 +81,7 @@ module _ (s : List ℕ) (standing : ℕ) (pool places : List ℕ) (count end : �
 
 -- what is read by the tables is what the meaning reads
 pub author-read : (s : List ℕ) (standing : ℕ) (consts constants pool places : List ℕ) (count end : ℕ) (l : List Attribute) (names : List Principal) (t : Token)
-    → Lie (AttributeAt consts) constants l → Stood s t → Holds pool places count end names → end ≤ 258 * count → count ≤ 32768 → count < length places → end + 258 ≤ length pool
+    → Lie (AttributeAt consts) constants l → Stood s t → Holds pool places count end names → end ≤ 258 * count → count < mostNames → count < length places → end + 258 ≤ length pool
     → AuthorRead s pool places count end names (authorizer s standing l t) (authorizerIn s standing consts constants pool places count end t)
 unfolding authorizer identifier authorizerIn
 author-read s standing consts constants pool places count end l names t lie st holds low few room fits =

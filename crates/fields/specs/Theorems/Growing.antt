@@ -11,6 +11,7 @@ use borrow.Author.Tests.{lt-leb}
 use Rattle.principal.specs.Principal.{Principal}
 use Rattle.compliance.specs.Licensees.{Expression, named}
 use Rattle.compliance.specs.Tables.{compile, Formed, f-name, f-and, f-or, f-kOf}
+use Rattle.index.specs.Entry.{mostNames}
 use Rattle.index.specs.Index.{enterAll, Holds}
 use Rattle.index.specs.EnterLaws.{enter-all-is, enter-all-append, freshAll}
 use Rattle.fields.specs.Working.List.{above, pushed, sized}
@@ -44,7 +45,7 @@ pub record Ready (pool places code : List ℕ) (st : State) (names : List Princi
   pub low : st .end ≤ 258 * st .count
   pub few : st .listed ≤ 16
   pub tableRoom : st .count + 16 ≤ length places + st .listed
-  pub namesRoom : st .count + 16 ≤ 32768 + st .listed
+  pub namesRoom : st .count + 16 ≤ mostNames + st .listed
   pub poolRoom : st .end + 4128 ≤ length pool + 258 * st .listed
   pub codeRoom : st .size + 48 ≤ length code + 3 * st .listed
 

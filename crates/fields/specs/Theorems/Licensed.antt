@@ -12,6 +12,7 @@ use Rattle.principal.specs.Principal.{Principal}
 use Rattle.compliance.specs.Codes.{zeroCode}
 use Rattle.compliance.specs.Licensees.{Expression, named, Licensees, missing, empty, given, licensees}
 use Rattle.compliance.specs.Tables.{compiled, Formed}
+use Rattle.index.specs.Entry.{mostNames}
 use Rattle.index.specs.Index.{enterAll, Holds}
 use Rattle.lexical.specs.declared.token.Token.{Token}
 use Rattle.syntax.specs.Parsed.{Parsed, ok, aside, andThen, refusal}
@@ -88,7 +89,7 @@ module _ (s pool places code : List ℕ) (count end size : ℕ) (names : List Pr
 -- what is entered and written is what the meaning reads
 pub licensees-read : (s consts constants pool places code : List ℕ) (count end size : ℕ) (l : List Attribute) (names : List Principal) (t : Token)
     → Lie (AttributeAt consts) constants l → Stood s t → Holds pool places count end names → end ≤ 258 * count
-    → count + 16 ≤ length places → length names + 16 ≤ 32768 → end + 16 * 258 ≤ length pool → size + 48 ≤ length code
+    → count + 16 ≤ length places → length names + 16 ≤ mostNames → end + 16 * 258 ≤ length pool → size + 48 ≤ length code
     → LicenseesRead s pool places code count end size names (licenseesOf s l t) (fieldIn s consts constants pool places code count end size t)
 unfolding licenseesOf expression fieldIn chainAt operandAt moreAt
 licensees-read s consts constants pool places code count end size l names t lie st holds low tableRoom namesRoom poolRoom codeRoom =
