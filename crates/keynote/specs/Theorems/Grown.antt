@@ -1,6 +1,6 @@
 -- Larger tables that begin as the old ones hold the same. Assumes nothing.
 use mathlib.Core.Path.{_≡_, refl, sym, ap, _∙_}
-use mathlib.Core.List.{List, _++_}
+use mathlib.Core.List.{List, _++_, map}
 use Prim.Native.Nat.{ℕ, _+_, _*_, _≤_, _<_}
 use native.Mathlib.Omega.{arith}
 use lib.ListN.{length, take, drop, replicate, length-append, length-drop, length-replicate}
@@ -10,6 +10,8 @@ use Rattle.text.specs.Copy.{put, copyAt}
 use Rattle.record.specs.Query.{Query}
 use Rattle.principal.specs.Principal.{Principal}
 use Rattle.compliance.specs.System.{Assertion}
+use Rattle.index.specs.Entry.{plain}
+use Rattle.index.specs.Tree.{tree-front}
 use Rattle.index.specs.Index.{Holds}
 use Rattle.system.specs.Working.Each.{Store}
 use Rattle.system.specs.Working.Solving.{laid, larger}
@@ -65,10 +67,13 @@ module _ {q : Query} {start : ℕ} {direct : List ℕ} {l : List Assertion} {i :
   holds : Holds (after .pool) (after .places) (e .count) (e .end) (made .names)
   holds = record {
     bytes = grown-front (x .pool) (e .end) 142674 (made .holds .inPool) short ∙ made .holds .bytes;
-    entries = grown-front (x .places) (e .count) 553 (made .holds .inTable) few ∙ made .holds .entries;
+    entries = ap (map plain) (grown-front (x .places) (e .count) 553 (made .holds .inTable) few) ∙ made .holds .entries;
+    tree = tree-front (grown-front (x .places) (e .count) 553 (made .holds .inTable) few) (made .holds .tree);
+    distinct = made .holds .distinct;
     counted = made .holds .counted;
     ends = made .holds .ends;
     inPool = omega (arith, short, grown-length (x .pool) (e .end) 142674 (made .holds .inPool) short);
+    near = made .holds .near;
     inTable = omega (arith, few, grown-length (x .places) (e .count) 553 (made .holds .inTable) few);
   }
 
