@@ -8,20 +8,15 @@ mod tables;
 use highest::at_least;
 use limits::MOST_ASSERTIONS;
 use limits::MOST_LICENSEES;
-use limits::MOST_REQUESTERS;
+use limits::MOST_PRINCIPALS;
 use machine::number_at;
 use reach::find_reach;
 use rounds::settle;
 ghost use mathlib.Core.Path.{_≡_};
 ghost use Prim.Native.Nat.{_≤_};
 ghost use lib.ListN.{length};
-ghost use Rattle.compliance.specs.Working.Solve.{Blank, solvedBy, solutionOf};
-
-// The most principals: POLICY, the requesters, and an authorizer and its licensees for each assertion.
-pub const PRINCIPALS: usize = 1
-    + MOST_REQUESTERS
-    + MOST_ASSERTIONS
-    + MOST_ASSERTIONS * MOST_LICENSEES;
+ghost use Rattle.limits.specs.Limits.{mostAssertions, mostLicensees, mostPrincipals};
+ghost use Rattle.compliance.specs.Working.Solve.{Blank, few, solvedBy, solutionOf};
 
 // Most queries have no more.
 const FEW: usize = 64;
@@ -82,14 +77,14 @@ fn solve_many(
     direct: &[u8],
     top: u8,
 ) -> Solution
-    requires { ⌜ (length (now authors) ≤ 32) × (length (now direct) ≤ 553) ⌝ }
-    ensures { λ r. ⌜ r ≡ solvedBy (now (authors .entry)) (now (conds .entry)) (now (ends .entry)) (now (code .entry)) (now (direct .entry)) top 16 ⌝ }
+    requires { ⌜ (length (now authors) ≤ mostAssertions) × (length (now direct) ≤ mostPrincipals) ⌝ }
+    ensures { λ r. ⌜ r ≡ solvedBy (now (authors .entry)) (now (conds .entry)) (now (ends .entry)) (now (code .entry)) (now (direct .entry)) top mostLicensees ⌝ }
 {
     let n = direct.len();
     let m = authors.len();
-    let mut ranks = [0u8; PRINCIPALS];
-    let mut next = [0u8; PRINCIPALS];
-    let mut reach = [0u8; PRINCIPALS];
+    let mut ranks = [0u8; MOST_PRINCIPALS];
+    let mut next = [0u8; MOST_PRINCIPALS];
+    let mut reach = [0u8; MOST_PRINCIPALS];
     let mut done = [0u8; MOST_ASSERTIONS];
     let mut stack = [0u8; MOST_LICENSEES];
     solve_in(
@@ -116,8 +111,8 @@ fn solve_few(
     direct: &[u8],
     top: u8,
 ) -> Solution
-    requires { ⌜ (length (now authors) ≤ 32) × (length (now direct) ≤ 64) ⌝ }
-    ensures { λ r. ⌜ r ≡ solvedBy (now (authors .entry)) (now (conds .entry)) (now (ends .entry)) (now (code .entry)) (now (direct .entry)) top 16 ⌝ }
+    requires { ⌜ (length (now authors) ≤ mostAssertions) × (length (now direct) ≤ few) ⌝ }
+    ensures { λ r. ⌜ r ≡ solvedBy (now (authors .entry)) (now (conds .entry)) (now (ends .entry)) (now (code .entry)) (now (direct .entry)) top mostLicensees ⌝ }
 {
     let n = direct.len();
     let m = authors.len();
@@ -157,7 +152,7 @@ pub fn solve(
     ensures bounded { λ r. ⌜ r .rounds ≤ r .reached ⌝ }
 {
     let n = direct.len();
-    if PRINCIPALS < n {
+    if MOST_PRINCIPALS < n {
         return Solution {
             rank: 0,
             rounds: 0,

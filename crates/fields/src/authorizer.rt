@@ -5,11 +5,11 @@ use crate::identifier::is_whole;
 use crate::out::NO_ROOM;
 use crate::out::is_ending;
 use crate::out::refusal_of;
+use index::Numbered;
+use index::enter;
 use lexical::kind;
 use lexical::line::token_at;
 use lexical::token::Token;
-use index::Numbered;
-use index::enter;
 ghost use mathlib.Core.Path.{_≡_};
 ghost use Rattle.fields.specs.Working.Authorizing.{policyAt, barredAt, authorizerEnd, made, authoredIn, authorizerIn};
 

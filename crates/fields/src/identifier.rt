@@ -11,6 +11,7 @@ use lexical::literal::decode_into;
 use lexical::literal::is_sized;
 use lexical::literal::literal_length;
 use lexical::token::Token;
+use limits::MOST_IDENTIFIER;
 ghost use mathlib.Core.Path.{_≡_};
 ghost use Prim.Native.Nat.{_+_, _-_, _≤_};
 ghost use lib.ListN.{length, take, drop};
@@ -20,8 +21,6 @@ ghost use Rattle.fields.specs.Identifier.{sizeFault};
 ghost use Rattle.fields.specs.Working.Whole.{other, printed, clear, whole};
 ghost use Rattle.index.specs.Working.Entering.{numbered, enterIn};
 ghost use Rattle.fields.specs.Working.Identifying.{nameFaultIn, faultIn, literalIn, tokenIn};
-
-pub const MOST_IDENTIFIER: usize = 256;
 
 // Is none of the n bytes from i on this one? The loop has no early end, so that many bytes are compared at once.
 fn is_without(s: &[u8], i: usize, n: usize, b: u8) -> bool
@@ -225,7 +224,7 @@ fn enter_decoded(
     if MOST_IDENTIFIER < n {
         return Numbered::Full;
     }
-    let mut id = [0u8; 256];
+    let mut id = [0u8; MOST_IDENTIFIER];
     if decode_into(s, start, &mut id, 0) {
         return enter(pool, places, count, end, &id[..n]);
     }

@@ -5,20 +5,18 @@ use crate::identifier::is_whole;
 use crate::out::NO_ROOM;
 use crate::out::refusal_of;
 use compliance::machine;
+use index::Numbered;
+use index::enter;
 use lexical::kind;
 use lexical::line::token_at;
 use lexical::number::number_at;
 use lexical::token::Token;
 use limits::MOST_LICENSEES;
-use index::Numbered;
-use index::enter;
 ghost use mathlib.Core.Path.{_≡_};
 ghost use Prim.Native.Nat.{_-_, _<_};
 ghost use Rattle.lexical.specs.Token.{token};
 ghost use Rattle.fields.specs.Licensees.{after};
 ghost use Rattle.fields.specs.Working.List.{ran, above, pushed, refusedLicensed, itemsOf, listedIn, placedIn, licenseeIn, listIn, openedIn, thresholdIn, wrote};
-
-pub const MOST_BRACKETS: usize = 16;
 
 // The index's count and end, the end of the code, and how many licensees were read.
 pub struct State {

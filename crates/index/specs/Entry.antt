@@ -13,10 +13,6 @@ use Rattle.record.specs.Places.{stringSize}
 use Rattle.principal.specs.Principal.{Principal, same}
 use Rattle.principal.specs.Tag.{tag, tag-low, same-tag}
 
--- as many principals, of at most 256 bytes each, keep every place in the pool below 2 ^ 20 and every number below 2 ^ 12
-abbrev pub mostNames : ℕ
-mostNames = 4064
-
 unfoldable pub packed : ℕ → ℕ → ℕ
 packed place t = place * 1048576 + t
 

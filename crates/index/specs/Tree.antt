@@ -112,10 +112,10 @@ module _ (places places′ : List ℕ) (n k u v e : ℕ) (t : Tree places n) (en
   pub tree-more : Tree places′ (n + 1)
   tree-more = record {
     reached = λ j h. split (eqb j n)
-      (λ q. let z : j ≡ n = eqb-true j n q in
-      let w : getD places′ n 0 % 1048576 ≡ v = ap (λ (x : ℕ). x % 1048576) new ∙ tagged in
-      rw (z, w) (follows ends some))
-      (λ q. let l : j < n = ne-lt j (eqb-false j n q) h in rw (tag-stays j l) (reaches-same {places = places} {places′ = places′} {n = n} keeps (t .reached j l) l));
+        (λ q. let z : j ≡ n = eqb-true j n q in
+        let w : getD places′ n 0 % 1048576 ≡ v = ap (λ (x : ℕ). x % 1048576) new ∙ tagged in
+        rw (z, w) (follows ends some))
+        (λ q. let l : j < n = ne-lt j (eqb-false j n q) h in rw (tag-stays j l) (reaches-same {places = places} {places′ = places′} {n = n} keeps (t .reached j l) l));
   }
     where
       ne-lt : (j : ℕ) → (j ≡ n → ⊥) → j < n + 1 → j < n

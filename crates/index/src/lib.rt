@@ -232,11 +232,7 @@ pub fn enter(pool: &mut [u8], places: &mut [usize], count: usize, end: usize, id
 {
     let t = principal::tag_of(id);
     match walk_tree(pool, places, count, id, t) {
-        Walk::Found { number } => Numbered::At {
-            number,
-            count,
-            end,
-        },
+        Walk::Found { number } => Numbered::At { number, count, end },
         Walk::Missing { last, rest } => enter_new(pool, places, count, end, id, t, last, rest),
     }
 }

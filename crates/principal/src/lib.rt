@@ -157,7 +157,12 @@ fn group_at(id: &[u8], i: usize) -> usize
     ensures { λ r. ⌜ r ≡ group (now (id .entry)) i ⌝ }
     ensures { λ r. ⌜ r < 1048576 ⌝ }
 {
-    grouped(five_at(id, i), five_at(id, i + 1), five_at(id, i + 2), five_at(id, i + 3))
+    grouped(
+        five_at(id, i),
+        five_at(id, i + 1),
+        five_at(id, i + 2),
+        five_at(id, i + 3),
+    )
 }
 
 // A number mixed with one more.
@@ -201,7 +206,12 @@ fn short_tag(id: &[u8]) -> usize
     ensures { λ r. ⌜ r ≡ tag (now (id .entry)) ⌝ }
     ensures { λ r. ⌜ r < 1048576 ⌝ }
 {
-    let v = grouped(five_or_none(id, 0), five_or_none(id, 1), five_or_none(id, 2), five_or_none(id, 3));
+    let v = grouped(
+        five_or_none(id, 0),
+        five_or_none(id, 1),
+        five_or_none(id, 2),
+        five_or_none(id, 3),
+    );
     middle(mix(id.len(), v))
 }
 

@@ -5,11 +5,14 @@ use crate::asked::begin as begin_index;
 use crate::each::read_each;
 use crate::note::Ends;
 use crate::note::put_header;
-use compliance::PRINCIPALS;
 use compliance::Solution;
 use compliance::solve;
 use constants::begin as begin_constants;
 use limits::MOST_ASSERTIONS;
+use limits::MOST_CONSTS;
+use limits::MOST_POOL;
+use limits::MOST_PRINCIPALS;
+use limits::MOST_PROGRAMS;
 ghost use mathlib.Core.Path.{_≡_};
 ghost use lib.ListN.{take};
 ghost use Prim.Native.Nat.{_-_, _%_};
@@ -24,16 +27,8 @@ const SOME_PRINCIPALS: usize = 128;
 
 const SOME_POOL: usize = 8192;
 
-// Tables for every query: the longest texts, and an identifier of 256 bytes behind its length for each principal.
-const CONSTS: usize = 11400;
-
-const POOL: usize = 142674;
-
 // Longer records mostly need the larger tables.
 const LONG: usize = 16384;
-
-// The instructions of a field Licensees, for each assertion.
-const CODE: usize = 1536;
 
 fn front_bytes(l: &[u8], n: usize) -> &[u8]
     ensures { λ r. ⌜ now r ≡ take n (now (l .entry)) ⌝ }
@@ -134,9 +129,9 @@ fn grown(
 ) -> Solution
     ensures { λ r. ⌜ solvedBy r (now (page .exit)) ≡ grownIn (fixed (now (query .entry)) (now (values .entry)) (now (names .entry)) top start) (now (texts .entry)) (now (joined .entry)) (now (identifiers .entry)) (now (indexed .entry)) (now (code .entry)) (now (direct .entry)) (now (authors .entry)) (now (conds .entry)) (now (ends .entry)) (now (page .entry)) next e ⌝ }
 {
-    let mut consts = [0u8; CONSTS];
-    let mut pool = [0u8; POOL];
-    let mut places = [0usize; PRINCIPALS];
+    let mut consts = [0u8; MOST_CONSTS];
+    let mut pool = [0u8; MOST_POOL];
+    let mut places = [0usize; MOST_PRINCIPALS];
     text::copy_at(&mut consts, 0, joined);
     text::copy_at(&mut pool, 0, identifiers);
     copy_places(&mut places, 0, indexed);
@@ -177,7 +172,7 @@ fn fill(
 ) -> Solution
     ensures { λ r. ⌜ solvedBy r (now (page .exit)) ≡ filledIn (now (query .entry)) (now (values .entry)) (now (names .entry)) (now (texts .entry)) start (now (consts .entry)) (now (pool .entry)) (now (places .entry)) (now (direct .entry)) index (now (page .entry)) ⌝ }
 {
-    let mut code = [0u16; CODE];
+    let mut code = [0u16; MOST_PROGRAMS];
     let mut authors = [0u16; MOST_ASSERTIONS];
     let mut conds = [0u8; MOST_ASSERTIONS];
     let mut ends = [0u16; MOST_ASSERTIONS];
@@ -248,7 +243,7 @@ fn fill_long(
 ) -> Solution
     ensures { λ r. ⌜ solvedBy r (now (page .exit)) ≡ filledLong (now (query .entry)) (now (values .entry)) (now (names .entry)) (now (texts .entry)) start (now (consts .entry)) (now (pool .entry)) (now (places .entry)) (now (direct .entry)) index (now (page .entry)) ⌝ }
 {
-    let mut code = [0u16; CODE];
+    let mut code = [0u16; MOST_PROGRAMS];
     let mut authors = [0u16; MOST_ASSERTIONS];
     let mut conds = [0u8; MOST_ASSERTIONS];
     let mut ends = [0u16; MOST_ASSERTIONS];
@@ -295,7 +290,7 @@ pub fn solved(
     let mut consts = [0u8; SOME_CONSTS];
     let mut pool = [0u8; SOME_POOL];
     let mut places = [0usize; SOME_PRINCIPALS];
-    let mut direct = [0u8; PRINCIPALS];
+    let mut direct = [0u8; MOST_PRINCIPALS];
     let start = begin_constants(&mut consts, query, values, requesters);
     let alone = begin_index(&mut pool, &mut places);
     let index = ask_all(

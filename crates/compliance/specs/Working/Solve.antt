@@ -8,11 +8,14 @@ use lib.ListN.{length, getD, take, replicate, length-replicate}
 use borrow.Author.Tests.{lt-ltb, le-ltb}
 use Rattle.text.specs.Choice.{pick, split}
 use Rattle.compliance.specs.Highest.{atLeast}
-use Rattle.limits.specs.Limits.{mostAssertions, mostLicensees}
-use Rattle.compliance.specs.Limits.{principalsMost}
+use Rattle.limits.specs.Limits.{mostAssertions, mostLicensees, mostPrincipals}
 use Rattle.compliance.specs.Working.Reach.{marked, spreadFrom}
 use Rattle.compliance.specs.Working.Rounds.{Settled, settledAt, changesOf, roundOf, settleFrom}
 use Rattle.compliance.specs.declared.Solution.{Solution}
+
+-- the principals that the smaller tables are made for
+abbrev pub few : ℕ
+few = 64
 
 -- n numbers, all 0
 abbrev pub blank : ℕ → List ℕ
@@ -35,7 +38,7 @@ solvedBy authors conds ends code direct top depth =
 -- the answer, or all 0 where the tables are too large
 unfoldable pub solutionOf : List ℕ → List ℕ → List ℕ → List ℕ → List ℕ → ℕ → Solution
 solutionOf authors conds ends code direct top =
-    pick (ltb principalsMost (length direct)) (record { rank = 0; rounds = 0; reached = 0 })
+    pick (ltb mostPrincipals (length direct)) (record { rank = 0; rounds = 0; reached = 0 })
     (pick (ltb mostAssertions (length authors)) (record { rank = 0; rounds = 0; reached = 0 })
     (solvedBy authors conds ends code direct top mostLicensees))
 
@@ -70,19 +73,19 @@ module _ (k n : ℕ) (h : n ≤ k) where
   }
 
 module _ (authors conds ends code direct : List ℕ) (top : ℕ) where
-  pub solve-wide : principalsMost < length direct → record { rank = 0; rounds = 0; reached = 0 } ≡ solutionOf authors conds ends code direct top
+  pub solve-wide : mostPrincipals < length direct → record { rank = 0; rounds = 0; reached = 0 } ≡ solutionOf authors conds ends code direct top
   unfolding solutionOf
-  solve-wide h = simp (lt-ltb principalsMost (length direct) h)
+  solve-wide h = simp (lt-ltb mostPrincipals (length direct) h)
 
-  module _ (fits : length direct ≤ principalsMost) where
+  module _ (fits : length direct ≤ mostPrincipals) where
     pub solve-long : mostAssertions < length authors → record { rank = 0; rounds = 0; reached = 0 } ≡ solutionOf authors conds ends code direct top
     unfolding solutionOf
-    solve-long h = simp (le-ltb principalsMost (length direct) fits, lt-ltb mostAssertions (length authors) h)
+    solve-long h = simp (le-ltb mostPrincipals (length direct) fits, lt-ltb mostAssertions (length authors) h)
 
     pub solve-is : length authors ≤ mostAssertions → (r : Solution) → r ≡ solvedBy authors conds ends code direct top mostLicensees
         → r ≡ solutionOf authors conds ends code direct top
     unfolding solutionOf
-    solve-is h r e = simp (le-ltb principalsMost (length direct) fits, le-ltb mostAssertions (length authors) h) e
+    solve-is h r e = simp (le-ltb mostPrincipals (length direct) fits, le-ltb mostAssertions (length authors) h) e
 
   -- the answer from what the calls leave
   pub solved-is : (depth : ℕ) (ranks next reach done : List ℕ) → Blank (length authors) (length direct) ranks next reach done
@@ -120,7 +123,7 @@ bounded : (authors conds ends code direct : List ℕ) (top : ℕ) → solutionOf
 unfolding solutionOf solvedBy
 bounded authors conds ends code direct top =
     let found = reachOf authors ends code (length direct) in
-    split (ltb principalsMost (length direct))
+    split (ltb mostPrincipals (length direct))
     (λ e. rw e zero-le)
     (λ e. rw e (split (ltb mostAssertions (length authors))
     (λ f. rw f zero-le)
@@ -129,6 +132,6 @@ bounded authors conds ends code direct top =
     (let h = settle-bound authors conds ends code direct top mostLicensees found (length direct) (atLeast 1 found) 0 (blank (length direct)) in omega arith)))))
 
 -- the last way again, with the bound
-pub solve-within : (authors conds ends code direct : List ℕ) (top : ℕ) → length direct ≤ principalsMost → length authors ≤ mostAssertions
+pub solve-within : (authors conds ends code direct : List ℕ) (top : ℕ) → length direct ≤ mostPrincipals → length authors ≤ mostAssertions
     → (r : Solution) → r ≡ solvedBy authors conds ends code direct top mostLicensees → r .rounds ≤ r .reached
 solve-within authors conds ends code direct top h k r e = rw (solve-is authors conds ends code direct top h k r e) (bounded authors conds ends code direct top)

@@ -18,12 +18,11 @@ use Rattle.record.specs.Lies.{Lie, lie[], lie∷, AttributeAt}
 use Rattle.lexical.specs.Kind
 use Rattle.lexical.specs.Literal.{decodedAt}
 use Rattle.lexical.specs.declared.token.Token.{Token}
-use Rattle.fields.specs.Limits.{mostIdentifier}
+use Rattle.limits.specs.Limits.{mostIdentifier, mostCounted, mostNumbers}
 use Rattle.principal.specs.Principal.{Principal, same}
 use Rattle.principal.specs.Members.{member}
 use Rattle.compliance.specs.Tables.{place}
 use Rattle.compliance.specs.Theorems.Fill.{place-added}
-use Rattle.index.specs.Entry.{mostNames}
 use Rattle.index.specs.Index.{enter, Holds}
 use Rattle.index.specs.IndexLaws.{walk-known, fresh-entered, holds-front}
 use Rattle.expression.specs.Names.{settingOr}
@@ -108,11 +107,11 @@ holds-before {pool} {places} {pool′} {places′} {count} {end} names more old 
 
 -- an identifier entered: its number, and the index with it
 pub data EntryRead (pool places : List ℕ) (count end : ℕ) (names : List Principal) (id : Principal) : Kept → Type 0 where
-  entry-at : (c e : ℕ) (pool′ places′ : List ℕ) → Holds pool′ places′ c e (enter names id) → e ≤ 258 * c → c ≤ count + 1 → e ≤ end + 258
+  entry-at : (c e : ℕ) (pool′ places′ : List ℕ) → Holds pool′ places′ c e (enter names id) → e ≤ mostCounted * c → c ≤ count + 1 → e ≤ end + mostCounted
       → length pool′ ≡ length pool → length places′ ≡ length places → EntryRead pool places count end names id (numbered (At (place (enter names id) id) c e) pool′ places′)
 
-module _ (pool places : List ℕ) (count end : ℕ) (names : List Principal) (holds : Holds pool places count end names) (low : end ≤ 258 * count) (id : Principal)
-    (short : length id ≤ 256) (few : count < mostNames) (room : count < length places) (fits : end + 258 ≤ length pool) where
+module _ (pool places : List ℕ) (count end : ℕ) (names : List Principal) (holds : Holds pool places count end names) (low : end ≤ mostCounted * count) (id : Principal)
+    (short : length id ≤ mostIdentifier) (few : count < mostNumbers) (room : count < length places) (fits : end + mostCounted ≤ length pool) where
   -- a principal that is there keeps its number
   known : member id names ≡ true → EntryRead pool places count end names id (enterIn pool places count end id)
   unfolding enterIn enter

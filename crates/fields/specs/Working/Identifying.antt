@@ -23,7 +23,7 @@ use Rattle.lexical.specs.declared.token.Token.{Token}
 use Rattle.principal.specs.Principal.{Principal}
 use Rattle.index.specs.Working.Entering.{Kept, numbered, enterIn}
 use Rattle.expression.specs.Tables.{firstFrom, settingIn}
-use Rattle.fields.specs.Limits.{mostIdentifier}
+use Rattle.limits.specs.Limits.{mostIdentifier}
 use Rattle.syntax.specs.Parsed.{refusal}
 use Rattle.fields.specs.Parsed.{wordOf}
 use Rattle.fields.specs.Identifier.{sizeFault}

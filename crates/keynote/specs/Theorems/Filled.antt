@@ -10,6 +10,7 @@ use lib.ListN.{length, getD, take, drop, replicate, length-replicate, length-map
 use lib.Seq.{take-at, drop-drop}
 use lib.Dec.{leb}
 use borrow.Author.Tests.{le-leb, le-ltb, lt-ltb, leb-true}
+use Rattle.limits.specs.Limits.{mostAssertions, mostText, mostNamed, mostPrincipals, mostEntered, mostPrograms, mostJoined, mostLengths}
 use Rattle.text.specs.Choice.{split, clash}
 use Rattle.text.specs.Join.{joined}
 use Rattle.text.specs.Counted.{counted}
@@ -37,6 +38,7 @@ use Rattle.assertion.specs.Theorems.Ready.{Ready, ReadAs}
 use Rattle.assertion.specs.Theorems.Reads.{read-as}
 use Rattle.system.specs.Working.Noting.{endsOf, headerInto}
 use Rattle.system.specs.Working.Each.{Fixed, fixed, Store, store, oneIn, Each, eachBy, onOne, full, fullAt, Went, wentBy, eachFrom}
+use Rattle.system.specs.Working.Sizes.{Size, small, large}
 use Rattle.system.specs.Working.Solving.{Solved, solvedBy, topOf, rowsGive, onWent, grownIn, onStretch, filledIn, filledLong}
 use Rattle.system.specs.declared.asked.Index.{Index}
 use Rattle.system.specs.declared.note.Ends.{Ends}
@@ -47,8 +49,8 @@ use Rattle.keynote.specs.Theorems.PlacesAssertion.{Small, AllSmall, smal
 use Rattle.keynote.specs.Theorems.Started.{Started, startNames}
 use Rattle.keynote.specs.Theorems.Stocked.{asked-covers}
 use Rattle.keynote.specs.Theorems.Paged.{header-is}
-use Rattle.keynote.specs.Theorems.Made.{Size, Made, Reached, joining, joining-is, before, noted-made}
-use Rattle.keynote.specs.Theorems.Grown.{small, large, made-larger}
+use Rattle.keynote.specs.Theorems.Made.{Made, Reached, joining, joining-is, before, noted-made}
+use Rattle.keynote.specs.Theorems.Grown.{made-large}
 use Rattle.keynote.specs.Theorems.Made.{reached as reached-at}
 
 -- as many places as items
@@ -60,12 +62,12 @@ lie-length (lie∷ h t) = ap suc (lie-length t)
 pub record Fit (s : List ℕ) (q : Query) (values names : List ℕ) (start t : ℕ) (sheet : List ℕ) (most : ℕ) : Type 0 where
   pub values-lie : Lie (StringAt s) values (q .values)
   pub names-lie : Lie (AttributeAt s) names (q .attributes)
-  pub start-low : start ≤ 3100
+  pub start-low : start ≤ mostJoined
   pub values-short : length (joined (q .values)) ≤ 65535
   pub requesters-short : length (joined (q .requesters)) ≤ 65535
   pub few : length (q .values) ≤ 256
   pub top-is : t ≡ top (q .values)
-  pub at-most : most ≤ 32
+  pub at-most : most ≤ mostAssertions
   pub room : 3 + 3 * most ≤ length sheet
 
 reached-same : {size : Size} {q : Query} {start : ℕ} {direct sheet : List ℕ} {l l′ : List Assertion} {i i′ : ℕ} {f f′ : List ℕ} {z : Each} → l ≡ l′ → i ≡ i′ → f ≡ f′
@@ -110,7 +112,7 @@ unfolding rowsGive
 solved-ended {q = q} {direct = direct} {sheet = sheet} {l = l} {i = i} {front = front} t te (ended j _ (reached-at e x a c d page made fe pe)) =
     let m : take (e .count) direct ≡ map (asking (q .requesters)) (made .names)
     = ap (take (e .count)) (made .stock .marks)
-    ∙ take-at (map (asking (q .requesters)) (made .names)) (replicate (553 - length (made .names)) 0) (e .count) (length-map (made .names) (asking (q .requesters)) ∙ sym (made .holds .counted)) in
+    ∙ take-at (map (asking (q .requesters)) (made .names)) (replicate (mostPrincipals - length (made .names)) 0) (e .count) (length-map (made .names) (asking (q .requesters)) ∙ sym (made .holds .counted)) in
     rw (te, pe, m)
     (ap (λ (w : Solution). solvedBy w (front ++ drop (3 + 3 * i) sheet))
     (represented (made .names) (take (e .kept) a) (take (e .kept) c) (take (e .kept) d) (take (e .size) (x .code)) (map (asking (q .requesters)) (made .names)) (top (q .values))
@@ -122,13 +124,13 @@ gives-same q sheet a b c = rw (a, b, c)
 
 -- where no table is too small there is room
 full-not : (consts start text pool end places count : ℕ) → full consts start text pool end places count ≡ false
-    → (start + 64 + text ≤ consts) × (end + 17 * 258 ≤ pool) × (count + 17 ≤ places)
+    → (start + mostLengths + text ≤ consts) × (end + mostEntered ≤ pool) × (count + mostNamed ≤ places)
 unfolding full
 full-not consts start text pool end places count not =
-    split (leb (start + 64 + text) consts)
-    (λ a. split (leb (end + 17 * 258) pool)
-    (λ b. split (leb (count + 17) places)
-    (λ c. (leb-true (start + 64 + text) consts a, leb-true (end + 17 * 258) pool b, leb-true (count + 17) places c))
+    split (leb (start + mostLengths + text) consts)
+    (λ a. split (leb (end + mostEntered) pool)
+    (λ b. split (leb (count + mostNamed) places)
+    (λ c. (leb-true (start + mostLengths + text) consts a, leb-true (end + mostEntered) pool b, leb-true (count + mostNamed) places c))
     (λ c. let z : true ≡ false = rw (a, b, c) at not in clash refl z))
     (λ b. let z : true ≡ false = rw (a, b) at not in clash refl z))
     (λ a. let z : true ≡ false = rw a at not in clash refl z)
@@ -150,8 +152,8 @@ module _ {s : List ℕ} {q : Query} {values names : List ℕ} {start t : ℕ} (d
   givenAt v = given (counted s v) (getD s (v - 3) 0) s values names start
 
   -- there is room for one assertion more
-  ready : {size : Size} {l : List Assertion} {i : ℕ} {e : Ends} {x : Store} {a c d : List ℕ} (made : Made size q start direct l i e x a c d) → i < 32
-      → (v : ℕ) → length (counted s v) ≤ 8192 → fullAt all v e x ≡ false → Ready q (givenAt v) (before x) (made .names) (e .count) (e .end) (e .size)
+  ready : {size : Size} {l : List Assertion} {i : ℕ} {e : Ends} {x : Store} {a c d : List ℕ} (made : Made size q start direct l i e x a c d) → i < mostAssertions
+      → (v : ℕ) → length (counted s v) ≤ mostText → fullAt all v e x ≡ false → Ready q (givenAt v) (before x) (made .names) (e .count) (e .end) (e .size)
   ready {e = e} {x = x} made h v short not =
       let room = full-not (length (x .consts)) start (length (counted s v)) (length (x .pool)) (e .end) (length (x .places)) (e .count) not in
       record {
@@ -178,30 +180,30 @@ module _ {s : List ℕ} {q : Query} {values names : List ℕ} {start t : ℕ} (d
 
   -- one assertion more
   step : {size : Size} {l : List Assertion} {i : ℕ} {e : Ends} {x : Store} {a c d : List ℕ} (made : Made size q start direct l i e x a c d) → i < most → (v : ℕ) (u : Supplied) → AssertionAt s v u
-      → fullAt all v e x ≡ false → length (u .text) ≤ 8192 → Small (reading u) → (front page : List ℕ) → length front ≡ 3 + 3 * i → page ≡ front ++ drop (3 + 3 * i) sheet
+      → fullAt all v e x ≡ false → length (u .text) ≤ mostText → Small (reading u) → (front page : List ℕ) → length front ≡ 3 + 3 * i → page ≡ front ++ drop (3 + 3 * i) sheet
       → Reached size q start direct sheet (joining q l (reading u)) (suc i) (front ++ entryBytes (reading u)) (onOne a c d page i e (oneIn all v x (e .count) (e .end) (e .size)))
   unfolding oneIn
   step {i = i} {e = e} {x = x} made h v u at not short few front page fe pe =
-      let less : i < 32 = omega (arith, h, fit .at-most) in
-      let b : length (counted s v) ≤ 8192 = omega (arith, short, ap length (at .0)) in
+      let less : i < mostAssertions = omega (arith, h, fit .at-most) in
+      let b : length (counted s v) ≤ mostText = omega (arith, short, ap length (at .0)) in
       let r : ReadAs q (givenAt v) t (before x) (made .names) (e .count) (e .end) (e .size) (reading u) (readIn (givenAt v) t (before x) (e .count) (e .end) (e .size))
       = subst (λ (w : Read). ReadAs q (givenAt v) t (before x) (made .names) (e .count) (e .end) (e .size) w (readIn (givenAt v) t (before x) (e .count) (e .end) (e .size)))
       (same-reading v u at) (read-as t (ready made less v b not)) in
       noted-made made less (givenAt v) refl t (fit .top-is) front sheet page fe pe (omega (arith, h, fit .room)) (reading u)
       (readIn (givenAt v) t (before x) (e .count) (e .end) (e .size)) few r
 
-  at-short : (v : ℕ) (u : Supplied) → AssertionAt s v u → length (u .text) ≤ 8192 → length (counted s v) ≤ 8192
+  at-short : (v : ℕ) (u : Supplied) → AssertionAt s v u → length (u .text) ≤ mostText → length (counted s v) ≤ mostText
   at-short v u at short = omega (arith, short, ap length (at .0))
 
   -- large tables are never too small
-  never-full : {l : List Assertion} {i : ℕ} {e : Ends} {x : Store} {a c d : List ℕ} → Made large q start direct l i e x a c d → i < 32
-      → (v : ℕ) → length (counted s v) ≤ 8192 → fullAt all v e x ≡ false
+  never-full : {l : List Assertion} {i : ℕ} {e : Ends} {x : Store} {a c d : List ℕ} → Made large q start direct l i e x a c d → i < mostAssertions
+      → (v : ℕ) → length (counted s v) ≤ mostText → fullAt all v e x ≡ false
   unfolding full
   never-full {e = e} {x = x} made h v short =
       rw (
-        le-leb (start + 64 + length (counted s v)) (length (x .consts)) (omega (arith, fit .start-low, short, made .consts-long)),
-        le-leb (e .end + 17 * 258) (length (x .pool)) (omega (arith, made .tight, made .few, h, made .pool-long)),
-        le-leb (e .count + 17) (length (x .places)) (omega (arith, made .few, h, made .places-long)),
+        le-leb (start + mostLengths + length (counted s v)) (length (x .consts)) (omega (arith, fit .start-low, short, made .consts-long)),
+        le-leb (e .end + mostEntered) (length (x .pool)) (omega (arith, made .tight, made .few, h, made .pool-long)),
+        le-leb (e .count + mostNamed) (length (x .places)) (omega (arith, made .few, h, made .places-long)),
       )
 
   -- all of them, in large tables
@@ -232,7 +234,7 @@ module _ {s : List ℕ} {q : Query} {values names : List ℕ} {start t : ℕ} (d
       split (fullAt all v e x)
       (λ f. rw (f, lt-ltb i (length texts) (omega (arith, n)), de)
       (solved-ended t (fit .top-is) (each-large {seen = seen} (lie∷ at lies) (each∷ ok oks) smalls l i front _ h
-      (reached-at e _ a c d page (made-larger made (fit .start-low) (omega (arith, h, fit .at-most))) fe pe))))
+      (reached-at e _ a c d page (made-large made (omega arith) (fit .start-low) (omega (arith, h, fit .at-most))) fe pe))))
       (λ f. let k : suc i + length m ≡ i + suc (length m) = omega arith in
       rw f
       (each-small texts lies oks (small-tail smalls) (joining q l (reading u)) (suc i) (front ++ entryBytes (reading u))
@@ -242,7 +244,7 @@ module _ {s : List ℕ} {q : Query} {values names : List ℕ} {start t : ℕ} (d
 
 -- before the first
 start-made : (s : List ℕ) (q : Query) (start : ℕ) (consts : List ℕ) (x : Index) (pool places direct : List ℕ) → Started s q start consts x pool places direct
-    → (code a c d : List ℕ) → length code ≡ 1536 → length a ≡ 32 → length c ≡ 32 → length d ≡ 32
+    → (code a c d : List ℕ) → length code ≡ mostPrograms → length a ≡ mostAssertions → length c ≡ mostAssertions → length d ≡ mostAssertions
     → Made small q start direct [] 0 (endsOf (x .count) (x .end) 0 0) (store consts pool places code) a c d
 start-made s q start consts x pool places direct st code a c d ke ae ce de = record {
   names = startNames q;
@@ -250,7 +252,7 @@ start-made s q start consts x pool places direct st code a c d ke ae ce de = rec
   stock = record {
     filling = st .filling;
     covers = asked-covers (policy ∷ []) (q .requesters);
-    marks = st .marks ∙ ap (λ (n : ℕ). map (asking (q .requesters)) (startNames q) ++ replicate (553 - n) 0) (st .holds .counted);
+    marks = st .marks ∙ ap (λ (n : ℕ). map (asking (q .requesters)) (startNames q) ++ replicate (mostPrincipals - n) 0) (st .holds .counted);
   };
   tight = st .tight;
   few = omega (arith, st .few);
@@ -286,7 +288,7 @@ top-same q values e h = omega (arith, e, h)
 module _ (s : List ℕ) (q : Query) (page : List ℕ) (start : ℕ) (consts : List ℕ) (x : Index) (pool places direct : List ℕ) (st : Started s q start consts x pool places direct)
     (values names texts : List ℕ) where
   module _ (vl : Lie (StringAt s) values (q .values)) (nl : Lie (AttributeAt s) names (q .attributes)) (tl : Lie (AssertionAt s) texts (q .assertions))
-      (oks : All SuppliedOk [] (q .assertions)) (smalls : AllSmall (map reading (q .assertions))) (low : length (q .values) ≤ 256) (few : length (q .assertions) ≤ 32)
+      (oks : All SuppliedOk [] (q .assertions)) (smalls : AllSmall (map reading (q .assertions))) (low : length (q .values) ≤ 256) (few : length (q .assertions) ≤ mostAssertions)
       (room : 3 + 3 * length (q .assertions) ≤ length page) where
     n : length texts ≡ length (q .assertions)
     n = lie-length tl
@@ -307,9 +309,9 @@ module _ (s : List ℕ) (q : Query) (page : List ℕ) (start : ℕ) (consts : Li
       room = room;
     }
 
-    made : Made small q start direct [] 0 (endsOf (x .count) (x .end) 0 0) (store consts pool places (replicate 1536 0)) (replicate 32 0) (replicate 32 0) (replicate 32 0)
-    made = start-made s q start consts x pool places direct st (replicate 1536 0) (replicate 32 0) (replicate 32 0) (replicate 32 0)
-        (length-replicate {A = ℕ} 1536 0) (length-replicate {A = ℕ} 32 0) (length-replicate {A = ℕ} 32 0) (length-replicate {A = ℕ} 32 0)
+    made : Made small q start direct [] 0 (endsOf (x .count) (x .end) 0 0) (store consts pool places (replicate mostPrograms 0)) (replicate mostAssertions 0) (replicate mostAssertions 0) (replicate mostAssertions 0)
+    made = start-made s q start consts x pool places direct st (replicate mostPrograms 0) (replicate mostAssertions 0) (replicate mostAssertions 0) (replicate mostAssertions 0)
+        (length-replicate {A = ℕ} mostPrograms 0) (length-replicate {A = ℕ} mostAssertions 0) (length-replicate {A = ℕ} mostAssertions 0) (length-replicate {A = ℕ} mostAssertions 0)
 
     head-is : headerInto page (length texts) ≡ (1 ∷ pairBytes (3 * length texts)) ++ drop 3 page
     head-is = header-is page (length texts) (omega (arith, room)) (omega (arith, n, few))
@@ -325,7 +327,7 @@ module _ (s : List ℕ) (q : Query) (page : List ℕ) (start : ℕ) (consts : Li
     unfolding filledIn
     filled-from =
         each-small direct fit texts tl oks smalls [] 0 (1 ∷ pairBytes (3 * length texts)) _ (omega arith) (omega (arith, n)) refl
-        (reached-at (endsOf (x .count) (x .end) 0 0) (store consts pool places (replicate 1536 0)) (replicate 32 0) (replicate 32 0) (replicate 32 0) (headerInto page (length texts))
+        (reached-at (endsOf (x .count) (x .end) 0 0) (store consts pool places (replicate mostPrograms 0)) (replicate mostAssertions 0) (replicate mostAssertions 0) (replicate mostAssertions 0) (headerInto page (length texts))
         made (front-start (3 * length texts)) head-is)
         ∙ page-is
 
@@ -335,8 +337,8 @@ module _ (s : List ℕ) (q : Query) (page : List ℕ) (start : ℕ) (consts : Li
     unfolding filledLong grownIn
     long-from =
         solved-ended (topOf values) te (each-large direct fit tl oks smalls [] 0 (1 ∷ pairBytes (3 * length texts)) _ (omega arith)
-        (reached-at (endsOf (x .count) (x .end) 0 0) _ (replicate 32 0) (replicate 32 0) (replicate 32 0) (headerInto page (length texts))
-        (made-larger made (st .start-low) (omega arith)) (front-start (3 * length texts)) head-is))
+        (reached-at (endsOf (x .count) (x .end) 0 0) _ (replicate mostAssertions 0) (replicate mostAssertions 0) (replicate mostAssertions 0) (headerInto page (length texts))
+        (made-large made (omega arith) (st .start-low) (omega arith)) (front-start (3 * length texts)) head-is))
         ∙ page-is
 
 small-readings : (s : List ℕ) (q : Query) → Bytes s → readRecord s ≡ accepted q → AllSmall (map reading (q .assertions))

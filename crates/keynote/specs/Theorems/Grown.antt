@@ -6,6 +6,7 @@ use native.Mathlib.Omega.{arith}
 use lib.ListN.{length, take, drop, replicate, length-append, length-drop, length-replicate}
 use lib.Seq.{take-at, length-take-le}
 use borrow.Author.Tests.{le-leb}
+use Rattle.limits.specs.Limits.{mostAssertions, mostJoined}
 use Rattle.text.specs.Copy.{put, copyAt}
 use Rattle.record.specs.Query.{Query}
 use Rattle.principal.specs.Principal.{Principal}
@@ -14,16 +15,10 @@ use Rattle.index.specs.Entry.{plain}
 use Rattle.index.specs.Tree.{tree-front}
 use Rattle.index.specs.Index.{Holds}
 use Rattle.system.specs.Working.Each.{Store}
+use Rattle.system.specs.Working.Sizes.{Size, large}
 use Rattle.system.specs.Working.Solving.{laid, larger}
 use Rattle.system.specs.declared.note.Ends.{Ends}
-use Rattle.keynote.specs.Theorems.Made.{Size, Made}
-
--- tables for most queries, and for every one
-abbrev pub small : Size
-small = record { consts = 4096; pool = 8192; places = 128 }
-
-abbrev pub large : Size
-large = record { consts = 11400; pool = 142674; places = 553 }
+use Rattle.keynote.specs.Theorems.Made.{Made}
 
 module _ (m old : List ℕ) (fits : length old ≤ length m) where
   laid-front : laid m old ≡ old ++ drop (length old) m
@@ -50,34 +45,29 @@ module _ (l : List ℕ) (n k : ℕ) (in-l : n ≤ length l) (in-k : n ≤ k) whe
   grown-front : take n (laid (replicate k 0) (take n l)) ≡ take n l
   grown-front = laid-take (replicate k 0) (take n l) fits n front-long
 
-module _ {q : Query} {start : ℕ} {direct : List ℕ} {l : List Assertion} {i : ℕ} {e : Ends} {x : Store} {a c d : List ℕ} (made : Made small q start direct l i e x a c d)
-    (low : start ≤ 3100) (more : i < 32) where
-  few : e .count ≤ 553
-  few = omega (arith, made .few, more)
-
-  short : e .end ≤ 142674
-  short = omega (arith, made .tight, few)
-
-  begins : start ≤ length (x .consts)
-  begins = omega (arith, low, made .consts-long)
+-- tables of any two sizes: what the first hold, the next hold too, where there is room for it
+module _ {size : Size} {q : Query} {start : ℕ} {direct : List ℕ} {l : List Assertion} {i : ℕ} {e : Ends} {x : Store} {a c d : List ℕ} (made : Made size q start direct l i e x a c d)
+    (next : Size) (begins : start ≤ size .consts) (begin : start ≤ next .consts) (short : e .end ≤ next .pool) (few : e .count ≤ next .places) where
+  within : start ≤ length (x .consts)
+  within = omega (arith, begins, made .consts-long)
 
   abbrev after : Store
-  after = larger (take start (x .consts)) (take (e .end) (x .pool)) (take (e .count) (x .places)) (x .code)
+  after = larger next (take start (x .consts)) (take (e .end) (x .pool)) (take (e .count) (x .places)) (x .code)
 
   holds : Holds (after .pool) (after .places) (e .count) (e .end) (made .names)
   holds = record {
-    bytes = grown-front (x .pool) (e .end) 142674 (made .holds .inPool) short ∙ made .holds .bytes;
-    entries = ap (map plain) (grown-front (x .places) (e .count) 553 (made .holds .inTable) few) ∙ made .holds .entries;
-    tree = tree-front (grown-front (x .places) (e .count) 553 (made .holds .inTable) few) (made .holds .tree);
+    bytes = grown-front (x .pool) (e .end) (next .pool) (made .holds .inPool) short ∙ made .holds .bytes;
+    entries = ap (map plain) (grown-front (x .places) (e .count) (next .places) (made .holds .inTable) few) ∙ made .holds .entries;
+    tree = tree-front (grown-front (x .places) (e .count) (next .places) (made .holds .inTable) few) (made .holds .tree);
     distinct = made .holds .distinct;
     counted = made .holds .counted;
     ends = made .holds .ends;
-    inPool = omega (arith, short, grown-length (x .pool) (e .end) 142674 (made .holds .inPool) short);
+    inPool = omega (arith, short, grown-length (x .pool) (e .end) (next .pool) (made .holds .inPool) short);
+    inTable = omega (arith, few, grown-length (x .places) (e .count) (next .places) (made .holds .inTable) few);
     near = made .holds .near;
-    inTable = omega (arith, few, grown-length (x .places) (e .count) 553 (made .holds .inTable) few);
   }
 
-  pub made-larger : Made large q start direct l i e after a c d
+  pub made-larger : Made next q start direct l i e after a c d
   made-larger = record {
     names = made .names;
     holds = holds;
@@ -89,9 +79,21 @@ module _ {q : Query} {start : ℕ} {direct : List ℕ} {l : List Assertion} {i :
     authors-long = made .authors-long;
     conds-long = made .conds-long;
     ends-long = made .ends-long;
-    consts-long = grown-length (x .consts) start 11400 begins (omega (arith, low));
-    pool-long = grown-length (x .pool) (e .end) 142674 (made .holds .inPool) short;
-    places-long = grown-length (x .places) (e .count) 553 (made .holds .inTable) few;
+    consts-long = grown-length (x .consts) start (next .consts) within begin;
+    pool-long = grown-length (x .pool) (e .end) (next .pool) (made .holds .inPool) short;
+    places-long = grown-length (x .places) (e .count) (next .places) (made .holds .inTable) few;
     code-long = made .code-long;
-    begun = grown-front (x .consts) start 11400 begins (omega (arith, low)) ∙ made .begun;
+    begun = grown-front (x .consts) start (next .consts) within begin ∙ made .begun;
   }
+
+-- the large tables have room for all that was read so far
+module _ {size : Size} {q : Query} {start : ℕ} {direct : List ℕ} {l : List Assertion} {i : ℕ} {e : Ends} {x : Store} {a c d : List ℕ} (made : Made size q start direct l i e x a c d)
+    (begins : mostJoined ≤ size .consts) (low : start ≤ mostJoined) (more : i < mostAssertions) where
+  few-enough : e .count ≤ large .places
+  few-enough = omega (arith, made .few, more)
+
+  short-enough : e .end ≤ large .pool
+  short-enough = omega (arith, made .tight, few-enough)
+
+  pub made-large : Made large q start direct l i e (larger large (take start (x .consts)) (take (e .end) (x .pool)) (take (e .count) (x .places)) (x .code)) a c d
+  made-large = made-larger made large (omega (arith, begins, low)) (omega (arith, low)) short-enough few-enough

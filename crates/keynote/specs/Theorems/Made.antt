@@ -8,6 +8,7 @@ use native.Mathlib.Numerals.{add-one}
 use lib.ListN.{length, take, drop, set, replicate, length-set}
 use lib.Seq.{take-suc-set, length-take-le, append-snoc}
 use borrow.Author.Tests.{lt-leb}
+use Rattle.limits.specs.Limits.{mostAssertions, mostLicensees, mostConstants, mostAsking, mostNamed, mostCounted, mostCode, mostPrograms}
 use Rattle.text.specs.Join.{joined}
 use Rattle.text.specs.Counted.{counted}
 use Rattle.record.specs.Query.{Query}
@@ -30,6 +31,7 @@ use Rattle.assertion.specs.Theorems.Ready.{worth as rankOf}
 use Rattle.assertion.specs.Theorems.Left.{enter-all-length}
 use Rattle.system.specs.Working.Noting.{entryInto, rowed, rowInto, endsOf, noteIn}
 use Rattle.system.specs.Working.Each.{Store, store, oneOf, Each, eachBy, onOne}
+use Rattle.system.specs.Working.Sizes.{Size}
 use Rattle.system.specs.declared.note.Ends.{Ends}
 use Rattle.keynote.specs.Answer.{worth, ranked, keptOf}
 use Rattle.keynote.specs.Report.{reasonOf, placeOf, entryBytes}
@@ -37,28 +39,22 @@ use Rattle.keynote.specs.Theorems.PlacesAssertion.{Small}
 use Rattle.keynote.specs.Theorems.Stocked.{Stock, stock-all, stock-row}
 use Rattle.keynote.specs.Theorems.Paged.{front-long, entry-is}
 
--- how long the tables are: constants, identifiers, their places
-pub record Size : Type 0 where
-  pub consts : ℕ
-  pub pool : ℕ
-  pub places : ℕ
-
 -- after i assertions: the kept ones l stand in the tables
 pub record Made (size : Size) (q : Query) (start : ℕ) (direct : List ℕ) (l : List Assertion) (i : ℕ) (e : Ends) (x : Store) (a c d : List ℕ) : Type 0 where
   pub names : List Principal
   pub holds : Holds (x .pool) (x .places) (e .count) (e .end) names
   pub stock : Stock (q .requesters) (top (q .values)) direct (take (e .kept) a) (take (e .kept) c) (take (e .kept) d) (take (e .size) (x .code)) l names
-  pub tight : e .end ≤ 258 * e .count
-  pub few : e .count ≤ 9 + 17 * i
-  pub low : e .size ≤ 48 * i
+  pub tight : e .end ≤ mostCounted * e .count
+  pub few : e .count ≤ mostAsking + mostNamed * i
+  pub low : e .size ≤ mostCode * i
   pub rows : e .kept ≤ i
-  pub authors-long : length a ≡ 32
-  pub conds-long : length c ≡ 32
-  pub ends-long : length d ≡ 32
+  pub authors-long : length a ≡ mostAssertions
+  pub conds-long : length c ≡ mostAssertions
+  pub ends-long : length d ≡ mostAssertions
   pub consts-long : length (x .consts) ≡ size .consts
   pub pool-long : length (x .pool) ≡ size .pool
   pub places-long : length (x .places) ≡ size .places
-  pub code-long : length (x .code) ≡ 1536
+  pub code-long : length (x .code) ≡ mostPrograms
   pub begun : take start (x .consts) ≡ stringBytes (joined (q .values)) ++ stringBytes (joined (q .requesters))
 
 -- and on the page the entries stand in front of what was there
@@ -82,7 +78,7 @@ unfolding rankOf worth
 worth-same t q absent e = e
 worth-same t q (stated cs p) e = refl
 
-row-in : (a c d : List ℕ) (k author rank size : ℕ) → length a ≡ 32 → length c ≡ 32 → length d ≡ 32 → k < 32
+row-in : (a c d : List ℕ) (k author rank size : ℕ) → length a ≡ mostAssertions → length c ≡ mostAssertions → length d ≡ mostAssertions → k < mostAssertions
     → rowInto a c d k author rank size ≡ rowed (k + 1) (set a k (author % 65536)) (set c k rank) (set d k (size % 65536))
 unfolding rowInto
 row-in a c d k author rank size ae ce de h =
@@ -94,13 +90,13 @@ front-set l k v w h e = rw (add-one k, e) (take-suc-set l k w h)
 
 -- the tables before an assertion, and what is stored of those after it
 abbrev pub before : Store → Tables
-before x = tabled (x .consts) (replicate 16 0) (x .pool) (x .places) (x .code)
+before x = tabled (x .consts) (replicate mostConstants 0) (x .pool) (x .places) (x .code)
 
 abbrev stored : Tables → Store
 stored y = store (y .consts) (y .pool) (y .places) (y .code)
 
 module _ {size : Size} {q : Query} {start : ℕ} {direct : List ℕ} {l : List Assertion} {i : ℕ} {e : Ends} {x : Store} {a c d : List ℕ} (made : Made size q start direct l i e x a c d)
-    (more : i < 32) (g : Given) (ge : g .start ≡ start) where
+    (more : i < mostAssertions) (g : Given) (ge : g .start ≡ start) where
   begun-after : (y : Tables) → After g (before x) y → take start (y .consts) ≡ stringBytes (joined (q .values)) ++ stringBytes (joined (q .requesters))
   begun-after y after = subst (λ (n : ℕ). take n (y .consts) ≡ take n (x .consts)) ge (after .begun) ∙ made .begun
 
@@ -128,20 +124,20 @@ module _ {size : Size} {q : Query} {start : ℕ} {direct : List ℕ} {l : List A
   size-front : length (take (e .size) (x .code)) ≡ e .size
   size-front = length-take-le (e .size) (x .code) (omega (arith, made .low, more, made .code-long))
 
-  rows-front : length (take (e .kept) a) < 32
+  rows-front : length (take (e .kept) a) < mostAssertions
   rows-front =
       let n : length (take (e .kept) a) ≡ e .kept = length-take-le (e .kept) a (omega (arith, made .rows, more, made .authors-long)) in
       omega (arith, n, made .rows, more)
 
   -- one that is kept
-  module _ (s : Said) (ps : List Principal) (u k n m z : ℕ) (y : Tables) (after : After g (before x) y) (few : length ps ≤ 17)
-      (holds : Holds (y .pool) (y .places) n m (enterAll (made .names) ps)) (tight : m ≤ 258 * n)
+  module _ (s : Said) (ps : List Principal) (u k n m z : ℕ) (y : Tables) (after : After g (before x) y) (few : length ps ≤ mostNamed)
+      (holds : Holds (y .pool) (y .places) n m (enterAll (made .names) ps)) (tight : m ≤ mostCounted * n)
       (ue : u ≡ place (enterAll (made .names) ps) (s .authorizer)) (known : member (s .authorizer) (enterAll (made .names) ps) ≡ true)
       (named : (p : Principal) → Mem p (licensees (s .licensees)) → member p (enterAll (made .names) ps) ≡ true)
-      (formed : (f : Expression) → s .licensees ≡ stating f → Formed f) (sixteen : length (licensees (s .licensees)) ≤ 16)
+      (formed : (f : Expression) → s .licensees ≡ stating f → Formed f) (sixteen : length (licensees (s .licensees)) ≤ mostLicensees)
       (wrote : take z (y .code) ≡ take (e .size) (x .code) ++ compiled (enterAll (made .names) ps) (s .licensees))
-      (ends : z ≡ e .size + length (compiled (enterAll (made .names) ps) (s .licensees))) (most : z ≤ e .size + 48) (ke : k ≡ worth q (s .conditions)) where
-    counts : length (enterAll (made .names) ps) ≤ 9 + 17 * suc i
+      (ends : z ≡ e .size + length (compiled (enterAll (made .names) ps) (s .licensees))) (most : z ≤ e .size + mostCode) (ke : k ≡ worth q (s .conditions)) where
+    counts : length (enterAll (made .names) ps) ≤ mostAsking + mostNamed * suc i
     counts = omega (arith, enter-all-length (made .names) ps, few, made .few, made .holds .counted)
 
     low-author : u % 65536 ≡ place (enterAll (made .names) ps) (s .authorizer)

@@ -8,6 +8,7 @@ use lib.Dec.{ltb}
 use lib.ListN.{length, take, drop, replicate}
 use lib.Seq.{take-all, length-take-le}
 use borrow.Author.Tests.{lt-ltb, le-ltb}
+use Rattle.limits.specs.Limits.{mostAssertions, mostPrincipals, mostPrograms}
 use Rattle.text.specs.Choice.{pick}
 use Rattle.text.specs.Copy.{Copied, copied, copyAt}
 use Rattle.text.specs.Counted.{counted}
@@ -18,6 +19,7 @@ use Rattle.constants.specs.Constants.{Written, written, begunInto}
 use Rattle.system.specs.Working.Asking.{Asked, asked, allFrom, Begun, begun, beginIn}
 use Rattle.system.specs.Working.Noting.{endsOf, headerInto}
 use Rattle.system.specs.Working.Each.{Fixed, fixed, Store, store, eachBy, Went, wentBy, eachFrom}
+use Rattle.system.specs.Working.Sizes.{Size, small, large, long}
 use Rattle.system.specs.declared.asked.Index.{Index}
 use Rattle.system.specs.declared.note.Ends.{Ends}
 
@@ -44,12 +46,12 @@ abbrev pub onWent : ℕ → List ℕ → Went → Solved
 onWent top direct (wentBy i (eachBy e x a c d page)) = solvedBy (rowsGive a c d (x .code) direct e top) page
 
 -- larger tables that begin as the old ones
-abbrev pub larger : List ℕ → List ℕ → List ℕ → List ℕ → Store
-larger consts pool places code = store (laid (replicate 11400 0) consts) (laid (replicate 142674 0) pool) (laid (replicate 553 0) places) code
+abbrev pub larger : Size → List ℕ → List ℕ → List ℕ → List ℕ → Store
+larger size consts pool places code = store (laid (replicate (size .consts) 0) consts) (laid (replicate (size .pool) 0) pool) (laid (replicate (size .places) 0) places) code
 
 unfoldable pub grownIn : Fixed → List ℕ → List ℕ → List ℕ → List ℕ → List ℕ → List ℕ → List ℕ → List ℕ → List ℕ → List ℕ → ℕ → Ends → Solved
 grownIn f texts consts pool places code direct a c d page i e =
-    onWent (f .top) direct (eachFrom f (drop i texts) i (eachBy e (larger consts pool places code) a c d page))
+    onWent (f .top) direct (eachFrom f (drop i texts) i (eachBy e (larger large consts pool places code) a c d page))
 
 -- what was read is solved, or the rest is read into larger tables
 abbrev pub onStretch : Fixed → List ℕ → List ℕ → Went → Solved
@@ -62,31 +64,31 @@ unfoldable pub filledIn : List ℕ → List ℕ → List ℕ → List ℕ → �
 filledIn s values names texts start consts pool places direct x page =
     onStretch (fixed s values names (topOf values) start) texts direct
     (eachFrom (fixed s values names (topOf values) start) texts 0
-    (eachBy (endsOf (x .count) (x .end) 0 0) (store consts pool places (replicate 1536 0)) (replicate 32 0) (replicate 32 0) (replicate 32 0) (headerInto page (length texts))))
+    (eachBy (endsOf (x .count) (x .end) 0 0) (store consts pool places (replicate mostPrograms 0)) (replicate mostAssertions 0) (replicate mostAssertions 0) (replicate mostAssertions 0) (headerInto page (length texts))))
 
 -- all of them read into larger tables
 unfoldable pub filledLong : List ℕ → List ℕ → List ℕ → List ℕ → ℕ → List ℕ → List ℕ → List ℕ → List ℕ → Index → List ℕ → Solved
 filledLong s values names texts start consts pool places direct x page =
-    grownIn (fixed s values names (topOf values) start) texts (take start consts) (take (x .end) pool) (take (x .count) places) (replicate 1536 0) direct
-    (replicate 32 0) (replicate 32 0) (replicate 32 0) (headerInto page (length texts)) 0 (endsOf (x .count) (x .end) 0 0)
+    grownIn (fixed s values names (topOf values) start) texts (take start consts) (take (x .end) pool) (take (x .count) places) (replicate mostPrograms 0) direct
+    (replicate mostAssertions 0) (replicate mostAssertions 0) (replicate mostAssertions 0) (headerInto page (length texts)) 0 (endsOf (x .count) (x .end) 0 0)
 
 -- small tables first, but for a long record
 abbrev pub onAsked : List ℕ → List ℕ → List ℕ → List ℕ → ℕ → List ℕ → List ℕ → Asked → Solved
 onAsked s values names texts start consts page (asked x pool places direct) =
-    pick (ltb 16384 (length s)) (filledLong s values names texts start consts pool places direct x page) (filledIn s values names texts start consts pool places direct x page)
+    pick (ltb long (length s)) (filledLong s values names texts start consts pool places direct x page) (filledIn s values names texts start consts pool places direct x page)
 
 abbrev pub onBegun : List ℕ → List ℕ → List ℕ → List ℕ → List ℕ → ℕ → List ℕ → List ℕ → Begun → Solved
 onBegun s values requesters names texts start consts page (begun x pool places) =
-    onAsked s values names texts start consts page (allFrom s requesters (asked x pool places (replicate 553 0)))
+    onAsked s values names texts start consts page (allFrom s requesters (asked x pool places (replicate mostPrincipals 0)))
 
 abbrev pub onWritten : List ℕ → List ℕ → List ℕ → List ℕ → List ℕ → List ℕ → Written → Solved
 onWritten s values requesters names texts page (written start consts) =
-    onBegun s values requesters names texts start consts page (beginIn (replicate 8192 0) (replicate 128 0))
+    onBegun s values requesters names texts start consts page (beginIn (replicate (small .pool) 0) (replicate (small .places) 0))
 
 unfoldable pub solvedIn : List ℕ → List ℕ → List ℕ → List ℕ → List ℕ → List ℕ → Solved
 solvedIn s values requesters names texts page =
     onWritten s values requesters names texts page
-    (begunInto (replicate 4096 0) (joined (map (counted s) values)) (joined (map (counted s) requesters)))
+    (begunInto (replicate (small .consts) 0) (joined (map (counted s) values)) (joined (map (counted s) requesters)))
 
 -- `top_of`
 pub top-none : (n : ℕ) → n ≡ 0 → 0 ≡ (n - 1) % 256
@@ -105,7 +107,7 @@ laid-is m old n b e = rw (← e)
 
 -- `grown`
 pub grown-is : (f : Fixed) (texts consts pool places code direct a c d page : List ℕ) (i : ℕ) (e : Ends) (consts′ pool′ places′ : List ℕ)
-    → consts′ ≡ laid (replicate 11400 0) consts → pool′ ≡ laid (replicate 142674 0) pool → places′ ≡ laid (replicate 553 0) places
+    → consts′ ≡ laid (replicate (large .consts) 0) consts → pool′ ≡ laid (replicate (large .pool) 0) pool → places′ ≡ laid (replicate (large .places) 0) places
     → (j : ℕ) (u : Ends) (y : Store) (a′ c′ d′ page′ : List ℕ)
     → wentBy j (eachBy u y a′ c′ d′ page′) ≡ eachFrom f (drop i texts) i (eachBy e (store consts′ pool′ places′ code) a c d page)
     → (r : Solution) → r ≡ rowsGive a′ c′ d′ (y .code) direct u (f .top) → solvedBy r page′ ≡ grownIn f texts consts pool places code direct a c d page i e
@@ -118,10 +120,10 @@ module _ (s values names texts : List ℕ) (start : ℕ) (consts pool places dir
     (i : ℕ) (e : Ends) (y : Store) (a c d out : List ℕ)
     (ee : wentBy i (eachBy e y a c d out)
     ≡ eachFrom (fixed s values names top start) (drop 0 texts) 0
-    (eachBy (endsOf (x .count) (x .end) 0 0) (store consts pool places (replicate 1536 0)) (replicate 32 0) (replicate 32 0) (replicate 32 0) head)) where
+    (eachBy (endsOf (x .count) (x .end) 0 0) (store consts pool places (replicate mostPrograms 0)) (replicate mostAssertions 0) (replicate mostAssertions 0) (replicate mostAssertions 0) head)) where
   went : wentBy i (eachBy e y a c d out)
       ≡ eachFrom (fixed s values names (topOf values) start) texts 0
-      (eachBy (endsOf (x .count) (x .end) 0 0) (store consts pool places (replicate 1536 0)) (replicate 32 0) (replicate 32 0) (replicate 32 0) (headerInto page (length texts)))
+      (eachBy (endsOf (x .count) (x .end) 0 0) (store consts pool places (replicate mostPrograms 0)) (replicate mostAssertions 0) (replicate mostAssertions 0) (replicate mostAssertions 0) (headerInto page (length texts)))
   went = ee ∙ rw (te, he)
 
   pub fill-all : length texts ≤ i → (r : Solution) → r ≡ rowsGive a c d (y .code) direct e top → solvedBy r out ≡ filledIn s values names texts start consts pool places direct x page
@@ -138,20 +140,20 @@ module _ (s values names texts : List ℕ) (start : ℕ) (consts pool places dir
 pub fill-at-once : (s values names texts : List ℕ) (start : ℕ) (consts pool places direct : List ℕ) (x : Index) (page : List ℕ)
     → (top : ℕ) → top ≡ (length values - 1) % 256 → (head : List ℕ) → head ≡ headerInto page (length texts)
     → (old-consts old-pool old-places : List ℕ) → old-consts ≡ take start consts → old-pool ≡ take (x .end) pool → old-places ≡ take (x .count) places
-    → (r : Solved) → r ≡ grownIn (fixed s values names top start) texts old-consts old-pool old-places (replicate 1536 0) direct (replicate 32 0) (replicate 32 0) (replicate 32 0) head 0 (endsOf (x .count) (x .end) 0 0)
+    → (r : Solved) → r ≡ grownIn (fixed s values names top start) texts old-consts old-pool old-places (replicate mostPrograms 0) direct (replicate mostAssertions 0) (replicate mostAssertions 0) (replicate mostAssertions 0) head 0 (endsOf (x .count) (x .end) 0 0)
     → r ≡ filledLong s values names texts start consts pool places direct x page
 unfolding filledLong
 fill-at-once s values names texts start consts pool places direct x page top te head he old-consts old-pool old-places ce pe le r re = re ∙ rw (te, he, ce, pe, le)
 
 -- `solved`
 module _ (s values requesters names texts page : List ℕ) (start : ℕ) (consts : List ℕ)
-    (we : written start consts ≡ begunInto (replicate 4096 0) (joined (map (counted s) values)) (joined (map (counted s) requesters)))
-    (x : Index) (pool places : List ℕ) (be : begun x pool places ≡ beginIn (replicate 8192 0) (replicate 128 0))
-    (y : Index) (pool′ places′ direct : List ℕ) (ae : asked y pool′ places′ direct ≡ allFrom s requesters (asked x pool places (replicate 553 0))) (r : Solved) where
-  pub solve-long : 16384 < length s → r ≡ filledLong s values names texts start consts pool′ places′ direct y page → r ≡ solvedIn s values requesters names texts page
+    (we : written start consts ≡ begunInto (replicate (small .consts) 0) (joined (map (counted s) values)) (joined (map (counted s) requesters)))
+    (x : Index) (pool places : List ℕ) (be : begun x pool places ≡ beginIn (replicate (small .pool) 0) (replicate (small .places) 0))
+    (y : Index) (pool′ places′ direct : List ℕ) (ae : asked y pool′ places′ direct ≡ allFrom s requesters (asked x pool places (replicate mostPrincipals 0))) (r : Solved) where
+  pub solve-long : long < length s → r ≡ filledLong s values names texts start consts pool′ places′ direct y page → r ≡ solvedIn s values requesters names texts page
   unfolding solvedIn
-  solve-long h re = re ∙ rw (← we, ← be, ← ae, lt-ltb 16384 (length s) h)
+  solve-long h re = re ∙ rw (← we, ← be, ← ae, lt-ltb long (length s) h)
 
-  pub solve-is : length s ≤ 16384 → r ≡ filledIn s values names texts start consts pool′ places′ direct y page → r ≡ solvedIn s values requesters names texts page
+  pub solve-is : length s ≤ long → r ≡ filledIn s values names texts start consts pool′ places′ direct y page → r ≡ solvedIn s values requesters names texts page
   unfolding solvedIn
-  solve-is h re = re ∙ rw (← we, ← be, ← ae, le-ltb 16384 (length s) h)
+  solve-is h re = re ∙ rw (← we, ← be, ← ae, le-ltb long (length s) h)
