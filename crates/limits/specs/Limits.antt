@@ -123,9 +123,9 @@ mostPool = mostPrincipals * mostCounted
 abbrev pub mostEntered : ℕ
 mostEntered = mostNamed * mostCounted
 
--- the principals that the index can number
+-- the principals that the index can number: as many, of 256 bytes each, keep every place in its pool below 2 ^ 20 and every number below 2 ^ 12
 abbrev pub mostNumbers : ℕ
-mostNumbers = 32768
+mostNumbers = 4064
 
 -- the instructions of a field Licensees, and of all of them
 abbrev pub mostCode : ℕ

@@ -12,6 +12,8 @@ use Rattle.record.specs.Query.{Query}
 use Rattle.compliance.specs.System.{Assertion}
 use Rattle.compliance.specs.Theorems.Filling.{asking}
 use Rattle.compliance.specs.Working.Words.{drop-blank}
+use Rattle.index.specs.Entry.{plain}
+use Rattle.index.specs.Tree.{tree-front}
 use Rattle.index.specs.Index.{Holds}
 use Rattle.system.specs.Working.Each.{Store}
 use Rattle.system.specs.Working.Sizes.{Size, small, middle, large}
@@ -72,11 +74,14 @@ module _ {size : Size} {room : ℕ} {q : Query} {start : ℕ} {direct : List ℕ
   holds : Holds (after .pool) (after .places) (e .count) (e .end) (made .names)
   holds = record {
     bytes = grown-front (x .pool) (e .end) (next .pool) (made .holds .inPool) short ∙ made .holds .bytes;
-    entries = grown-front (x .places) (e .count) (next .places) (made .holds .inTable) few ∙ made .holds .entries;
+    entries = ap (map plain) (grown-front (x .places) (e .count) (next .places) (made .holds .inTable) few) ∙ made .holds .entries;
+    tree = tree-front (grown-front (x .places) (e .count) (next .places) (made .holds .inTable) few) (made .holds .tree);
+    distinct = made .holds .distinct;
     counted = made .holds .counted;
     ends = made .holds .ends;
     inPool = omega (arith, short, grown-length (x .pool) (e .end) (next .pool) (made .holds .inPool) short);
     inTable = omega (arith, few, grown-length (x .places) (e .count) (next .places) (made .holds .inTable) few);
+    near = made .holds .near;
   }
 
   abbrev marks : List ℕ

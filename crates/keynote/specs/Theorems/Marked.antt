@@ -18,7 +18,7 @@ use Rattle.index.specs.Index.{enter, enterAll, Holds}
 use Rattle.compliance.specs.Tables.{place}
 use Rattle.compliance.specs.Theorems.Fill.{place-added}
 use Rattle.compliance.specs.Theorems.Filling.{asking, Filling, fill-name}
-use Rattle.fields.specs.Working.Identifying.{Kept}
+use Rattle.index.specs.Working.Entering.{Kept}
 use Rattle.fields.specs.Theorems.Identified.{EntryRead, entry-at, entry-read}
 use Rattle.system.specs.declared.asked.Index.{Index}
 use Rattle.system.specs.Working.Sizes.{small}

@@ -15,13 +15,14 @@ use Rattle.record.specs.Encode.{stringBytes, itemsBytes}
 use Rattle.record.specs.Lies.{Lie, lie[], lie∷, StringAt}
 use Rattle.record.specs.Valid.{Each, each[], each∷, Valid, ValueOk, RequesterOk}
 use Rattle.principal.specs.Principal.{Principal, policy}
-use Rattle.principal.specs.Members.{member}
+use Rattle.principal.specs.Members.{member, d[]}
 use Rattle.index.specs.Entry.{entriesFrom}
+use Rattle.index.specs.Tree.{tree-none}
 use Rattle.index.specs.Index.{enter, Holds}
 use Rattle.compliance.specs.Theorems.Filling.{asking, fill-start}
 use Rattle.constants.specs.Constants.{written, countedInto, begunInto}
 use Rattle.expression.specs.Conditions.{top}
-use Rattle.fields.specs.Working.Identifying.{Kept}
+use Rattle.index.specs.Working.Entering.{Kept}
 use Rattle.fields.specs.Theorems.Identified.{EntryRead, entry-at, entry-read}
 use Rattle.system.specs.declared.asked.Index.{Index}
 use Rattle.system.specs.Working.Sizes.{small}
@@ -105,7 +106,17 @@ pub data Rooted (requesters : List Principal) (top : ℕ) (direct : List ℕ) : 
 
 holds-none : (pool places : List ℕ) → Holds pool places 0 0 []
 unfolding itemsBytes entriesFrom
-holds-none pool places = record { bytes = refl; entries = refl; counted = refl; ends = refl; inPool = omega arith; inTable = omega arith }
+holds-none pool places = record {
+  bytes = refl;
+  entries = refl;
+  tree = tree-none places;
+  distinct = d[];
+  counted = refl;
+  ends = refl;
+  inPool = omega arith;
+  inTable = omega arith;
+  near = omega arith;
+}
 
 enter-first : enter [] policy ≡ policy ∷ []
 unfolding enter member
