@@ -124,16 +124,19 @@ fn most_hostile(rows: &[Row]) {
 
 /// By what factor times grow from one size to the next, and the greatest factors.
 fn growth(rows: &[Row]) {
+    let of_one =
+        |pair: &&[Row]| workload::GROWTH.iter().any(|start| pair.iter().all(|row| row.name.starts_with(start)));
+    let pairs: Vec<&[Row]> = rows.windows(2).filter(of_one).collect();
+    if pairs.is_empty() {
+        return;
+    }
     println!("\n| Doubled | Library, time × | Second, time × |\n|---|--:|--:|");
     let mut greatest = (0.0f64, 0.0f64);
-    for pair in rows.windows(2) {
-        let of_one = |start: &str| pair.iter().all(|row| row.name.starts_with(start));
-        if workload::GROWTH.iter().any(|start| of_one(start)) {
-            let [small, large] = [&pair[0].medians, &pair[1].medians];
-            let (library, second) = (large.library / small.library, large.second / small.second);
-            println!("| {} to {} | {library:.2} | {second:.2} |", pair[0].name, pair[1].name);
-            greatest = (greatest.0.max(library), greatest.1.max(second));
-        }
+    for pair in pairs {
+        let [small, large] = [&pair[0].medians, &pair[1].medians];
+        let (library, second) = (large.library / small.library, large.second / small.second);
+        println!("| {} to {} | {library:.2} | {second:.2} |", pair[0].name, pair[1].name);
+        greatest = (greatest.0.max(library), greatest.1.max(second));
     }
     println!("\nGreatest factor: library {:.2}, second {:.2}.", greatest.0, greatest.1);
 }
