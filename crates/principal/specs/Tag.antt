@@ -6,18 +6,23 @@ use Prim.Native.Nat.{ℕ, zero, suc, _+_, _-_, _*_, _/_, _%_, _<_, _≤_}
 use native.Mathlib.Omega.{arith}
 use lib.Dec.{leb}
 use lib.ListN.{length, getD}
+use borrow.Author.Tests.{leb-true}
 use Rattle.text.specs.Choice.{pick, split}
 use Rattle.principal.specs.Canonical.{fold, folded, canonical}
 use Rattle.principal.specs.Theorems.Canonical.{folded-long, folded-canonical}
 use Rattle.principal.specs.Principal.{Principal, same, same-canonical}
 
--- a byte without case: a capital letter and its small one share the low five bits; 0 behind the end
+-- a byte without the bit in which a capital letter differs from its small one
+unfoldable pub plain : ℕ → ℕ
+plain b = b % 32 + 32 * (b / 64 % 4)
+
+-- the byte at i without case; 0 behind the end
 unfoldable pub caseless : Principal → ℕ → ℕ
-caseless p i = getD p i 0 % 32
+caseless p i = plain (getD p i 0)
 
 -- four bytes as one number
 unfoldable pub group : Principal → ℕ → ℕ
-group p i = caseless p i + 32 * caseless p (i + 1) + 1024 * caseless p (i + 2) + 32768 * caseless p (i + 3)
+group p i = caseless p i + 128 * caseless p (i + 1) + 16384 * caseless p (i + 2) + 2097152 * caseless p (i + 3)
 
 -- a number mixed with one more
 unfoldable pub mixed : ℕ → ℕ → ℕ
@@ -44,9 +49,14 @@ folded-at [] i = refl
 folded-at (b ∷ p) zero = refl
 folded-at (b ∷ p) (suc i) = folded-at p i
 
-fold-low : (b : ℕ) → fold b % 32 ≡ b % 32
-unfolding fold
-fold-low b = split (leb 65 b) (λ h. split (leb b 90) (λ k. rw (h, k) (omega arith)) (λ k. rw (h, k))) (λ h. rw h)
+fold-plain : (b : ℕ) → plain (fold b) ≡ plain b
+unfolding fold plain
+fold-plain b =
+    split (leb 65 b)
+    (λ h. split (leb b 90)
+    (λ k. let low : 65 ≤ b = leb-true 65 b h in let high : b ≤ 90 = leb-true b 90 k in rw (h, k) (omega (arith, low, high)))
+    (λ k. rw (h, k)))
+    (λ h. rw h)
 
 -- what the folded bytes have in common
 module _ (p q : Principal) (e : folded p ≡ folded q) where
@@ -56,7 +66,7 @@ module _ (p q : Principal) (e : folded p ≡ folded q) where
   caseless-folded : (i : ℕ) → caseless p i ≡ caseless q i
   unfolding caseless
   caseless-folded i =
-      sym (fold-low (getD p i 0)) ∙ ap (λ (x : ℕ). x % 32) (sym (folded-at p i) ∙ ap (λ (x : List ℕ). getD x i 0) e ∙ folded-at q i) ∙ fold-low (getD q i 0)
+      sym (fold-plain (getD p i 0)) ∙ ap plain (sym (folded-at p i) ∙ ap (λ (x : List ℕ). getD x i 0) e ∙ folded-at q i) ∙ fold-plain (getD q i 0)
 
   group-folded : (i : ℕ) → group p i ≡ group q i
   unfolding group

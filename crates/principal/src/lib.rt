@@ -5,7 +5,7 @@ ghost use lib.ListN.{length, take, drop};
 ghost use Rattle.principal.specs.Canonical.{fold, folded, front, isHex};
 ghost use Rattle.principal.specs.Principal.{policy, same};
 ghost use Rattle.text.specs.Equal.{equal};
-ghost use Rattle.principal.specs.Tag.{caseless, group, mixed, mixedWith, tag};
+ghost use Rattle.principal.specs.Tag.{plain, caseless, group, mixed, mixedWith, tag};
 
 // Where the first ":" stands, or the end.
 fn colon_at(id: &[u8]) -> usize
@@ -114,60 +114,60 @@ pub fn is_policy(b: &[u8]) -> bool
     text::same_bytes(b, b"POLICY")
 }
 
-// A byte's low five bits, which a capital letter shares with its small one.
-fn five(b: u8) -> usize
-    ensures { λ r. ⌜ r ≡ b % 32 ⌝ }
-    ensures { λ r. ⌜ r < 32 ⌝ }
+// A byte without the bit in which a capital letter differs from its small one.
+fn caseless_byte(b: u8) -> usize
+    ensures { λ r. ⌜ r ≡ plain b ⌝ }
+    ensures { λ r. ⌜ r < 128 ⌝ }
 {
-    (b % 32) as usize
+    (b % 32 + 32 * (b / 64 % 4)) as usize
 }
 
 // The same of the byte at i, which is there.
-fn five_at(id: &[u8], i: usize) -> usize
+fn byte_at(id: &[u8], i: usize) -> usize
     requires { ⌜ i < length (now id) ⌝ }
     ensures { λ r. ⌜ r ≡ caseless (now (id .entry)) i ⌝ }
-    ensures { λ r. ⌜ r < 32 ⌝ }
+    ensures { λ r. ⌜ r < 128 ⌝ }
 {
-    five(id[i])
+    caseless_byte(id[i])
 }
 
 // The same, or 0.
-fn five_or_none(id: &[u8], i: usize) -> usize
+fn byte_or_none(id: &[u8], i: usize) -> usize
     ensures { λ r. ⌜ r ≡ caseless (now (id .entry)) i ⌝ }
-    ensures { λ r. ⌜ r < 32 ⌝ }
+    ensures { λ r. ⌜ r < 128 ⌝ }
 {
     if id.len() <= i {
         return 0;
     }
-    five_at(id, i)
+    byte_at(id, i)
 }
 
 // Four such as one number.
 fn grouped(a: usize, b: usize, c: usize, d: usize) -> usize
-    requires { ⌜ (a < 32) × (b < 32) × (c < 32) × (d < 32) ⌝ }
-    ensures { λ r. ⌜ r ≡ a + 32 * b + 1024 * c + 32768 * d ⌝ }
-    ensures { λ r. ⌜ r < 1048576 ⌝ }
+    requires { ⌜ (a < 128) × (b < 128) × (c < 128) × (d < 128) ⌝ }
+    ensures { λ r. ⌜ r ≡ a + 128 * b + 16384 * c + 2097152 * d ⌝ }
+    ensures { λ r. ⌜ r < 268435456 ⌝ }
 {
-    a + 32 * b + 1024 * c + 32768 * d
+    a + 128 * b + 16384 * c + 2097152 * d
 }
 
 // The four bytes from i on, which are there.
 fn group_at(id: &[u8], i: usize) -> usize
     requires { ⌜ i + 4 ≤ length (now id) ⌝ }
     ensures { λ r. ⌜ r ≡ group (now (id .entry)) i ⌝ }
-    ensures { λ r. ⌜ r < 1048576 ⌝ }
+    ensures { λ r. ⌜ r < 268435456 ⌝ }
 {
     grouped(
-        five_at(id, i),
-        five_at(id, i + 1),
-        five_at(id, i + 2),
-        five_at(id, i + 3),
+        byte_at(id, i),
+        byte_at(id, i + 1),
+        byte_at(id, i + 2),
+        byte_at(id, i + 3),
     )
 }
 
 // A number mixed with one more.
 fn mix(h: usize, v: usize) -> usize
-    requires { ⌜ (h < 4294967296) × (v < 1048576) ⌝ }
+    requires { ⌜ (h < 4294967296) × (v < 268435456) ⌝ }
     ensures { λ r. ⌜ r ≡ mixed h v ⌝ }
     ensures { λ r. ⌜ r < 4294967296 ⌝ }
 {
@@ -207,10 +207,10 @@ fn short_tag(id: &[u8]) -> usize
     ensures { λ r. ⌜ r < 1048576 ⌝ }
 {
     let v = grouped(
-        five_or_none(id, 0),
-        five_or_none(id, 1),
-        five_or_none(id, 2),
-        five_or_none(id, 3),
+        byte_or_none(id, 0),
+        byte_or_none(id, 1),
+        byte_or_none(id, 2),
+        byte_or_none(id, 3),
     );
     middle(mix(id.len(), v))
 }

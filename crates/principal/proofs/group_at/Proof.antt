@@ -4,29 +4,29 @@ use Rattle.principal.proofs.group_at.Statement.{statement}
 use Rattle.principal.proofs.group_at.Tie as tie
 use Rattle.principal.proofs.group_at.Reads as reads
 use Rattle.principal.proofs.group_at.Lts as lts
-use Rattle.principal.proofs.five_at.Reads as five-at-reads
+use Rattle.principal.proofs.byte_at.Reads as byte-at-reads
 use Rattle.principal.proofs.grouped.Reads as grouped-reads
 
-five-at-requires : tie.Need-five-at-requires
-five-at-requires c κs = search needs
+byte-at-requires : tie.Need-byte-at-requires
+byte-at-requires c κs = search needs
 
-add-five-at : tie.Need-add-five-at
-add-five-at c = search needs
+add-byte-at : tie.Need-add-byte-at
+add-byte-at c = search needs
 
-five-at-requires-2 : tie.Need-five-at-requires-2
-five-at-requires-2 c κs = search needs
+byte-at-requires-2 : tie.Need-byte-at-requires-2
+byte-at-requires-2 c κs = search needs
 
-add-five-at-2 : tie.Need-add-five-at-2
-add-five-at-2 c = search needs
+add-byte-at-2 : tie.Need-add-byte-at-2
+add-byte-at-2 c = search needs
 
-five-at-requires-3 : tie.Need-five-at-requires-3
-five-at-requires-3 c κs = search needs
+byte-at-requires-3 : tie.Need-byte-at-requires-3
+byte-at-requires-3 c κs = search needs
 
-add-five-at-3 : tie.Need-add-five-at-3
-add-five-at-3 c = search needs
+add-byte-at-3 : tie.Need-add-byte-at-3
+add-byte-at-3 c = search needs
 
-five-at-requires-4 : tie.Need-five-at-requires-4
-five-at-requires-4 c κs = search needs
+byte-at-requires-4 : tie.Need-byte-at-requires-4
+byte-at-requires-4 c κs = search needs
 
 grouped-requires : tie.Need-grouped-requires
 grouped-requires c κs = search needs
@@ -38,12 +38,12 @@ pub group-at-spec : {M : Type 1} → statement M
 group-at-spec =
     tie.close
     (tie.spec
-    five-at-requires
-    add-five-at
-    five-at-requires-2
-    add-five-at-2
-    five-at-requires-3
-    add-five-at-3
-    five-at-requires-4
+    byte-at-requires
+    add-byte-at
+    byte-at-requires-2
+    add-byte-at-2
+    byte-at-requires-3
+    add-byte-at-3
+    byte-at-requires-4
     grouped-requires
     returns)

@@ -4,22 +4,22 @@ use Rattle.principal.proofs.short_tag.Statement.{statement}
 use Rattle.principal.proofs.short_tag.Tie as tie
 use Rattle.principal.proofs.short_tag.Reads as reads
 use Rattle.principal.proofs.short_tag.Lts as lts
-use Rattle.principal.proofs.five_or_none.Reads as five-or-none-reads
+use Rattle.principal.proofs.byte_or_none.Reads as byte-or-none-reads
 use Rattle.principal.proofs.grouped.Reads as grouped-reads
 use Rattle.principal.proofs.middle.Reads as middle-reads
 use Rattle.principal.proofs.mix.Reads as mix-reads
 
-five-or-none-requires : tie.Need-five-or-none-requires
-five-or-none-requires c κs = search needs
+byte-or-none-requires : tie.Need-byte-or-none-requires
+byte-or-none-requires c κs = search needs
 
-five-or-none-requires-2 : tie.Need-five-or-none-requires-2
-five-or-none-requires-2 c κs = search needs
+byte-or-none-requires-2 : tie.Need-byte-or-none-requires-2
+byte-or-none-requires-2 c κs = search needs
 
-five-or-none-requires-3 : tie.Need-five-or-none-requires-3
-five-or-none-requires-3 c κs = search needs
+byte-or-none-requires-3 : tie.Need-byte-or-none-requires-3
+byte-or-none-requires-3 c κs = search needs
 
-five-or-none-requires-4 : tie.Need-five-or-none-requires-4
-five-or-none-requires-4 c κs = search needs
+byte-or-none-requires-4 : tie.Need-byte-or-none-requires-4
+byte-or-none-requires-4 c κs = search needs
 
 grouped-requires : tie.Need-grouped-requires
 grouped-requires c κs = search needs
@@ -37,10 +37,10 @@ pub short-tag-spec : {M : Type 1} → statement M
 short-tag-spec =
     tie.close
     (tie.spec
-    five-or-none-requires
-    five-or-none-requires-2
-    five-or-none-requires-3
-    five-or-none-requires-4
+    byte-or-none-requires
+    byte-or-none-requires-2
+    byte-or-none-requires-3
+    byte-or-none-requires-4
     grouped-requires
     mix-requires
     middle-requires

@@ -5,20 +5,28 @@ use native.Mathlib.Omega.{arith}
 use lib.ListN.{length, getD, List·getD-eq-default}
 use borrow.Author.Tests.{le-leb, lt-leb}
 use Rattle.principal.specs.Principal.{Principal}
-use Rattle.principal.specs.Tag.{caseless, group, mixed, mixedWith, bulk, tag}
+use Rattle.principal.specs.Tag.{plain, caseless, group, mixed, mixedWith, bulk, tag}
 
--- `five_or_none`, `five_at`
-pub five-past : (p : Principal) (i : ℕ) → length p ≤ i → 0 ≡ caseless p i
-unfolding caseless
-five-past p i h = rw (List·getD-eq-default p 0 h)
+-- `caseless_byte`
+pub plain-is : (b : ℕ) → b % 32 + 32 * (b / 64 % 4) ≡ plain b
+unfolding plain
+plain-is b = refl
 
-pub five-here : (p : Principal) (i x r : ℕ) → x ≡ getD p i 0 → r ≡ x % 32 → r ≡ caseless p i
+pub plain-low : (b : ℕ) → b % 32 + 32 * (b / 64 % 4) < 128
+plain-low b = omega arith
+
+-- `byte_or_none`, `byte_at`
+pub byte-past : (p : Principal) (i : ℕ) → length p ≤ i → 0 ≡ caseless p i
+unfolding caseless plain
+byte-past p i h = rw (List·getD-eq-default p 0 h)
+
+pub byte-here : (p : Principal) (i x r : ℕ) → x ≡ getD p i 0 → r ≡ plain x → r ≡ caseless p i
 unfolding caseless
-five-here p i x r e re = re ∙ rw e
+byte-here p i x r e re = re ∙ rw e
 
 -- `group_at`
 pub group-here : (p : Principal) (i a b c d r : ℕ) → a ≡ caseless p i → b ≡ caseless p (i + 1) → c ≡ caseless p (i + 2) → d ≡ caseless p (i + 3)
-    → r ≡ a + 32 * b + 1024 * c + 32768 * d → r ≡ group p i
+    → r ≡ a + 128 * b + 16384 * c + 2097152 * d → r ≡ group p i
 unfolding group
 group-here p i a b c d r ae be ce de re = re ∙ rw (ae, be, ce, de)
 
@@ -42,7 +50,7 @@ module _ (p : Principal) (left i sum r : ℕ) where
 
 -- `short_tag`
 pub short-is : (p : Principal) → length p < 4 → (a b c d v m r : ℕ) → a ≡ caseless p 0 → b ≡ caseless p 1 → c ≡ caseless p 2 → d ≡ caseless p 3
-    → v ≡ a + 32 * b + 1024 * c + 32768 * d → m ≡ mixed (length p) v → r ≡ m * 2654435761 / 16777216 % 1048576 → r ≡ tag p
+    → v ≡ a + 128 * b + 16384 * c + 2097152 * d → m ≡ mixed (length p) v → r ≡ m * 2654435761 / 16777216 % 1048576 → r ≡ tag p
 unfolding tag bulk group mixedWith
 short-is p h a b c d v m r ae be ce de ve me re =
     let z : length p - 4 ≡ 0 = omega arith in
