@@ -4,14 +4,15 @@ pub mod machine;
 mod reach;
 mod rounds;
 mod tables;
+mod words;
 
-use highest::at_least;
 use limits::MOST_ASSERTIONS;
 use limits::MOST_LICENSEES;
 use limits::MOST_PRINCIPALS;
 use machine::number_at;
 use reach::find_reach;
 use rounds::settle;
+use words::count;
 ghost use mathlib.Core.Path.{_≡_};
 ghost use Prim.Native.Nat.{_≤_};
 ghost use lib.ListN.{length};
@@ -20,6 +21,10 @@ ghost use Rattle.compliance.specs.Working.Solve.{Blank, few, solvedBy, s
 
 // Most queries have no more.
 const FEW: usize = 64;
+
+const FEW_WORDS: usize = (FEW + 63) / 64;
+
+const WORDS: usize = (MOST_PRINCIPALS + 63) / 64;
 
 // The rank of POLICY, the rounds that changed a rank in the reach, and how many principals are in it.
 pub struct Solution {
@@ -38,15 +43,15 @@ fn solve_in(
     top: u8,
     ranks: &mut [u8],
     next: &mut [u8],
-    reach: &mut [u8],
+    reach: &mut [u64],
     done: &mut [u8],
     stack: &mut [u8],
 ) -> Solution
     requires { ⌜ Blank (length (now authors)) (length (now direct)) (now ranks) (now next) (now reach) (now done) ⌝ }
     ensures { λ r. ⌜ r ≡ solvedBy (now (authors .entry)) (now (conds .entry)) (now (ends .entry)) (now (code .entry)) (now (direct .entry)) top (length (now (stack .entry))) ⌝ }
 {
-    find_reach(authors, ends, code, done, reach);
-    let reached = at_least(reach, 1);
+    find_reach(authors, ends, code, done, direct.len(), reach);
+    let reached = count(reach);
     let rounds = settle(
         authors,
         conds,
@@ -84,7 +89,7 @@ fn solve_many(
     let m = authors.len();
     let mut ranks = [0u8; MOST_PRINCIPALS];
     let mut next = [0u8; MOST_PRINCIPALS];
-    let mut reach = [0u8; MOST_PRINCIPALS];
+    let mut reach = [0u64; WORDS];
     let mut done = [0u8; MOST_ASSERTIONS];
     let mut stack = [0u8; MOST_LICENSEES];
     solve_in(
@@ -96,7 +101,7 @@ fn solve_many(
         top,
         &mut ranks[..n],
         &mut next[..n],
-        &mut reach[..n],
+        &mut reach,
         &mut done[..m],
         &mut stack,
     )
@@ -118,7 +123,7 @@ fn solve_few(
     let m = authors.len();
     let mut ranks = [0u8; FEW];
     let mut next = [0u8; FEW];
-    let mut reach = [0u8; FEW];
+    let mut reach = [0u64; FEW_WORDS];
     let mut done = [0u8; MOST_ASSERTIONS];
     let mut stack = [0u8; MOST_LICENSEES];
     solve_in(
@@ -130,7 +135,7 @@ fn solve_few(
         top,
         &mut ranks[..n],
         &mut next[..n],
-        &mut reach[..n],
+        &mut reach,
         &mut done[..m],
         &mut stack,
     )

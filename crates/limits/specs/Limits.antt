@@ -50,12 +50,12 @@ leastSetting = 0
 abbrev pub mostSetting : ℕ
 mostSetting = 2048
 
--- "assertions, 0 to 32: a standing byte, length 1 to 8,192, text"
+-- "assertions, 0 to 200: a standing byte, length 1 to 8,192, text"
 abbrev pub leastAssertions : ℕ
 leastAssertions = 0
 
 abbrev pub mostAssertions : ℕ
-mostAssertions = 32
+mostAssertions = 200
 
 abbrev pub leastText : ℕ
 leastText = 1
@@ -123,9 +123,9 @@ mostPool = mostPrincipals * mostCounted
 abbrev pub mostEntered : ℕ
 mostEntered = mostNamed * mostCounted
 
--- the principals that the index can number
+-- the principals that the index can number: as many, of 256 bytes each, keep every place in its pool below 2 ^ 20 and every number below 2 ^ 12
 abbrev pub mostNumbers : ℕ
-mostNumbers = 32768
+mostNumbers = 4064
 
 -- the instructions of a field Licensees, and of all of them
 abbrev pub mostCode : ℕ

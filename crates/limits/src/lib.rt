@@ -31,7 +31,7 @@ pub const MOST_SETTING: usize = 2048;
 
 pub const LEAST_ASSERTIONS: usize = 0;
 
-pub const MOST_ASSERTIONS: usize = 32;
+pub const MOST_ASSERTIONS: usize = 200;
 
 pub const LEAST_TEXT: usize = 1;
 

@@ -25,10 +25,10 @@ use Rattle.syntax.specs.Parsed.{Parsed, ok, aside, refusal, unexpected}
 use Rattle.syntax.specs.Stood.{Stood, stood-at}
 use Rattle.fields.specs.Identifier.{identifierFault, identified, identifier}
 use Rattle.fields.specs.Licensees.{after, licensee, listed, onListed, listTurn, listFrom, listOpened, ofRead, threshold}
-use Rattle.fields.specs.Working.Identifying.{Kept, entry}
+use Rattle.index.specs.Working.Entering.{Kept, numbered}
 use Rattle.fields.specs.Working.List.{Ran, ran, wrote, refusedLicensed, above, pushed, sized, stateOf, onEntered, licenseeIn, itemsOf, listedIn, onWrote, Loop, onItem, listIn, openedIn, ofIn, thresholdOf, thresholdIn}
 use Rattle.fields.specs.Working.List.{listTurn as itemTurn}
-use Rattle.fields.specs.declared.identifier.Entry.the-variants.{At}
+use Rattle.index.specs.declared.Numbered.the-variants.{At}
 use Rattle.fields.specs.declared.list.State.{State}
 use Rattle.fields.specs.declared.list.Licensed.the-variants.{On, Aside}
 use Rattle.fields.specs.Theorems.Together.{both, Steps, both-next, both-done, loop-same, refusal-some}
@@ -77,7 +77,7 @@ module _ (s pool places code : List ℕ) (st : State) (names : List Principal) (
     number-low : place (enter names id) id < 32768
     number-low = omega (arith, place-below (enter names id) id (enter-member names id), new .counted, few, more, ready .namesRoom)
 
-    at-read : LicenseeRead s pool places code st names (ok id (after s t)) (onEntered s code st t (entry (At (place (enter names id) id) c e) pool′ places′))
+    at-read : LicenseeRead s pool places code st names (ok id (after s t)) (onEntered s code st t (numbered (At (place (enter names id) id) c e) pool′ places′))
     unfolding enterAll
     at-read =
         rw (lt-leb 32768 (place (enter names id) id) number-low)

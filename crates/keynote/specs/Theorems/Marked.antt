@@ -18,7 +18,7 @@ use Rattle.index.specs.Index.{enter, enterAll, Holds}
 use Rattle.compliance.specs.Tables.{place}
 use Rattle.compliance.specs.Theorems.Fill.{place-added}
 use Rattle.compliance.specs.Theorems.Filling.{asking, Filling, fill-name}
-use Rattle.fields.specs.Working.Identifying.{Kept}
+use Rattle.index.specs.Working.Entering.{Kept}
 use Rattle.fields.specs.Theorems.Identified.{EntryRead, entry-at, entry-read}
 use Rattle.system.specs.declared.asked.Index.{Index}
 use Rattle.system.specs.Working.Sizes.{small}
@@ -94,7 +94,7 @@ pub record Stage (requesters : List Principal) (top : ℕ) (done names : List Pr
   pub holds : Holds pool places (x .count) (x .end) names
   pub tight : x .end ≤ mostCounted * x .count
   pub few : x .count ≤ 1 + length done
-  pub marks : direct ≡ map (asking done) names ++ replicate (mostPrincipals - x .count) 0
+  pub marks : direct ≡ map (asking done) names ++ replicate (small .places - x .count) 0
   pub filling : Filling names [] [] [] [] (map (asking requesters) names) [] requesters top
   pub pool-long : length pool ≡ small .pool
   pub places-long : length places ≡ small .places
@@ -117,9 +117,9 @@ module _ (requesters : List Principal) (top : ℕ) where
         let n : length names < mostPrincipals = omega (arith, st .holds .counted, st .few, low) in
         let b : x .count ≡ length names = st .holds .counted in
         let w : c ≡ length (enter names p) = h .counted in
-        let old : direct ≡ map (asking done) names ++ replicate (mostPrincipals - length names) 0 = st .marks ∙ rw b in
-        let new : set direct (place (enter names p) p) 1 ≡ map (asking (done ++ (p ∷ []))) (enter names p) ++ replicate (mostPrincipals - c) 0
-        = ap (λ (d : List ℕ). set d (place (enter names p) p) 1) old ∙ mark-is done names p mostPrincipals (st .filling .represents .distinct) n ∙ rw w in
+        let old : direct ≡ map (asking done) names ++ replicate (small .places - length names) 0 = st .marks ∙ rw b in
+        let new : set direct (place (enter names p) p) 1 ≡ map (asking (done ++ (p ∷ []))) (enter names p) ++ replicate (small .places - c) 0
+        = ap (λ (d : List ℕ). set d (place (enter names p) p) 1) old ∙ mark-is done names p (small .places) (st .filling .represents .distinct) (omega (arith, st .holds .counted, st .few, low)) ∙ rw w in
         staged _ pool′ places′ (set direct (place (enter names p) p) 1) (record {
           holds = h;
           tight = t;

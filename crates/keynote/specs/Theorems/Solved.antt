@@ -5,7 +5,8 @@ use Prim.Native.Nat.{ℕ, _+_, _≤_}
 use native.Mathlib.Omega.{arith}
 use lib.Dec.{ltb}
 use lib.ListN.{length, take, replicate, length-replicate}
-use Rattle.limits.specs.Limits.{mostPrincipals, mostValuesJoined, mostRequestersJoined, mostJoined}
+use borrow.Author.Tests.{ltb-false}
+use Rattle.limits.specs.Limits.{mostValuesJoined, mostRequestersJoined, mostJoined}
 use Rattle.text.specs.CopyLaws.{put-length}
 use Rattle.text.specs.Copy.{put}
 use Rattle.text.specs.Choice.{split}
@@ -15,6 +16,7 @@ use Rattle.record.specs.Encode.{stringBytes}
 use Rattle.record.specs.Read.{accepted}
 use Rattle.record.specs.Record.{readRecord}
 use Rattle.record.specs.Lies.{Lies}
+use Rattle.record.specs.Places.{assertionSize, assertionsStart}
 use Rattle.record.specs.Located.{read-lies}
 use Rattle.record.specs.Valid.{Valid}
 use Rattle.record.specs.RoundTrip.{Bytes, read-back}
@@ -22,13 +24,14 @@ use Rattle.constants.specs.Constants.{Written, written, begunInto}
 use Rattle.constants.specs.Theorems.Begun.{begun-is}
 use Rattle.expression.specs.Conditions.{top}
 use Rattle.system.specs.declared.asked.Index.{Index}
-use Rattle.system.specs.Working.Sizes.{small, long as longRecord}
+use Rattle.system.specs.Working.Sizes.{small, someRows, longRecord}
 use Rattle.system.specs.Working.Asking.{Asked, Begun, begun}
 use Rattle.system.specs.Working.Solving.{filledIn, filledLong, onAsked, onBegun, onWritten, solvedIn}
 use Rattle.keynote.specs.Outcome.{needed}
 use Rattle.keynote.specs.Theorems.Filled.{valuesAt, requestersAt, attributesAt, assertionsAt, solvedAs, long-is, filled-is}
 use Rattle.keynote.specs.Theorems.Started.{startNames, Started}
 use Rattle.keynote.specs.Theorems.Marked.{Stage, Staged, staged, all-staged}
+use Rattle.keynote.specs.Theorems.Parts.{places-length}
 use Rattle.keynote.specs.Theorems.Starting.{lie-strings, values-joined, requesters-joined, string-length, beginning, begun-fits, Rooted, rooted, begin-rooted}
 
 -- that the assertions, read into tables that are started, give them
@@ -36,7 +39,7 @@ abbrev pub Filled : List ℕ → Query → List ℕ → Type 0
 Filled s q page =
     (start : ℕ) (consts : List ℕ) (x : Index) (pool places direct : List ℕ) → Started s q start consts x pool places direct
     → (filledLong s (valuesAt q) (attributesAt q) (assertionsAt q) start consts pool places direct x page ≡ solvedAs q page)
-    × (filledIn s (valuesAt q) (attributesAt q) (assertionsAt q) start consts pool places direct x page ≡ solvedAs q page)
+    × (length (q .assertions) ≤ someRows → filledIn s (valuesAt q) (attributesAt q) (assertionsAt q) start consts pool places direct x page ≡ solvedAs q page)
 
 -- the buffer of constants as begun
 pub data Opened (q : Query) : Written → Type 0 where
@@ -90,17 +93,19 @@ module _ (s : List ℕ) (q : Query) (b : Bytes s) (e : readRecord s ≡ accepted
         → onAsked s (valuesAt q) (attributesAt q) (assertionsAt q) start consts page a ≡ solvedAs q page
     on-asked (staged x pool places direct st) =
         let both = filled start consts x pool places direct (started-is s q valid start consts begins low long x pool places direct st) in
-        split (ltb longRecord (length s)) (λ h. rw h (both .0)) (λ h. rw h (both .1))
+        split (ltb longRecord (length s)) (λ h. rw h (both .0))
+        (λ h. rw h (split (ltb someRows (length (assertionsAt q))) (λ k. rw k (both .0))
+        (λ k. rw k (both .1 (omega (arith, ltb-false someRows (length (assertionsAt q)) k, places-length assertionSize 3 (assertionsStart q) (q .assertions)))))))
 
-    on-begun : {k : Begun} → Rooted (q .requesters) (top (q .values)) (replicate mostPrincipals 0) k
+    on-begun : {k : Begun} → Rooted (q .requesters) (top (q .values)) (replicate (small .places) 0) k
         → onBegun s (valuesAt q) (requestersAt q) (attributesAt q) (assertionsAt q) start consts page k ≡ solvedAs q page
     on-begun (rooted x pool places st) =
-        on-asked (all-staged (q .requesters) (top (q .values)) s (lies .requesters) (valid .requesters .1) [] _ (omega (arith, valid .requesters .0 .1)) (staged x pool places (replicate mostPrincipals 0) st))
+        on-asked (all-staged (q .requesters) (top (q .values)) s (lies .requesters) (valid .requesters .1) [] _ (omega (arith, valid .requesters .0 .1)) (staged x pool places (replicate (small .places) 0) st))
 
   on-written : {w : Written} → Opened q w → onWritten s (valuesAt q) (requestersAt q) (attributesAt q) (assertionsAt q) page w ≡ solvedAs q page
   on-written (opened start consts begins low long) =
       on-begun start consts begins low long
-      (begin-rooted (q .requesters) (top (q .values)) (replicate (small .pool) 0) (replicate (small .places) 0) (length-replicate {A = ℕ} (small .pool) 0) (length-replicate {A = ℕ} (small .places) 0) (replicate mostPrincipals 0) refl)
+      (begin-rooted (q .requesters) (top (q .values)) (replicate (small .pool) 0) (replicate (small .places) 0) (length-replicate {A = ℕ} (small .pool) 0) (length-replicate {A = ℕ} (small .places) 0) (replicate (small .places) 0) refl)
 
   pub solved-by : solvedIn s (valuesAt q) (requestersAt q) (attributesAt q) (assertionsAt q) page ≡ solvedAs q page
   unfolding solvedIn

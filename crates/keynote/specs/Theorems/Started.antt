@@ -4,7 +4,7 @@ use mathlib.Core.Path.{_≡_}
 use mathlib.Core.List.{List, [], _∷_, _++_, map}
 use Prim.Native.Nat.{ℕ, _-_, _*_, _≤_}
 use lib.ListN.{length, take, replicate}
-use Rattle.limits.specs.Limits.{mostAsking, mostPrincipals, mostCounted, mostJoined}
+use Rattle.limits.specs.Limits.{mostAsking, mostCounted, mostJoined}
 use Rattle.text.specs.Join.{joined}
 use Rattle.record.specs.Query.{Query}
 use Rattle.record.specs.Encode.{stringBytes}
@@ -23,7 +23,7 @@ pub record Started (s : List ℕ) (q : Query) (start : ℕ) (consts : List ℕ) 
   pub holds : Holds pool places (x .count) (x .end) (startNames q)
   pub tight : x .end ≤ mostCounted * x .count
   pub few : x .count ≤ mostAsking
-  pub marks : direct ≡ map (asking (q .requesters)) (startNames q) ++ replicate (mostPrincipals - x .count) 0
+  pub marks : direct ≡ map (asking (q .requesters)) (startNames q) ++ replicate (small .places - x .count) 0
   pub filling : Filling (startNames q) [] [] [] [] (map (asking (q .requesters)) (startNames q)) [] (q .requesters) (top (q .values))
   pub pool-long : length pool ≡ small .pool
   pub places-long : length places ≡ small .places

@@ -5,7 +5,7 @@ use Prim.Native.Nat.{ℕ, suc, _+_, _-_, _*_, _≤_}
 use native.Mathlib.Omega.{arith}
 use lib.ListN.{length, replicate, length-append}
 use borrow.Author.Tests.{le-leb, le-ltb, ne-eqb}
-use Rattle.limits.specs.Limits.{mostValue, mostRequester, mostIdentifier, mostPrincipals, mostValuesJoined, mostRequestersJoined}
+use Rattle.limits.specs.Limits.{mostValue, mostRequester, mostIdentifier, mostValuesJoined, mostRequestersJoined}
 use Rattle.text.specs.Copy.{put}
 use Rattle.text.specs.CopyLaws.{put-length}
 use Rattle.text.specs.Counted.{counted}
@@ -15,13 +15,14 @@ use Rattle.record.specs.Encode.{stringBytes, itemsBytes}
 use Rattle.record.specs.Lies.{Lie, lie[], lie∷, StringAt}
 use Rattle.record.specs.Valid.{Each, each[], each∷, Valid, ValueOk, RequesterOk}
 use Rattle.principal.specs.Principal.{Principal, policy}
-use Rattle.principal.specs.Members.{member}
+use Rattle.principal.specs.Members.{member, d[]}
 use Rattle.index.specs.Entry.{entriesFrom}
+use Rattle.index.specs.Tree.{tree-none}
 use Rattle.index.specs.Index.{enter, Holds}
 use Rattle.compliance.specs.Theorems.Filling.{asking, fill-start}
 use Rattle.constants.specs.Constants.{written, countedInto, begunInto}
 use Rattle.expression.specs.Conditions.{top}
-use Rattle.fields.specs.Working.Identifying.{Kept}
+use Rattle.index.specs.Working.Entering.{Kept}
 use Rattle.fields.specs.Theorems.Identified.{EntryRead, entry-at, entry-read}
 use Rattle.system.specs.declared.asked.Index.{Index}
 use Rattle.system.specs.Working.Sizes.{small}
@@ -105,7 +106,17 @@ pub data Rooted (requesters : List Principal) (top : ℕ) (direct : List ℕ) : 
 
 holds-none : (pool places : List ℕ) → Holds pool places 0 0 []
 unfolding itemsBytes entriesFrom
-holds-none pool places = record { bytes = refl; entries = refl; counted = refl; ends = refl; inPool = omega arith; inTable = omega arith }
+holds-none pool places = record {
+  bytes = refl;
+  entries = refl;
+  tree = tree-none places;
+  distinct = d[];
+  counted = refl;
+  ends = refl;
+  inPool = omega arith;
+  inTable = omega arith;
+  near = omega arith;
+}
 
 enter-first : enter [] policy ≡ policy ∷ []
 unfolding enter member
@@ -122,7 +133,7 @@ policy-short = omega arith
 first-zero : (n x : ℕ) → x ≡ 1 → replicate {A = ℕ} (suc n) 0 ≡ map (asking []) (policy ∷ []) ++ replicate {A = ℕ} (suc n - x) 0
 first-zero n x e = let z : suc n - x ≡ n = omega (arith, e) in rw (z, nobody-asks)
 
-module _ (requesters : List Principal) (top : ℕ) (pool places : List ℕ) (pl : length pool ≡ small .pool) (ll : length places ≡ small .places) (direct : List ℕ) (zero : direct ≡ replicate mostPrincipals 0) where
+module _ (requesters : List Principal) (top : ℕ) (pool places : List ℕ) (pl : length pool ≡ small .pool) (ll : length places ≡ small .places) (direct : List ℕ) (zero : direct ≡ replicate (small .places) 0) where
   first-rooted : {k : Kept} → EntryRead pool places 0 0 [] policy k → Rooted requesters top direct (onBegun k)
   first-rooted (entry-at c e pool′ places′ h t f g p l) =
       let hs : Holds pool′ places′ c e (policy ∷ []) = rw enter-first at h in
@@ -130,7 +141,7 @@ module _ (requesters : List Principal) (top : ℕ) (pool places : List ℕ) (pl 
         holds = hs;
         tight = t;
         few = f;
-        marks = zero ∙ first-zero (mostPrincipals - 1) c (hs .counted);
+        marks = zero ∙ first-zero (small .places - 1) c (hs .counted);
         filling = fill-start requesters top;
         pool-long = p ∙ pl;
         places-long = l ∙ ll;
