@@ -19,7 +19,7 @@ extern "C" {
 #define LAMPSICKLE_RECORD_MOST 65535
 
 /* The most assertions in a query. */
-#define LAMPSICKLE_ASSERTIONS_MOST 32
+#define LAMPSICKLE_ASSERTIONS_MOST 200
 
 /* The report's bytes for so many assertions, and a page that any report fits on. */
 #define LAMPSICKLE_REPORT_BYTES(assertions) (3 + 3 * (size_t)(assertions))
