@@ -19,6 +19,7 @@ pub mod journal;
 pub mod limits;
 pub mod line;
 pub mod literal;
+pub mod names;
 pub mod paper;
 pub mod parse;
 pub mod principal;

@@ -1,13 +1,15 @@
 //! Times of the proved library and of the second evaluator, as the tables of
 //! docs/BENCHMARKS.md. `bench [NAME...]` measures the workloads whose names
 //! hold one of the words; those of the journal begin with "journal", and
-//! `register` stands for the calls on a register. `growth` stands for all that
-//! differ in a size only: by what factor times grow where the size doubles.
+//! `register` stands for the calls on a register. `orders` stands for the orders
+//! in which names are looked up, with the queries that look them up; `growth` for
+//! all that differ in a size only: by what factor times grow where it doubles.
 
 use comparison::journal::{self, Work};
 use comparison::library;
 use comparison::measure::{measure, measure_register, Medians};
-use comparison::register;
+use comparison::{orders, register};
+use second::names::{self, KINDS, PLACES};
 use second::workload::{self, Workload};
 
 /// The word for workloads that differ in a size only.
@@ -44,6 +46,7 @@ fn main() {
         works.into_iter().for_each(journal_row);
     }
     registers(&wanted);
+    lookups(&wanted);
 }
 
 fn journal_row(work: Work) {
@@ -112,6 +115,31 @@ fn registers(wanted: &[String]) {
             1e9 / library,
             1e9 / second
         );
+    }
+}
+
+/// Names of a query looked up in each order, then by queries as a whole.
+fn lookups(wanted: &[String]) {
+    if !named("orders", wanted) {
+        return;
+    }
+    let heads: Vec<&str> = orders::ORDERS.iter().map(|(name, _)| *name).collect();
+    println!("\n| One of 32 names, ns a lookup | {} |", heads.join(" | "));
+    println!("|---|{}", "--:|".repeat(heads.len()));
+    for orders::Row { kind, place, times } in orders::rows() {
+        let times: Vec<String> = times.iter().map(|time| format!("{time:.0}")).collect();
+        println!("| {}, {} | {} |", kind.words(), place.words(), times.join(" | "));
+    }
+    println!("\n| Names of a query | Lookups | Library, µs | Second, µs | Ratio |\n|---|--:|--:|--:|--:|");
+    for kind in KINDS {
+        for place in PLACES {
+            for (times, often) in [(Some(1), "1"), (Some(100), "100"), (None, "most")] {
+                let record = names::query(kind, place, times).record();
+                let Medians { library: one, second: other, ratio } = measure(library, second::answer, &record);
+                let (one, other) = (one / 1e3, other / 1e3);
+                println!("| {}, {} | {often} | {one:.2} | {other:.2} | {ratio:.2} |", kind.words(), place.words());
+            }
+        }
     }
 }
 

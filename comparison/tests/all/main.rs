@@ -4,5 +4,6 @@ mod examples;
 mod fences;
 mod generated;
 mod journal;
+mod orders;
 mod paper;
 mod register;
