@@ -269,6 +269,28 @@ EDITS = [
         'pub const NAME_BYTES: Range = Range::new(1, 2_049);',
     ),
     (
+        '201 assertions',
+        'limits.rs',
+        'pub const ASSERTIONS: Range = Range::new(0, 200);',
+        'pub const ASSERTIONS: Range = Range::new(0, 201);',
+    ),
+    (
+        '199 assertions',
+        'limits.rs',
+        'pub const ASSERTIONS: Range = Range::new(0, 200);',
+        'pub const ASSERTIONS: Range = Range::new(0, 199);',
+    ),
+    (
+        'stops at 200 rounds',
+        'compliance.rs',
+        'if next == ranks {',
+        'if rounds >= 200 || next == ranks {',
+    ),
+    (
+        'numbers of principals in a byte and three bits',
+        'compliance.rs',
+        'principals.number(store.show(query, *piece)) as u16',
+        'principals.number(store.show(query, *piece)) as u16 % 2_048',
         'pattern of 257',
         'limits.rs',
         'pub const PATTERN_BYTES: usize = 256;',
@@ -559,8 +581,8 @@ EDITS = [
     (
         'reach by the first licensee only',
         'compliance.rs',
-        'for &licensee in fields.principals.of(licensees) {',
-        'for &licensee in fields.principals.of(licensees).iter().take(1) {',
+        'let new = listed.iter()',
+        'let new = listed.iter().take(1)',
     ),
     (
         'first clause with a value counts',
@@ -591,10 +613,10 @@ PAPER = [
         'licensees_rank(licences, &licensees[first..], &next)',
     ),
     (
-        'paper: reach in one pass',
+        'paper: reach by the last assertion only',
         'compliance.rs',
-        'find(|&index| !used[index] && reach.holds(authorizers[index]));',
-        'find(|&index| !std::mem::replace(&mut used[index], true) && reach.holds(authorizers[index]));',
+        'index = usize::from(before[index]);',
+        'index = usize::from(NONE);',
     ),
     (
         'paper: rounds over unreached',

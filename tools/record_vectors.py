@@ -79,9 +79,9 @@ vector('requesters-9', record(requesters=many[:9]), refused(4, 8))
 names = [(b'n%d' % i, b'') for i in range(33)]
 vector('attributes-32', record(attributes=names[:32]), 'accepted')
 vector('attributes-33', record(attributes=names), refused(4, 12))
-texts = [(1, b'x')] * 33
-vector('assertions-32', record(assertions=texts[:32]), 'accepted')
-vector('assertions-33', record(assertions=texts), refused(4, 13))
+texts = [(1, b'x')] * 201
+vector('assertions-200', record(assertions=texts[:200]), 'accepted')
+vector('assertions-201', record(assertions=texts), refused(4, 13))
 vector('count-255', record()[:1] + b'\xff', refused(4, 1))
 
 # Lengths: the last good and the first bad value on each side.
@@ -172,7 +172,7 @@ def with_count(start, n):
 
 
 start, n = filled(65534)
-vector('last-count', start + b'\x21', refused(4, 65534))
+vector('last-count', start + b'\xc9', refused(4, 65534))
 start, n = filled(65531)
 vector('last-length', start + bytes([1, 1, 0, 0]), refused(5, 65533))
 start, n = filled(65533)
@@ -185,7 +185,7 @@ vector('last-missing', start, refused(3, 65535))
 
 # The fronts of a record with every group full.
 full = record([b'v%02d' % i for i in range(16)], [b'requester %d' % i for i in range(8)],
-              [(b'name_%d' % i, b'setting %d' % i) for i in range(32)], [(i % 3, b'text %d' % i) for i in range(32)])
+              [(b'name_%d' % i, b'setting %d' % i) for i in range(32)], [(i % 3, b'text %d' % i) for i in range(200)])
 
 
 def fields(q):

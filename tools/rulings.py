@@ -81,8 +81,8 @@ local('licensees-cut', [licence(b'POLICY', b'"a" &&')], answered(0, 2, 0, 1, (2,
 for n, expected in (16, answered(1, 2, 2, 2, KEPT)), (17, answered(0, 2, 0, 1, (7, 32 + 16 * 7))):
     local('licensees-%d' % n, [licence(b'POLICY', b' && '.join([b'"a"'] * n))], expected)
 # The assertions' count byte lies at 23 + 1, behind that of the attributes.
-local('assertions-32', [POLICY] * 32, answered(1, 2, 1, 1, *[KEPT] * 32))
-local('assertions-33', [POLICY] * 33, refused(4, 24))
+local('assertions-200', [POLICY] * 200, answered(1, 2, 1, 1, *[KEPT] * 200))
+local('assertions-201', [POLICY] * 201, refused(4, 24))
 # The length of the first text lies behind that count and a standing.
 for n, expected in (8192, answered(1, 2, 1, 1, KEPT)), (8193, refused(5, 26)):
     local('text-%d' % n, [POLICY + b'#' + b'x' * (n - 22)], expected)

@@ -18,7 +18,7 @@
 #define AROUND 3
 #define RECORD_ROOM (17 * BLOCK)
 #define PAGE_ROOM BLOCK
-#define LINE_ROOM 1024
+#define LINE_ROOM 2048
 
 /* A room between two blocks that may not be touched. */
 struct room {
@@ -93,7 +93,7 @@ static struct expected read_expected(FILE *outcomes) {
     unsigned number, rank;
     if (!fgets(line, sizeof line, outcomes))
         stop("a record without an outcome");
-    if (sscanf(line, "%u %zu %u %zu %zu %1023s", &number, &expected.outcome.place, &rank, &expected.outcome.rounds, &expected.outcome.reached,
+    if (sscanf(line, "%u %zu %u %zu %zu %2047s", &number, &expected.outcome.place, &rank, &expected.outcome.rounds, &expected.outcome.reached,
                digits) != 6)
         stop("an outcome that can't be read");
     expected.outcome.number = (uint8_t)number;

@@ -3,7 +3,7 @@
  *
  * Link with -lkeynote from target/staticlib, which `rt staticlib keynote` writes, for Linux on x86-64. The library allocates nothing, reads
  * and writes no file, and keeps no state between calls, so it may be called from many threads at once. Its tables lie on the stack: a thread
- * that calls it needs 512 KiB (docs/ARCHITECTURE.md has what was measured).
+ * that calls it needs 640 KiB (docs/ARCHITECTURE.md has what was measured).
  */
 #ifndef LAMPSICKLE_H
 #define LAMPSICKLE_H
@@ -19,7 +19,7 @@ extern "C" {
 #define LAMPSICKLE_RECORD_MOST 65535
 
 /* The most assertions in a query. */
-#define LAMPSICKLE_ASSERTIONS_MOST 32
+#define LAMPSICKLE_ASSERTIONS_MOST 200
 
 /* The report's bytes for so many assertions, and a page that any report fits on. */
 #define LAMPSICKLE_REPORT_BYTES(assertions) (3 + 3 * (size_t)(assertions))

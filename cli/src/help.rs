@@ -76,7 +76,7 @@ OPTIONS OF ask
     A file may hold several assertions, separated by blank lines, but one given
     by --verified; a part with nothing but comments is skipped. Of several each
     has its own Authorizer, and Licensees or Conditions. Behind a Signature there
-    is nothing but comments. There are at most 32 assertions in all, each of at
+    is nothing but comments. There are at most 200 assertions in all, each of at
     most 8,192 bytes. \"-\" for FILE is standard input (or output). A value that
     begins with \"-\" is given as --option=-value.
 

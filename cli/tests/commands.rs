@@ -37,10 +37,10 @@ fn mistakes_name_the_file() {
 }
 
 #[test]
-fn the_33rd_assertion_is_named() {
-    let many = "Authorizer: \"b\"\nConditions:\n\n".repeat(33);
+fn the_201st_assertion_is_named() {
+    let many = "Authorizer: \"b\"\nConditions:\n\n".repeat(201);
     let words = mistake(2, &plain(&["--local", "-"]), many.as_bytes());
-    assert!(words.contains("33 assertions, but a query has 0 to 32; the first too many is -:97"), "{words}");
+    assert!(words.contains("201 assertions, but a query has 0 to 200; the first too many is -:601"), "{words}");
 }
 
 #[test]

@@ -4,6 +4,7 @@ pub mod fence;
 pub mod journal;
 pub mod long;
 pub mod measure;
+pub mod orders;
 pub mod register;
 pub mod rulings;
 

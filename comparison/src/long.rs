@@ -86,13 +86,14 @@ pub fn one(task: &Task, number: u64, run: &mut Run) -> Result<(), Box<Difference
 }
 
 fn add(sum: &mut Run, run: &Run) {
-    let Coverage { numbers, reasons, ranks, rounds, reached, spellings, patterns } = &run.coverage;
+    let Coverage { numbers, reasons, ranks, rounds, reached, spellings, crowds, patterns } = &run.coverage;
     merge(&mut sum.coverage.numbers, numbers);
     merge(&mut sum.coverage.reasons, reasons);
     merge(&mut sum.coverage.ranks, ranks);
     merge(&mut sum.coverage.rounds, rounds);
     merge(&mut sum.coverage.reached, reached);
     merge(&mut sum.coverage.spellings, spellings);
+    merge(&mut sum.coverage.crowds, crowds);
     sum.coverage.patterns.add(patterns);
     sum.pairs += run.pairs;
     sum.differing_pairs += run.differing_pairs;

@@ -61,6 +61,11 @@ pub fn in_turns(mut library: impl FnMut() -> u32, mut second: impl FnMut() -> u3
     Medians { library: median(times.0), second: median(times.1), ratio: median(ratios) }
 }
 
+/// Measures one piece of work: the median of the runs.
+pub fn alone(mut work: impl FnMut() -> u32) -> f64 {
+    median((0..RUNS).map(|_| time(&mut work)).collect())
+}
+
 fn median(mut times: Vec<f64>) -> f64 {
     times.sort_by(f64::total_cmp);
     times[times.len() / 2]

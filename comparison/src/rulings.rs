@@ -101,8 +101,11 @@ fn limits() -> Vec<Ruling> {
     vec![
         ruling("16 licensees", &listed(16), Ruled::Entry(0, 0)),
         ruling("17 licensees", &listed(17), Ruled::Entry(7, 32 + 16 * 5)),
-        ruling("32 assertions", &many(32), Ruled::Solved(1, 1, 1)),
-        ruling("33 assertions", &many(33), Ruled::Refused(4, 24)),
+        ruling("200 assertions", &many(200), Ruled::Solved(1, 1, 1)),
+        ruling("201 assertions", &many(201), Ruled::Refused(4, 24)),
+        ruling("255 assertions", &many(255), Ruled::Refused(4, 24)),
+        ruling("3,201 principals", &second::workload::distinct(200), Ruled::Solved(1, 2, 3_201)),
+        ruling("201 rounds", &second::workload::chain(200), Ruled::Solved(1, 201, 201)),
         ruling("text of 8,192", &long(8_192), Ruled::Solved(1, 1, 1)),
         ruling("text of 8,193", &long(8_193), Ruled::Refused(5, 26)),
     ]

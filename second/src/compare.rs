@@ -82,7 +82,7 @@ pub fn compare(
             coverage.count(&found.0, &found.1);
         }
         if size == need {
-            coverage.count_spellings(record, &found.0);
+            coverage.count_query(record, &found.0, &found.1);
         }
     }
     Ok(())

@@ -1,6 +1,5 @@
 //! The rank of POLICY: the reach, and rounds up to the least solution.
 
-use crate::bounded::Bounded;
 use crate::check::POLICY;
 use crate::environment::Environment;
 use crate::eval::Evaluator;
@@ -31,18 +30,16 @@ pub fn solve(environment: &Environment, kept: &[Assertion], form: Form) -> Solut
     let (query, store) = (environment.query, environment.store);
     let mut principals = Principals::new(form, 1 + kept.len() + store.principals.len());
     let policy = principals.number(POLICY);
-    let mut authorizers: Bounded<usize, { limits::ASSERTIONS.most }> = Bounded::new(0);
-    for assertion in kept {
-        authorizers.push(principals.number(store.show(query, assertion.authorizer)));
-    }
+    let authorizers: Vec<u16> =
+        kept.iter().map(|assertion| principals.number(store.show(query, assertion.authorizer)) as u16).collect();
     let licensees: Vec<u16> =
         store.principals.iter().map(|piece| principals.number(store.show(query, *piece)) as u16).collect();
     let reach = Reach::new(policy, principals.len(), kept, &authorizers, &licensees);
 
     let mut evaluator = Evaluator::new(environment);
-    let blank = Made { authorizer: 0, conditions: 0, licensees: None };
-    let mut made: Bounded<Made, { limits::ASSERTIONS.most }> = Bounded::new(blank);
+    let mut made: Vec<Made> = Vec::with_capacity(kept.len());
     for (assertion, &authorizer) in kept.iter().zip(authorizers.iter()) {
+        let authorizer = usize::from(authorizer);
         if reach.holds(authorizer) {
             let licensees = assertion
                 .licensees
@@ -128,29 +125,45 @@ struct Reach {
     count: usize,
 }
 
+/// No assertion: ends a row of assertions by one principal.
+const NONE: u16 = u16::MAX;
+
 impl Reach {
-    fn new(policy: usize, principals: usize, kept: &[Assertion], authorizers: &[usize], licensees: &[u16]) -> Self {
+    /// Each principal that is added is visited once, and with it each of its
+    /// assertions.
+    fn new(policy: usize, principals: usize, kept: &[Assertion], authorizers: &[u16], licensees: &[u16]) -> Self {
+        // The last assertion of each principal, and before each assertion the
+        // one by the same principal.
+        let mut last = vec![NONE; principals];
+        let mut before = vec![NONE; kept.len()];
+        for (index, &authorizer) in authorizers.iter().enumerate() {
+            before[index] = std::mem::replace(&mut last[usize::from(authorizer)], index as u16);
+        }
         let mut reach = Self { within: vec![false; principals], count: 0 };
+        let mut waiting = Vec::with_capacity(kept.len() + 1);
         reach.add(policy);
-        let mut used = [false; limits::ASSERTIONS.most];
-        loop {
-            let ready = (0..kept.len()).find(|&index| !used[index] && reach.holds(authorizers[index]));
-            let Some(index) = ready else { return reach };
-            used[index] = true;
-            if let Some(fields) = kept[index].licensees {
-                for &licensee in fields.principals.of(licensees) {
-                    reach.add(usize::from(licensee));
-                }
+        waiting.push(policy);
+        while let Some(principal) = waiting.pop() {
+            let mut index = usize::from(last[principal]);
+            while let Some(assertion) = kept.get(index) {
+                let listed = assertion.licensees.map_or(&[][..], |fields| fields.principals.of(licensees));
+                // Those who made nothing lead no further.
+                let new = listed.iter().map(|&licensee| usize::from(licensee)).filter(|&licensee| reach.add(licensee));
+                waiting.extend(new.filter(|&licensee| last[licensee] != NONE));
+                index = usize::from(before[index]);
             }
         }
+        reach
     }
 
     fn holds(&self, principal: usize) -> bool {
         self.within[principal]
     }
 
-    fn add(&mut self, principal: usize) {
-        self.count += usize::from(!self.within[principal]);
-        self.within[principal] = true;
+    /// Whether the principal is new.
+    fn add(&mut self, principal: usize) -> bool {
+        let new = !std::mem::replace(&mut self.within[principal], true);
+        self.count += usize::from(new);
+        new
     }
 }

@@ -4,6 +4,7 @@
 #![allow(clippy::explicit_auto_deref)]
 
 pub mod coverage;
+pub mod crowd;
 pub mod damage;
 pub mod edge;
 pub mod expression;
@@ -37,9 +38,22 @@ pub enum Sort {
     Tally,
     /// A web whose keys are spelled in several ways.
     Keys,
+    /// More assertions than most have.
+    Crowd,
 }
 
-const SORTS: [Sort; 10] = [
+const SORTS: [Sort; 21] = [
+    Sort::Web,
+    Sort::DamagedText,
+    Sort::Rich,
+    Sort::DamagedText,
+    Sort::Edge,
+    Sort::Web,
+    Sort::DamagedRecord,
+    Sort::DamagedText,
+    Sort::Tally,
+    Sort::Keys,
+    Sort::Crowd,
     Sort::Web,
     Sort::DamagedText,
     Sort::Rich,
@@ -71,6 +85,7 @@ pub fn of_sort(random: &mut Random, sort: Sort) -> Vec<u8> {
         Sort::Edge => edge::record(random),
         Sort::Tally => tally::record(random),
         Sort::Keys => keys::draft(random).record(),
+        Sort::Crowd => crowd::record(random),
         Sort::DamagedRecord => {
             let draft = if random.once_in(2) { web::draft(random) } else { rich(random, 4) };
             damage::record(random, draft)

@@ -19,6 +19,7 @@ pub mod journal;
 pub mod limits;
 pub mod line;
 pub mod literal;
+pub mod names;
 pub mod paper;
 pub mod parse;
 pub mod pattern;
@@ -33,12 +34,11 @@ pub mod token;
 pub mod unread;
 pub mod workload;
 
-use bounded::Bounded;
 use compliance::Solution;
 use environment::Environment;
 use line::{Fault, Listing};
 use record::Query;
-use store::{Assertion, Piece, Row, Store};
+use store::{Assertion, Store};
 
 /// The result of a query. A refusal has a number above 0 and gives no ranks.
 #[derive(Clone, Copy, Debug, Default, PartialEq, Eq)]
@@ -84,8 +84,8 @@ pub fn solution_by_bytes(record: &[u8]) -> Option<Solution> {
 /// The assertions of a query: those kept, and each one's fault or none.
 pub struct Reading {
     pub store: Store,
-    pub kept: Bounded<Assertion, { limits::ASSERTIONS.most }>,
-    pub faults: Bounded<Option<Fault>, { limits::ASSERTIONS.most }>,
+    pub kept: Vec<Assertion>,
+    pub faults: Vec<Option<Fault>>,
 }
 
 impl Reading {
@@ -97,8 +97,9 @@ impl Reading {
 }
 
 pub fn read_assertions(query: &Query) -> Reading {
-    let blank = Assertion { authorizer: Piece::EMPTY, licensees: None, conditions: None, constants: Row::default() };
-    let mut reading = Reading { store: Store::default(), kept: Bounded::new(blank), faults: Bounded::new(None) };
+    let count = query.statements.len();
+    let mut reading =
+        Reading { store: Store::default(), kept: Vec::with_capacity(count), faults: Vec::with_capacity(count) };
     let mut listing = Listing::new();
     for statement in query.statements.iter() {
         match assertion::read(statement, &mut listing, &mut reading.store) {

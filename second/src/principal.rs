@@ -1,5 +1,7 @@
 //! Principals as numbers: identifiers are equal when their canonical forms are.
 
+use std::hash::{BuildHasher, RandomState};
+
 /// Gives an identifier's form: adds it behind what the list holds.
 pub type Form = fn(&[u8], &mut Vec<u8>);
 
@@ -43,6 +45,8 @@ pub fn form_of(identifier: &[u8]) -> Vec<u8> {
 /// Each different form once, with a table of hashes to find it.
 pub struct Principals {
     form: Form,
+    /// Another one for each query: no list of identifiers is slow to number.
+    seed: u64,
     /// The forms, one behind the other, and where each ends.
     forms: Vec<u8>,
     ends: Vec<usize>,
@@ -54,8 +58,14 @@ impl Principals {
     /// Room for at most `most` principals.
     pub fn new(form: Form, most: usize) -> Self {
         let slots = (2 * most).next_power_of_two();
-        // Most identifiers are short.
-        Self { form, forms: Vec::with_capacity(16 * most), ends: Vec::with_capacity(most), slots: vec![0; slots] }
+        Self {
+            form,
+            seed: RandomState::new().hash_one(0),
+            // Most identifiers are short.
+            forms: Vec::with_capacity(16 * most),
+            ends: Vec::with_capacity(most),
+            slots: vec![0; slots],
+        }
     }
 
     pub fn len(&self) -> usize {
@@ -94,7 +104,7 @@ impl Principals {
     /// The slot that holds the form, or the free one where it belongs.
     fn slot(&self, form: &[u8]) -> usize {
         let mask = self.slots.len() - 1;
-        let mut slot = hash(form) as usize & mask;
+        let mut slot = hash(self.seed, form) as usize & mask;
         loop {
             match usize::from(self.slots[slot]).checked_sub(1) {
                 Some(number) if self.of_number(number) != form => slot = (slot + 1) & mask,
@@ -109,13 +119,19 @@ impl Principals {
     }
 }
 
-fn hash(bytes: &[u8]) -> u64 {
+/// Mixes the bytes into a seed, eight at a time, by the two halves of a product.
+fn hash(seed: u64, bytes: &[u8]) -> u64 {
     const ODD: u64 = 0x9e37_79b9_7f4a_7c15;
-    let mut hash = bytes.len() as u64;
-    for chunk in bytes.chunks(8) {
-        let mut word = [0; 8];
-        word[..chunk.len()].copy_from_slice(chunk);
-        hash = (hash.rotate_left(5) ^ u64::from_le_bytes(word)).wrapping_mul(ODD);
+    let mix = |hash: u64, word: u64| {
+        let product = u128::from(hash ^ word) * u128::from(ODD ^ seed);
+        product as u64 ^ (product >> 64) as u64
+    };
+    let mut words = bytes.chunks_exact(8);
+    let mut hash = mix(seed, bytes.len() as u64);
+    for word in words.by_ref() {
+        hash = mix(hash, u64::from_le_bytes(word.try_into().expect("eight bytes")));
     }
-    hash ^ hash >> 32
+    let mut rest = [0; 8];
+    rest[..words.remainder().len()].copy_from_slice(words.remainder());
+    mix(hash, u64::from_le_bytes(rest))
 }

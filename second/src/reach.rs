@@ -1,5 +1,7 @@
 //! The principals in a query's reach, for tests that ask who is in it.
 
+use std::collections::{HashMap, HashSet};
+
 use crate::check::POLICY;
 use crate::principal::form_of;
 use crate::record::Query;
@@ -7,38 +9,32 @@ use crate::store::Assertion;
 use crate::Reading;
 
 /// The canonical forms of the principals in a reach.
-pub struct Reach(Vec<Vec<u8>>);
+pub struct Reach(HashSet<Vec<u8>>);
 
 impl Reach {
     pub fn holds(&self, identifier: &[u8]) -> bool {
         self.0.contains(&form_of(identifier))
-    }
-
-    fn add(&mut self, identifier: &[u8]) {
-        if !self.holds(identifier) {
-            self.0.push(form_of(identifier));
-        }
     }
 }
 
 /// POLICY and, repeatedly, the licensees of assertions made within.
 pub fn of(query: &Query, reading: &Reading) -> Reach {
     let store = &reading.store;
-    let authorizers: Vec<Vec<u8>> =
-        reading.kept.iter().map(|assertion| form_of(store.show(query, assertion.authorizer))).collect();
-    let mut reach = Reach(vec![form_of(POLICY)]);
-    let mut at = 0;
-    while at < reach.0.len() {
-        for (assertion, authorizer) in reading.kept.iter().zip(&authorizers) {
-            if *authorizer != reach.0[at] {
-                continue;
-            }
-            let pieces = assertion.licensees.map_or(&[][..], |fields| fields.principals.of(&store.principals));
-            pieces.iter().for_each(|piece| reach.add(store.show(query, *piece)));
-        }
-        at += 1;
+    let mut made: HashMap<Vec<u8>, Vec<&Assertion>> = HashMap::new();
+    for assertion in &reading.kept {
+        made.entry(form_of(store.show(query, assertion.authorizer))).or_default().push(assertion);
     }
-    reach
+    let mut reach = HashSet::new();
+    let mut waiting = vec![form_of(POLICY)];
+    while let Some(principal) = waiting.pop() {
+        let by_it = made.remove(&principal).unwrap_or_default();
+        reach.insert(principal);
+        for fields in by_it.iter().filter_map(|assertion| assertion.licensees) {
+            let forms = fields.principals.of(&store.principals).iter().map(|piece| form_of(store.show(query, *piece)));
+            waiting.extend(forms.filter(|form| !reach.contains(form)));
+        }
+    }
+    Reach(reach)
 }
 
 /// Where an assertion stands to a reach.

@@ -42,7 +42,7 @@ pub struct Query<'a> {
     pub values: Bounded<&'a [u8], { limits::VALUES.most }>,
     pub requesters: Bounded<&'a [u8], { limits::REQUESTERS.most }>,
     pub attributes: Bounded<Attribute<'a>, { limits::ATTRIBUTES.most }>,
-    pub statements: Bounded<Statement<'a>, { limits::ASSERTIONS.most }>,
+    pub statements: Vec<Statement<'a>>,
 }
 
 impl<'a> Query<'a> {
@@ -69,7 +69,7 @@ pub fn read(record: &[u8]) -> Result<Query<'_>, Refusal> {
         values: Bounded::new(&[]),
         requesters: Bounded::new(&[]),
         attributes: Bounded::new(Attribute { name: &[], value: &[] }),
-        statements: Bounded::new(Statement { standing: 0, start: 0, text: &[] }),
+        statements: Vec::new(),
     };
     read_values(&mut cursor, &mut query)?;
     read_requesters(&mut cursor, &mut query)?;
@@ -128,7 +128,9 @@ fn read_attributes<'a>(cursor: &mut Cursor<'a>, query: &mut Query<'a>) -> Result
 }
 
 fn read_statements<'a>(cursor: &mut Cursor<'a>, query: &mut Query<'a>) -> Result<(), Refusal> {
-    for _ in 0..cursor.count(limits::ASSERTIONS)? {
+    let count = cursor.count(limits::ASSERTIONS)?;
+    query.statements.reserve_exact(count);
+    for _ in 0..count {
         let place = cursor.place;
         let standing = cursor.byte()?;
         if standing > limits::STANDING_MOST {

@@ -3,6 +3,21 @@
 use crate::draft::Draft;
 use crate::limits;
 
+/// The most assertions before there were 200 of them; what has so many is measured
+/// as it was before.
+const FEW: usize = 32;
+
+/// Counts of assertions that double up to the limit.
+const DOUBLING: [usize; 4] = [25, 50, 100, 200];
+
+/// Workloads that differ in a size only, by the beginnings of their names.
+pub const GROWTH: [&str; 6] = ["assertions ", "text of ", "rounds ", "distinct ", "licences ", "no path of "];
+
+/// Whether a workload is one of several that differ in a size only.
+pub fn grows(name: &str) -> bool {
+    GROWTH.iter().any(|start| name.starts_with(start))
+}
+
 pub struct Workload {
     pub name: String,
     pub record: Vec<u8>,
@@ -17,7 +32,7 @@ pub fn all() -> Vec<Workload> {
         workload("first ruling", &first_ruling()),
         workload("typical", &typical()),
         workload("spend", &spend()),
-        workload("fullest", &fullest()),
+        workload("fullest", &fullest(FEW)),
         workload("long literals joined", &joined()),
         workload("lookups of long names", &lookups()),
         workload("integers", &repeated("1+", "1 != 0;")),
@@ -27,10 +42,24 @@ pub fn all() -> Vec<Workload> {
         workload("escapes", &repeated("\"\\101\"==\"\\1\"||", "true;")),
         workload("comments", &repeated("#\n", " true;")),
         workload("wrong at the end", &repeated("true&&", "true")),
-        workload("chain of 32", &chain(32)),
-        workload("dense web", &dense(32)),
-        workload("no path", &no_path()),
+        workload("chain of 32", &chain(FEW)),
+        workload("dense web", &dense(FEW)),
+        workload("no path", &no_path(FEW)),
+        workload("chain of 200", &chain(limits::ASSERTIONS.most)),
+        workload("dense web of 200", &dense(limits::ASSERTIONS.most)),
+        workload("fullest of 200", &fullest(limits::ASSERTIONS.most)),
+        workload("names alike at their ends", &alike_at_ends(3)),
+        workload("long names alike at their ends", &alike_at_ends(8)),
     ];
+    for count in DOUBLING {
+        all.push(workload(format!("distinct {count}"), &distinct(count)));
+    }
+    for count in DOUBLING {
+        all.push(workload(format!("licences {count}"), &assertions(count)));
+    }
+    for count in DOUBLING {
+        all.push(workload(format!("no path of {count}"), &no_path(count)));
+    }
     for count in [1, 2, 4, 8, 16, 32] {
         all.push(workload(format!("assertions {count}"), &assertions(count)));
     }
@@ -114,23 +143,50 @@ Conditions: (app_domain==\"SPEND\") -> {{ (@(dollars) < 100) -> _MAX_TRUST;
     asked.local(e).assertion(2, f).local(g).assertion(2, h)
 }
 
-/// 32 assertions with sixteen long licensees each, 65,535 bytes in all.
-pub fn fullest() -> Draft {
+/// So many assertions with sixteen long licensees each, 65,535 bytes in all.
+pub fn fullest(count: usize) -> Draft {
     let mut draft = Draft::plain();
-    let share = (limits::RECORD_BYTES - draft.record().len()) / limits::ASSERTIONS.most - 3;
+    let share = (limits::RECORD_BYTES - draft.record().len()) / count - 3;
     let width = (share - 108) / (limits::LICENSEES + 1);
-    let key = |number: usize| format!("\"{number:k>width$}\"");
-    for index in 0..limits::ASSERTIONS.most {
-        let authorizer = if index == 0 { "\"POLICY\"".into() } else { key(index) };
-        let listed = (0..limits::LICENSEES).map(|step| key(index * limits::LICENSEES + step + 1));
-        let licensees = listed.collect::<Vec<_>>().join("||");
-        let mut text = format!("Authorizer:{authorizer}\nLicensees:{licensees}\n#");
+    for index in 0..count {
+        let mut text = delegation(index, &|number| format!("{number:k>width$}"));
+        text.push('#');
         let left = limits::RECORD_BYTES - draft.record().len() - 3;
-        let length = if index + 1 == limits::ASSERTIONS.most { left } else { share };
+        let length = if index + 1 == count { left } else { share };
         text.extend(std::iter::repeat_n('x', length.saturating_sub(text.len())));
         draft = draft.local(text);
     }
     draft
+}
+
+/// An assertion of a tree from POLICY, number 0: it has sixteen licensees of its
+/// own, and each principal is licensed once.
+fn delegation(index: usize, name: &dyn Fn(usize) -> String) -> String {
+    let quoted = |number: usize| match number {
+        0 => "\"POLICY\"".to_string(),
+        _ => format!("\"{}\"", name(number)),
+    };
+    let listed = (1..=limits::LICENSEES).map(|step| quoted(index * limits::LICENSEES + step));
+    format!("Authorizer:{}\nLicensees:{}\n", quoted(index), listed.collect::<Vec<_>>().join("||"))
+}
+
+/// So many assertions with sixteen licensees of their own, all in the reach. The
+/// requester is one of POLICY's, so that there are two rounds however many.
+pub fn distinct(count: usize) -> Draft {
+    let name = |number: usize| format!("key {number}");
+    let asked = Draft::default().value("hold").value("immediate").requester(name(1));
+    (0..count).fold(asked, |draft, index| draft.local(delegation(index, &name)))
+}
+
+/// 3,200 names of one length that differ only in front of their last three bytes,
+/// with so many bytes before that.
+pub fn alike_at_ends(width: usize) -> Draft {
+    const DIGITS: &[u8] = b"0123456789ABCDEFGHIJKLMNOPQRSTUVWXYZ";
+    let digit = |number: usize, place: u32| char::from(DIGITS[number / DIGITS.len().pow(place) % DIGITS.len()]);
+    // Lowest digit first.
+    let name = |number: usize| (0..width as u32).map(|place| digit(number, place)).chain("end".chars()).collect();
+    let asked = Draft::default().value("hold").value("immediate").requester(name(1));
+    (0..limits::ASSERTIONS.most).fold(asked, |draft, index| draft.local(delegation(index, &name)))
 }
 
 /// As many assertions of full length as fit, with the part repeated in
@@ -194,8 +250,8 @@ pub fn dense(count: usize) -> Draft {
 }
 
 /// A web that the requester isn't in.
-pub fn no_path() -> Draft {
-    let mut draft = dense(32);
+pub fn no_path(count: usize) -> Draft {
+    let mut draft = dense(count);
     draft.requesters = vec![b"stranger".to_vec()];
     draft
 }
@@ -222,7 +278,7 @@ pub fn text(bytes: usize) -> Draft {
 /// 32 assertions whose ranks settle after about so many rounds.
 pub fn rounds_of(rounds: usize) -> Draft {
     let mut draft = chain(rounds);
-    for index in rounds..limits::ASSERTIONS.most {
+    for index in rounds..FEW {
         draft = draft.local(format!("Authorizer: \"POLICY\"\nLicensees: \"other {index}\"\n"));
     }
     draft
@@ -257,7 +313,7 @@ pub fn keys(bytes: usize, spell: fn(String, usize) -> String) -> Draft {
     let digits = "0123456789abcdef".chars().cycle();
     let key: String = "dsa-hex:".chars().chain(digits).take(bytes).collect();
     let mut draft = Draft::default().value("hold").value("immediate").requester(spell(key.clone(), 1));
-    for index in 0..limits::ASSERTIONS.most {
+    for index in 0..FEW {
         let first = index * (limits::LICENSEES + 1);
         let authorizer = if index == 0 { "POLICY".into() } else { spell(key.clone(), first) };
         let listed = (1..=limits::LICENSEES).map(|step| format!("\"{}\"", spell(key.clone(), first + step)));

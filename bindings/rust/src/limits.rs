@@ -26,7 +26,7 @@ pub const REQUESTER_BYTES: Range = Range::new(1, 256);
 pub const ATTRIBUTES: Range = Range::new(0, 32);
 pub const NAME_BYTES: Range = Range::new(1, 2_048);
 pub const ATTRIBUTE_BYTES: Range = Range::new(0, 2_048);
-pub const ASSERTIONS: Range = Range::new(0, 32);
+pub const ASSERTIONS: Range = Range::new(0, 200);
 pub const TEXT_BYTES: Range = Range::new(1, 8_192);
 
 pub const REPORT_HEAD: usize = 3;

@@ -93,8 +93,8 @@ fn faults_of_queries() {
     assert_eq!(name, Fault { item: Item::Name(0), what: What::Byte(b'-', 1) });
     let nul = fault(|query| query.requesters.push(b"x\0".to_vec()));
     assert_eq!(nul, Fault { item: Item::Requester(1), what: What::Byte(0, 1) });
-    let many = fault(|query| (0..33).for_each(|_| query.local("x")));
-    assert_eq!(many, Fault { item: Item::Assertions, what: What::Range(33, limits::ASSERTIONS) });
+    let many = fault(|query| (0..201).for_each(|_| query.local("x")));
+    assert_eq!(many, Fault { item: Item::Assertions, what: What::Range(201, limits::ASSERTIONS) });
 }
 
 /// What the builder accepts is never refused.
@@ -104,6 +104,7 @@ fn built_records_are_read() {
     query.values = (0..16).map(|index| vec![b'v'; index + 1]).collect();
     query.requesters = vec![vec![0xff; 256]; 8];
     query.attributes = (0..32).map(|index| (format!("n{index}_").into_bytes(), vec![1; index * 10])).collect();
-    (0..32).for_each(|index| query.verified(vec![b'#'; index * 20 + 1]));
-    assert!(ask(&query.record().expect("within the limits")).is_ok());
+    (0..200).for_each(|index| query.verified(vec![b'#'; index + 1]));
+    let answer = ask(&query.record().expect("within the limits")).expect("an answer");
+    assert_eq!((answer.entries.len(), limits::PAGE), (200, 603));
 }

@@ -1,16 +1,19 @@
 //! Times of the proved library and of the second evaluator, as the tables of
 //! docs/BENCHMARKS.md. `bench [NAME...]` measures the workloads whose names
 //! hold one of the words; those of the journal begin with "journal", and
-//! `register` stands for the calls on a register.
+//! `register` stands for the calls on a register. `orders` stands for the orders
+//! in which names are looked up, with the queries that look them up; `growth` for
+//! all that differ in a size only: by what factor times grow where it doubles.
 
 use comparison::journal::{self, Work};
 use comparison::library;
 use comparison::measure::{measure, measure_register, Medians};
-use comparison::register;
+use comparison::{orders, register};
+use second::names::{self, KINDS, PLACES};
 use second::workload::{self, Workload};
 
-/// Workloads that differ in a size only, by the beginnings of their names.
-const GROWTH: [&str; 3] = ["assertions ", "text of ", "rounds "];
+/// The word for workloads that differ in a size only.
+const GROWTH: &str = "growth";
 
 /// Conditions made to take as long as the limits allow.
 const HOSTILE: [&str; 9] = [
@@ -43,6 +46,7 @@ fn main() {
         works.into_iter().for_each(journal_row);
     }
     registers(&wanted);
+    lookups(&wanted);
 }
 
 fn journal_row(work: Work) {
@@ -59,7 +63,9 @@ fn journal_row(work: Work) {
 }
 
 fn queries(wanted: &[String]) {
-    let workloads: Vec<Workload> = workload::all().into_iter().filter(|item| named(&item.name, wanted)).collect();
+    let growing = |name: &str| workload::grows(name) && wanted.iter().any(|word| word == GROWTH);
+    let chosen = |item: &Workload| named(&item.name, wanted) || growing(&item.name);
+    let workloads: Vec<Workload> = workload::all().into_iter().filter(chosen).collect();
     if workloads.is_empty() {
         return;
     }
@@ -112,6 +118,31 @@ fn registers(wanted: &[String]) {
     }
 }
 
+/// Names of a query looked up in each order, then by queries as a whole.
+fn lookups(wanted: &[String]) {
+    if !named("orders", wanted) {
+        return;
+    }
+    let heads: Vec<&str> = orders::ORDERS.iter().map(|(name, _)| *name).collect();
+    println!("\n| One of 32 names, ns a lookup | {} |", heads.join(" | "));
+    println!("|---|{}", "--:|".repeat(heads.len()));
+    for orders::Row { kind, place, times } in orders::rows() {
+        let times: Vec<String> = times.iter().map(|time| format!("{time:.0}")).collect();
+        println!("| {}, {} | {} |", kind.words(), place.words(), times.join(" | "));
+    }
+    println!("\n| Names of a query | Lookups | Library, µs | Second, µs | Ratio |\n|---|--:|--:|--:|--:|");
+    for kind in KINDS {
+        for place in PLACES {
+            for (times, often) in [(Some(1), "1"), (Some(100), "100"), (None, "most")] {
+                let record = names::query(kind, place, times).record();
+                let Medians { library: one, second: other, ratio } = measure(library, second::answer, &record);
+                let (one, other) = (one / 1e3, other / 1e3);
+                println!("| {}, {} | {often} | {one:.2} | {other:.2} | {ratio:.2} |", kind.words(), place.words());
+            }
+        }
+    }
+}
+
 fn most_hostile(rows: &[Row]) {
     let hostile = rows.iter().filter(|row| HOSTILE.contains(&row.name.as_str()));
     if let Some(row) = hostile.max_by(|a, b| a.medians.library.total_cmp(&b.medians.library)) {
@@ -119,17 +150,23 @@ fn most_hostile(rows: &[Row]) {
     }
 }
 
-/// By what factor times grow from one size to the next.
+/// By what factor times grow from one size to the next, and the greatest factors.
 fn growth(rows: &[Row]) {
-    println!("\n| Doubled | Library, time × | Second, time × |\n|---|--:|--:|");
-    for pair in rows.windows(2) {
-        let of_one = |start: &str| pair.iter().all(|row| row.name.starts_with(start));
-        if GROWTH.iter().any(|start| of_one(start)) {
-            let [small, large] = [&pair[0].medians, &pair[1].medians];
-            let (library, second) = (large.library / small.library, large.second / small.second);
-            println!("| {} to {} | {library:.2} | {second:.2} |", pair[0].name, pair[1].name);
-        }
+    let of_one =
+        |pair: &&[Row]| workload::GROWTH.iter().any(|start| pair.iter().all(|row| row.name.starts_with(start)));
+    let pairs: Vec<&[Row]> = rows.windows(2).filter(of_one).collect();
+    if pairs.is_empty() {
+        return;
     }
+    println!("\n| Doubled | Library, time × | Second, time × |\n|---|--:|--:|");
+    let mut greatest = (0.0f64, 0.0f64);
+    for pair in pairs {
+        let [small, large] = [&pair[0].medians, &pair[1].medians];
+        let (library, second) = (large.library / small.library, large.second / small.second);
+        println!("| {} to {} | {library:.2} | {second:.2} |", pair[0].name, pair[1].name);
+        greatest = (greatest.0.max(library), greatest.1.max(second));
+    }
+    println!("\nGreatest factor: library {:.2}, second {:.2}.", greatest.0, greatest.1);
 }
 
 /// The workloads on which the library is slower by more than measuring errs.

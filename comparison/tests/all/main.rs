@@ -4,5 +4,7 @@ mod examples;
 mod fences;
 mod generated;
 mod journal;
+mod orders;
 mod paper;
+mod patterns;
 mod register;

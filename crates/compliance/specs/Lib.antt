@@ -1,7 +1,6 @@
 pub mod Highest
 pub mod Licensees
 pub mod Codes
-pub mod Limits
 pub mod Tables
 pub mod System
 pub mod Reach

@@ -12,8 +12,7 @@ use Rattle.principal.specs.Members.{member, Distinct}
 use Rattle.compliance.specs.Licensees.{Expression, name, and, or, kOf, Licensees, missing, empty, given, licensees}
 use Rattle.compliance.specs.System.{Assertion, System}
 use Rattle.compliance.specs.Codes.{topCode, kOfCode, andCode, orCode, zeroCode}
-use Rattle.limits.specs.Limits.{mostAssertions, mostLicensees}
-use Rattle.compliance.specs.Limits.{principalsMost}
+use Rattle.limits.specs.Limits.{mostAssertions, mostLicensees, mostPrincipals}
 
 -- the index of p: the first place whose principal is the same
 unfoldable pub place : List Principal → Principal → ℕ
@@ -69,5 +68,5 @@ pub record Represents (names : List Principal) (authors conds ends code direct :
   pub rows : (j : ℕ) (a : Assertion) → getElem? (s .assertions) j ≡ some a → Row names authors conds ends code j a
   pub asked : direct ≡ map (λ (q : Principal). pick (member q (s .requesters)) 1 0) names
   pub topped : top ≡ s .top
-  pub fewNames : length names ≤ principalsMost
+  pub fewNames : length names ≤ mostPrincipals
   pub fewRows : length authors ≤ mostAssertions

@@ -4,5 +4,6 @@ pub mod Tables
 pub mod Rounds
 pub mod RoundWays
 pub mod Rising
+pub mod Words
 pub mod Reach
 pub mod Solve

@@ -30,7 +30,7 @@ fn one_if(v: u8, x: u8) -> usize
 }
 
 // How many of the values are v or more.
-pub(crate) fn at_least(values: &[u8], v: u8) -> usize
+fn at_least(values: &[u8], v: u8) -> usize
     ensures { λ r. ⌜ r ≡ atLeast v (now (values .entry)) ⌝ }
 {
     let mut count: usize = 0;

@@ -4,27 +4,27 @@ pub mod machine;
 mod reach;
 mod rounds;
 mod tables;
+mod words;
 
-use highest::at_least;
 use limits::MOST_ASSERTIONS;
 use limits::MOST_LICENSEES;
-use limits::MOST_REQUESTERS;
+use limits::MOST_PRINCIPALS;
 use machine::number_at;
 use reach::find_reach;
 use rounds::settle;
+use words::count;
 ghost use mathlib.Core.Path.{_≡_};
 ghost use Prim.Native.Nat.{_≤_};
 ghost use lib.ListN.{length};
-ghost use Rattle.compliance.specs.Working.Solve.{Blank, solvedBy, solutionOf};
-
-// The most principals: POLICY, the requesters, and an authorizer and its licensees for each assertion.
-pub const PRINCIPALS: usize = 1
-    + MOST_REQUESTERS
-    + MOST_ASSERTIONS
-    + MOST_ASSERTIONS * MOST_LICENSEES;
+ghost use Rattle.limits.specs.Limits.{mostAssertions, mostLicensees, mostPrincipals};
+ghost use Rattle.compliance.specs.Working.Solve.{Blank, few, solvedBy, solutionOf};
 
 // Most queries have no more.
 const FEW: usize = 64;
+
+const FEW_WORDS: usize = (FEW + 63) / 64;
+
+const WORDS: usize = (MOST_PRINCIPALS + 63) / 64;
 
 // The rank of POLICY, the rounds that changed a rank in the reach, and how many principals are in it.
 pub struct Solution {
@@ -43,15 +43,15 @@ fn solve_in(
     top: u8,
     ranks: &mut [u8],
     next: &mut [u8],
-    reach: &mut [u8],
+    reach: &mut [u64],
     done: &mut [u8],
     stack: &mut [u8],
 ) -> Solution
     requires { ⌜ Blank (length (now authors)) (length (now direct)) (now ranks) (now next) (now reach) (now done) ⌝ }
     ensures { λ r. ⌜ r ≡ solvedBy (now (authors .entry)) (now (conds .entry)) (now (ends .entry)) (now (code .entry)) (now (direct .entry)) top (length (now (stack .entry))) ⌝ }
 {
-    find_reach(authors, ends, code, done, reach);
-    let reached = at_least(reach, 1);
+    find_reach(authors, ends, code, done, direct.len(), reach);
+    let reached = count(reach);
     let rounds = settle(
         authors,
         conds,
@@ -82,14 +82,14 @@ fn solve_many(
     direct: &[u8],
     top: u8,
 ) -> Solution
-    requires { ⌜ (length (now authors) ≤ 32) × (length (now direct) ≤ 553) ⌝ }
-    ensures { λ r. ⌜ r ≡ solvedBy (now (authors .entry)) (now (conds .entry)) (now (ends .entry)) (now (code .entry)) (now (direct .entry)) top 16 ⌝ }
+    requires { ⌜ (length (now authors) ≤ mostAssertions) × (length (now direct) ≤ mostPrincipals) ⌝ }
+    ensures { λ r. ⌜ r ≡ solvedBy (now (authors .entry)) (now (conds .entry)) (now (ends .entry)) (now (code .entry)) (now (direct .entry)) top mostLicensees ⌝ }
 {
     let n = direct.len();
     let m = authors.len();
-    let mut ranks = [0u8; PRINCIPALS];
-    let mut next = [0u8; PRINCIPALS];
-    let mut reach = [0u8; PRINCIPALS];
+    let mut ranks = [0u8; MOST_PRINCIPALS];
+    let mut next = [0u8; MOST_PRINCIPALS];
+    let mut reach = [0u64; WORDS];
     let mut done = [0u8; MOST_ASSERTIONS];
     let mut stack = [0u8; MOST_LICENSEES];
     solve_in(
@@ -101,7 +101,7 @@ fn solve_many(
         top,
         &mut ranks[..n],
         &mut next[..n],
-        &mut reach[..n],
+        &mut reach,
         &mut done[..m],
         &mut stack,
     )
@@ -116,14 +116,14 @@ fn solve_few(
     direct: &[u8],
     top: u8,
 ) -> Solution
-    requires { ⌜ (length (now authors) ≤ 32) × (length (now direct) ≤ 64) ⌝ }
-    ensures { λ r. ⌜ r ≡ solvedBy (now (authors .entry)) (now (conds .entry)) (now (ends .entry)) (now (code .entry)) (now (direct .entry)) top 16 ⌝ }
+    requires { ⌜ (length (now authors) ≤ mostAssertions) × (length (now direct) ≤ few) ⌝ }
+    ensures { λ r. ⌜ r ≡ solvedBy (now (authors .entry)) (now (conds .entry)) (now (ends .entry)) (now (code .entry)) (now (direct .entry)) top mostLicensees ⌝ }
 {
     let n = direct.len();
     let m = authors.len();
     let mut ranks = [0u8; FEW];
     let mut next = [0u8; FEW];
-    let mut reach = [0u8; FEW];
+    let mut reach = [0u64; FEW_WORDS];
     let mut done = [0u8; MOST_ASSERTIONS];
     let mut stack = [0u8; MOST_LICENSEES];
     solve_in(
@@ -135,7 +135,7 @@ fn solve_few(
         top,
         &mut ranks[..n],
         &mut next[..n],
-        &mut reach[..n],
+        &mut reach,
         &mut done[..m],
         &mut stack,
     )
@@ -157,7 +157,7 @@ pub fn solve(
     ensures bounded { λ r. ⌜ r .rounds ≤ r .reached ⌝ }
 {
     let n = direct.len();
-    if PRINCIPALS < n {
+    if MOST_PRINCIPALS < n {
         return Solution {
             rank: 0,
             rounds: 0,

@@ -5,9 +5,11 @@ use crate::machine::index_at;
 use crate::machine::number_at;
 use crate::machine::worth_of;
 use crate::tables::program;
+use crate::words::flag;
 ghost use mathlib.Core.Path.{_≡_};
 ghost use lib.ListN.{length, replicate};
 ghost use Rattle.compliance.specs.Working.Rounds.{grantedOf, raised, relaxedAt, relaxFrom, directAt, directTable, Advanced, settledAt, settleFrom, settleOn};
+ghost use Rattle.compliance.specs.Working.Words.{flagsOf};
 
 // The rank of assertion j: the lesser of its conditions' and its licensees'.
 fn granted(
@@ -41,16 +43,16 @@ fn relax(
     ends: &[u16],
     code: &[u16],
     top: u8,
-    reach: &[u8],
+    reach: &[u64],
     ranks: &[u8],
     next: &mut [u8],
     stack: &mut [u8],
     j: usize,
 )
-    ensures { λ _. ⌜ now (next .exit) ≡ relaxedAt (now (authors .entry)) (now (conds .entry)) (now (ends .entry)) (now (code .entry)) top (length (now (stack .entry))) (now (reach .entry)) (now (ranks .entry)) j (now (next .entry)) ⌝ }
+    ensures { λ _. ⌜ now (next .exit) ≡ relaxedAt (now (authors .entry)) (now (conds .entry)) (now (ends .entry)) (now (code .entry)) top (length (now (stack .entry))) (flagsOf (now (reach .entry))) (now (ranks .entry)) j (now (next .entry)) ⌝ }
 {
     let p = index_at(authors, j);
-    if number_at(reach, p) == 1 {
+    if flag(reach, p) == 1 {
         if number_at(next, p) < number_at(conds, j) {
             let v = granted(conds, ends, code, top, ranks, stack, j);
             raise(next, p, v);
@@ -65,12 +67,12 @@ fn relax_all(
     ends: &[u16],
     code: &[u16],
     top: u8,
-    reach: &[u8],
+    reach: &[u64],
     ranks: &[u8],
     next: &mut [u8],
     stack: &mut [u8],
 )
-    ensures { λ _. ⌜ now (next .exit) ≡ relaxFrom (now (authors .entry)) (now (conds .entry)) (now (ends .entry)) (now (code .entry)) top (length (now (stack .entry))) (now (reach .entry)) (now (ranks .entry)) (length (now (authors .entry))) 0 (now (next .entry)) ⌝ }
+    ensures { λ _. ⌜ now (next .exit) ≡ relaxFrom (now (authors .entry)) (now (conds .entry)) (now (ends .entry)) (now (code .entry)) top (length (now (stack .entry))) (flagsOf (now (reach .entry))) (now (ranks .entry)) (length (now (authors .entry))) 0 (now (next .entry)) ⌝ }
 {
     let mut j: usize = 0;
     while j < authors.len() {
@@ -91,10 +93,10 @@ fn relax_all(
 }
 
 // The direct authorization of the principal i: top where it is a requester and reached.
-fn direct_rank(direct: &[u8], reach: &[u8], top: u8, i: usize) -> u8
-    ensures { λ r. ⌜ r ≡ directAt (now (direct .entry)) (now (reach .entry)) top i ⌝ }
+fn direct_rank(direct: &[u8], reach: &[u64], top: u8, i: usize) -> u8
+    ensures { λ r. ⌜ r ≡ directAt (now (direct .entry)) (flagsOf (now (reach .entry))) top i ⌝ }
 {
-    let f = number_at(reach, i);
+    let f = flag(reach, i);
     let d = number_at(direct, i);
     if f == 1 {
         if d == 1 {
@@ -106,8 +108,8 @@ fn direct_rank(direct: &[u8], reach: &[u8], top: u8, i: usize) -> u8
 }
 
 // The direct authorization of each principal.
-fn set_direct(direct: &[u8], reach: &[u8], top: u8, next: &mut [u8])
-    ensures { λ _. ⌜ now (next .exit) ≡ directTable (now (direct .entry)) (now (reach .entry)) top (length (now (next .entry))) ⌝ }
+fn set_direct(direct: &[u8], reach: &[u64], top: u8, next: &mut [u8])
+    ensures { λ _. ⌜ now (next .exit) ≡ directTable (now (direct .entry)) (flagsOf (now (reach .entry))) top (length (now (next .entry))) ⌝ }
 {
     let mut i: usize = 0;
     while i < next.len() {
@@ -139,14 +141,14 @@ fn settle_on(
     ends: &[u16],
     code: &[u16],
     top: u8,
-    reach: &[u8],
+    reach: &[u64],
     ranks: &mut [u8],
     next: &mut [u8],
     stack: &mut [u8],
     limit: usize,
 ) -> usize
     requires { ⌜ now ranks ≡ replicate (length (now next)) 0 ⌝ }
-    ensures { λ r. ⌜ settledAt r (now (ranks .exit)) ≡ settleOn (now (authors .entry)) (now (conds .entry)) (now (ends .entry)) (now (code .entry)) top (length (now (stack .entry))) (now (reach .entry)) (now (next .entry)) limit 0 (now (ranks .entry)) ⌝ }
+    ensures { λ r. ⌜ settledAt r (now (ranks .exit)) ≡ settleOn (now (authors .entry)) (now (conds .entry)) (now (ends .entry)) (now (code .entry)) top (length (now (stack .entry))) (flagsOf (now (reach .entry))) (now (next .entry)) limit 0 (now (ranks .entry)) ⌝ }
 {
     let mut n: usize = 0;
     while n < limit {
@@ -167,14 +169,14 @@ pub(crate) fn settle(
     code: &[u16],
     direct: &[u8],
     top: u8,
-    reach: &[u8],
+    reach: &[u64],
     ranks: &mut [u8],
     next: &mut [u8],
     stack: &mut [u8],
     limit: usize,
 ) -> usize
     requires { ⌜ now ranks ≡ replicate (length (now next)) 0 ⌝ }
-    ensures { λ r. ⌜ settledAt r (now (ranks .exit)) ≡ settleFrom (now (authors .entry)) (now (conds .entry)) (now (ends .entry)) (now (code .entry)) (now (direct .entry)) top (length (now (stack .entry))) (now (reach .entry)) (length (now (next .entry))) limit 0 (now (ranks .entry)) ⌝ }
+    ensures { λ r. ⌜ settledAt r (now (ranks .exit)) ≡ settleFrom (now (authors .entry)) (now (conds .entry)) (now (ends .entry)) (now (code .entry)) (now (direct .entry)) top (length (now (stack .entry))) (flagsOf (now (reach .entry))) (length (now (next .entry))) limit 0 (now (ranks .entry)) ⌝ }
 {
     set_direct(direct, reach, top, next);
     settle_on(

@@ -5,8 +5,25 @@ ghost use Prim.Native.Nat.{_+_, _-_};
 ghost use lib.Dec.{eqb};
 ghost use lib.ListN.{length, getD};
 ghost use Rattle.text.specs.Counted.{counted};
+ghost use Rattle.text.specs.Equal.{equal};
 ghost use Rattle.expression.specs.Conditions.{indexFrom};
 ghost use Rattle.expression.specs.Tables.{firstFrom, settingIn, queryIn, lookupIn};
+
+// Is it this name? Lengths first, then the last bytes, then the others from behind: names often share their beginnings.
+fn is_name(a: &[u8], name: &[u8]) -> bool
+    ensures { λ r. ⌜ r ≡ equal (now (a .entry)) (now (name .entry)) ⌝ }
+{
+    if a.len() != name.len() {
+        return false;
+    }
+    if a.len() == 0 {
+        return true;
+    }
+    if a[a.len() - 1] != name[name.len() - 1] {
+        return false;
+    }
+    text::same_bytes(a, name)
+}
 
 // Which of the places is the first whose string is this one; their number where none is.
 pub fn find(s: &[u8], places: &[usize], name: &[u8]) -> usize
@@ -18,7 +35,7 @@ pub fn find(s: &[u8], places: &[usize], name: &[u8]) -> usize
             break i;
         }
         let p = places[i];
-        if text::same_bytes(text::counted_at(s, p), name) {
+        if is_name(text::counted_at(s, p), name) {
             break i;
         }
         i += 1;

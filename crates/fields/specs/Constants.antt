@@ -11,7 +11,7 @@ use Rattle.record.specs.Query.{Attribute}
 use Rattle.lexical.specs.Kind
 use Rattle.lexical.specs.Literal.{decodedAt}
 use Rattle.lexical.specs.declared.token.Token.{Token}
-use Rattle.fields.specs.Limits.{mostConstants, mostLiteral}
+use Rattle.limits.specs.Limits.{mostConstants, mostLiteral}
 use Rattle.syntax.specs.Parsed.{Parsed, ok, aside, refusal, unexpected}
 use Rattle.fields.specs.Parsed.{behind, wordOf, ending}
 

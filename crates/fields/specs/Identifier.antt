@@ -11,7 +11,7 @@ use Rattle.lexical.specs.Literal.{decodedAt}
 use Rattle.lexical.specs.declared.token.Token.{Token}
 use Rattle.principal.specs.Principal.{Principal}
 use Rattle.expression.specs.Names.{settingOr}
-use Rattle.fields.specs.Limits.{mostIdentifier}
+use Rattle.limits.specs.Limits.{mostIdentifier}
 use Rattle.syntax.specs.Parsed.{Parsed, ok, aside, refusal}
 use Rattle.fields.specs.Parsed.{behind, wordOf}
 use Rattle.fields.specs.Constants.{isSet}

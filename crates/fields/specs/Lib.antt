@@ -1,4 +1,3 @@
-pub mod Limits
 pub mod Parsed
 pub mod Version
 pub mod Constants

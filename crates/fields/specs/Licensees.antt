@@ -7,13 +7,12 @@ use lib.ListN.{length}
 use Rattle.text.specs.Choice.{pick}
 use Rattle.text.specs.Loop.{Step, next, done, loop}
 use Rattle.record.specs.Query.{Attribute}
-use Rattle.limits.specs.Limits.{mostLicensees}
+use Rattle.limits.specs.Limits.{mostLicensees, mostBrackets}
 use Rattle.lexical.specs.Kind
 use Rattle.lexical.specs.Number.{numberAt}
 use Rattle.lexical.specs.declared.token.Token.{Token}
 use Rattle.principal.specs.Principal.{Principal}
 use Rattle.compliance.specs.Licensees.{Expression, name, and, or, kOf, named, Licensees, empty, given}
-use Rattle.fields.specs.Limits.{mostBrackets}
 use Rattle.syntax.specs.Parsed.{Parsed, ok, aside, andThen, unexpected}
 use Rattle.fields.specs.Parsed.{behind, ending, ended}
 use Rattle.fields.specs.Identifier.{identifier}

@@ -8,7 +8,7 @@ use Rattle.text.specs.Choice.{pick}
 use Rattle.lexical.specs.Kind
 use Rattle.lexical.specs.Literal.{decodedAt}
 use Rattle.lexical.specs.declared.token.Token.{Token}
-use Rattle.fields.specs.Limits.{mostLiteral}
+use Rattle.limits.specs.Limits.{mostLiteral}
 use Rattle.syntax.specs.Parsed.{Parsed, ok, aside, unexpected}
 
 -- "one string literal; nothing after it is read": what is read ends where t does

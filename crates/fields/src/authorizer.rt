@@ -1,12 +1,12 @@
 // Authorizer.
-use crate::identifier::Entry;
 use crate::identifier::enter_token;
-use crate::identifier::entered;
 use crate::identifier::identifier_fault;
 use crate::identifier::is_whole;
 use crate::out::NO_ROOM;
 use crate::out::is_ending;
 use crate::out::refusal_of;
+use index::Numbered;
+use index::enter;
 use lexical::kind;
 use lexical::line::token_at;
 use lexical::token::Token;
@@ -70,15 +70,15 @@ fn finished(number: usize, count: usize, end: usize, t: Token) -> Author
 }
 
 // The field of t, whose principal is entered as e.
-fn authored(s: &[u8], standing: u8, pool: &[u8], places: &[usize], t: Token, e: Entry) -> Author
+fn authored(s: &[u8], standing: u8, pool: &[u8], places: &[usize], t: Token, e: Numbered) -> Author
     ensures { λ r. ⌜ r ≡ authoredIn (now (s .entry)) standing (now (pool .entry)) (now (places .entry)) t e ⌝ }
 {
     match e {
-        Entry::Full => Author::Aside {
+        Numbered::Full => Author::Aside {
             reason: NO_ROOM,
             place: 0,
         },
-        Entry::At { number, count, end } => {
+        Numbered::At { number, count, end } => {
             if is_barred(standing, pool, places, number) {
                 return Author::Aside {
                     reason: 9,
@@ -106,7 +106,7 @@ pub fn authorizer(
     ensures { λ r. ⌜ made r (now (pool .exit)) (now (places .exit)) ≡ authorizerIn (now (s .entry)) standing (now (consts .entry)) (now (constants .entry)) (now (pool .entry)) (now (places .entry)) count end t ⌝ }
 {
     if is_whole(s, t) {
-        let e = entered(pool, places, count, end, &s[t.start + 1..t.end - 1]);
+        let e = enter(pool, places, count, end, &s[t.start + 1..t.end - 1]);
         return authored(s, standing, pool, places, t, e);
     }
     let f = identifier_fault(s, consts, constants, t);

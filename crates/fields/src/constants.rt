@@ -12,6 +12,7 @@ use lexical::line::token_at;
 use lexical::literal::decode_into;
 use lexical::literal::literal_length;
 use lexical::token::Token;
+use limits::MOST_CONSTANTS;
 ghost use mathlib.Core.Path.{_≡_};
 ghost use lib.ListN.{length};
 ghost use Rattle.text.specs.Copy.{copied};
@@ -19,8 +20,6 @@ ghost use Rattle.lexical.specs.Literal.{decodedAt};
 ghost use Rattle.index.specs.Working.Adding.{countedInto, entered};
 ghost use Rattle.fields.specs.Constants.{reserved};
 ghost use Rattle.fields.specs.Working.Setting.{takenIn, constantFaultIn, refusedSettings, storeIn, valueIn, assignedIn, stored, constantsIn};
-
-pub const MOST_CONSTANTS: usize = 16;
 
 // The number of constants, the end of their bytes and the token behind them; or the first fault.
 pub enum Settings {

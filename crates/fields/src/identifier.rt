@@ -3,12 +3,15 @@ use crate::out::refusal_of;
 use crate::out::word;
 use expression::name::attribute;
 use expression::name::find;
+use index::Numbered;
+use index::enter;
 use lexical::kind;
 use lexical::literal::bare_end;
 use lexical::literal::decode_into;
 use lexical::literal::is_sized;
 use lexical::literal::literal_length;
 use lexical::token::Token;
+use limits::MOST_IDENTIFIER;
 ghost use mathlib.Core.Path.{_≡_};
 ghost use Prim.Native.Nat.{_+_, _-_, _≤_};
 ghost use lib.ListN.{length, take, drop};
@@ -16,19 +19,8 @@ ghost use Rattle.text.specs.All.{all};
 ghost use Rattle.lexical.specs.Literal.{decodedAt};
 ghost use Rattle.fields.specs.Identifier.{sizeFault};
 ghost use Rattle.fields.specs.Working.Whole.{other, printed, clear, whole};
-ghost use Rattle.fields.specs.Working.Identifying.{entry, nameFaultIn, faultIn, enterIn, literalIn, tokenIn};
-
-pub const MOST_IDENTIFIER: usize = 256;
-
-// A principal's number in the index, with the index's count and end; or no room for it.
-pub enum Entry {
-    At {
-        number: usize,
-        count: usize,
-        end: usize,
-    },
-    Full,
-}
+ghost use Rattle.index.specs.Working.Entering.{numbered, enterIn};
+ghost use Rattle.fields.specs.Working.Identifying.{nameFaultIn, faultIn, literalIn, tokenIn};
 
 // Is none of the n bytes from i on this one? The loop has no early end, so that many bytes are compared at once.
 fn is_without(s: &[u8], i: usize, n: usize, b: u8) -> bool
@@ -217,46 +209,6 @@ pub fn identifier_fault(s: &[u8], consts: &[u8], constants: &[usize], t: Token) 
     refusal_of(t.kind)
 }
 
-// Enters an identifier into the index, unless it is there already.
-pub fn enter(pool: &mut [u8], places: &mut [usize], count: usize, end: usize, id: &[u8]) -> Entry
-    ensures { λ r. ⌜ entry r (now (pool .exit)) (now (places .exit)) ≡ enterIn (now (pool .entry)) (now (places .entry)) count end (now (id .entry)) ⌝ }
-{
-    let i = index::find(pool, places, count, id);
-    if i < count {
-        return Entry::At {
-            number: i,
-            count,
-            end,
-        };
-    }
-    match index::add_principal(pool, places, count, end, id) {
-        index::Entered::Now { count: c, end: e } => Entry::At {
-            number: i,
-            count: c,
-            end: e,
-        },
-        index::Entered::Full => Entry::Full,
-    }
-}
-
-// As `enter`, with the answer built anew: a copy of the whole would wait for the stores of its parts.
-pub fn entered(pool: &mut [u8], places: &mut [usize], count: usize, end: usize, id: &[u8]) -> Entry
-    ensures { λ r. ⌜ entry r (now (pool .exit)) (now (places .exit)) ≡ enterIn (now (pool .entry)) (now (places .entry)) count end (now (id .entry)) ⌝ }
-{
-    match enter(pool, places, count, end, id) {
-        Entry::Full => Entry::Full,
-        Entry::At {
-            number,
-            count: c,
-            end: m,
-        } => Entry::At {
-            number,
-            count: c,
-            end: m,
-        },
-    }
-}
-
 // Enters what the literal at `start` gives, decoded apart.
 fn enter_decoded(
     s: &[u8],
@@ -265,18 +217,18 @@ fn enter_decoded(
     count: usize,
     end: usize,
     start: usize,
-) -> Entry
-    ensures { λ r. ⌜ entry r (now (pool .exit)) (now (places .exit)) ≡ literalIn (now (pool .entry)) (now (places .entry)) count end (decodedAt (now (s .entry)) start) ⌝ }
+) -> Numbered
+    ensures { λ r. ⌜ numbered r (now (pool .exit)) (now (places .exit)) ≡ literalIn (now (pool .entry)) (now (places .entry)) count end (decodedAt (now (s .entry)) start) ⌝ }
 {
     let n = literal_length(s, start);
     if MOST_IDENTIFIER < n {
-        return Entry::Full;
+        return Numbered::Full;
     }
-    let mut id = [0u8; 256];
+    let mut id = [0u8; MOST_IDENTIFIER];
     if decode_into(s, start, &mut id, 0) {
-        return entered(pool, places, count, end, &id[..n]);
+        return enter(pool, places, count, end, &id[..n]);
     }
-    Entry::Full
+    Numbered::Full
 }
 
 // Enters what the literal at `start` gives; one of plain bytes as it stands.
@@ -287,17 +239,17 @@ fn enter_literal(
     count: usize,
     end: usize,
     start: usize,
-) -> Entry
-    ensures { λ r. ⌜ entry r (now (pool .exit)) (now (places .exit)) ≡ literalIn (now (pool .entry)) (now (places .entry)) count end (decodedAt (now (s .entry)) start) ⌝ }
+) -> Numbered
+    ensures { λ r. ⌜ numbered r (now (pool .exit)) (now (places .exit)) ≡ literalIn (now (pool .entry)) (now (places .entry)) count end (decodedAt (now (s .entry)) start) ⌝ }
 {
     let e = bare_end(s, start);
     if e == 0 {
         return enter_decoded(s, pool, places, count, end, start);
     }
     if MOST_IDENTIFIER < e - (start + 1) {
-        return Entry::Full;
+        return Numbered::Full;
     }
-    entered(pool, places, count, end, &s[start + 1..e])
+    enter(pool, places, count, end, &s[start + 1..e])
 }
 
 // Enters the principal that t identifies.
@@ -310,12 +262,12 @@ pub fn enter_token(
     count: usize,
     end: usize,
     t: Token,
-) -> Entry
-    ensures { λ r. ⌜ entry r (now (pool .exit)) (now (places .exit)) ≡ tokenIn (now (s .entry)) (now (consts .entry)) (now (constants .entry)) (now (pool .entry)) (now (places .entry)) count end t ⌝ }
+) -> Numbered
+    ensures { λ r. ⌜ numbered r (now (pool .exit)) (now (places .exit)) ≡ tokenIn (now (s .entry)) (now (consts .entry)) (now (constants .entry)) (now (pool .entry)) (now (places .entry)) count end t ⌝ }
 {
     if t.kind == kind::LITERAL {
         return enter_literal(s, pool, places, count, end, t.start);
     }
     let name = word(s, t);
-    entered(pool, places, count, end, attribute(consts, constants, name))
+    enter(pool, places, count, end, attribute(consts, constants, name))
 }

@@ -1,6 +1,5 @@
 // Licensees, written as a postfix program over the index of principals.
 use crate::list::Licensed;
-use crate::list::MOST_BRACKETS;
 use crate::list::State;
 use crate::list::licensee;
 use crate::list::licensee_before;
@@ -14,6 +13,8 @@ use compliance::machine;
 use lexical::kind;
 use lexical::line::token_at;
 use lexical::token::Token;
+use limits::MOST_BRACKETS;
+use limits::MOST_CODE;
 ghost use mathlib.Core.Path.{_≡_};
 ghost use Rattle.fields.specs.Working.List.{ran};
 ghost use Rattle.fields.specs.Working.Chain.{jointOf, joinOf, closedIn, single, operandAt, moreAt, chainAt, primaryAt, endIn, fieldIn};
@@ -22,9 +23,6 @@ ghost use Rattle.fields.specs.Working.Chain.{jointOf, joinOf, closedIn, 
 const ALL: usize = 0;
 
 const ANY: usize = 1;
-
-// The entries of code that a field may take.
-pub const MOST_CODE: usize = 48;
 
 // The token that joins operands at a level.
 fn joint_of(level: usize) -> usize

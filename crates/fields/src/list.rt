@@ -1,12 +1,12 @@
 // Licensees one by one and in lists, written as instructions.
-use crate::identifier::Entry;
 use crate::identifier::enter_token;
-use crate::identifier::entered;
 use crate::identifier::identifier_fault;
 use crate::identifier::is_whole;
 use crate::out::NO_ROOM;
 use crate::out::refusal_of;
 use compliance::machine;
+use index::Numbered;
+use index::enter;
 use lexical::kind;
 use lexical::line::token_at;
 use lexical::number::number_at;
@@ -17,8 +17,6 @@ ghost use Prim.Native.Nat.{_-_, _<_};
 ghost use Rattle.lexical.specs.Token.{token};
 ghost use Rattle.fields.specs.Licensees.{after};
 ghost use Rattle.fields.specs.Working.List.{ran, above, pushed, refusedLicensed, itemsOf, listedIn, placedIn, licenseeIn, listIn, openedIn, thresholdIn, wrote};
-
-pub const MOST_BRACKETS: usize = 16;
 
 // The index's count and end, the end of the code, and how many licensees were read.
 pub struct State {
@@ -87,16 +85,16 @@ fn small(k: u64) -> u8
 }
 
 // Writes the licensee t, entered as e. The token behind it is built anew: a copy of the whole would wait for the stores of its parts.
-fn placed(code: &mut [u16], st: State, n: Token, e: Entry) -> Licensed
+fn placed(code: &mut [u16], st: State, n: Token, e: Numbered) -> Licensed
     requires { ⌜ st .listed < 16 ⌝ }
     ensures { λ r. ⌜ wrote r (now (code .exit)) ≡ placedIn (now (code .entry)) st n e ⌝ }
 {
     match e {
-        Entry::Full => Licensed::Aside {
+        Numbered::Full => Licensed::Aside {
             reason: NO_ROOM,
             place: 0,
         },
-        Entry::At { number, count, end } => {
+        Numbered::At { number, count, end } => {
             if 32768 <= number {
                 return Licensed::Aside {
                     reason: NO_ROOM,
@@ -153,7 +151,7 @@ pub(crate) fn licensee_before(
                 place: start,
             };
         }
-        let e = entered(pool, places, st.count, st.end, &s[start + 1..end - 1]);
+        let e = enter(pool, places, st.count, st.end, &s[start + 1..end - 1]);
         return placed(code, st, n, e);
     }
     let f = identifier_fault(s, consts, constants, t);

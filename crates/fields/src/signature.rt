@@ -5,16 +5,14 @@ use lexical::kind;
 use lexical::literal::is_sized;
 use lexical::literal::literal_length;
 use lexical::token::Token;
+use limits::MOST_LITERAL;
 ghost use mathlib.Core.Path.{_≡_};
 ghost use lib.Dec.{leb};
 ghost use lib.ListN.{length};
 ghost use Rattle.lexical.specs.Literal.{decodedAt};
-ghost use Rattle.fields.specs.Limits.{mostLiteral};
+ghost use Rattle.limits.specs.Limits.{mostLiteral};
 ghost use Rattle.fields.specs.Signature.{signature};
 ghost use Rattle.fields.specs.Working.Outs.{outOf};
-
-// The decoded bytes that a literal may have.
-pub const MOST_LITERAL: usize = 2048;
 
 // Does the literal t give no more bytes than it may? It is scanned only where its end does not tell.
 pub fn is_fitting(s: &[u8], t: Token) -> bool

@@ -1,4 +1,5 @@
 pub mod Entry
+pub mod Tree
 pub mod Index
 pub mod IndexLaws
 pub mod EnterLaws

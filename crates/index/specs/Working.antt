@@ -1,3 +1,3 @@
-pub mod Finding
-pub mod Blocks
+pub mod Walking
 pub mod Adding
+pub mod Entering

@@ -1,130 +1,100 @@
 // The index of principals: each distinct identifier gets a number when it is first read. Identifiers lie in a lent pool, each behind its
 // two-byte length; a lent table holds an entry for each.
 ghost use mathlib.Core.Path.{_≡_};
-ghost use Prim.Native.Nat.{_+_, _%_, _<_, _≤_};
-ghost use lib.ListN.{length, take, set};
+ghost use mathlib.Core.Bool.{_&&_};
+ghost use Prim.Native.Nat.{_<_};
+ghost use lib.Dec.{ltb};
+ghost use lib.ListN.{set};
 ghost use Rattle.text.specs.Copy.{copied};
 ghost use Rattle.principal.specs.Tag.{tag};
-ghost use Rattle.index.specs.Entry.{nameAt, isAt};
-ghost use Rattle.index.specs.Working.Finding.{found, findRest};
-ghost use Rattle.index.specs.Working.Blocks.{hitsAt};
+ghost use Rattle.index.specs.Entry.{nameAt, isAt, child, linked};
+ghost use Rattle.index.specs.Working.Walking.{walked};
 ghost use Rattle.index.specs.Working.Adding.{countedInto, entered, addInto, principalInto};
+ghost use Rattle.index.specs.Working.Entering.{linkInto, numbered, enterNew, enterIn};
 
-// The tag of an entry: its low half.
-fn low(e: usize) -> u32
-    ensures { λ r. ⌜ r ≡ e % 4294967296 ⌝ }
-{
-    (e % 4294967296) as u32
-}
+// An entry has 12 bits for the number of another.
+pub const MOST_NUMBERED: usize = 4096;
 
 // Is it the entry of the identifier, whose tag is t?
-fn is_entry(pool: &[u8], e: usize, id: &[u8], t: u32) -> bool
+fn is_entry(pool: &[u8], e: usize, id: &[u8], t: usize) -> bool
     requires { ⌜ t ≡ tag (now id) ⌝ }
     ensures { λ r. ⌜ r ≡ isAt (now (pool .entry)) (now (id .entry)) e ⌝ }
 {
-    if low(e) == t {
-        return principal::same_principal(id, text::counted_at(pool, e / 4294967296));
+    if e % 1048576 == t {
+        return principal::same_principal(id, name_at(pool, e));
     }
     false
 }
 
-fn narrow(j: usize) -> u32
-    requires { ⌜ j < 16 ⌝ }
-    ensures { λ r. ⌜ r ≡ j ⌝ }
+// The further entry for tags whose next bit is t's.
+fn child_of(e: usize, t: usize) -> usize
+    ensures { λ r. ⌜ r ≡ child e t ⌝ }
 {
-    j as u32
-}
-
-fn wide(h: u32) -> usize
-    ensures { λ r. ⌜ r ≡ h ⌝ }
-{
-    h as usize
-}
-
-// The entries with the tag t among the 16 from i on, each counted as 256 and its distance from i: less than 512 tells where the only one stands.
-// The loop has no early end and asks for no length.
-fn hits(places: &[usize], i: usize, t: u32) -> u32
-    requires { ⌜ i + 16 ≤ length (now places) ⌝ }
-    ensures { λ r. ⌜ r ≡ hitsAt (now (places .entry)) i t 16 ⌝ }
-{
-    let mut sum: u32 = 0;
-    let mut j: usize = 0;
-    while j < 16 {
-        let w = 256 + narrow(j);
-        if low(places[i + j]) == t {
-            sum += w;
-        }
-        j += 1;
+    if t % 2 == 0 {
+        return e / 1099511627776 % 4096;
     }
-    sum
+    e / 4503599627370496
 }
 
-// The index of an identifier, whose tag is t, among the entries from `from` to n, or where they end.
-fn find_from(pool: &[u8], places: &[usize], from: usize, n: usize, id: &[u8], t: u32) -> usize
-    requires { ⌜ t ≡ tag (now id) ⌝ }
-    ensures { λ r. ⌜ r ≡ findRest (now (pool .entry)) (now (places .entry)) n (now (id .entry)) from ⌝ }
+// An entry with c for it.
+fn with_child(e: usize, t: usize, c: usize) -> usize
+    requires { ⌜ c < 4096 ⌝ }
+    ensures { λ r. ⌜ r ≡ linked e t c ⌝ }
 {
-    let mut i = from;
-    while i < n {
+    if t % 2 == 0 {
+        return e / 4503599627370496 * 4503599627370496 + c * 1099511627776 + e % 1099511627776;
+    }
+    c * 4503599627370496 + e % 4503599627370496
+}
+
+fn is_between(a: usize, b: usize, c: usize) -> bool
+    ensures { λ r. ⌜ r ≡ ltb a b && ltb b c ⌝ }
+{
+    if a < b {
+        return b < c;
+    }
+    false
+}
+
+// Where a search ends: at the identifier's entry, or at the entry that it would follow by the rest of its tag.
+enum Walk {
+    Found { number: usize },
+    Missing { last: usize, rest: usize },
+}
+
+// The search for an identifier, whose tag is t, among the first n entries.
+fn walk_tree(pool: &[u8], places: &[usize], n: usize, id: &[u8], t: usize) -> Walk
+    requires { ⌜ t ≡ tag (now id) ⌝ }
+    ensures { λ r. ⌜ r ≡ walked (now (pool .entry)) (now (places .entry)) n (now (id .entry)) n 0 t ⌝ }
+{
+    let mut left = n;
+    let mut i: usize = 0;
+    let mut rest = t;
+    while 0 < left {
         if places.len() <= i {
-            return i;
+            return Walk::Missing { last: i, rest };
         }
         let e = places[i];
         if is_entry(pool, e, id, t) {
-            return i;
+            return Walk::Found { number: i };
         }
-        i += 1;
-    }
-    i
-}
-
-// The same among the 16 entries from i on.
-fn find_in_block(pool: &[u8], places: &[usize], i: usize, id: &[u8], t: u32) -> usize
-    requires { ⌜ (i + 16 ≤ length (now places)) × (t ≡ tag (now id)) ⌝ }
-    ensures { λ r. ⌜ r ≡ findRest (now (pool .entry)) (now (places .entry)) (i + 16) (now (id .entry)) i ⌝ }
-{
-    let h = hits(places, i, t);
-    if h == 0 {
-        return i + 16;
-    }
-    if 512 <= h {
-        return find_from(pool, places, i, i + 16, id, t);
-    }
-    let k = i + (wide(h) - 256);
-    let e = places[k];
-    if is_entry(pool, e, id, t) {
-        return k;
-    }
-    i + 16
-}
-
-// The index of an identifier among the first n, or n where it is none of them. A block may reach behind them.
-pub fn find(pool: &[u8], places: &[usize], n: usize, id: &[u8]) -> usize
-    ensures { λ r. ⌜ r ≡ found (now (pool .entry)) (now (id .entry)) (take n (now (places .entry))) ⌝ }
-{
-    let t = low(principal::tag_of(id));
-    let mut i: usize = 0;
-    while i < n {
-        if places.len() - i < 16 {
-            return find_from(pool, places, i, n, id, t);
+        let c = child_of(e, rest);
+        if is_between(i, c, n) {
+            i = c;
+            rest = rest / 2;
+            left -= 1;
+        } else {
+            return Walk::Missing { last: i, rest };
         }
-        let r = find_in_block(pool, places, i, id, t);
-        if n <= r {
-            return n;
-        }
-        if r < i + 16 {
-            return r;
-        }
-        i += 16;
     }
-    i
+    Walk::Missing { last: i, rest }
 }
 
 // The identifier of an entry.
 pub fn name_at(pool: &[u8], e: usize) -> &[u8]
     ensures { λ r. ⌜ now r ≡ nameAt (now (pool .entry)) e ⌝ }
 {
-    text::counted_at(pool, e / 4294967296)
+    text::counted_at(pool, e / 1048576 % 1048576)
 }
 
 // What entering an identifier gives: how many there are now and where the pool's front ends, or no room.
@@ -181,25 +151,88 @@ fn put_entry(places: &mut [usize], i: usize, e: usize)
     places[i] = e;
 }
 
-// Enters a principal behind the others, with its tag.
-pub fn add_principal(
+// Enters a principal, whose tag is t, behind the others.
+fn add_principal(
     pool: &mut [u8],
     places: &mut [usize],
     count: usize,
     end: usize,
     id: &[u8],
+    t: usize,
 ) -> Entered
+    requires { ⌜ (t ≡ tag (now id)) × (t < 1048576) ⌝ }
     ensures { λ r. ⌜ entered r (now (pool .exit)) (now (places .exit)) ≡ principalInto (now (pool .entry)) (now (places .entry)) count end (now (id .entry)) ⌝ }
 {
-    if 4294967294 <= end {
+    if 1048574 <= end {
         return Entered::Full;
     }
-    let t = principal::tag_of(id);
     match add(pool, places, count, end, id) {
         Entered::Full => Entered::Full,
         Entered::Now { count: c, end: m } => {
-            put_entry(places, count, (end + 2) * 4294967296 + t);
+            put_entry(places, count, (end + 2) * 1048576 + t);
             Entered::Now { count: c, end: m }
         }
+    }
+}
+
+// Lets entry c follow entry i for tags whose next bit is t's.
+fn link(places: &mut [usize], i: usize, t: usize, c: usize)
+    requires { ⌜ c < 4096 ⌝ }
+    ensures { λ _. ⌜ now (places .exit) ≡ linkInto (now (places .entry)) i t c ⌝ }
+{
+    if places.len() <= i {
+        return;
+    }
+    places[i] = with_child(places[i], t, c);
+}
+
+// A principal's number in the index, with the index's count and end; or no room for it.
+pub enum Numbered {
+    At {
+        number: usize,
+        count: usize,
+        end: usize,
+    },
+    Full,
+}
+
+// Enters an identifier that isn't there, behind the others; by the rest of its tag it follows entry `last`.
+fn enter_new(
+    pool: &mut [u8],
+    places: &mut [usize],
+    count: usize,
+    end: usize,
+    id: &[u8],
+    t: usize,
+    last: usize,
+    rest: usize,
+) -> Numbered
+    requires { ⌜ (t ≡ tag (now id)) × (t < 1048576) ⌝ }
+    ensures { λ r. ⌜ numbered r (now (pool .exit)) (now (places .exit)) ≡ enterNew (now (pool .entry)) (now (places .entry)) count end (now (id .entry)) last rest ⌝ }
+{
+    if MOST_NUMBERED <= count {
+        return Numbered::Full;
+    }
+    match add_principal(pool, places, count, end, id, t) {
+        Entered::Full => Numbered::Full,
+        Entered::Now { count: c, end: m } => {
+            link(places, last, rest, count);
+            Numbered::At {
+                number: count,
+                count: c,
+                end: m,
+            }
+        }
+    }
+}
+
+// Enters an identifier into the index, unless it is there already.
+pub fn enter(pool: &mut [u8], places: &mut [usize], count: usize, end: usize, id: &[u8]) -> Numbered
+    ensures { λ r. ⌜ numbered r (now (pool .exit)) (now (places .exit)) ≡ enterIn (now (pool .entry)) (now (places .entry)) count end (now (id .entry)) ⌝ }
+{
+    let t = principal::tag_of(id);
+    match walk_tree(pool, places, count, id, t) {
+        Walk::Found { number } => Numbered::At { number, count, end },
+        Walk::Missing { last, rest } => enter_new(pool, places, count, end, id, t, last, rest),
     }
 }

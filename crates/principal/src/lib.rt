@@ -1,11 +1,11 @@
 // Principals: the one function that compares two identifiers, and a number that tells most of them apart.
 ghost use mathlib.Core.Path.{_≡_};
-ghost use Prim.Native.Nat.{_+_, _*_, _%_, _<_};
+ghost use Prim.Native.Nat.{_+_, _*_, _/_, _%_, _<_, _≤_};
 ghost use lib.ListN.{length, take, drop};
 ghost use Rattle.principal.specs.Canonical.{fold, folded, front, isHex};
 ghost use Rattle.principal.specs.Principal.{policy, same};
 ghost use Rattle.text.specs.Equal.{equal};
-ghost use Rattle.principal.specs.Tag.{back, tag};
+ghost use Rattle.principal.specs.Tag.{plain, caseless, group, mixed, mixedWith, tag};
 
 // Where the first ":" stands, or the end.
 fn colon_at(id: &[u8]) -> usize
@@ -114,49 +114,122 @@ pub fn is_policy(b: &[u8]) -> bool
     text::same_bytes(b, b"POLICY")
 }
 
-fn wide(b: u8) -> usize
-    ensures { λ r. ⌜ r ≡ b ⌝ }
+// A byte without the bit in which a capital letter differs from its small one.
+fn caseless_byte(b: u8) -> usize
+    ensures { λ r. ⌜ r ≡ plain b ⌝ }
+    ensures { λ r. ⌜ r < 128 ⌝ }
 {
-    b as usize
+    (b % 32 + 32 * (b / 64 % 4)) as usize
 }
 
-// The byte k before the last one, without case.
-fn back_at(id: &[u8], k: usize) -> usize
-    requires { ⌜ k < length (now id) ⌝ }
-    ensures { λ r. ⌜ r ≡ back (now (id .entry)) k ⌝ }
-    ensures { λ r. ⌜ r < 256 ⌝ }
+// The same of the byte at i, which is there.
+fn byte_at(id: &[u8], i: usize) -> usize
+    requires { ⌜ i < length (now id) ⌝ }
+    ensures { λ r. ⌜ r ≡ caseless (now (id .entry)) i ⌝ }
+    ensures { λ r. ⌜ r < 128 ⌝ }
 {
-    let b = wide(fold_byte(id[id.len() - 1 - k]));
-    b % 256
+    caseless_byte(id[i])
 }
 
 // The same, or 0.
-fn back_of(id: &[u8], k: usize) -> usize
-    ensures { λ r. ⌜ r ≡ back (now (id .entry)) k ⌝ }
-    ensures { λ r. ⌜ r < 256 ⌝ }
+fn byte_or_none(id: &[u8], i: usize) -> usize
+    ensures { λ r. ⌜ r ≡ caseless (now (id .entry)) i ⌝ }
+    ensures { λ r. ⌜ r < 128 ⌝ }
 {
-    if id.len() <= k {
+    if id.len() <= i {
         return 0;
     }
-    back_at(id, k)
+    byte_at(id, i)
 }
 
-// The tag of n bytes that end with c, b and a.
-fn tag_with(n: usize, a: usize, b: usize, c: usize) -> usize
-    requires { ⌜ (a < 256) × (b < 256) × (c < 256) ⌝ }
-    ensures { λ r. ⌜ r ≡ n % 256 + 256 * a + 65536 * b + 16777216 * c ⌝ }
+// Four such as one number.
+fn grouped(a: usize, b: usize, c: usize, d: usize) -> usize
+    requires { ⌜ (a < 128) × (b < 128) × (c < 128) × (d < 128) ⌝ }
+    ensures { λ r. ⌜ r ≡ a + 128 * b + 16384 * c + 2097152 * d ⌝ }
+    ensures { λ r. ⌜ r < 268435456 ⌝ }
 {
-    n % 256 + 256 * a + 65536 * b + 16777216 * c
+    a + 128 * b + 16384 * c + 2097152 * d
+}
+
+// The four bytes from i on, which are there.
+fn group_at(id: &[u8], i: usize) -> usize
+    requires { ⌜ i + 4 ≤ length (now id) ⌝ }
+    ensures { λ r. ⌜ r ≡ group (now (id .entry)) i ⌝ }
+    ensures { λ r. ⌜ r < 268435456 ⌝ }
+{
+    grouped(
+        byte_at(id, i),
+        byte_at(id, i + 1),
+        byte_at(id, i + 2),
+        byte_at(id, i + 3),
+    )
+}
+
+// A number mixed with one more.
+fn mix(h: usize, v: usize) -> usize
+    requires { ⌜ (h < 4294967296) × (v < 268435456) ⌝ }
+    ensures { λ r. ⌜ r ≡ mixed h v ⌝ }
+    ensures { λ r. ⌜ r < 4294967296 ⌝ }
+{
+    (h * 2654435761 + v) % 4294967296
+}
+
+// With k groups from `from` on, which are there.
+fn mix_groups(id: &[u8], k: usize, from: usize, h: usize) -> usize
+    requires { ⌜ (from + 4 * k ≤ length (now id)) × (h < 4294967296) ⌝ }
+    ensures { λ r. ⌜ r ≡ mixedWith (now (id .entry)) k from h ⌝ }
+    ensures { λ r. ⌜ r < 4294967296 ⌝ }
+{
+    let mut left = k;
+    let mut i = from;
+    let mut sum = h;
+    while 0 < left {
+        sum = mix(sum, group_at(id, i));
+        i += 4;
+        left -= 1;
+    }
+    sum
+}
+
+// 20 bits of a mixed number.
+fn middle(h: usize) -> usize
+    requires { ⌜ h < 4294967296 ⌝ }
+    ensures { λ r. ⌜ r ≡ h * 2654435761 / 16777216 % 1048576 ⌝ }
+    ensures { λ r. ⌜ r < 1048576 ⌝ }
+{
+    h * 2654435761 / 16777216 % 1048576
+}
+
+// The tag of fewer than four bytes.
+fn short_tag(id: &[u8]) -> usize
+    requires { ⌜ length (now id) < 4 ⌝ }
+    ensures { λ r. ⌜ r ≡ tag (now (id .entry)) ⌝ }
+    ensures { λ r. ⌜ r < 1048576 ⌝ }
+{
+    let v = grouped(
+        byte_or_none(id, 0),
+        byte_or_none(id, 1),
+        byte_or_none(id, 2),
+        byte_or_none(id, 3),
+    );
+    middle(mix(id.len(), v))
 }
 
 // A number that the same principal always has.
 pub fn tag_of(id: &[u8]) -> usize
     ensures { λ r. ⌜ r ≡ tag (now (id .entry)) ⌝ }
-    ensures { λ r. ⌜ r < 4294967296 ⌝ }
+    ensures { λ r. ⌜ r < 1048576 ⌝ }
 {
     let n = id.len();
-    if n < 3 {
-        return tag_with(n, back_of(id, 0), back_of(id, 1), back_of(id, 2));
+    if n < 4 {
+        return short_tag(id);
     }
-    tag_with(n, back_at(id, 0), back_at(id, 1), back_at(id, 2))
+    let last = group_at(id, n - 4);
+    if n <= 64 {
+        let all = mix_groups(id, n / 4, 0, n);
+        return middle(mix(all, last));
+    }
+    let front = mix_groups(id, 8, 0, n % 4294967296);
+    let back = mix_groups(id, 8, n - 32, front);
+    middle(mix(back, last))
 }

@@ -5,6 +5,7 @@ use Prim.Native.Char.{code}
 use Prim.Native.String.{String, [] as nothing, _∷_ as _then_}
 use lib.Dec.{eqb}
 use lib.ListN.{getD, replicate}
+use Rattle.limits.specs.Limits.{mostReport}
 use Rattle.text.specs.Choice.{pick}
 use Rattle.text.specs.Counted.{pairAt}
 use Rattle.keynote.specs.Outcome.{outcome, pageAfter}
@@ -52,10 +53,10 @@ refusalLine o end = pairLine (bytes "refused ") (o .number) (bytes " at ") (o .p
 unfoldable pub outcomeLines : Outcome → ℕ → List ℕ → List ℕ → List ℕ
 outcomeLines o values page end = pick (eqb (o .number) 0) (headLines o values end ++ assertionLines page end (pairAt page 1 / 3)) (refusalLine o end)
 
--- the page that is lent: 3 bytes, and 3 for each of 32 assertions
+-- the page that is lent: any report fits
 abbrev pub blank : List ℕ
-blank = replicate 99 0
+blank = replicate mostReport 0
 
 -- what is printed of a record; how many compliance values there are stands in its byte 1
 unfoldable pub lines : List ℕ → List ℕ → List ℕ
-lines s end = outcomeLines (outcome s 99) (getD s 1 0) (pageAfter s blank) end
+lines s end = outcomeLines (outcome s mostReport) (getD s 1 0) (pageAfter s blank) end

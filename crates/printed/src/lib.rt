@@ -1,6 +1,8 @@
 // What is printed for a record: the class, the rounds, the reach and what became of each assertion, or the refusal.
 use keynote::Outcome;
 use keynote::lampsickle_answer;
+use limits::MOST_ASSERTIONS;
+use limits::MOST_REPORT;
 use text::copy_at;
 use text::pair_at;
 ghost use mathlib.Core.Path.{_≡_};
@@ -12,11 +14,8 @@ ghost use Rattle.printed.specs.Numeral.{decimal};
 ghost use Rattle.printed.specs.Fill.{filled, fillAt};
 ghost use Rattle.printed.specs.Lines.{said, line, pairLine, headLines, assertionLine, assertionLines, refusalLine, lines};
 
-// A page that any report fits on: 3 bytes, and 3 for each of 32 assertions.
-const PAGE: usize = 99;
-
-// Room for the lines of any answer with an `end` of one byte: three lines, and one of at most 31 bytes for each of 32 assertions.
-pub const LINES: usize = 2048;
+// Room for the lines of any answer with an `end` of one byte: three lines of at most 64 bytes together, and one of at most 33 for each assertion.
+pub const LINES: usize = 64 + 33 * MOST_ASSERTIONS;
 
 // The first n bytes, or all of them.
 pub fn cut(text: &[u8], n: usize) -> &[u8]
@@ -168,7 +167,7 @@ fn add_refusal(out: &mut [u8], answer: Outcome, end: &[u8]) -> usize
 pub fn answer_lines(query: &[u8], end: &[u8], out: &mut [u8]) -> usize
     ensures { λ r. ⌜ filled r (now (out .exit)) ≡ fillAt (now (out .entry)) 0 (lines (now (query .entry)) (now (end .entry))) ⌝ }
 {
-    let mut page = [0u8; PAGE];
+    let mut page = [0u8; MOST_REPORT];
     let answer = lampsickle_answer(query, &mut page);
     if answer.number != 0 {
         return add_refusal(out, answer, end);

@@ -1,6 +1,6 @@
 // POLICY and the requesters, entered into the index.
-use fields::identifier::Entry;
-use fields::identifier::enter;
+use index::Numbered;
+use index::enter;
 ghost use mathlib.Core.Path.{_≡_};
 ghost use lib.ListN.{set};
 ghost use Rattle.system.specs.Working.Asking.{asked, askIn, allFrom, begun, beginIn};
@@ -25,8 +25,8 @@ fn ask(pool: &mut [u8], places: &mut [usize], direct: &mut [u8], index: Index, i
     ensures { λ r. ⌜ asked r (now (pool .exit)) (now (places .exit)) (now (direct .exit)) ≡ askIn (now (pool .entry)) (now (places .entry)) (now (direct .entry)) index (now (id .entry)) ⌝ }
 {
     match enter(pool, places, index.count, index.end, id) {
-        Entry::Full => index,
-        Entry::At { number, count, end } => {
+        Numbered::Full => index,
+        Numbered::At { number, count, end } => {
             mark(direct, number);
             Index { count, end }
         }
@@ -59,8 +59,8 @@ pub fn begin(pool: &mut [u8], places: &mut [usize]) -> Index
     ensures { λ r. ⌜ begun r (now (pool .exit)) (now (places .exit)) ≡ beginIn (now (pool .entry)) (now (places .entry)) ⌝ }
 {
     match enter(pool, places, 0, 0, b"POLICY") {
-        Entry::Full => Index { count: 0, end: 0 },
-        Entry::At {
+        Numbered::Full => Index { count: 0, end: 0 },
+        Numbered::At {
             number: _,
             count,
             end,

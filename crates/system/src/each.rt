@@ -3,14 +3,16 @@ use crate::note::Ends;
 use crate::note::note;
 use assertion::Reading;
 use assertion::read;
+use limits::MOST_CONSTANTS;
+use limits::MOST_ENTERED;
+use limits::MOST_LENGTHS;
+use limits::MOST_NAMED;
 ghost use mathlib.Core.Path.{_≡_};
 ghost use lib.ListN.{getD, drop};
 ghost use Prim.Native.Nat.{_+_, _-_};
 ghost use lib.Dec.{ltb};
 ghost use Rattle.text.specs.Choice.{pick};
 ghost use Rattle.system.specs.Working.Each.{fixed, store, oneBy, oneIn, full, wentBy, eachBy, eachFrom};
-
-pub const MOST_CONSTANTS: usize = 16;
 
 // The byte at a place, 0 past the end.
 fn byte_at(s: &[u8], at: usize) -> u8
@@ -81,7 +83,7 @@ fn behind(i: usize, n: usize) -> usize
     i
 }
 
-// Is a table too small for one assertion more: 16 constants of its text, 17 principals of 256 bytes?
+// Is a table too small for one assertion more: the constants of its text, and the longest identifiers?
 fn is_full(
     consts: usize,
     start: usize,
@@ -96,22 +98,22 @@ fn is_full(
     if consts < start {
         return true;
     }
-    if consts - start < 64 {
+    if consts - start < MOST_LENGTHS {
         return true;
     }
-    if consts - start - 64 < text {
+    if consts - start - MOST_LENGTHS < text {
         return true;
     }
     if pool < end {
         return true;
     }
-    if pool - end < 4386 {
+    if pool - end < MOST_ENTERED {
         return true;
     }
     if places < count {
         return true;
     }
-    places - count < 17
+    places - count < MOST_NAMED
 }
 
 // How far the reading went, and the ends there.

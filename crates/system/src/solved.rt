@@ -5,35 +5,44 @@ use crate::asked::begin as begin_index;
 use crate::each::read_each;
 use crate::note::Ends;
 use crate::note::put_header;
-use compliance::PRINCIPALS;
 use compliance::Solution;
 use compliance::solve;
 use constants::begin as begin_constants;
 use limits::MOST_ASSERTIONS;
+use limits::MOST_CODE;
+use limits::MOST_CONSTS;
+use limits::MOST_ENTERED;
+use limits::MOST_POOL;
+use limits::MOST_PRINCIPALS;
+use limits::MOST_PROGRAMS;
 ghost use mathlib.Core.Path.{_≡_};
+ghost use mathlib.Core.List.{[], _∷_};
 ghost use lib.ListN.{take};
 ghost use Prim.Native.Nat.{_-_, _%_};
 ghost use Rattle.text.specs.Copy.{copied, copyAt};
 ghost use Rattle.system.specs.Working.Each.{fixed};
+ghost use Rattle.system.specs.Working.Sizes.{middle, large};
 ghost use Rattle.system.specs.Working.Solving.{solvedBy, rowsGive, grownIn, filledIn, filledLong, solvedIn};
 
 // Tables for most queries: the two joined texts and 16 constants of a text, principals, and their identifiers.
-const SOME_CONSTS: usize = 4096;
+const SOME_CONSTS: usize = 3200;
 
 const SOME_PRINCIPALS: usize = 128;
 
-const SOME_POOL: usize = 8192;
+const SOME_POOL: usize = 7168;
 
-// Tables for every query: the longest texts, and an identifier of 256 bytes behind its length for each principal.
-const CONSTS: usize = 11400;
+// Their assertions, and the instructions of the fields Licensees.
+const SOME_ROWS: usize = 32;
 
-const POOL: usize = 142674;
+const SOME_CODE: usize = SOME_ROWS * MOST_CODE;
 
-// Longer records mostly need the larger tables.
+// The identifiers of most long records, and those beside which there is room for an assertion's.
+const MIDDLE_POOL: usize = 76800;
+
+const MIDDLE_MOST: usize = MIDDLE_POOL - MOST_ENTERED;
+
+// Longer records, and those with more assertions, mostly need the larger tables.
 const LONG: usize = 16384;
-
-// The instructions of a field Licensees, for each assertion.
-const CODE: usize = 1536;
 
 fn front_bytes(l: &[u8], n: usize) -> &[u8]
     ensures { λ r. ⌜ now r ≡ take n (now (l .entry)) ⌝ }
@@ -112,8 +121,8 @@ fn solve_rows(
     )
 }
 
-// The assertions from the one with that number on read and solved, over larger tables that begin as the old ones.
-fn grown(
+// The assertions from the one with that number on read and solved, over tables for every query that begin as the old ones.
+fn grown_large(
     query: &[u8],
     values: &[usize],
     names: &[usize],
@@ -123,8 +132,8 @@ fn grown(
     joined: &[u8],
     identifiers: &[u8],
     indexed: &[usize],
+    marks: &[u8],
     code: &mut [u16],
-    direct: &[u8],
     authors: &mut [u16],
     conds: &mut [u8],
     ends: &mut [u16],
@@ -132,14 +141,16 @@ fn grown(
     next: usize,
     e: Ends,
 ) -> Solution
-    ensures { λ r. ⌜ solvedBy r (now (page .exit)) ≡ grownIn (fixed (now (query .entry)) (now (values .entry)) (now (names .entry)) top start) (now (texts .entry)) (now (joined .entry)) (now (identifiers .entry)) (now (indexed .entry)) (now (code .entry)) (now (direct .entry)) (now (authors .entry)) (now (conds .entry)) (now (ends .entry)) (now (page .entry)) next e ⌝ }
+    ensures { λ r. ⌜ solvedBy r (now (page .exit)) ≡ grownIn large [] (fixed (now (query .entry)) (now (values .entry)) (now (names .entry)) top start) (now (texts .entry)) (now (joined .entry)) (now (identifiers .entry)) (now (indexed .entry)) (now (marks .entry)) (now (code .entry)) (now (authors .entry)) (now (conds .entry)) (now (ends .entry)) (now (page .entry)) next e ⌝ }
 {
-    let mut consts = [0u8; CONSTS];
-    let mut pool = [0u8; POOL];
-    let mut places = [0usize; PRINCIPALS];
+    let mut consts = [0u8; MOST_CONSTS];
+    let mut pool = [0u8; MOST_POOL];
+    let mut places = [0usize; MOST_PRINCIPALS];
+    let mut direct = [0u8; MOST_PRINCIPALS];
     text::copy_at(&mut consts, 0, joined);
     text::copy_at(&mut pool, 0, identifiers);
     copy_places(&mut places, 0, indexed);
+    text::copy_at(&mut direct, 0, marks);
     let w = read_each(
         query,
         values,
@@ -158,7 +169,80 @@ fn grown(
         next,
         e,
     );
-    solve_rows(authors, conds, ends, code, direct, w.ends, top)
+    solve_rows(authors, conds, ends, code, &direct, w.ends, top)
+}
+
+// The same over tables for most long records, and from where these are full over those for every query.
+fn grown(
+    query: &[u8],
+    values: &[usize],
+    names: &[usize],
+    top: u8,
+    start: usize,
+    texts: &[usize],
+    joined: &[u8],
+    identifiers: &[u8],
+    indexed: &[usize],
+    marks: &[u8],
+    code: &mut [u16],
+    authors: &mut [u16],
+    conds: &mut [u8],
+    ends: &mut [u16],
+    page: &mut [u8],
+    next: usize,
+    e: Ends,
+) -> Solution
+    ensures { λ r. ⌜ solvedBy r (now (page .exit)) ≡ grownIn middle (large ∷ []) (fixed (now (query .entry)) (now (values .entry)) (now (names .entry)) top start) (now (texts .entry)) (now (joined .entry)) (now (identifiers .entry)) (now (indexed .entry)) (now (marks .entry)) (now (code .entry)) (now (authors .entry)) (now (conds .entry)) (now (ends .entry)) (now (page .entry)) next e ⌝ }
+{
+    let mut consts = [0u8; MOST_CONSTS];
+    let mut pool = [0u8; MIDDLE_POOL];
+    let mut places = [0usize; MOST_PRINCIPALS];
+    let mut direct = [0u8; MOST_PRINCIPALS];
+    text::copy_at(&mut consts, 0, joined);
+    text::copy_at(&mut pool, 0, identifiers);
+    copy_places(&mut places, 0, indexed);
+    text::copy_at(&mut direct, 0, marks);
+    let w = read_each(
+        query,
+        values,
+        names,
+        top,
+        start,
+        texts,
+        &mut consts,
+        &mut pool,
+        &mut places,
+        code,
+        authors,
+        conds,
+        ends,
+        page,
+        next,
+        e,
+    );
+    let u = w.ends;
+    if w.next < texts.len() {
+        return grown_large(
+            query,
+            values,
+            names,
+            top,
+            start,
+            texts,
+            front_bytes(&consts, start),
+            front_bytes(&pool, u.end),
+            front_places(&places, u.count),
+            front_bytes(&direct, u.count),
+            code,
+            authors,
+            conds,
+            ends,
+            page,
+            w.next,
+            u,
+        );
+    }
+    solve_rows(authors, conds, ends, code, &direct, u, top)
 }
 
 // The assertions at `texts` read and solved, over an index that has POLICY and the requesters.
@@ -177,10 +261,10 @@ fn fill(
 ) -> Solution
     ensures { λ r. ⌜ solvedBy r (now (page .exit)) ≡ filledIn (now (query .entry)) (now (values .entry)) (now (names .entry)) (now (texts .entry)) start (now (consts .entry)) (now (pool .entry)) (now (places .entry)) (now (direct .entry)) index (now (page .entry)) ⌝ }
 {
-    let mut code = [0u16; CODE];
-    let mut authors = [0u16; MOST_ASSERTIONS];
-    let mut conds = [0u8; MOST_ASSERTIONS];
-    let mut ends = [0u16; MOST_ASSERTIONS];
+    let mut code = [0u16; SOME_CODE];
+    let mut authors = [0u16; SOME_ROWS];
+    let mut conds = [0u8; SOME_ROWS];
+    let mut ends = [0u16; SOME_ROWS];
     let top = top_of(values.len());
     put_header(page, texts.len());
     let from = Ends {
@@ -219,8 +303,8 @@ fn fill(
             front_bytes(consts, start),
             front_bytes(pool, e.end),
             front_places(places, e.count),
+            front_bytes(direct, e.count),
             &mut code,
-            direct,
             &mut authors,
             &mut conds,
             &mut ends,
@@ -232,7 +316,8 @@ fn fill(
     solve_rows(&authors, &conds, &ends, &code, direct, e, top)
 }
 
-// The same for a long record: into the larger tables at once. A second call of `grown` also has the compiler keep those apart from the small ones.
+// The same for a long record or many assertions: into the middle tables at once, or into the large ones. That each of the functions called here is called
+// from two places also has the compiler keep their tables apart.
 fn fill_long(
     query: &[u8],
     values: &[usize],
@@ -248,7 +333,7 @@ fn fill_long(
 ) -> Solution
     ensures { λ r. ⌜ solvedBy r (now (page .exit)) ≡ filledLong (now (query .entry)) (now (values .entry)) (now (names .entry)) (now (texts .entry)) start (now (consts .entry)) (now (pool .entry)) (now (places .entry)) (now (direct .entry)) index (now (page .entry)) ⌝ }
 {
-    let mut code = [0u16; CODE];
+    let mut code = [0u16; MOST_PROGRAMS];
     let mut authors = [0u16; MOST_ASSERTIONS];
     let mut conds = [0u8; MOST_ASSERTIONS];
     let mut ends = [0u16; MOST_ASSERTIONS];
@@ -260,6 +345,27 @@ fn fill_long(
         size: 0,
         kept: 0,
     };
+    if MIDDLE_MOST < e.end {
+        return grown_large(
+            query,
+            values,
+            names,
+            top,
+            start,
+            texts,
+            front_bytes(consts, start),
+            front_bytes(pool, e.end),
+            front_places(places, e.count),
+            front_bytes(direct, e.count),
+            &mut code,
+            &mut authors,
+            &mut conds,
+            &mut ends,
+            page,
+            0,
+            e,
+        );
+    }
     grown(
         query,
         values,
@@ -270,8 +376,8 @@ fn fill_long(
         front_bytes(consts, start),
         front_bytes(pool, e.end),
         front_places(places, e.count),
+        front_bytes(direct, e.count),
         &mut code,
-        direct,
         &mut authors,
         &mut conds,
         &mut ends,
@@ -295,7 +401,7 @@ pub fn solved(
     let mut consts = [0u8; SOME_CONSTS];
     let mut pool = [0u8; SOME_POOL];
     let mut places = [0usize; SOME_PRINCIPALS];
-    let mut direct = [0u8; PRINCIPALS];
+    let mut direct = [0u8; SOME_PRINCIPALS];
     let start = begin_constants(&mut consts, query, values, requesters);
     let alone = begin_index(&mut pool, &mut places);
     let index = ask_all(
@@ -307,6 +413,21 @@ pub fn solved(
         alone,
     );
     if LONG < query.len() {
+        return fill_long(
+            query,
+            values,
+            names,
+            texts,
+            start,
+            &consts,
+            &pool,
+            &places,
+            &direct,
+            index,
+            page,
+        );
+    }
+    if SOME_ROWS < texts.len() {
         return fill_long(
             query,
             values,

@@ -1,5 +1,6 @@
 // Byte strings: equality, order, copying, joining and decimal numbers, as the layers above need them.
 ghost use mathlib.Core.Path.{_≡_};
+ghost use mathlib.Core.Bool.{_&&_};
 ghost use mathlib.Core.List.{map, _++_};
 ghost use Prim.Native.Nat.{_+_, _-_, _*_, _≤_, _<_, min};
 ghost use lib.Dec.{leb};
@@ -116,6 +117,43 @@ fn same_below(a: &[u8], b: &[u8], n: usize) -> bool
     true
 }
 
+// The same of fewer than eight bytes, from the last one on.
+fn same_few(a: &[u8], b: &[u8]) -> bool
+    requires { ⌜ length (now a) ≡ length (now b) ⌝ }
+    ensures { λ r. ⌜ r ≡ equal (now (a .entry)) (now (b .entry)) ⌝ }
+{
+    let mut i = a.len();
+    while 0 < i {
+        if a[i - 1] != b[i - 1] {
+            return false;
+        }
+        i -= 1;
+    }
+    true
+}
+
+// Are the bytes from `low` on the same? Eight at a time, the last ones first; the lowest eight may reach below.
+fn same_above(a: &[u8], b: &[u8], low: usize) -> bool
+    requires { ⌜ (length (now a) ≡ length (now b)) × (low ≤ length (now a)) × (8 ≤ length (now a)) ⌝ }
+    ensures { λ r. ⌜ equal (now (a .entry)) (now (b .entry)) ≡ r && equal (take low (now (a .entry))) (take low (now (b .entry))) ⌝ }
+{
+    let mut i = a.len();
+    while 8 <= i - low {
+        if same_part(a, b, i - 8, 8) {
+            i -= 8;
+        } else {
+            return false;
+        }
+    }
+    if i <= low {
+        return true;
+    }
+    if i < 8 {
+        return same_part(a, b, 0, 8);
+    }
+    same_part(a, b, i - 8, 8)
+}
+
 // Do both hold the same bytes? Strings that differ often share their beginnings, so the last bytes come first.
 pub fn same_bytes(a: &[u8], b: &[u8]) -> bool
     ensures { λ r. ⌜ r ≡ equal (now (a .entry)) (now (b .entry)) ⌝ }
@@ -123,15 +161,14 @@ pub fn same_bytes(a: &[u8], b: &[u8]) -> bool
     if a.len() != b.len() {
         return false;
     }
-    let k = a.len() / 64;
-    let mut i = a.len();
-    while k * 64 < i {
-        if a[i - 1] != b[i - 1] {
-            return false;
-        }
-        i -= 1;
+    if a.len() < 8 {
+        return same_few(a, b);
     }
-    same_below(a, b, k)
+    let k = a.len() / 64;
+    if same_above(a, b, k * 64) {
+        return same_below(a, b, k);
+    }
+    false
 }
 
 // The same for strings that may be long: in blocks of 1,024 bytes first.

@@ -17,7 +17,7 @@ const RUN_TIME: Duration = Duration::from_millis(20);
 
 fn main() {
     let wanted: Vec<String> = std::env::args().skip(1).collect();
-    println!("{:<24}{:<10}{:>8}{:>12}{:>12}{:>12}  outcome", "workload", "by", "bytes", "median", "least", "greatest");
+    println!("{:<32}{:<10}{:>8}{:>12}{:>12}{:>12}  outcome", "workload", "by", "bytes", "median", "least", "greatest");
     for workload in workload::all() {
         if !wanted.is_empty() && !wanted.iter().any(|part| workload.name.contains(part.as_str())) {
             continue;
@@ -34,7 +34,7 @@ fn report(name: &str, implementation: Implementation, workload: &Workload) {
     let mut times: Vec<u128> = (0..RUNS).map(|_| time(implementation, &workload.record)).collect();
     times.sort_unstable();
     println!(
-        "{:<24}{name:<10}{:>8}{:>12}{:>12}{:>12}  {} rank {} rounds {} reached {}, first reason {}",
+        "{:<32}{name:<10}{:>8}{:>12}{:>12}{:>12}  {} rank {} rounds {} reached {}, first reason {}",
         workload.name,
         workload.record.len(),
         times[RUNS / 2],

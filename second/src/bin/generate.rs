@@ -53,7 +53,7 @@ fn write(seed: u64, count: u64, file: &str) -> io::Result<Coverage> {
         let outcome = answer(&record, &mut page);
         let report = report(&outcome, &page);
         coverage.count(&outcome, report);
-        coverage.count_spellings(&record, &outcome);
+        coverage.count_query(&record, &outcome, report);
         // A page that is too small is the reader's choice, so it is counted here.
         coverage.count(&answer(&record, &mut []), &[]);
         let Outcome { number, place, rank, rounds, reached } = outcome;

@@ -3,6 +3,7 @@
 use std::collections::BTreeMap;
 use std::fmt;
 
+use super::crowd;
 use super::pattern_coverage::PatternCoverage;
 use crate::{check, limits, record, solution_by_bytes, Outcome};
 
@@ -16,6 +17,8 @@ pub struct Coverage {
     /// Answers that would be other ones if spellings were principals, by what
     /// would be another.
     pub spellings: BTreeMap<&'static str, u64>,
+    /// Queries that are large in one way or another.
+    pub crowds: BTreeMap<&'static str, u64>,
     pub patterns: PatternCoverage,
 }
 
@@ -24,6 +27,19 @@ const SPELLINGS: [&str; 3] = ["rank", "rounds", "reached"];
 
 /// So many different rounds must occur.
 const ROUNDS: usize = 20;
+
+/// Ways to be large.
+const CROWDS: [&str; 9] = [
+    "33 to 199 assertions answered",
+    "200 assertions answered",
+    "200 assertions in 65,535 bytes answered",
+    "201 assertions refused",
+    "over 201 assertions refused",
+    "an assertion behind the 32nd set aside",
+    "the 200th assertion set aside",
+    "201 rounds",
+    "3,201 principals reached",
+];
 
 impl Coverage {
     /// Counts an outcome and, where there is one, its report.
@@ -40,9 +56,18 @@ impl Coverage {
         }
     }
 
-    /// Counts an answer that rests on keys with several spellings, and its pattern tests.
-    pub fn count_spellings(&mut self, record: &[u8], outcome: &Outcome) {
+    /// Counts what tells one query from another.
+    pub fn count_query(&mut self, record: &[u8], outcome: &Outcome, report: &[u8]) {
+        self.count_spellings(record, outcome);
         self.patterns.count(record);
+        let met = crowds(record, outcome, report);
+        for (what, _) in CROWDS.iter().zip(met).filter(|(_, met)| *met) {
+            *self.crowds.entry(what).or_default() += 1;
+        }
+    }
+
+    /// Counts an answer that rests on keys with several spellings.
+    fn count_spellings(&mut self, record: &[u8], outcome: &Outcome) {
         let Some(other) = solution_by_bytes(record).filter(|_| outcome.number == 0) else { return };
         let changed = [outcome.rank != other.rank, outcome.rounds != other.rounds, outcome.reached != other.reached];
         for (what, _) in SPELLINGS.iter().zip(changed).filter(|(_, changed)| *changed) {
@@ -71,6 +96,9 @@ impl Coverage {
         for what in SPELLINGS {
             need(self.spellings.contains_key(what), format!("spellings of one key that change the {what}"));
         }
+        for what in CROWDS {
+            need(self.crowds.contains_key(what), what.into());
+        }
         missing.extend(self.patterns.missing());
         missing
     }
@@ -84,6 +112,33 @@ impl fmt::Display for Coverage {
         writeln!(formatter, "rounds  {:?}", self.rounds)?;
         writeln!(formatter, "reached {:?}", self.reached)?;
         writeln!(formatter, "changed by spellings {:?}", self.spellings)?;
+        writeln!(formatter, "large ones {:?}", self.crowds)?;
         write!(formatter, "{}", self.patterns)
     }
+}
+
+/// Which of `CROWDS` an outcome meets.
+fn crowds(record: &[u8], outcome: &Outcome, report: &[u8]) -> [bool; CROWDS.len()] {
+    let most = limits::ASSERTIONS.most;
+    if outcome.number != 0 {
+        let count = record.get(outcome.place).map_or(0, |&byte| usize::from(byte));
+        let refused = outcome.number == record::COUNT;
+        let mut met = [false; CROWDS.len()];
+        (met[3], met[4]) = (refused && count == most + 1, refused && count > most + 1);
+        return met;
+    }
+    let entries: Vec<&[u8]> = report[limits::REPORT_HEAD..].chunks_exact(limits::REPORT_ENTRY).collect();
+    let aside = |from: usize| entries.iter().skip(from).any(|entry| entry[0] != 0);
+    let full = entries.len() == most;
+    [
+        (crowd::LEAST..most).contains(&entries.len()),
+        full,
+        full && record.len() == limits::RECORD_BYTES,
+        false,
+        false,
+        aside(crowd::LEAST - 1),
+        aside(most - 1),
+        outcome.rounds > most,
+        outcome.reached > most * limits::LICENSEES,
+    ]
 }

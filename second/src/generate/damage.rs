@@ -277,10 +277,13 @@ fn counts(random: &mut Random, draft: &mut Draft) {
         2 => draft.requesters.clear(),
         3 => draft.requesters = vec![b"r".to_vec(); random.between(8, 10)],
         4 => {
-            let count = random.between(32, 34);
+            let count = random.between(limits::ATTRIBUTES.most, limits::ATTRIBUTES.most + 2);
             draft.attributes = (0..count).map(|index| (format!("n{index}").into(), Vec::new())).collect();
         }
-        _ => draft.assertions = vec![(1, b"Authorizer: \"POLICY\"".to_vec()); random.between(32, 34)],
+        _ => {
+            let count = random.between(limits::ASSERTIONS.most - 1, limits::ASSERTIONS.most + 2);
+            draft.assertions = vec![(1, b"Authorizer: \"POLICY\"".to_vec()); count];
+        }
     }
 }
 

@@ -16,6 +16,9 @@ struct Edge {
 /// Spells a principal, given by its number, where it is mentioned.
 pub type Spell<'a> = &'a dyn Fn(&mut Random, usize) -> Vec<u8>;
 
+/// The most assertions of a web; `crowd` has more.
+const ASSERTIONS: usize = 32;
+
 /// The most principals that a web has.
 pub const PRINCIPALS: usize = 48;
 
@@ -64,8 +67,7 @@ fn identifier(number: usize) -> Vec<u8> {
 }
 
 fn edges(random: &mut Random) -> Vec<Edge> {
-    let most = limits::ASSERTIONS.most;
-    let count = random.between(1, most);
+    let count = random.between(1, ASSERTIONS);
     match random.below(5) {
         // A chain, with or without a way back.
         0 | 1 => {

@@ -102,13 +102,15 @@ fn number_4() {
 
     let assertions = |count| (0..count).fold(Draft::plain(), |draft, _| draft.local("#"));
     assert_eq!(draft_refused(&assertions(0)), (0, 0));
-    assert_eq!(draft_refused(&assertions(32)), (0, 0));
-    assert_eq!(draft_refused(&assertions(33)), (4, 24));
+    assert_eq!(draft_refused(&assertions(200)), (0, 0));
+    for count in 201..=255 {
+        assert_eq!(draft_refused(&assertions(count)), (4, 24), "{count}");
+    }
 
     // The last place: attributes fill the record up to the count.
     let mut draft = filled(limits::RECORD_BYTES - 1);
     assert_eq!(draft.record().len(), 65_534);
-    draft.assertions = vec![(1, vec![b'#']); 33];
+    draft.assertions = vec![(1, vec![b'#']); 201];
     let record = draft.record();
     assert_eq!(refused(&record[..65_534]), (4, 65_533));
 }

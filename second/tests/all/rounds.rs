@@ -130,3 +130,17 @@ fn equations_by_name() {
         solved_by_name(&of_sort(&mut random, Sort::Keys));
     }
 }
+
+/// With up to 200 assertions.
+#[test]
+fn equations_of_crowds() {
+    let mut random = Random::new(29);
+    let mut solved = 0;
+    while solved < 40 {
+        let record = of_sort(&mut random, Sort::Crowd);
+        if record::read(&record).is_ok() {
+            solved_by_name(&record);
+            solved += 1;
+        }
+    }
+}

@@ -124,9 +124,25 @@ fn limit_of_licensees() {
 #[test]
 fn limit_of_assertions() {
     let with = |count| (0..count).fold(Draft::plain(), |draft, _| draft.local(POLICY));
-    assert_eq!(solved(&with(32)), (1, 1, 1));
-    let refused = answer(&with(33).record(), &mut [0; PAGE]);
+    assert_eq!(solved(&with(200)), (1, 1, 1));
+    let refused = answer(&with(201).record(), &mut [0; PAGE]);
     assert_eq!(refused, Outcome { number: 4, place: 24, ..Outcome::default() });
+}
+
+/// The report takes 603 bytes, the reach holds 3,201 principals.
+#[test]
+fn largest_answer() {
+    assert_eq!(PAGE, 603);
+    let record = second::workload::distinct(200).record();
+    let mut page = [0xa5; PAGE + 1];
+    assert_eq!(answer(&record, &mut page[..PAGE - 1]), Outcome { number: 9, ..Outcome::default() });
+    assert_eq!(page, [0xa5; PAGE + 1]);
+    let outcome = answer(&record, &mut page);
+    assert_eq!(outcome, Outcome { number: 0, place: 0, rank: 1, rounds: 2, reached: 3_201 });
+    assert_eq!((&page[..3], page[PAGE]), (&[1, 2, 88][..], 0xa5));
+    assert!(page[3..PAGE].iter().all(|&byte| byte == 0));
+    let outcome = answer(&second::workload::chain(200).record(), &mut page);
+    assert_eq!(outcome, Outcome { number: 0, place: 0, rank: 1, rounds: 201, reached: 201 });
 }
 
 #[test]

@@ -7,6 +7,7 @@ use native.Mathlib.Omega.{arith}
 use lib.Dec.{eqb}
 use lib.ListN.{length, getD, take, length-append}
 use borrow.Author.Tests.{eqb-true}
+use Rattle.limits.specs.Limits.{mostCounted}
 use Rattle.text.specs.Choice.{split}
 use Rattle.record.specs.Query.{Query, Attribute}
 use Rattle.lexical.specs.Kind
@@ -144,8 +145,8 @@ module _ {q : Query} {g : Given} {top : ℕ} {x : Tables} {names : List Principa
       })
 
   -- Authorizer
-  author-index : getD free Kind.AUTHORIZER 0 ≡ 1 → (p : Principal) (c e : ℕ) (pool places : List ℕ) → Holds pool places c e (enter (enterAll names (held .ps)) p) → e ≤ 258 * c
-      → e ≤ u .end + 258 → Indexed names end (without free Kind.AUTHORIZER) (held .ps ++ (p ∷ [])) c e pool places
+  author-index : getD free Kind.AUTHORIZER 0 ≡ 1 → (p : Principal) (c e : ℕ) (pool places : List ℕ) → Holds pool places c e (enter (enterAll names (held .ps)) p) → e ≤ mostCounted * c
+      → e ≤ u .end + mostCounted → Indexed names end (without free Kind.AUTHORIZER) (held .ps ++ (p ∷ [])) c e pool places
   author-index one p c e pool places holds low near =
       let l : length (held .ps ++ (p ∷ [])) ≡ length (held .ps) + 1 = length-append (held .ps) (p ∷ []) in
       record {

@@ -7,6 +7,7 @@ use Prim.Native.Nat.{ℕ, _+_, _*_, _≤_}
 use native.Mathlib.Omega.{arith}
 use lib.ListN.{length, getD, take}
 use lib.Seq.{take-take, take-at, length-take-le}
+use Rattle.limits.specs.Limits.{mostLicensees, mostNamed, mostCounted, mostCode}
 use Rattle.record.specs.Query.{Query}
 use Rattle.record.specs.Lies.{Lie, AttributeAt}
 use Rattle.lexical.specs.Kind
@@ -34,16 +35,16 @@ pub data Authored (names : List Principal) : Option Principal → Bool → ℕ �
 -- the Licensees' program behind the old ones, where there was one: then their label is used up
 pub data Listed (names : List Principal) (old : List ℕ) (size left : ℕ) (code : List ℕ) : Licensees → Bool → ℕ → Type 0 where
   unlisted : (z : ℕ) → z ≡ size → take size code ≡ old → Listed names old size left code missing false z
-  listed : (f : Licensees) (z : ℕ) → left ≡ 0 → take z code ≡ old ++ compiled names f → z ≡ size + length (compiled names f) → z ≤ size + 48
-      → ((p : Principal) → Mem p (licensees f) → member p names ≡ true) → ((e : Expression) → f ≡ given e → Formed e) → length (licensees f) ≤ 16
+  listed : (f : Licensees) (z : ℕ) → left ≡ 0 → take z code ≡ old ++ compiled names f → z ≡ size + length (compiled names f) → z ≤ size + mostCode
+      → ((p : Principal) → Mem p (licensees f) → member p names ≡ true) → ((e : Expression) → f ≡ given e → Formed e) → length (licensees f) ≤ mostLicensees
       → Listed names old size left code f true z
 
 -- the index with the principals ps behind the names, and the room that is left
 pub record Indexed (names : List Principal) (end : ℕ) (free : List ℕ) (ps : List Principal) (c e : ℕ) (pool places : List ℕ) : Type 0 where
   pub holds : Holds pool places c e (enterAll names ps)
-  pub low : e ≤ 258 * c
-  pub near : e ≤ end + 258 * length ps
-  pub room : length ps + 16 * getD free Kind.LICENSEES 0 + getD free Kind.AUTHORIZER 0 ≤ 17
+  pub low : e ≤ mostCounted * c
+  pub near : e ≤ end + mostCounted * length ps
+  pub room : length ps + mostLicensees * getD free Kind.LICENSEES 0 + getD free Kind.AUTHORIZER 0 ≤ mostNamed
 
 -- more names in the index
 pub author-more : (names more : List Principal) {a : Option Principal} {b : Bool} {i : ℕ} → Authored names a b i → Authored (names ++ more) a b i

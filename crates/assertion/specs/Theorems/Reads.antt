@@ -7,6 +7,7 @@ use Prim.Native.Nat.{ℕ, _+_, _<_, _≤_}
 use native.Mathlib.Omega.{arith}
 use lib.Dec.{eqb}
 use lib.ListN.{length, getD, take}
+use Rattle.limits.specs.Limits.{mostLicensees, mostCode}
 use Rattle.text.specs.Choice.{pick, split}
 use Rattle.text.specs.Loop.{Step, done}
 use Rattle.record.specs.Query.{Query}
@@ -52,10 +53,10 @@ none-named names p = elim [ ]
 pub record Ended (names : List Principal) (old : List ℕ) (size : ℕ) (f : Licensees) (z : ℕ) (code : List ℕ) : Type 0 where
   pub wrote : take z code ≡ old ++ compiled names f
   pub ends : z ≡ size + length (compiled names f)
-  pub most : z ≤ size + 48
+  pub most : z ≤ size + mostCode
   pub named : (p : Principal) → Mem p (licensees f) → member p names ≡ true
   pub formed : (e : Expression) → f ≡ stating e → Formed e
-  pub few : length (licensees f) ≤ 16
+  pub few : length (licensees f) ≤ mostLicensees
 
 -- "A missing field is top"
 missing-ends : (names : List Principal) (old code : List ℕ) (size : ℕ) → size < length code → take size code ≡ old → Ended names old size missing (above code size) (pushed code size topCode)

@@ -4,6 +4,7 @@ use mathlib.Core.Bool.{true}
 use mathlib.Core.List.{List, _++_, List·Memᴰ as Mem}
 use Prim.Native.Nat.{ℕ, _+_, _*_, _≤_}
 use lib.ListN.{length, take}
+use Rattle.limits.specs.Limits.{mostText, mostLicensees, mostConstants, mostNamed, mostCounted, mostEntered, mostNumbers, mostCode, mostLengths}
 use Rattle.text.specs.Join.{joined}
 use Rattle.record.specs.Query.{Query}
 use Rattle.record.specs.Encode.{stringBytes}
@@ -23,21 +24,21 @@ use Rattle.assertion.specs.declared.Reading.the-variants.{Kept, Dropped}
 
 -- the query's record is at hand, the index holds the names, and there is room for one assertion more
 pub record Ready (q : Query) (g : Given) (x : Tables) (names : List Principal) (count end size : ℕ) : Type 0 where
-  pub short : length (g .text) ≤ 8192
+  pub short : length (g .text) ≤ mostText
   pub values : Lie (StringAt (g .query)) (g .values) (q .values)
   pub attributes : Lie (AttributeAt (g .query)) (g .names) (q .attributes)
   pub begun : take (g .start) (x .consts) ≡ stringBytes (joined (q .values)) ++ stringBytes (joined (q .requesters))
   pub values-short : length (joined (q .values)) ≤ 65535
   pub requesters-short : length (joined (q .requesters)) ≤ 65535
   pub few : length (q .values) ≤ 256
-  pub constants-room : 16 ≤ length (x .constants)
-  pub consts-room : g .start + 64 + length (g .text) ≤ length (x .consts)
+  pub constants-room : mostConstants ≤ length (x .constants)
+  pub consts-room : g .start + mostLengths + length (g .text) ≤ length (x .consts)
   pub holds : Holds (x .pool) (x .places) count end names
-  pub tight : end ≤ 258 * count
-  pub places-room : count + 17 ≤ length (x .places)
-  pub pool-room : end + 17 * 258 ≤ length (x .pool)
-  pub numbers : length names + 17 ≤ 32768
-  pub code-room : size + 48 ≤ length (x .code)
+  pub tight : end ≤ mostCounted * count
+  pub places-room : count + mostNamed ≤ length (x .places)
+  pub pool-room : end + mostEntered ≤ length (x .pool)
+  pub numbers : length names + mostNamed ≤ mostNumbers
+  pub code-room : size + mostCode ≤ length (x .code)
 
 -- the tables after an assertion: as long as before, and the two joined texts stand
 pub record After (g : Given) (x y : Tables) : Type 0 where
@@ -58,11 +59,11 @@ worth top q (stated cs p) = conditions (environment q cs) p
 pub data ReadAs (q : Query) (g : Given) (top : ℕ) (x : Tables) (names : List Principal) (count end size : ℕ) : Read → Result → Type 0 where
   as-dropped : (r p : ℕ) (y : Tables) → (r ≡ 0 → ⊥) → After g x y → Holds (y .pool) (y .places) count end names → take size (y .code) ≡ take size (x .code)
       → ReadAs q g top x names count end size (dropped r p) (readBy (Dropped r p) y)
-  as-kept : (a : Assertion) (ps : List Principal) (i k c e z : ℕ) (y : Tables) → After g x y → length ps ≤ 17
-      → Holds (y .pool) (y .places) c e (enterAll names ps) → e ≤ 258 * c
+  as-kept : (a : Assertion) (ps : List Principal) (i k c e z : ℕ) (y : Tables) → After g x y → length ps ≤ mostNamed
+      → Holds (y .pool) (y .places) c e (enterAll names ps) → e ≤ mostCounted * c
       → i ≡ place (enterAll names ps) (a .authorizer) → member (a .authorizer) (enterAll names ps) ≡ true
       → ((p : Principal) → Mem p (licensees (a .licensees)) → member p (enterAll names ps) ≡ true)
-      → ((e : Expression) → a .licensees ≡ given e → Formed e) → length (licensees (a .licensees)) ≤ 16
+      → ((e : Expression) → a .licensees ≡ given e → Formed e) → length (licensees (a .licensees)) ≤ mostLicensees
       → take z (y .code) ≡ take size (x .code) ++ compiled (enterAll names ps) (a .licensees)
-      → z ≡ size + length (compiled (enterAll names ps) (a .licensees)) → z ≤ size + 48
+      → z ≡ size + length (compiled (enterAll names ps) (a .licensees)) → z ≤ size + mostCode
       → k ≡ worth top q (a .conditions) → ReadAs q g top x names count end size (kept a) (readBy (Kept i k c e z) y)

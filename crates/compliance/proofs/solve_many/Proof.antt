@@ -1,3 +1,5 @@
+use native.Mathlib.Omega.{arith}
+use Rattle.limits.specs.Limits.{mostAssertions, mostPrincipals}
 use Rattle.compliance.specs.Working.Solve.{part-long, part-blank}
 use borrow.Author.Needs.{needs}
 use Rattle.compliance.proofs.solve_many.Statement.{statement}
@@ -10,31 +12,28 @@ array-borrow-prefix-ranks : tie.Need-array-borrow-prefix-ranks
 array-borrow-prefix-ranks c = search needs
 
 slice-aggregate-solve-in : tie.Need-slice-aggregate-solve-in
-slice-aggregate-solve-in c = part-long 553 _ (search needs)
+slice-aggregate-solve-in c = part-long mostPrincipals _ (search needs)
 
 array-borrow-prefix-next : tie.Need-array-borrow-prefix-next
 array-borrow-prefix-next c = search needs
 
 slice-aggregate-solve-in-2 : tie.Need-slice-aggregate-solve-in-2
-slice-aggregate-solve-in-2 c = part-long 553 _ (search needs)
-
-array-borrow-prefix-reach : tie.Need-array-borrow-prefix-reach
-array-borrow-prefix-reach c = search needs
+slice-aggregate-solve-in-2 c = part-long mostPrincipals _ (search needs)
 
 slice-aggregate-solve-in-3 : tie.Need-slice-aggregate-solve-in-3
-slice-aggregate-solve-in-3 c = part-long 553 _ (search needs)
+slice-aggregate-solve-in-3 c = search needs
 
 array-borrow-prefix-done : tie.Need-array-borrow-prefix-done
 array-borrow-prefix-done c = search needs
 
 slice-aggregate-solve-in-4 : tie.Need-slice-aggregate-solve-in-4
-slice-aggregate-solve-in-4 c = part-long 32 _ (search needs)
+slice-aggregate-solve-in-4 c = part-long mostAssertions _ (search needs)
 
 slice-aggregate-solve-in-5 : tie.Need-slice-aggregate-solve-in-5
 slice-aggregate-solve-in-5 c = search needs
 
 solve-in-requires : tie.Need-solve-in-requires
-solve-in-requires c κs = part-blank 553 _ (search needs) 32 _ (search needs)
+solve-in-requires c κs = part-blank mostPrincipals _ (search needs) (omega arith) mostAssertions _ (search needs)
 
 returns : tie.Need-returns
 returns c = search needs
@@ -47,7 +46,6 @@ solve-many-spec =
     slice-aggregate-solve-in
     array-borrow-prefix-next
     slice-aggregate-solve-in-2
-    array-borrow-prefix-reach
     slice-aggregate-solve-in-3
     array-borrow-prefix-done
     slice-aggregate-solve-in-4

@@ -16,8 +16,7 @@ use Rattle.principal.specs.Principal.{Principal, policy, same-refl}
 use Rattle.principal.specs.Members.{member, d[], d∷, member-here, member-left}
 use Rattle.compliance.specs.Licensees.{Expression, given, licensees}
 use Rattle.compliance.specs.System.{Assertion, System}
-use Rattle.limits.specs.Limits.{mostAssertions, mostLicensees}
-use Rattle.compliance.specs.Limits.{principalsMost}
+use Rattle.limits.specs.Limits.{mostAssertions, mostLicensees, mostPrincipals}
 use Rattle.compliance.specs.Tables.{place, compiled, startOf, programOf, Formed, Row, Represents}
 use Rattle.compliance.specs.Theorems.Fill.{place-stays, distinct-added, program-stays, program-added, row-stays}
 
@@ -87,7 +86,7 @@ fill-start requesters top = record {
 module _ (names : List Principal) (authors conds ends code direct : List ℕ) (l : List Assertion) (requesters : List Principal) (top : ℕ)
     (f : Filling names authors conds ends code direct l requesters top) where
   -- a principal that is new gets the next index
-  pub fill-name : (p : Principal) → member p names ≡ false → length names < principalsMost
+  pub fill-name : (p : Principal) → member p names ≡ false → length names < mostPrincipals
       → Filling (names ++ (p ∷ [])) authors conds ends code (direct ++ (asking requesters p ∷ [])) l requesters top
   fill-name p n h =
       let r = f .represents in

@@ -20,8 +20,7 @@ use Rattle.compliance.specs.System.{Assertion, System, asserted, delegat
 use Rattle.compliance.specs.System as system
 use Rattle.compliance.specs.Reach.{reach, InReach, Reachable, root, licensee}
 use Rattle.compliance.specs.Rounds.{settled, reached, firstSettled, rounds, rank}
-use Rattle.limits.specs.Limits.{mostAssertions, mostLicensees}
-use Rattle.compliance.specs.Limits.{principalsMost}
+use Rattle.limits.specs.Limits.{mostAssertions, mostLicensees, mostPrincipals}
 use Rattle.compliance.specs.Tables.{place, compiled, Row, Represents}
 use Rattle.compliance.specs.Theorems.Monotone.{round-alike}
 use Rattle.compliance.specs.Theorems.Reach.{reach-licenses, reach-root, reach-sound, reach-distinct}
@@ -279,8 +278,8 @@ module _ (names : List Principal) (authors conds ends code direct : List ℕ) (t
       let z : blank (length direct) ≡ map (held s 0) names = place-none names (held s 0) (length direct) direct-long (λ q m. nothing q) in
       let n = firstSettled s (reached s) 0 in
       let p : getD (map (held s n) names) 0 0 ≡ rank s policy = policy-rank n ∙ rounds-rank s policy (reach-root s) in
-      let a : length direct ≤ principalsMost = omega (arith, direct-long, rep .fewNames) in
-      rw (le-ltb principalsMost (length direct) a, le-ltb mostAssertions (length authors) (rep .fewRows), f, k, z, settle-table (reached s) 0, p)
+      let a : length direct ≤ mostPrincipals = omega (arith, direct-long, rep .fewNames) in
+      rw (le-ltb mostPrincipals (length direct) a, le-ltb mostAssertions (length authors) (rep .fewRows), f, k, z, settle-table (reached s) 0, p)
     where
       nothing : (q : Principal) → held s 0 q ≡ 0
       nothing q = split (member q (reach s)) (λ i. held-in s 0 q i ∙ refl) (λ i. held-out s 0 q i)

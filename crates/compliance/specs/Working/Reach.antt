@@ -7,13 +7,14 @@ use native.Mathlib.Omega.{arith}
 use native.Mathlib.Numerals.{add-one}
 use native.Mathlib.Nat.{sub-zero}
 use lib.Dec.{eqb, ltb}
-use lib.ListN.{length, getD, set, drop, drop-of-length-le}
-use lib.Seq.{drop-cons, set-out}
+use lib.ListN.{length, getD, set, take, drop, length-take, drop-of-length-le, List·getD-eq-default}
+use lib.Seq.{drop-cons, set-out, take-set-lt, drop-set-lt, getD-take}
 use borrow.Author.Tests.{lt-ltb, le-ltb, eq-eqb, ne-eqb}
 use Rattle.text.specs.Choice.{pick}
 use Rattle.compliance.specs.Codes.{topCode}
 use Rattle.compliance.specs.Tables.{programOf}
 use Rattle.compliance.specs.Working.Tables.{one-less}
+use Rattle.compliance.specs.Working.Words.{flagsOf, flagsIn, spareIn}
 
 -- the principal that an instruction names, flagged
 unfoldable pub marked : ℕ → List ℕ → List ℕ
@@ -48,18 +49,39 @@ pub record Expanded (done reach done′ reach′ : List ℕ) : Type 0 where
 
 -- ---- the ways
 
-module _ (reach : List ℕ) (op : ℕ) where
-  pub mark-in : op < topCode → (i : ℕ) → i ≡ op → set reach i 1 ≡ marked op reach
-  unfolding marked
-  mark-in h i e = rw (lt-ltb op topCode h, e)
+-- `mark`, over words for n flags
+module _ (ws : List ℕ) (n op : ℕ) where
+  module _ (h : op < topCode) (i : ℕ) (e : i ≡ op) where
+    module _ (k : i < n) (vs : List ℕ) (s : flagsOf vs ≡ set (flagsOf ws) i 1) where
+      pub mark-in : flagsIn n vs ≡ marked op (flagsIn n ws)
+      unfolding marked flagsIn
+      mark-in = rw (lt-ltb op topCode h, ← e, s) (take-set-lt n (flagsOf ws) i 1 k)
 
-  pub mark-far : op < topCode → (i : ℕ) → i ≡ op → length reach ≤ i → reach ≡ marked op reach
-  unfolding marked
-  mark-far h i e k = rw (lt-ltb op topCode h, ← e) (sym (set-out reach i 1 k))
+      pub mark-spare : spareIn n vs ≡ spareIn n ws
+      unfolding spareIn
+      mark-spare = rw s (drop-set-lt n (flagsOf ws) i 1 k)
 
-  pub mark-none : topCode ≤ op → reach ≡ marked op reach
+    pub mark-far : n ≤ i → flagsIn n ws ≡ marked op (flagsIn n ws)
+    unfolding marked flagsIn
+    mark-far k = rw (lt-ltb op topCode h, ← e) (sym (set-out (take n (flagsOf ws)) i 1 (omega (arith, k, length-take n (flagsOf ws)))))
+
+  pub mark-none : topCode ≤ op → flagsIn n ws ≡ marked op (flagsIn n ws)
   unfolding marked
   mark-none h = rw (le-ltb op topCode h)
+
+-- what is to spare stays, from call to call
+pub spare-on : (a b c : List ℕ) → a ≡ b → b ≡ c → a ≡ c
+spare-on a b c e f = e ∙ f
+
+-- `is_reached`
+module _ (ws : List ℕ) (n i : ℕ) where
+  pub reached-at : i < n → (r : ℕ) → r ≡ getD (flagsOf ws) i 0 → r ≡ getD (flagsIn n ws) i 0
+  unfolding flagsIn
+  reached-at h r e = e ∙ sym (getD-take n (flagsOf ws) i 0 h)
+
+  pub reached-past : n ≤ i → 0 ≡ getD (flagsIn n ws) i 0
+  unfolding flagsIn
+  reached-past h = sym (List·getD-eq-default (take n (flagsOf ws)) 0 (omega (arith, h, length-take n (flagsOf ws))))
 
 unfoldable pub markFrom : List ℕ → ℕ → List ℕ → List ℕ
 markFrom code i reach = markedAll (drop i code) reach

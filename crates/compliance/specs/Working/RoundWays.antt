@@ -161,3 +161,31 @@ settle-tables authors conds ends code direct top depth reach n (suc k) m ranks =
 pub settle-is : (authors conds ends code direct : List ℕ) (top depth : ℕ) (reach : List ℕ) (n k : ℕ) (ranks d : List ℕ) → d ≡ directTable direct reach top n
     → (s : Settled) → s ≡ settleOn authors conds ends code top depth reach d k 0 ranks → s ≡ settleFrom authors conds ends code direct top depth reach n k 0 ranks
 settle-is authors conds ends code direct top depth reach n k ranks d de s se = (rw de at se) ∙ settle-tables authors conds ends code direct top depth reach n k 0 ranks
+
+-- ---- flags that read the same give the same rounds
+
+module _ (authors conds ends code direct : List ℕ) (top depth : ℕ) (a b : List ℕ) (same : (i : ℕ) → getD a i 0 ≡ getD b i 0) where
+  relaxed-same : (ranks : List ℕ) (j : ℕ) (next : List ℕ) → relaxedAt authors conds ends code top depth a ranks j next ≡ relaxedAt authors conds ends code top depth b ranks j next
+  unfolding relaxedAt
+  relaxed-same ranks j next = rw (same (getD authors j 0))
+
+  relax-same : (ranks : List ℕ) (k j : ℕ) (next : List ℕ) → relaxFrom authors conds ends code top depth a ranks k j next ≡ relaxFrom authors conds ends code top depth b ranks k j next
+  unfolding relaxFrom
+  relax-same ranks zero j next = refl
+  relax-same ranks (suc k) j next =
+      relax-same ranks k (suc j) (relaxedAt authors conds ends code top depth a ranks j next)
+      ∙ ap (relaxFrom authors conds ends code top depth b ranks k (suc j)) (relaxed-same ranks j next)
+
+  direct-same : (n : ℕ) → directTable direct a top n ≡ directTable direct b top n
+  unfolding directTable directAt
+  direct-same zero = refl
+  direct-same (suc n) = rw (direct-same n, same n)
+
+  round-same : (n : ℕ) (ranks : List ℕ) → roundOf authors conds ends code direct top depth a n ranks ≡ roundOf authors conds ends code direct top depth b n ranks
+  unfolding roundOf
+  round-same n ranks = relax-same ranks (length authors) 0 (directTable direct a top n) ∙ ap (relaxFrom authors conds ends code top depth b ranks (length authors) 0) (direct-same n)
+
+  pub settle-same : (n k m : ℕ) (ranks : List ℕ) → settleFrom authors conds ends code direct top depth a n k m ranks ≡ settleFrom authors conds ends code direct top depth b n k m ranks
+  unfolding settleFrom
+  settle-same n zero m ranks = refl
+  settle-same n (suc k) m ranks = rw (round-same n ranks, settle-same n k (suc m) (roundOf authors conds ends code direct top depth b n ranks))

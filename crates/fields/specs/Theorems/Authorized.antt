@@ -8,6 +8,7 @@ use lib.Dec.{eqb}
 use lib.ListN.{length, getD, take, List·getD-map}
 use lib.Seq.{getD-take}
 use borrow.Author.Tests.{lt-leb, eqb-true, eqb-false}
+use Rattle.limits.specs.Limits.{mostCounted, mostNumbers}
 use Rattle.text.specs.Choice.{split}
 use Rattle.index.specs.Entry.{nameAt}
 use Rattle.record.specs.Query.{Attribute}
@@ -25,9 +26,9 @@ use Rattle.syntax.specs.Stood.{Stood, stood-at}
 use Rattle.fields.specs.Parsed.{ending, ended, behind}
 use Rattle.fields.specs.Identifier.{identifierFault, identified, identifier}
 use Rattle.fields.specs.Authorizer.{verified, authorized, authorizer}
-use Rattle.fields.specs.Working.Identifying.{Kept, entry}
+use Rattle.index.specs.Working.Entering.{Kept, numbered}
 use Rattle.fields.specs.Working.Authorizing.{Made, made, policyAt, barredAt, authorizerEnd, onEntry, authorizerIn}
-use Rattle.fields.specs.declared.identifier.Entry.the-variants.{At}
+use Rattle.index.specs.declared.Numbered.the-variants.{At}
 use Rattle.fields.specs.declared.authorizer.Author.the-variants.{On, Aside}
 use Rattle.fields.specs.Theorems.Together.{refusal-some}
 use Rattle.fields.specs.Theorems.Identified.{fault-is, token-is, identified-few, holds-before, EntryRead, entry-at, entry-read}
@@ -36,8 +37,8 @@ use Rattle.fields.specs.Theorems.Identified.{fault-is, token-is, identif
 pub data AuthorRead (s pool places : List ℕ) (count end : ℕ) (names : List Principal) : Parsed Principal → Made → Type 0 where
   author-aside : (r p : ℕ) (pool′ places′ : List ℕ) → (r ≡ 0 → ⊥) → length pool′ ≡ length pool → length places′ ≡ length places → Holds pool′ places′ count end names
       → AuthorRead s pool places count end names (aside r p) (made (Aside r p) pool′ places′)
-  author-on : (p : Principal) (i c e : ℕ) (n : Token) (pool′ places′ : List ℕ) → Stood s n → i ≡ place (enter names p) p → Holds pool′ places′ c e (enter names p) → e ≤ 258 * c
-      → e ≤ end + 258 → length pool′ ≡ length pool → length places′ ≡ length places → AuthorRead s pool places count end names (ok p n) (made (On i c e n) pool′ places′)
+  author-on : (p : Principal) (i c e : ℕ) (n : Token) (pool′ places′ : List ℕ) → Stood s n → i ≡ place (enter names p) p → Holds pool′ places′ c e (enter names p) → e ≤ mostCounted * c
+      → e ≤ end + mostCounted → length pool′ ≡ length pool → length places′ ≡ length places → AuthorRead s pool places count end names (ok p n) (made (On i c e n) pool′ places′)
 
 -- is the principal at a member's number POLICY? as the member is
 policy-is : {pool places : List ℕ} {c e : ℕ} {names : List Principal} → Holds pool places c e names → (p : Principal) → member p names ≡ true
@@ -53,7 +54,7 @@ policy-is {pool} {places} {c} {e} {names} holds p m =
     (sym (same-left p (getD names (place names p) (nameAt pool 0)) policy (place-same names p (nameAt pool 0) m)))
 
 module _ (s : List ℕ) (standing : ℕ) (pool places : List ℕ) (count end : ℕ) (names : List Principal) (holds : Holds pool places count end names) (t : Token) (id : Principal) where
-  module _ (c e : ℕ) (pool′ places′ : List ℕ) (new : Holds pool′ places′ c e (enter names id)) (low : e ≤ 258 * c) (near : e ≤ end + 258)
+  module _ (c e : ℕ) (pool′ places′ : List ℕ) (new : Holds pool′ places′ c e (enter names id)) (low : e ≤ mostCounted * c) (near : e ≤ end + mostCounted)
       (samePool : length pool′ ≡ length pool) (samePlaces : length places′ ≡ length places) where
     set-aside : (r p : ℕ) → (r ≡ 0 → ⊥) → AuthorRead s pool places count end names (aside r p) (made (Aside r p) pool′ places′)
     set-aside r p h = author-aside r p pool′ places′ h samePool samePlaces (holds-before names (fresh names id) holds (rw (enter-is names id) at new))
@@ -65,7 +66,7 @@ module _ (s : List ℕ) (standing : ℕ) (pool places : List ℕ) (count end : �
         (λ f. rw f (author-on id (place (enter names id) id) c e n pool′ places′ sn refl new low near samePool samePlaces))
         (λ f. rw f (set-aside (refusal (n .kind)) (n .start) (refusal-some (n .kind))))
 
-    barred-read : AuthorRead s pool places count end names (authorized standing t id (behind s Kind.IN-FIELD t)) (onEntry s standing t (entry (At (place (enter names id) id) c e) pool′ places′))
+    barred-read : AuthorRead s pool places count end names (authorized standing t id (behind s Kind.IN-FIELD t)) (onEntry s standing t (numbered (At (place (enter names id) id) c e) pool′ places′))
     unfolding authorized barredAt
     barred-read =
         let q : policyAt pool′ places′ (place (enter names id) id) ≡ same id policy = policy-is new id (enter-member names id) in
@@ -81,7 +82,7 @@ module _ (s : List ℕ) (standing : ℕ) (pool places : List ℕ) (count end : �
 
 -- what is read by the tables is what the meaning reads
 pub author-read : (s : List ℕ) (standing : ℕ) (consts constants pool places : List ℕ) (count end : ℕ) (l : List Attribute) (names : List Principal) (t : Token)
-    → Lie (AttributeAt consts) constants l → Stood s t → Holds pool places count end names → end ≤ 258 * count → count ≤ 32768 → count < length places → end + 258 ≤ length pool
+    → Lie (AttributeAt consts) constants l → Stood s t → Holds pool places count end names → end ≤ mostCounted * count → count < mostNumbers → count < length places → end + mostCounted ≤ length pool
     → AuthorRead s pool places count end names (authorizer s standing l t) (authorizerIn s standing consts constants pool places count end t)
 unfolding authorizer identifier authorizerIn
 author-read s standing consts constants pool places count end l names t lie st holds low few room fits =

@@ -28,7 +28,7 @@ use Rattle.index.specs.declared.Entered.the-variants.{Now}
 use Rattle.expression.specs.Tables.{firstFrom}
 use Rattle.syntax.specs.Parsed.{Parsed, ok, aside, refusal, unexpected}
 use Rattle.syntax.specs.Stood.{Stood, stood-at, stood-end}
-use Rattle.fields.specs.Limits.{mostConstants, mostLiteral}
+use Rattle.limits.specs.Limits.{mostConstants, mostLiteral, mostRecord, mostLengths}
 use Rattle.fields.specs.Parsed.{behind, ending, wordOf}
 use Rattle.fields.specs.Constants.{isSet, constantValue, assigned, nameFault, constant, constantsTurn, onConstant, constantsFrom}
 use Rattle.fields.specs.Working.Setting.{Stored, stored, State, takenIn, constantFaultIn, storeIn, valueIn, assignedIn, settingTurn, onAssigned, onStored, assignedFrom, constantsIn, refusedSettings}
@@ -40,7 +40,7 @@ use Rattle.fields.specs.Theorems.Identified.{unset-is}
 pub data ConstantsRead (s m q : List ℕ) (start : ℕ) : Parsed (List Attribute) → Stored → Type 0 where
   constants-aside : (r p : ℕ) (m′ q′ : List ℕ) → (r ≡ 0 → ⊥) → length m′ ≡ length m → length q′ ≡ length q → take start m′ ≡ take start m
       → ConstantsRead s m q start (aside r p) (stored (Aside r p) m′ q′)
-  constants-on : (cs : List Attribute) (c e : ℕ) (n : Token) (m′ q′ : List ℕ) → c ≡ length cs → c ≤ 16 → Lie (AttributeAt m′) (take c q′) cs → Stood s n
+  constants-on : (cs : List Attribute) (c e : ℕ) (n : Token) (m′ q′ : List ℕ) → c ≡ length cs → c ≤ mostConstants → Lie (AttributeAt m′) (take c q′) cs → Stood s n
       → length m′ ≡ length m → length q′ ≡ length q → take start m′ ≡ take start m → ConstantsRead s m q start (ok cs n) (stored (On c e n) m′ q′)
 
 string-length : (a : List ℕ) → length (stringBytes a) ≡ 2 + length a
@@ -84,7 +84,7 @@ attributes-lie m (a ∷ l) at p st =
 -- what has been read so far
 pub record Laid (s m q : List ℕ) (start : ℕ) (cs : List Attribute) (t : Token) (c e : ℕ) (m′ q′ : List ℕ) : Type 0 where
   pub number : c ≡ length cs
-  pub few : c ≤ 16
+  pub few : c ≤ mostConstants
   pub bytes : take e m′ ≡ take start m ++ itemsBytes attributeBytes cs
   pub entries : take c q′ ≡ placesFrom attributeSize 2 start cs
   pub ends : e ≡ start + length (itemsBytes attributeBytes cs)
@@ -93,7 +93,7 @@ pub record Laid (s m q : List ℕ) (start : ℕ) (cs : List Attribute) (t : Toke
   pub table : length q′ ≡ length q
   pub stood : Stood s t
 
-module _ (s m q : List ℕ) (start : ℕ) (short : length s ≤ 65535) (places : 16 ≤ length q) (fits : start + 64 + length s ≤ length m) where
+module _ (s m q : List ℕ) (start : ℕ) (short : length s ≤ mostRecord) (places : mostConstants ≤ length q) (fits : start + mostLengths + length s ≤ length m) where
   module _ {cs : List Attribute} {t : Token} {c e : ℕ} {m′ q′ : List ℕ} (laid : Laid s m q start cs t c e m′ q′) where
     front : length (take start m) ≡ start
     front = length-take-le start m (omega (arith, fits))
@@ -169,8 +169,8 @@ pub data OneRead (s m q : List ℕ) (start : ℕ) (cs : List Attribute) (c : ℕ
   one-on : (a : Attribute) (d e : ℕ) (n : Token) (m″ q″ : List ℕ) → Laid s m q start (cs ++ (a ∷ [])) n (c + 1) e m″ q″
       → OneRead s m q start cs c m′ q′ (ok a n) (stored (On d e n) m″ q″)
 
-module _ (s m q : List ℕ) (start : ℕ) (short : length s ≤ 65535) (places : 16 ≤ length q) (fits : start + 64 + length s ≤ length m) where
-  module _ {cs : List Attribute} {t : Token} {c e : ℕ} {m′ q′ : List ℕ} (laid : Laid s m q start cs t c e m′ q′) (few : c < 16) where
+module _ (s m q : List ℕ) (start : ℕ) (short : length s ≤ mostRecord) (places : mostConstants ≤ length q) (fits : start + mostLengths + length s ≤ length m) where
+  module _ {cs : List Attribute} {t : Token} {c e : ℕ} {m′ q′ : List ℕ} (laid : Laid s m q start cs t c e m′ q′) (few : c < mostConstants) where
     laid-more : (a : Attribute) (n : Token) → Stood s n → e + 2 + length (a .name) + 2 + length (a .value) ≤ start + 4 * (c + 1) + n .start
         → Laid s m q start (cs ++ (a ∷ [])) n (c + 1) (e + 2 + length (a .name) + 2 + length (a .value)) (put m′ e (attributeBytes a)) (set q′ c (e + 2))
     unfolding attributeSize stringSize
@@ -249,7 +249,7 @@ fault-name s cs t h = split (eqb (t .kind) Kind.NAME) (λ e. eqb-true _ _ e) (λ
 data Held (s m q : List ℕ) (start : ℕ) : List Attribute × Token → State → Type 0 where
   held : (cs : List Attribute) (t : Token) (c e : ℕ) (m′ q′ : List ℕ) → Laid s m q start cs t c e m′ q′ → Held s m q start (cs, t) (c, e, t, m′, q′)
 
-module _ (s m q : List ℕ) (start : ℕ) (short : length s ≤ 65535) (places : 16 ≤ length q) (fits : start + 64 + length s ≤ length m) where
+module _ (s m q : List ℕ) (start : ℕ) (short : length s ≤ mostRecord) (places : mostConstants ≤ length q) (fits : start + mostLengths + length s ≤ length m) where
   abbrev Turns : List Attribute × Token → State → Step (List Attribute × Token) (Parsed (List Attribute)) → Step State Stored → Type 0
   Turns = Steps (λ x. mostConstants - length (x .0)) (λ x. unexpected (x .1)) (constantsTurn s)
       (λ x. mostConstants - x .0) (λ x. stored (refusedSettings (x .2)) (x .3) (x .4)) (settingTurn s) (Held s m q start) (ConstantsRead s m q start)
@@ -258,7 +258,7 @@ module _ (s m q : List ℕ) (start : ℕ) (short : length s ≤ 65535) (places :
     set-aside : (r p : ℕ) → (r ≡ 0 → ⊥) → Turns (cs, t) (c, e, t, m′, q′) (done (aside r p)) (done (stored (Aside r p) m′ q′))
     set-aside r p h = both-done (aside r p) (stored (Aside r p) m′ q′) (constants-aside r p m′ q′ h (laid .buffer) (laid .table) (laid-before s m q start short places fits laid))
 
-    one-turned : c < 16 → (x : Parsed Attribute) (y : Stored) → OneRead s m q start cs c m′ q′ x y → Turns (cs, t) (c, e, t, m′, q′) (onConstant cs x) (onAssigned c y)
+    one-turned : c < mostConstants → (x : Parsed Attribute) (y : Stored) → OneRead s m q start cs c m′ q′ x y → Turns (cs, t) (c, e, t, m′, q′) (onConstant cs x) (onAssigned c y)
     one-turned few _ _ (one-aside r p h) = set-aside r p h
     one-turned few _ _ (one-on a d e′ n m″ q″ l) =
         let k : length (cs ++ (a ∷ [])) ≡ length cs + 1 = length-append cs (a ∷ []) in
@@ -301,7 +301,7 @@ nothing-laid s m q start t st = record {
 }
 
 -- what is read into the buffer and the table is what the meaning reads
-pub constants-read : (s m q : List ℕ) (start : ℕ) (t : Token) → Stood s t → length s ≤ 65535 → 16 ≤ length q → start + 64 + length s ≤ length m
+pub constants-read : (s m q : List ℕ) (start : ℕ) (t : Token) → Stood s t → length s ≤ mostRecord → mostConstants ≤ length q → start + mostLengths + length s ≤ length m
     → ConstantsRead s m q start (constantsFrom s [] t) (constantsIn s m q 0 start t)
 unfolding constantsFrom constantsIn
 constants-read s m q start t st short places fits =

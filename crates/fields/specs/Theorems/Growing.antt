@@ -8,6 +8,7 @@ use native.Mathlib.Numerals.{add-one}
 use lib.ListN.{length, take, length-append, length-set, length-map}
 use lib.Seq.{take-suc-set, take-take, take-at, length-take-le}
 use borrow.Author.Tests.{lt-leb}
+use Rattle.limits.specs.Limits.{mostLicensees, mostCounted, mostNumbers, mostCode}
 use Rattle.principal.specs.Principal.{Principal}
 use Rattle.compliance.specs.Licensees.{Expression, named}
 use Rattle.compliance.specs.Tables.{compile, Formed, f-name, f-and, f-or, f-kOf}
@@ -41,12 +42,12 @@ pushed-is code z x h = rw (lt-leb (length code) z h, add-one z) (take-suc-set co
 -- the index holds the names, and the room is enough for the licensees that may follow
 pub record Ready (pool places code : List ℕ) (st : State) (names : List Principal) : Type 0 where
   pub holds : Holds pool places (st .count) (st .end) names
-  pub low : st .end ≤ 258 * st .count
-  pub few : st .listed ≤ 16
-  pub tableRoom : st .count + 16 ≤ length places + st .listed
-  pub namesRoom : st .count + 16 ≤ 32768 + st .listed
-  pub poolRoom : st .end + 4128 ≤ length pool + 258 * st .listed
-  pub codeRoom : st .size + 48 ≤ length code + 3 * st .listed
+  pub low : st .end ≤ mostCounted * st .count
+  pub few : st .listed ≤ mostLicensees
+  pub tableRoom : st .count + mostLicensees ≤ length places + st .listed
+  pub namesRoom : st .count + mostLicensees ≤ mostNumbers + st .listed
+  pub poolRoom : st .end + mostLicensees * mostCounted ≤ length pool + mostCounted * st .listed
+  pub codeRoom : st .size + mostCode ≤ length code + 3 * st .listed
 
 -- what was there before is there still
 pub record Stays (pool places code : List ℕ) (st : State) (names : List Principal) (pool′ places′ code′ : List ℕ) : Type 0 where
@@ -60,11 +61,11 @@ pub record Stays (pool places code : List ℕ) (st : State) (names : List Princi
 pub record Grown (pool places code : List ℕ) (st : State) (names ps : List Principal) (prog : List ℕ) (u : State) (pool′ places′ code′ : List ℕ) : Type 0 where
   pub stays : Stays pool places code st names pool′ places′ code′
   pub holds : Holds pool′ places′ (u .count) (u .end) (enterAll names ps)
-  pub low : u .end ≤ 258 * u .count
+  pub low : u .end ≤ mostCounted * u .count
   pub countUp : u .count ≤ st .count + length ps
-  pub endUp : u .end ≤ st .end + 258 * length ps
+  pub endUp : u .end ≤ st .end + mostCounted * length ps
   pub listed : u .listed ≡ st .listed + length ps
-  pub few : u .listed ≤ 16
+  pub few : u .listed ≤ mostLicensees
   pub size : u .size ≡ st .size + length prog
   pub wrote : take (u .size) code′ ≡ take (st .size) code ++ prog
 

@@ -1,5 +1,5 @@
 -- An identifier read by the tables is the one that the meaning reads, and the index holds it afterwards. Assumes nothing.
-use mathlib.Core.Path.{_≡_, refl, ap, _∙_}
+use mathlib.Core.Path.{_≡_, refl, sym, ap, _∙_}
 use mathlib.Core.Bool.{true, false}
 use mathlib.Core.List.{List, [], _∷_, _++_}
 use Prim.Native.Nat.{ℕ, suc, _+_, _*_, _≤_, _<_}
@@ -18,24 +18,22 @@ use Rattle.record.specs.Lies.{Lie, lie[], lie∷, AttributeAt}
 use Rattle.lexical.specs.Kind
 use Rattle.lexical.specs.Literal.{decodedAt}
 use Rattle.lexical.specs.declared.token.Token.{Token}
-use Rattle.fields.specs.Limits.{mostIdentifier}
+use Rattle.limits.specs.Limits.{mostIdentifier, mostCounted, mostNumbers}
 use Rattle.principal.specs.Principal.{Principal, same}
 use Rattle.principal.specs.Members.{member}
 use Rattle.compliance.specs.Tables.{place}
-use Rattle.compliance.specs.Theorems.Fill.{place-absent, place-added}
+use Rattle.compliance.specs.Theorems.Fill.{place-added}
 use Rattle.index.specs.Index.{enter, Holds}
-use Rattle.principal.specs.Tag.{tag}
-use Rattle.index.specs.Entry.{packed}
-use Rattle.index.specs.IndexLaws.{found-is, add-gives, add-holds, holds-front}
-use Rattle.index.specs.EnterLaws.{place-below}
+use Rattle.index.specs.IndexLaws.{walk-known, fresh-entered, holds-front}
 use Rattle.expression.specs.Names.{settingOr}
 use Rattle.expression.specs.Tables.{firstFrom}
 use Rattle.expression.specs.Theorems.Shown.{setting-is}
 use Rattle.fields.specs.Parsed.{wordOf}
 use Rattle.fields.specs.Constants.{isSet}
 use Rattle.fields.specs.Identifier.{sizeFault, nameFault, identifierFault, identified}
-use Rattle.fields.specs.Working.Identifying.{Kept, entry, nameFaultIn, faultIn, literalIn, tokenIn, enterIn}
-use Rattle.fields.specs.declared.identifier.Entry.the-variants.{At}
+use Rattle.index.specs.Working.Entering.{Kept, numbered, enterIn}
+use Rattle.fields.specs.Working.Identifying.{nameFaultIn, faultIn, literalIn, tokenIn}
+use Rattle.index.specs.declared.Numbered.the-variants.{At}
 use Rattle.fields.specs.Theorems.Together.{refusal-some}
 
 first-suc : (s name : List ℕ) (i : ℕ) (ps : List ℕ) → firstFrom s name (suc i) ps ≡ suc (firstFrom s name i ps)
@@ -67,29 +65,6 @@ module _ (s consts places : List ℕ) (l : List Attribute) (lie : Lie (Attribute
   pub fault-is : (t : Token) → faultIn s consts places t ≡ identifierFault s l t
   unfolding faultIn identifierFault
   fault-is t = rw (name-fault-is (wordOf s t))
-
-module _ (pool places : List ℕ) (count end : ℕ) (names : List Principal) (holds : Holds pool places count end names) (id : Principal) where
-  -- a principal that is there keeps its number
-  pub enter-known : member id names ≡ true → enterIn pool places count end id ≡ entry (At (place (enter names id) id) count end) pool places
-  unfolding enterIn enter
-  enter-known m =
-      let z : place names id < count = omega (arith, place-below names id m, holds .counted) in
-      rw (found-is holds id, m, lt-ltb (place names id) count z)
-
-  -- a new one gets the next, and the index holds it behind the others
-  module _ (m : member id names ≡ false) (short : length id ≤ 65535) (near : end < 4294967294) (room : count < length places) (fits : end + 2 + length id ≤ length pool) where
-    pub enter-new : enterIn pool places count end id
-        ≡ entry (At (place (enter names id) id) (count + 1) (end + 2 + length id)) (put pool end (stringBytes id)) (set places count (packed (end + 2) (tag id)))
-    unfolding enterIn enter
-    enter-new =
-        let a : place names id ≡ length names = place-absent names id m in
-        let b : place (names ++ (id ∷ [])) id ≡ length names = place-added names id m in
-        let z : count ≤ place names id = omega (arith, holds .counted) in
-        rw (found-is holds id, le-ltb (place names id) count z, add-gives holds id short near room fits, m, a, b)
-
-    pub enter-new-holds : Holds (put pool end (stringBytes id)) (set places count (packed (end + 2) (tag id))) (count + 1) (end + 2 + length id) (enter names id)
-    unfolding enter
-    enter-new-holds = rw m (add-holds holds id short near room fits)
 
 seven : (n : ℕ) → sizeFault n ≡ 0 → ltb mostIdentifier n ≡ false
 unfolding sizeFault
@@ -132,18 +107,32 @@ holds-before {pool} {places} {pool′} {places′} {count} {end} names more old 
 
 -- an identifier entered: its number, and the index with it
 pub data EntryRead (pool places : List ℕ) (count end : ℕ) (names : List Principal) (id : Principal) : Kept → Type 0 where
-  entry-at : (c e : ℕ) (pool′ places′ : List ℕ) → Holds pool′ places′ c e (enter names id) → e ≤ 258 * c → c ≤ count + 1 → e ≤ end + 258
-      → length pool′ ≡ length pool → length places′ ≡ length places → EntryRead pool places count end names id (entry (At (place (enter names id) id) c e) pool′ places′)
+  entry-at : (c e : ℕ) (pool′ places′ : List ℕ) → Holds pool′ places′ c e (enter names id) → e ≤ mostCounted * c → c ≤ count + 1 → e ≤ end + mostCounted
+      → length pool′ ≡ length pool → length places′ ≡ length places → EntryRead pool places count end names id (numbered (At (place (enter names id) id) c e) pool′ places′)
 
-module _ (pool places : List ℕ) (count end : ℕ) (names : List Principal) (holds : Holds pool places count end names) (low : end ≤ 258 * count) (id : Principal)
-    (short : length id ≤ 256) (few : count ≤ 32768) (room : count < length places) (fits : end + 258 ≤ length pool) where
-  pub entry-read : EntryRead pool places count end names id (enterIn pool places count end id)
+module _ (pool places : List ℕ) (count end : ℕ) (names : List Principal) (holds : Holds pool places count end names) (low : end ≤ mostCounted * count) (id : Principal)
+    (short : length id ≤ mostIdentifier) (few : count < mostNumbers) (room : count < length places) (fits : end + mostCounted ≤ length pool) where
+  -- a principal that is there keeps its number
+  known : member id names ≡ true → EntryRead pool places count end names id (enterIn pool places count end id)
+  unfolding enterIn enter
+  known m =
+      let same : enter names id ≡ names = rw m in
+      let h : Holds pool places count end (enter names id) = rw same holds in
+      let r : EntryRead pool places count end names id (numbered (At (place (enter names id) id) count end) pool places)
+      = entry-at count end pool places h low (omega arith) (omega arith) refl refl in
+      rw (walk-known holds id m) (rw same at r)
+
+  -- a new one gets the next, and the index holds it behind the others
+  new : member id names ≡ false → EntryRead pool places count end names id (enterIn pool places count end id)
   unfolding enter stringBytes
-  entry-read =
-      split (member id names)
-      (λ m. rw (enter-known pool places count end names holds id m)
-      (entry-at count end pool places (let h : Holds pool places count end names = holds in rw m h) low (omega arith) (omega arith) refl refl))
-      (λ m. rw (enter-new pool places count end names holds id m (omega (arith, short)) (omega (arith, low, few)) room (omega (arith, short, fits)))
-      (entry-at (count + 1) (end + 2 + length id) (put pool end (stringBytes id)) (set places count (packed (end + 2) (tag id)))
-      (enter-new-holds pool places count end names holds id m (omega (arith, short)) (omega (arith, low, few)) room (omega (arith, short, fits)))
-      (omega (arith, low, short)) (omega arith) (omega (arith, short)) (put-length pool end (stringBytes id) (omega (arith, short, fits))) (length-set places count (packed (end + 2) (tag id)))))
+  new m =
+      let f = fresh-entered holds id m (omega (arith, short)) (omega (arith, short, low, few)) (omega (arith, few)) room (omega (arith, short, fits)) in
+      let more : enter names id ≡ names ++ (id ∷ []) = rw m in
+      let at : place (enter names id) id ≡ count = rw m (place-added names id m ∙ sym (holds .counted)) in
+      let h : Holds (put pool end (stringBytes id)) (f .table) (count + 1) (end + 2 + length id) (enter names id) = rw more (f .held) in
+      let r : EntryRead pool places count end names id (numbered (At (place (enter names id) id) (count + 1) (end + 2 + length id)) (put pool end (stringBytes id)) (f .table))
+      = entry-at (count + 1) (end + 2 + length id) (put pool end (stringBytes id)) (f .table) h (omega (arith, low, short)) (omega arith) (omega (arith, short)) (put-length pool end (stringBytes id) (omega (arith, short, fits))) (f .long) in
+      rw (f .gives) (rw at at r)
+
+  pub entry-read : EntryRead pool places count end names id (enterIn pool places count end id)
+  entry-read = split (member id names) known new

@@ -16,7 +16,7 @@ use Rattle.index.specs.Index.{enterAll, Holds}
 use Rattle.lexical.specs.declared.token.Token.{Token}
 use Rattle.syntax.specs.Parsed.{Parsed, ok, aside, andThen, refusal}
 use Rattle.syntax.specs.Stood.{Stood}
-use Rattle.fields.specs.Limits.{mostBrackets}
+use Rattle.limits.specs.Limits.{mostBrackets, mostLicensees, mostCounted, mostNumbers, mostCode}
 use Rattle.fields.specs.Parsed.{ending, ended}
 use Rattle.fields.specs.Licensees.{primary, expression}
 use Rattle.fields.specs.Licensees.{licensees as licenseesOf}
@@ -35,11 +35,11 @@ pub data LicenseesRead (s pool places code : List ℕ) (count end size : ℕ) (n
       → length pool′ ≡ length pool → length places′ ≡ length places → length code′ ≡ length code → Holds pool′ places′ count end names → take size code′ ≡ take size code
       → LicenseesRead s pool places code count end size names (aside r p) (ran (Aside r p) pool′ places′ code′)
   licensees-on : (f : Licensees) (u : State) (n : Token) (pool′ places′ code′ : List ℕ) → Stood s n
-      → Holds pool′ places′ (u .count) (u .end) (enterAll names (licensees f)) → u .end ≤ 258 * u .count
-      → u .end ≤ end + 258 * length (licensees f)
+      → Holds pool′ places′ (u .count) (u .end) (enterAll names (licensees f)) → u .end ≤ mostCounted * u .count
+      → u .end ≤ end + mostCounted * length (licensees f)
       → take (u .size) code′ ≡ take size code ++ compiled (enterAll names (licensees f)) f
-      → u .size ≡ size + length (compiled (enterAll names (licensees f)) f) → u .size ≤ size + 48
-      → length (licensees f) ≤ 16 → ((e : Expression) → f ≡ given e → Formed e) → (f ≡ missing → ⊥)
+      → u .size ≡ size + length (compiled (enterAll names (licensees f)) f) → u .size ≤ size + mostCode
+      → length (licensees f) ≤ mostLicensees → ((e : Expression) → f ≡ given e → Formed e) → (f ≡ missing → ⊥)
       → length pool′ ≡ length pool → length places′ ≡ length places → length code′ ≡ length code
       → LicenseesRead s pool places code count end size names (ok f n) (ran (On u n) pool′ places′ code′)
 
@@ -62,7 +62,7 @@ module _ (s pool places code : List ℕ) (count end size : ℕ) (names : List Pr
 
   set-down : (f : Licensees) (u : State) (n : Token) (pool′ places′ code′ : List ℕ) → Stood s n
       → Grown pool places code (stateOf count end size 0) names (licensees f) (compiled (enterAll names (licensees f)) f) u pool′ places′ code′
-      → length (compiled (enterAll names (licensees f)) f) ≤ 48 → ((e : Expression) → f ≡ given e → Formed e) → (f ≡ missing → ⊥)
+      → length (compiled (enterAll names (licensees f)) f) ≤ mostCode → ((e : Expression) → f ≡ given e → Formed e) → (f ≡ missing → ⊥)
       → LicenseesRead s pool places code count end size names (ok f n) (ran (On u n) pool′ places′ code′)
   set-down f u n pool′ places′ code′ sn grown short formed some =
       licensees-on f u n pool′ places′ code′ sn (grown .holds) (grown .low) (grown .endUp) (grown .wrote) (grown .size) (omega (arith, grown .size, short)) (omega (arith, grown .listed, grown .few))
@@ -87,12 +87,12 @@ module _ (s pool places code : List ℕ) (count end size : ℕ) (names : List Pr
 
 -- what is entered and written is what the meaning reads
 pub licensees-read : (s consts constants pool places code : List ℕ) (count end size : ℕ) (l : List Attribute) (names : List Principal) (t : Token)
-    → Lie (AttributeAt consts) constants l → Stood s t → Holds pool places count end names → end ≤ 258 * count
-    → count + 16 ≤ length places → length names + 16 ≤ 32768 → end + 16 * 258 ≤ length pool → size + 48 ≤ length code
+    → Lie (AttributeAt consts) constants l → Stood s t → Holds pool places count end names → end ≤ mostCounted * count
+    → count + mostLicensees ≤ length places → length names + mostLicensees ≤ mostNumbers → end + mostLicensees * mostCounted ≤ length pool → size + mostCode ≤ length code
     → LicenseesRead s pool places code count end size names (licenseesOf s l t) (fieldIn s consts constants pool places code count end size t)
 unfolding licenseesOf expression fieldIn chainAt operandAt moreAt
 licensees-read s consts constants pool places code count end size l names t lie st holds low tableRoom namesRoom poolRoom codeRoom =
-    rw (le-ltb (length code) size (omega arith), le-ltb (length code - size) 48 (omega arith))
+    rw (le-ltb (length code) size (omega arith), le-ltb (length code - size) mostCode (omega arith))
     (both (LicenseesRead s pool places code count end size names) (ending (t .kind)) _ _ _ _
     (λ f. empty-read s pool places code count end size names ready (omega arith) t st)
     (λ f. given-read s pool places code count end size names _ _

@@ -10,7 +10,7 @@ use Rattle.text.specs.Choice.{split}
 use Rattle.text.specs.Loop.{Step}
 use Rattle.record.specs.Query.{Attribute}
 use Rattle.record.specs.Lies.{Lie, AttributeAt}
-use Rattle.limits.specs.Limits.{mostLicensees}
+use Rattle.limits.specs.Limits.{mostLicensees, mostCounted}
 use Rattle.principal.specs.Principal.{Principal}
 use Rattle.compliance.specs.Codes.{kOfCode}
 use Rattle.compliance.specs.Licensees.{Expression, kOf, named}
@@ -25,10 +25,10 @@ use Rattle.syntax.specs.Parsed.{Parsed, ok, aside, refusal, unexpected}
 use Rattle.syntax.specs.Stood.{Stood, stood-at}
 use Rattle.fields.specs.Identifier.{identifierFault, identified, identifier}
 use Rattle.fields.specs.Licensees.{after, licensee, listed, onListed, listTurn, listFrom, listOpened, ofRead, threshold}
-use Rattle.fields.specs.Working.Identifying.{Kept, entry}
+use Rattle.index.specs.Working.Entering.{Kept, numbered}
 use Rattle.fields.specs.Working.List.{Ran, ran, wrote, refusedLicensed, above, pushed, sized, stateOf, onEntered, licenseeIn, itemsOf, listedIn, onWrote, Loop, onItem, listIn, openedIn, ofIn, thresholdOf, thresholdIn}
 use Rattle.fields.specs.Working.List.{listTurn as itemTurn}
-use Rattle.fields.specs.declared.identifier.Entry.the-variants.{At}
+use Rattle.index.specs.declared.Numbered.the-variants.{At}
 use Rattle.fields.specs.declared.list.State.{State}
 use Rattle.fields.specs.declared.list.Licensed.the-variants.{On, Aside}
 use Rattle.fields.specs.Theorems.Together.{both, Steps, both-next, both-done, loop-same, refusal-some}
@@ -51,8 +51,8 @@ pub data LicenseeRead (s pool places code : List ℕ) (st : State) (names : List
       → Grown pool places code st names (p ∷ []) (place (enterAll names (p ∷ [])) p ∷ []) u pool′ places′ code′
       → LicenseeRead s pool places code st names (ok p n) (ran (On u n) pool′ places′ code′)
 
-module _ (s pool places code : List ℕ) (st : State) (names : List Principal) (ready : Ready pool places code st names) (t : Token) (id : Principal) (more : st .listed < 16) where
-  module _ (c e : ℕ) (pool′ places′ : List ℕ) (new : Holds pool′ places′ c e (enter names id)) (low : e ≤ 258 * c) (few : c ≤ st .count + 1) (near : e ≤ st .end + 258)
+module _ (s pool places code : List ℕ) (st : State) (names : List Principal) (ready : Ready pool places code st names) (t : Token) (id : Principal) (more : st .listed < mostLicensees) where
+  module _ (c e : ℕ) (pool′ places′ : List ℕ) (new : Holds pool′ places′ c e (enter names id)) (low : e ≤ mostCounted * c) (few : c ≤ st .count + 1) (near : e ≤ st .end + mostCounted)
       (samePool : length pool′ ≡ length pool) (samePlaces : length places′ ≡ length places) where
     entered-grown : Grown pool places code st names (id ∷ []) [] (stateOf c e (st .size) (st .listed + 1)) pool′ places′ code
     unfolding enterAll
@@ -77,7 +77,7 @@ module _ (s pool places code : List ℕ) (st : State) (names : List Principal) (
     number-low : place (enter names id) id < 32768
     number-low = omega (arith, place-below (enter names id) id (enter-member names id), new .counted, few, more, ready .namesRoom)
 
-    at-read : LicenseeRead s pool places code st names (ok id (after s t)) (onEntered s code st t (entry (At (place (enter names id) id) c e) pool′ places′))
+    at-read : LicenseeRead s pool places code st names (ok id (after s t)) (onEntered s code st t (numbered (At (place (enter names id) id) c e) pool′ places′))
     unfolding enterAll
     at-read =
         rw (lt-leb 32768 (place (enter names id) id) number-low)
@@ -100,7 +100,7 @@ list-code names ps p =
     map-snoc f [] q = refl
     map-snoc f (x ∷ l) q = ap (λ (r : List ℕ). f x ∷ r) (map-snoc f l q)
 
-items-are : (before n listed : ℕ) → listed ≡ before + n → listed ≤ 16 → itemsOf before listed ≡ n
+items-are : (before n listed : ℕ) → listed ≡ before + n → listed ≤ mostLicensees → itemsOf before listed ≡ n
 unfolding itemsOf
 items-are before n listed e h =
     let z : listed - before ≡ n = omega (arith, e) in
@@ -116,7 +116,7 @@ module _ (s consts constants : List ℕ) (l : List Attribute) (lie : Lie (Attrib
       rw (fault-is s consts constants l lie t, f, token-is s consts constants pool places (st .count) (st .end) l lie t z)
       (both (LicenseeRead s pool places code st names) (leb mostLicensees (st .listed)) _ _ _ _
       (λ g. licensee-aside 7 (t .start) pool places code (λ y. omega (arith, y)) (stays-self ready))
-      (λ g. let more : st .listed < 16 = leb-false _ _ g in
+      (λ g. let more : st .listed < mostLicensees = leb-false _ _ g in
       entered-read s pool places code st names ready t (identified s l t) more _
       (entry-read pool places (st .count) (st .end) names (ready .holds) (ready .low) (identified s l t) (identified-few s l t z)
       (omega (arith, more, ready .namesRoom)) (omega (arith, more, ready .tableRoom)) (omega (arith, more, ready .poolRoom))))))

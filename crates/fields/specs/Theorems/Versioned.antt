@@ -14,7 +14,7 @@ use Rattle.lexical.specs.Number.{LIMIT, numberAt}
 use Rattle.lexical.specs.declared.token.Token.{Token}
 use Rattle.syntax.specs.Parsed.{Parsed, ok, aside}
 use Rattle.syntax.specs.Stood.{Stood, stood-at}
-use Rattle.fields.specs.Limits.{mostLiteral}
+use Rattle.limits.specs.Limits.{mostLiteral}
 use Rattle.fields.specs.Parsed.{behind, ending, ended}
 use Rattle.fields.specs.Version.{two, versionNumber, versionLiteral, version}
 use Rattle.fields.specs.Signature.{signature}

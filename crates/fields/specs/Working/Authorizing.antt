@@ -16,9 +16,10 @@ use Rattle.syntax.specs.Parsed.{refusal}
 use Rattle.fields.specs.Parsed.{behind, ending}
 use Rattle.fields.specs.Authorizer.{verified}
 use Rattle.fields.specs.Working.Whole.{whole, inner}
-use Rattle.fields.specs.Working.Identifying.{Kept, entry, faultIn, enterIn, tokenIn, whole-fault, whole-token}
-use Rattle.fields.specs.declared.identifier.Entry.{Entry}
-use Rattle.fields.specs.declared.identifier.Entry.the-variants.{At, Full}
+use Rattle.index.specs.Working.Entering.{Kept, numbered, enterIn}
+use Rattle.fields.specs.Working.Identifying.{faultIn, tokenIn, whole-fault, whole-token}
+use Rattle.index.specs.declared.Numbered.{Numbered}
+use Rattle.index.specs.declared.Numbered.the-variants.{At, Full}
 use Rattle.fields.specs.declared.authorizer.Author.{Author}
 use Rattle.fields.specs.declared.authorizer.Author.the-variants.{On, Aside}
 
@@ -36,12 +37,12 @@ pub data Made : Type 0 where
   made : Author → List ℕ → List ℕ → Made
 
 abbrev pub onEntry : List ℕ → ℕ → Token → Kept → Made
-onEntry s standing t (entry Full pool places) = made (Aside 0 0) pool places
-onEntry s standing t (entry (At i c e) pool places) =
+onEntry s standing t (numbered Full pool places) = made (Aside 0 0) pool places
+onEntry s standing t (numbered (At i c e) pool places) =
     pick (barredAt standing pool places i) (made (Aside 9 (t .start)) pool places) (made (authorizerEnd i c e (behind s Kind.IN-FIELD t)) pool places)
 
 -- the same of an answer alone
-unfoldable pub authoredIn : List ℕ → ℕ → List ℕ → List ℕ → Token → Entry → Author
+unfoldable pub authoredIn : List ℕ → ℕ → List ℕ → List ℕ → Token → Numbered → Author
 authoredIn s standing pool places t Full = Aside 0 0
 authoredIn s standing pool places t (At i c e) = pick (barredAt standing pool places i) (Aside 9 (t .start)) (authorizerEnd i c e (behind s Kind.IN-FIELD t))
 
@@ -83,7 +84,7 @@ module _ (i c e : ℕ) (t : Token) (b : Bool) (be : b ≡ ending (t .kind)) wher
 
 -- `authored`
 module _ (s : List ℕ) (standing : ℕ) (pool places : List ℕ) (t : Token) where
-  module _ (r : Entry) where
+  module _ (r : Numbered) where
     pub authored-full : r ≡ Full → Aside 0 0 ≡ authoredIn s standing pool places t r
     unfolding authoredIn
     authored-full k = rw k
@@ -97,7 +98,7 @@ module _ (s : List ℕ) (standing : ℕ) (pool places : List ℕ) (t : Token) wh
       unfolding authoredIn
       authored-on n a y ne ae = rw (ae, ne) (simp (k, sym be, y))
 
-  authored-is : (r : Entry) → made (authoredIn s standing pool places t r) pool places ≡ onEntry s standing t (entry r pool places)
+  authored-is : (r : Numbered) → made (authoredIn s standing pool places t r) pool places ≡ onEntry s standing t (numbered r pool places)
   unfolding authoredIn
   authored-is Full = refl
   authored-is (At i c e) = split (barredAt standing pool places i) (λ h. rw h) (λ h. rw h)
@@ -109,12 +110,12 @@ module _ (s : List ℕ) (standing : ℕ) (consts constants pool places : List �
     unfolding authorizerIn
     author-fault h = simp (sym fe, ne-eqb _ _ h)
 
-    pub author-on : f ≡ 0 → (r : Entry) (p q : List ℕ) → entry r p q ≡ tokenIn s consts constants pool places count end t → (a : Author) → a ≡ authoredIn s standing p q t r
+    pub author-on : f ≡ 0 → (r : Numbered) (p q : List ℕ) → numbered r p q ≡ tokenIn s consts constants pool places count end t → (a : Author) → a ≡ authoredIn s standing p q t r
         → made a p q ≡ authorizerIn s standing consts constants pool places count end t
     unfolding authorizerIn
     author-on z r p q re a ae = ap (λ (x : Author). made x p q) ae ∙ authored-is s standing p q t r ∙ simp (sym fe, eq-eqb _ _ z, sym re)
 
-  pub author-whole : (w : Bool) → w ≡ whole s t → w ≡ true → (r : Entry) (p q : List ℕ) → entry r p q ≡ enterIn pool places count end (inner s (t .start) (t .end))
+  pub author-whole : (w : Bool) → w ≡ whole s t → w ≡ true → (r : Numbered) (p q : List ℕ) → numbered r p q ≡ enterIn pool places count end (inner s (t .start) (t .end))
       → (a : Author) → a ≡ authoredIn s standing p q t r → made a p q ≡ authorizerIn s standing consts constants pool places count end t
   author-whole w we y r p q re a ae =
       author-on 0 (whole-fault s t w we y consts constants) refl r p q (re ∙ whole-token s t w we y consts constants pool places count end) a ae

@@ -7,11 +7,10 @@ use lib.Dec.{eqb, leb, ltb}
 use lib.ListN.{length}
 use Rattle.text.specs.Choice.{pick}
 use Rattle.text.specs.Loop.{Step, next, done, loop}
-use Rattle.limits.specs.Limits.{mostLicensees}
+use Rattle.limits.specs.Limits.{mostLicensees, mostBrackets, mostCode}
 use Rattle.lexical.specs.Kind
 use Rattle.lexical.specs.declared.token.Token.{Token}
 use Rattle.compliance.specs.Codes.{andCode, orCode, zeroCode}
-use Rattle.fields.specs.Limits.{mostBrackets}
 use Rattle.fields.specs.Parsed.{ending}
 use Rattle.fields.specs.Licensees.{after}
 use Rattle.fields.specs.Working.List.{Ran, ran, Loop, refusedLicensed, above, pushed, sized, stateOf, licenseeIn, thresholdIn}
@@ -99,10 +98,10 @@ innerAt (suc left) s consts constants pool places code st t = chainAt left 1 s c
 unfoldable pub endIn : State → Token → Licensed
 endIn st t = pick (ending (t .kind)) (On st t) (refusedLicensed t)
 
--- an empty field, or an expression and the field's end; the code has room for 48 entries
+-- an empty field, or an expression and the field's end; the code has room for one
 unfoldable pub fieldIn : List ℕ → List ℕ → List ℕ → List ℕ → List ℕ → List ℕ → ℕ → ℕ → ℕ → Token → Ran
 fieldIn s consts constants pool places code count end size t =
     pick (ltb (length code) size) (ran (Aside 0 0) pool places code)
-    (pick (ltb (length code - size) 48) (ran (Aside 0 0) pool places code)
+    (pick (ltb (length code - size) mostCode) (ran (Aside 0 0) pool places code)
     (pick (ending (t .kind)) (ran (On (stateOf count end (above code size) 0) t) pool places (pushed code size zeroCode))
     (onOn (chainAt mostBrackets 1 s consts constants pool places code (stateOf count end size 0) t) (λ u n p q m. ran (endIn u n) p q m))))

@@ -9,13 +9,12 @@ use lib.ListN.{length}
 use borrow.Author.Tests.{lt-ltb, le-ltb, le-leb, lt-leb, eq-eqb, ne-eqb, eqb-true}
 use Rattle.text.specs.Choice.{clash}
 use Rattle.text.specs.Loop.{loop-next, loop-done}
-use Rattle.limits.specs.Limits.{mostLicensees}
+use Rattle.limits.specs.Limits.{mostCode}
 use Rattle.lexical.specs.Kind
 use Rattle.lexical.specs.Bounds.{chosen}
 use Rattle.lexical.specs.Line.{tokenAt}
 use Rattle.lexical.specs.declared.token.Token.{Token}
 use Rattle.compliance.specs.Codes.{andCode, orCode, zeroCode}
-use Rattle.fields.specs.Limits.{mostBrackets}
 use Rattle.fields.specs.Parsed.{ending}
 use Rattle.fields.specs.Working.List.{Ran, ran, refusedLicensed, above, pushed, sized, stateOf, licenseeIn, thresholdIn}
 use Rattle.fields.specs.Working.ListWays.{licensee-next}
@@ -226,11 +225,11 @@ module _ (s consts constants pool places code : List ℕ) (count end size : ℕ)
   field-past h = simp (lt-ltb _ _ h)
 
   module _ (h : size ≤ length code) where
-    pub field-short : length code - size < 48 → ran (Aside 0 0) pool places code ≡ fieldIn s consts constants pool places code count end size t
+    pub field-short : length code - size < mostCode → ran (Aside 0 0) pool places code ≡ fieldIn s consts constants pool places code count end size t
     unfolding fieldIn
     field-short k = simp (le-ltb _ _ h, lt-ltb _ _ k)
 
-    module _ (k : 48 ≤ length code - size) (b : Bool) (be : b ≡ ending (t .kind)) where
+    module _ (k : mostCode ≤ length code - size) (b : Bool) (be : b ≡ ending (t .kind)) where
       pub field-empty : (z : ℕ) (m : List ℕ) → b ≡ true → z ≡ above code size → m ≡ pushed code size zeroCode
           → ran (On (stateOf count end z 0) t) pool places m ≡ fieldIn s consts constants pool places code count end size t
       unfolding fieldIn

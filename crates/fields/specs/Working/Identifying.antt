@@ -21,18 +21,15 @@ use Rattle.lexical.specs.Plain.{bareEnd, bare-within, bare-given}
 use Rattle.lexical.specs.Short.{sized, sized-length}
 use Rattle.lexical.specs.declared.token.Token.{Token}
 use Rattle.principal.specs.Principal.{Principal}
-use Rattle.index.specs.Working.Finding.{found}
-use Rattle.index.specs.Working.Adding.{After, entered, principalInto}
-use Rattle.index.specs.declared.Entered.{Entered}
-use Rattle.index.specs.declared.Entered.the-variants.{Now, Full as NoRoom}
+use Rattle.index.specs.Working.Entering.{Kept, numbered, enterIn}
 use Rattle.expression.specs.Tables.{firstFrom, settingIn}
-use Rattle.fields.specs.Limits.{mostIdentifier}
+use Rattle.limits.specs.Limits.{mostIdentifier}
 use Rattle.syntax.specs.Parsed.{refusal}
 use Rattle.fields.specs.Parsed.{wordOf}
 use Rattle.fields.specs.Identifier.{sizeFault}
 use Rattle.fields.specs.Working.Whole.{whole, inner, Whole, whole-is}
-use Rattle.fields.specs.declared.identifier.Entry.{Entry}
-use Rattle.fields.specs.declared.identifier.Entry.the-variants.{At, Full}
+use Rattle.index.specs.declared.Numbered.{Numbered}
+use Rattle.index.specs.declared.Numbered.the-variants.{At, Full}
 
 -- the reason against a name, by the places of the constants
 unfoldable pub nameFaultIn : List ℕ → List ℕ → List ℕ → ℕ
@@ -44,22 +41,8 @@ faultIn s consts places t =
     pick (eqb (t .kind) Kind.LITERAL) (sizeFault (length (decodedAt s (t .start))))
     (pick (eqb (t .kind) Kind.NAME) (nameFaultIn consts places (wordOf s t)) (refusal (t .kind)))
 
--- an answer, the pool and the table
-pub data Kept : Type 0 where
-  entry : Entry → List ℕ → List ℕ → Kept
-
-abbrev pub onAdded : ℕ → After → Kept
-onAdded i (entered (Now c e) pool places) = entry (At i c e) pool places
-onAdded i (entered NoRoom pool places) = entry Full pool places
-
--- "unless it is one of them already"
-unfoldable pub enterIn : List ℕ → List ℕ → ℕ → ℕ → Principal → Kept
-enterIn pool places count end id =
-    pick (ltb (found pool id (take count places)) count) (entry (At (found pool id (take count places)) count end) pool places)
-    (onAdded (found pool id (take count places)) (principalInto pool places count end id))
-
 unfoldable pub literalIn : List ℕ → List ℕ → ℕ → ℕ → Principal → Kept
-literalIn pool places count end id = pick (ltb mostIdentifier (length id)) (entry Full pool places) (enterIn pool places count end id)
+literalIn pool places count end id = pick (ltb mostIdentifier (length id)) (numbered Full pool places) (enterIn pool places count end id)
 
 -- the principal that t identifies
 unfoldable pub tokenIn : List ℕ → List ℕ → List ℕ → List ℕ → List ℕ → ℕ → ℕ → Token → Kept
@@ -103,25 +86,6 @@ module _ (s consts places : List ℕ) (t : Token) where
     unfolding faultIn
     fault-none r h re = re ∙ simp (ne-eqb _ _ no, ne-eqb _ _ h)
 
--- `enter`
-module _ (pool places : List ℕ) (count end : ℕ) (id : List ℕ) (i : ℕ) (ie : i ≡ found pool id (take count places)) where
-  pub enter-there : i < count → entry (At i count end) pool places ≡ enterIn pool places count end id
-  unfolding enterIn
-  enter-there h = simp (sym ie, lt-ltb _ _ h)
-
-  module _ (h : count ≤ i) (r : Entered) (p q : List ℕ) (re : entered r p q ≡ principalInto pool places count end id) where
-    pub enter-new : (c e : ℕ) → r ≡ Now c e → entry (At i c e) p q ≡ enterIn pool places count end id
-    unfolding enterIn
-    enter-new c e k = simp (sym ie, le-ltb _ _ h, sym re, k)
-
-    pub enter-full : r ≡ NoRoom → entry Full p q ≡ enterIn pool places count end id
-    unfolding enterIn
-    enter-full k = simp (sym ie, le-ltb _ _ h, sym re, k)
-
--- `entered`
-pub enter-anew : (e f : Entry) (p q : List ℕ) (k : Kept) → entry e p q ≡ k → e ≡ f → entry f p q ≡ k
-enter-anew e f p q k h ef = ap (λ (x : Entry). entry x p q) (sym ef) ∙ h
-
 -- `enter_decoded`
 pub front-length : (s : List ℕ) (k : ℕ) → k ≤ length s → k ≡ length (take k s)
 front-length s k h = sym (length-take-le k s h)
@@ -135,7 +99,7 @@ decoded-front s start m b t h e =
     (y, rw g (take-append-seam (decodedAt s start) (drop (0 + length (decodedAt s start)) m)))
 
 module _ (s pool places : List ℕ) (count end start n : ℕ) (ne : n ≡ length (decodedAt s start)) where
-  pub literal-long : mostIdentifier < n → entry Full pool places ≡ literalIn pool places count end (decodedAt s start)
+  pub literal-long : mostIdentifier < n → numbered Full pool places ≡ literalIn pool places count end (decodedAt s start)
   unfolding literalIn
   literal-long h = simp (sym ne, lt-ltb _ _ h)
 
@@ -149,7 +113,7 @@ module _ (s pool places : List ℕ) (count end start n : ℕ) (ne : n ≡ length
         let z : take n b ≡ decodedAt s start = rw ne (front .1) in
         re ∙ rw z (simp (sym ne, le-ltb _ _ h))
 
-    pub literal-never : t ≡ false → entry Full pool places ≡ literalIn pool places count end (decodedAt s start)
+    pub literal-never : t ≡ false → numbered Full pool places ≡ literalIn pool places count end (decodedAt s start)
     literal-never f = clash (front .0) f
 
 -- `enter_literal`
@@ -159,7 +123,7 @@ module _ (s : List ℕ) (start e : ℕ) (ee : e ≡ bareEnd s start) (n : e ≡ 
       let l : e - (start + 1) ≤ length (drop (start + 1) s) = omega (arith, length-drop (start + 1) s, bare-within s start e ee n) in
       sym (ap length (bare-given s start e ee n) ∙ length-take-le (e - (start + 1)) (drop (start + 1) s) l)
 
-  pub bare-long : mostIdentifier < e - (start + 1) → entry Full pool places ≡ literalIn pool places count end (decodedAt s start)
+  pub bare-long : mostIdentifier < e - (start + 1) → numbered Full pool places ≡ literalIn pool places count end (decodedAt s start)
   bare-long h = literal-long s pool places count end start (e - (start + 1)) counted h
 
   pub bare-entered : (r : Kept) → e - (start + 1) ≤ mostIdentifier → r ≡ enterIn pool places count end (take (e - (start + 1)) (drop (start + 1) s))

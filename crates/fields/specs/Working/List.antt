@@ -13,9 +13,10 @@ use Rattle.lexical.specs.declared.token.Token.{Token}
 use Rattle.compliance.specs.Codes.{kOfCode}
 use Rattle.syntax.specs.Parsed.{refusal}
 use Rattle.fields.specs.Licensees.{after}
-use Rattle.fields.specs.Working.Identifying.{Kept, entry, faultIn, tokenIn}
-use Rattle.fields.specs.declared.identifier.Entry.{Entry}
-use Rattle.fields.specs.declared.identifier.Entry.the-variants.{At, Full}
+use Rattle.index.specs.Working.Entering.{Kept, numbered}
+use Rattle.fields.specs.Working.Identifying.{faultIn, tokenIn}
+use Rattle.index.specs.declared.Numbered.{Numbered}
+use Rattle.index.specs.declared.Numbered.the-variants.{At, Full}
 use Rattle.fields.specs.declared.list.State.{State}
 use Rattle.fields.specs.declared.list.Licensed.{Licensed}
 use Rattle.fields.specs.declared.list.Licensed.the-variants.{On, Aside}
@@ -47,13 +48,13 @@ abbrev pub stateOf : ℕ → ℕ → ℕ → ℕ → State
 stateOf c e z n = record { count = c; end = e; size = z; listed = n }
 
 abbrev pub onEntered : List ℕ → List ℕ → State → Token → Kept → Ran
-onEntered s code st t (entry Full pool places) = ran (Aside 0 0) pool places code
-onEntered s code st t (entry (At i c e) pool places) =
+onEntered s code st t (numbered Full pool places) = ran (Aside 0 0) pool places code
+onEntered s code st t (numbered (At i c e) pool places) =
     pick (leb 32768 i) (ran (Aside 0 0) pool places code)
     (ran (On (stateOf c e (above code (st .size)) (st .listed + 1)) (after s t)) pool places (pushed code (st .size) i))
 
 -- the same of an answer alone, n the token behind the licensee
-unfoldable pub placedIn : List ℕ → State → Token → Entry → Wrote
+unfoldable pub placedIn : List ℕ → State → Token → Numbered → Wrote
 placedIn code st n Full = wrote (Aside 0 0) code
 placedIn code st n (At i c e) =
     pick (leb 32768 i) (wrote (Aside 0 0) code) (wrote (On (stateOf c e (above code (st .size)) (st .listed + 1)) n) (pushed code (st .size) i))

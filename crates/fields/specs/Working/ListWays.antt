@@ -18,10 +18,11 @@ use Rattle.lexical.specs.declared.token.Token.{Token}
 use Rattle.compliance.specs.Codes.{kOfCode}
 use Rattle.syntax.specs.Parsed.{refusal}
 use Rattle.fields.specs.Working.Whole.{whole, inner}
-use Rattle.fields.specs.Working.Identifying.{Kept, entry, faultIn, enterIn, tokenIn, whole-fault, whole-token}
+use Rattle.index.specs.Working.Entering.{Kept, numbered, enterIn}
+use Rattle.fields.specs.Working.Identifying.{faultIn, tokenIn, whole-fault, whole-token}
 use Rattle.fields.specs.Working.List.{Ran, ran, Wrote, wrote, refusedLicensed, above, pushed, sized, stateOf, onEntered, placedIn, licenseeIn, itemsOf, listedIn, onWrote, listIn, openedIn, thresholdIn}
-use Rattle.fields.specs.declared.identifier.Entry.{Entry}
-use Rattle.fields.specs.declared.identifier.Entry.the-variants.{At, Full}
+use Rattle.index.specs.declared.Numbered.{Numbered}
+use Rattle.index.specs.declared.Numbered.the-variants.{At, Full}
 use Rattle.fields.specs.declared.list.State.{State}
 use Rattle.fields.specs.declared.list.Licensed.{Licensed}
 use Rattle.fields.specs.declared.list.Licensed.the-variants.{On, Aside}
@@ -49,7 +50,7 @@ module _ (code : List ℕ) (size : ℕ) where
   pushed-room x h = simp (lt-leb _ _ h)
 
 -- `placed`
-module _ (code : List ℕ) (st : State) (n : Token) (e : Entry) where
+module _ (code : List ℕ) (st : State) (n : Token) (e : Numbered) where
   pub placed-full : e ≡ Full → wrote (Aside 0 0) code ≡ placedIn code st n e
   unfolding placedIn
   placed-full k = rw k
@@ -64,7 +65,7 @@ module _ (code : List ℕ) (st : State) (n : Token) (e : Entry) where
     unfolding placedIn
     placed-on x y b g xe ye be = rw (ye, be, xe) (simp (k, lt-leb _ _ g))
 
-placed-is : (s code : List ℕ) (st : State) (t : Token) (e : Entry) (p q : List ℕ) → onWrote p q (placedIn code st (tokenAt s Kind.IN-LICENSEES (t .end)) e) ≡ onEntered s code st t (entry e p q)
+placed-is : (s code : List ℕ) (st : State) (t : Token) (e : Numbered) (p q : List ℕ) → onWrote p q (placedIn code st (tokenAt s Kind.IN-LICENSEES (t .end)) e) ≡ onEntered s code st t (numbered e p q)
 unfolding placedIn
 placed-is s code st t Full p q = refl
 placed-is s code st t (At i c m) p q = split (leb 32768 i) (λ h. rw h) (λ h. rw h)
@@ -80,7 +81,7 @@ module _ (s consts constants pool places code : List ℕ) (st : State) (k a b f 
     unfolding licenseeIn
     licensee-most h = simp (sym fe, eq-eqb _ _ z, le-leb _ _ h)
 
-    module _ (h : st .listed < mostLicensees) (r : Entry) (p q : List ℕ) (re : entry r p q ≡ tokenIn s consts constants pool places (st .count) (st .end) (token k a b)) where
+    module _ (h : st .listed < mostLicensees) (r : Numbered) (p q : List ℕ) (re : numbered r p q ≡ tokenIn s consts constants pool places (st .count) (st .end) (token k a b)) where
       pub licensee-placed : (n : Token) → n ≡ tokenAt s Kind.IN-LICENSEES b → (x : Licensed) (m : List ℕ) → wrote x m ≡ placedIn code st n r
           → ran x p q m ≡ licenseeIn s consts constants pool places code st (token k a b)
       unfolding licenseeIn
@@ -90,7 +91,7 @@ module _ (s consts constants pool places code : List ℕ) (st : State) (k a b : 
   pub whole-most : mostLicensees ≤ st .listed → ran (Aside 7 a) pool places code ≡ licenseeIn s consts constants pool places code st (token k a b)
   whole-most h = licensee-most s consts constants pool places code st k a b 0 (whole-fault s (token k a b) w we y consts constants) refl h
 
-  pub whole-placed : st .listed < mostLicensees → (r : Entry) (p q : List ℕ) → entry r p q ≡ enterIn pool places (st .count) (st .end) (inner s a b)
+  pub whole-placed : st .listed < mostLicensees → (r : Numbered) (p q : List ℕ) → numbered r p q ≡ enterIn pool places (st .count) (st .end) (inner s a b)
       → (n : Token) → n ≡ tokenAt s Kind.IN-LICENSEES b → (x : Licensed) (m : List ℕ) → wrote x m ≡ placedIn code st n r → ran x p q m ≡ licenseeIn s consts constants pool places code st (token k a b)
   whole-placed h r p q re n ne x m e =
       licensee-placed s consts constants pool places code st k a b 0 (whole-fault s (token k a b) w we y consts constants) refl h r p q
@@ -102,8 +103,8 @@ behind d (ran (Aside r p) pool places code) = d
 behind d (ran (On u n) pool places code) = n
 
 behind-entered : (s code : List ℕ) (st : State) (t : Token) (k : Kept) → behind (tokenAt s Kind.IN-LICENSEES (t .end)) (onEntered s code st t k) ≡ tokenAt s Kind.IN-LICENSEES (t .end)
-behind-entered s code st t (entry Full pool places) = refl
-behind-entered s code st t (entry (At i c e) pool places) = split (leb 32768 i) (λ h. rw h) (λ h. rw h)
+behind-entered s code st t (numbered Full pool places) = refl
+behind-entered s code st t (numbered (At i c e) pool places) = split (leb 32768 i) (λ h. rw h) (λ h. rw h)
 
 behind-licensee : (s consts constants pool places code : List ℕ) (st : State) (t : Token)
     → behind (tokenAt s Kind.IN-LICENSEES (t .end)) (licenseeIn s consts constants pool places code st t) ≡ tokenAt s Kind.IN-LICENSEES (t .end)

@@ -18,7 +18,7 @@ use Rattle.lexical.specs.Decode.{Ran, ran, decodeInto}
 use Rattle.lexical.specs.Number.{LIMIT, numberAt}
 use Rattle.lexical.specs.Line.{tokenAt}
 use Rattle.lexical.specs.declared.token.Token.{Token}
-use Rattle.fields.specs.Limits.{mostLiteral}
+use Rattle.limits.specs.Limits.{mostLiteral}
 use Rattle.syntax.specs.Parsed.{Parsed, ok, aside, refusal}
 use Rattle.fields.specs.Parsed.{behind, ending, ended, wordOf}
 use Rattle.fields.specs.Version.{two, versionNumber, versionLiteral, version}

@@ -20,7 +20,7 @@ use Rattle.index.specs.Working.Adding.{After, entered, addInto, countedInto, co
 use Rattle.index.specs.declared.Entered.{Entered}
 use Rattle.index.specs.declared.Entered.the-variants.{Now, Full}
 use Rattle.expression.specs.Tables.{firstFrom}
-use Rattle.fields.specs.Limits.{mostConstants, mostLiteral}
+use Rattle.limits.specs.Limits.{mostConstants, mostLiteral}
 use Rattle.syntax.specs.Parsed.{refusal}
 use Rattle.fields.specs.Parsed.{behind, ending, wordOf}
 use Rattle.fields.specs.Constants.{reserved}

@@ -17,7 +17,7 @@ use Rattle.lexical.specs.Kind
 use Rattle.lexical.specs.Unit.{barred}
 use Rattle.lexical.specs.Plain.{plain, bareEnd}
 use Rattle.lexical.specs.declared.token.Token.{Token}
-use Rattle.fields.specs.Limits.{mostIdentifier}
+use Rattle.limits.specs.Limits.{mostIdentifier}
 
 -- not this byte
 unfoldable pub other : ℕ → ℕ → Bool

@@ -18,7 +18,7 @@ use Rattle.lexical.specs.Number.{LIMIT, numberAt}
 use Rattle.lexical.specs.declared.token.Token.{Token}
 use Rattle.principal.specs.Principal as P
 use Rattle.syntax.specs.Parsed.{Parsed, ok, aside, refusal, andThen}
-use Rattle.fields.specs.Limits.{mostLiteral}
+use Rattle.limits.specs.Limits.{mostLiteral}
 use Rattle.fields.specs.Parsed.{behind, ending, ended, wordOf}
 use Rattle.expression.specs.Names.{settingOr}
 use Rattle.fields.specs.Constants.{isSet}

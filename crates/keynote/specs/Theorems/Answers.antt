@@ -6,6 +6,7 @@ use native.Mathlib.Omega.{arith}
 use lib.Dec.{ltb}
 use lib.ListN.{length, take, drop, replicate, length-replicate}
 use borrow.Author.Tests.{lt-ltb, le-ltb, ltb-true, ltb-false}
+use Rattle.limits.specs.Limits.{mostItems}
 use Rattle.text.specs.Choice.{pick, split}
 use Rattle.record.specs.Query.{Query}
 use Rattle.record.specs.Read.{Verdict, accepted, refused}
@@ -61,7 +62,7 @@ module _ (s : List ℕ) (bytes : Bytes s) (q : Query) (acc : readRecord s ≡ ac
       let i : givenBy r out ≡ onSolved (solvedAs q page) = g ∙ ap onSolved (solved-is s q bytes acc page k) in
       (let a : r ≡ answer q = cc in a ∙ sym (outcome-answered s q acc (length page) k), let b : out ≡ _ = cc in b ∙ sym (page-answered s q acc page k)))
 
-pub answer-accepted : (s t table page : List ℕ) (m : Reading) (v n a c : ℕ) → Bytes s → 88 ≤ length t → told m table ≡ readInto s t → m ≡ Accepted v n a c
+pub answer-accepted : (s t table page : List ℕ) (m : Reading) (v n a c : ℕ) → Bytes s → mostItems ≤ length t → told m table ≡ readInto s t → m ≡ Accepted v n a c
     → (r : Outcome) (out : List ℕ) → givenBy r out ≡ answeredIn s table v n a c page → Meant s page r out
 unfolding answeredIn
 answer-accepted s t table page m v n a c bytes h e k r out g =
@@ -71,28 +72,28 @@ answer-accepted s t table page m v n a c bytes h e k r out g =
     parted-is s bytes q acc page r out (g ∙ rw (ps .valuesPart, ps .requestersPart, ps .attributesPart, ps .assertionsPart))
 
 -- the same for the function's four ways out, from an empty table
-module _ (s table : List ℕ) (m : Reading) (e : told m table ≡ readInto s (replicate 88 0)) where
+module _ (s table : List ℕ) (m : Reading) (e : told m table ≡ readInto s (replicate mostItems 0)) where
   module _ (page : List ℕ) (n p : ℕ) (k : m ≡ Refused n p) where
     pub refused-outcome : (r : Outcome) → r ≡ refusal n p → r ≡ outcome s (length page)
-    refused-outcome r re = answer-refused s (replicate 88 0) table page m n p e k r re .0
+    refused-outcome r re = answer-refused s (replicate mostItems 0) table page m n p e k r re .0
 
     pub refused-page : page ≡ pageAfter s page
-    refused-page = answer-refused s (replicate 88 0) table page m n p e k (refusal n p) refl .1
+    refused-page = answer-refused s (replicate mostItems 0) table page m n p e k (refusal n p) refl .1
 
   module _ (bytes : Bytes s) (v n a c : ℕ) (k : m ≡ Accepted v n a c) where
-    h : length (replicate {A = ℕ} 88 0) ≡ 88
-    h = length-replicate {A = ℕ} 88 0
+    h : length (replicate {A = ℕ} mostItems 0) ≡ mostItems
+    h = length-replicate {A = ℕ} mostItems 0
 
-    pub accepted-table : 88 ≡ length table
+    pub accepted-table : mostItems ≡ length table
     accepted-table =
-        let f : told (Accepted v n a c) table ≡ readInto s (replicate 88 0) = ap (λ (x : Reading). told x table) (sym k) ∙ e in
-        let (q, acc) = accepted-query s (replicate 88 0) table v n a c f in
-        let ps : Parts q (replicate 88 0) table v n a c = accepted-parts s q bytes acc (replicate 88 0) table (omega (arith, h)) v n a c f in
+        let f : told (Accepted v n a c) table ≡ readInto s (replicate mostItems 0) = ap (λ (x : Reading). told x table) (sym k) ∙ e in
+        let (q, acc) = accepted-query s (replicate mostItems 0) table v n a c f in
+        let ps : Parts q (replicate mostItems 0) table v n a c = accepted-parts s q bytes acc (replicate mostItems 0) table (omega (arith, h)) v n a c f in
         sym (ps .long ∙ h)
 
     module _ (page : List ℕ) (r : Outcome) (out : List ℕ) (g : givenBy r out ≡ answeredIn s table v n a c page) where
       pub accepted-outcome : r ≡ outcome s (length page)
-      accepted-outcome = answer-accepted s (replicate 88 0) table page m v n a c bytes (omega (arith, h)) e k r out g .0
+      accepted-outcome = answer-accepted s (replicate mostItems 0) table page m v n a c bytes (omega (arith, h)) e k r out g .0
 
       pub accepted-page : out ≡ pageAfter s page
-      accepted-page = answer-accepted s (replicate 88 0) table page m v n a c bytes (omega (arith, h)) e k r out g .1
+      accepted-page = answer-accepted s (replicate mostItems 0) table page m v n a c bytes (omega (arith, h)) e k r out g .1

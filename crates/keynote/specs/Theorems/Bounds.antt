@@ -11,7 +11,7 @@ use Rattle.record.specs.Read.{accepted}
 use Rattle.record.specs.Record.{readRecord}
 use Rattle.record.specs.Valid.{Valid}
 use Rattle.record.specs.RoundTrip.{Bytes, read-back}
-use Rattle.limits.specs.Limits.{mostLicensees}
+use Rattle.limits.specs.Limits.{mostLicensees, mostValues, mostAssertions, mostReport, mostReached}
 use Rattle.principal.specs.Principal.{Principal, policy}
 use Rattle.principal.specs.Members.{member, member-here, member-there, member-left, member-right, distinct-le}
 use Rattle.compliance.specs.Licensees.{licensees}
@@ -99,16 +99,16 @@ class-top q = round-le (system q) _ policy
 -- ---- a record that is accepted
 
 pub record Bounded (q : Query) : Type 0 where
-  pub rank : classOf q ≤ 15
-  pub reached : reachedOf q ≤ 513
-  pub rounds : roundsOf q ≤ 513
-  pub report : needed q ≤ 99
+  pub rank : classOf q ≤ mostValues - 1
+  pub reached : reachedOf q ≤ mostReached
+  pub rounds : roundsOf q ≤ mostReached
+  pub report : needed q ≤ mostReport
 
 pub bounded : (s : List ℕ) → Bytes s → (q : Query) → readRecord s ≡ accepted q → Bounded q
 unfolding needed reportSize
 bounded s b q e =
     let v : Valid q = read-back s b q e .0 in
-    let vs : length (q .values) ≤ 16 = v .values .0 .1 in
-    let ns : length (q .assertions) ≤ 32 = v .assertions .0 .1 in
-    let r : reachedOf q ≤ 513 = omega (arith, reached-few q) in
+    let vs : length (q .values) ≤ mostValues = v .values .0 .1 in
+    let ns : length (q .assertions) ≤ mostAssertions = v .assertions .0 .1 in
+    let r : reachedOf q ≤ mostReached = omega (arith, reached-few q) in
     record { rank = omega (arith, class-top q); reached = r; rounds = omega (arith, rounds-few q); report = omega arith }

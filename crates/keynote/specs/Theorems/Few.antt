@@ -11,14 +11,13 @@ use borrow.Author.Tests.{leb-false}
 use Rattle.text.specs.Choice.{pick, split}
 use Rattle.text.specs.Loop.{Step, next, done, loop, loop-ind}
 use Rattle.record.specs.Query.{Attribute}
-use Rattle.limits.specs.Limits.{mostLicensees}
+use Rattle.limits.specs.Limits.{mostLicensees, mostBrackets}
 use Rattle.lexical.specs.Kind
 use Rattle.lexical.specs.Number.{numberAt}
 use Rattle.lexical.specs.declared.token.Token.{Token}
 use Rattle.principal.specs.Principal.{Principal}
 use Rattle.compliance.specs.Licensees.{Expression, name, and, or, kOf, named, empty, given, licensees as licenseesIn}
 use Rattle.syntax.specs.Parsed.{Parsed, ok, aside, andThen, unexpected}
-use Rattle.fields.specs.Limits.{mostBrackets}
 use Rattle.fields.specs.Parsed.{ending}
 use Rattle.fields.specs.Identifier.{identifier}
 use Rattle.fields.specs.Version.{version}

@@ -8,8 +8,9 @@ use native.Mathlib.Nat.{add-zero}
 use native.Mathlib.Numerals.{add-one}
 use lib.ListN.{length, getD, take, drop, replicate, length-replicate, length-map}
 use lib.Seq.{take-at, drop-drop}
-use lib.Dec.{leb}
+use lib.Dec.{leb, ltb}
 use borrow.Author.Tests.{le-leb, le-ltb, lt-ltb, leb-true}
+use Rattle.limits.specs.Limits.{mostAssertions, mostText, mostNamed, mostEntered, mostJoined, mostLengths, mostCode, mostPrograms}
 use Rattle.text.specs.Choice.{split, clash}
 use Rattle.text.specs.Join.{joined}
 use Rattle.text.specs.Counted.{counted}
@@ -36,8 +37,9 @@ use Rattle.assertion.specs.Working.Reading.{readIn}
 use Rattle.assertion.specs.Theorems.Ready.{Ready, ReadAs}
 use Rattle.assertion.specs.Theorems.Reads.{read-as}
 use Rattle.system.specs.Working.Noting.{endsOf, headerInto}
-use Rattle.system.specs.Working.Each.{Fixed, fixed, Store, store, oneIn, Each, eachBy, onOne, full, fullAt, Went, wentBy, eachFrom}
-use Rattle.system.specs.Working.Solving.{Solved, solvedBy, topOf, rowsGive, onWent, grownIn, onStretch, filledIn, filledLong}
+use Rattle.system.specs.Working.Each.{Fixed, fixed, Store, store, oneIn, Each, onOne, full, fullAt, eachFrom}
+use Rattle.system.specs.Working.Sizes.{Size, small, middle, large, middleMost, someRows, someCode}
+use Rattle.system.specs.Working.Solving.{Solved, solvedBy, topOf, rowsGive, grownIn, onStretch, filledIn, filledLong}
 use Rattle.system.specs.declared.asked.Index.{Index}
 use Rattle.system.specs.declared.note.Ends.{Ends}
 use Rattle.keynote.specs.Answer.{ranked, reading, readings, keptOf, system, classOf, roundsOf, reachedOf}
@@ -47,8 +49,8 @@ use Rattle.keynote.specs.Theorems.PlacesAssertion.{Small, AllSmall, smal
 use Rattle.keynote.specs.Theorems.Started.{Started, startNames}
 use Rattle.keynote.specs.Theorems.Stocked.{asked-covers}
 use Rattle.keynote.specs.Theorems.Paged.{header-is}
-use Rattle.keynote.specs.Theorems.Made.{Size, Made, Reached, joining, joining-is, before, noted-made}
-use Rattle.keynote.specs.Theorems.Grown.{small, large, made-larger}
+use Rattle.keynote.specs.Theorems.Made.{Made, Reached, joining, joining-is, before, noted-made}
+use Rattle.keynote.specs.Theorems.Grown.{Within, made-larger, small-middle, small-large, middle-large}
 use Rattle.keynote.specs.Theorems.Made.{reached as reached-at}
 
 -- as many places as items
@@ -57,28 +59,17 @@ lie-length lie[] = refl
 lie-length (lie∷ h t) = ap suc (lie-length t)
 
 -- what the assertions are read with, all the way
-pub record Fit (s : List ℕ) (q : Query) (values names : List ℕ) (start t : ℕ) (sheet : List ℕ) (most : ℕ) : Type 0 where
+pub record Fit (s : List ℕ) (q : Query) (values names : List ℕ) (start t : ℕ) (sheet : List ℕ) (most room : ℕ) : Type 0 where
   pub values-lie : Lie (StringAt s) values (q .values)
   pub names-lie : Lie (AttributeAt s) names (q .attributes)
-  pub start-low : start ≤ 3100
+  pub start-low : start ≤ mostJoined
   pub values-short : length (joined (q .values)) ≤ 65535
   pub requesters-short : length (joined (q .requesters)) ≤ 65535
   pub few : length (q .values) ≤ 256
   pub top-is : t ≡ top (q .values)
-  pub at-most : most ≤ 32
-  pub room : 3 + 3 * most ≤ length sheet
-
-reached-same : {size : Size} {q : Query} {start : ℕ} {direct sheet : List ℕ} {l l′ : List Assertion} {i i′ : ℕ} {f f′ : List ℕ} {z : Each} → l ≡ l′ → i ≡ i′ → f ≡ f′
-    → Reached size q start direct sheet l i f z → Reached size q start direct sheet l′ i′ f′ z
-reached-same a b c r = rw (← a, ← b, ← c) r
-
--- the reading ended there
-data Ended (size : Size) (q : Query) (start : ℕ) (direct sheet : List ℕ) (l : List Assertion) (i : ℕ) (front : List ℕ) : Went → Type 0 where
-  ended : (j : ℕ) (z : Each) → Reached size q start direct sheet l i front z → Ended size q start direct sheet l i front (wentBy j z)
-
-ended-same : {size : Size} {q : Query} {start : ℕ} {direct sheet : List ℕ} {l l′ : List Assertion} {i i′ : ℕ} {f f′ : List ℕ} {w : Went} → l ≡ l′ → i ≡ i′ → f ≡ f′
-    → Ended size q start direct sheet l i f w → Ended size q start direct sheet l′ i′ f′ w
-ended-same a b c r = rw (← a, ← b, ← c) r
+  pub at-most : most ≤ room
+  pub all : room ≤ mostAssertions
+  pub paper : 3 + 3 * most ≤ length sheet
 
 -- the places of a query's items in its record
 abbrev pub valuesAt : Query → List ℕ
@@ -104,13 +95,14 @@ gives q l page =
     page
 
 -- the solver over the fronts gives the system's three numbers
-solved-ended : {size : Size} {q : Query} {start : ℕ} {direct sheet : List ℕ} {l : List Assertion} {i : ℕ} {front : List ℕ} {w : Went} → (t : ℕ) → t ≡ top (q .values)
-    → Ended size q start direct sheet l i front w → onWent t direct w ≡ gives q l (front ++ drop (3 + 3 * i) sheet)
+solved-at : {size : Size} {room : ℕ} {q : Query} {start : ℕ} {direct : List ℕ} {l : List Assertion} {i : ℕ} {e : Ends} {x : Store} {a c d page : List ℕ} (t : ℕ) → t ≡ top (q .values)
+    → Made size room q start direct l i e x a c d → (front sheet : List ℕ) → page ≡ front ++ drop (3 + 3 * i) sheet
+    → solvedBy (rowsGive a c d (x .code) direct e t) page ≡ gives q l (front ++ drop (3 + 3 * i) sheet)
 unfolding rowsGive
-solved-ended {q = q} {direct = direct} {sheet = sheet} {l = l} {i = i} {front = front} t te (ended j _ (reached-at e x a c d page made fe pe)) =
+solved-at {size = size} {q = q} {direct = direct} {l = l} {i = i} {e = e} {x = x} {a = a} {c = c} {d = d} t te made front sheet pe =
     let m : take (e .count) direct ≡ map (asking (q .requesters)) (made .names)
     = ap (take (e .count)) (made .stock .marks)
-    ∙ take-at (map (asking (q .requesters)) (made .names)) (replicate (553 - length (made .names)) 0) (e .count) (length-map (made .names) (asking (q .requesters)) ∙ sym (made .holds .counted)) in
+    ∙ take-at (map (asking (q .requesters)) (made .names)) (replicate (size .places - length (made .names)) 0) (e .count) (length-map (made .names) (asking (q .requesters)) ∙ sym (made .holds .counted)) in
     rw (te, pe, m)
     (ap (λ (w : Solution). solvedBy w (front ++ drop (3 + 3 * i) sheet))
     (represented (made .names) (take (e .kept) a) (take (e .kept) c) (take (e .kept) d) (take (e .size) (x .code)) (map (asking (q .requesters)) (made .names)) (top (q .values))
@@ -122,13 +114,13 @@ gives-same q sheet a b c = rw (a, b, c)
 
 -- where no table is too small there is room
 full-not : (consts start text pool end places count : ℕ) → full consts start text pool end places count ≡ false
-    → (start + 64 + text ≤ consts) × (end + 17 * 258 ≤ pool) × (count + 17 ≤ places)
+    → (start + mostLengths + text ≤ consts) × (end + mostEntered ≤ pool) × (count + mostNamed ≤ places)
 unfolding full
 full-not consts start text pool end places count not =
-    split (leb (start + 64 + text) consts)
-    (λ a. split (leb (end + 17 * 258) pool)
-    (λ b. split (leb (count + 17) places)
-    (λ c. (leb-true (start + 64 + text) consts a, leb-true (end + 17 * 258) pool b, leb-true (count + 17) places c))
+    split (leb (start + mostLengths + text) consts)
+    (λ a. split (leb (end + mostEntered) pool)
+    (λ b. split (leb (count + mostNamed) places)
+    (λ c. (leb-true (start + mostLengths + text) consts a, leb-true (end + mostEntered) pool b, leb-true (count + mostNamed) places c))
     (λ c. let z : true ≡ false = rw (a, b, c) at not in clash refl z))
     (λ b. let z : true ≡ false = rw (a, b) at not in clash refl z))
     (λ a. let z : true ≡ false = rw a at not in clash refl z)
@@ -142,7 +134,7 @@ small-head (small∷ h t) = h
 small-tail : {r : Read} {l : List Read} → AllSmall (r ∷ l) → AllSmall l
 small-tail (small∷ h t) = t
 
-module _ {s : List ℕ} {q : Query} {values names : List ℕ} {start t : ℕ} (direct : List ℕ) {sheet : List ℕ} {most : ℕ} (fit : Fit s q values names start t sheet most) where
+module _ {s : List ℕ} {q : Query} {values names : List ℕ} {start t : ℕ} {sheet : List ℕ} {most room : ℕ} (fit : Fit s q values names start t sheet most room) where
   abbrev all : Fixed
   all = fixed s values names t start
 
@@ -150,10 +142,10 @@ module _ {s : List ℕ} {q : Query} {values names : List ℕ} {start t : ℕ} (d
   givenAt v = given (counted s v) (getD s (v - 3) 0) s values names start
 
   -- there is room for one assertion more
-  ready : {size : Size} {l : List Assertion} {i : ℕ} {e : Ends} {x : Store} {a c d : List ℕ} (made : Made size q start direct l i e x a c d) → i < 32
-      → (v : ℕ) → length (counted s v) ≤ 8192 → fullAt all v e x ≡ false → Ready q (givenAt v) (before x) (made .names) (e .count) (e .end) (e .size)
+  ready : {size : Size} {direct : List ℕ} {l : List Assertion} {i : ℕ} {e : Ends} {x : Store} {a c d : List ℕ} (made : Made size room q start direct l i e x a c d) → i < room
+      → (v : ℕ) → length (counted s v) ≤ mostText → fullAt all v e x ≡ false → Ready q (givenAt v) (before x) (made .names) (e .count) (e .end) (e .size)
   ready {e = e} {x = x} made h v short not =
-      let room = full-not (length (x .consts)) start (length (counted s v)) (length (x .pool)) (e .end) (length (x .places)) (e .count) not in
+      let free = full-not (length (x .consts)) start (length (counted s v)) (length (x .pool)) (e .end) (length (x .places)) (e .count) not in
       record {
         short = short;
         values = fit .values-lie;
@@ -163,12 +155,12 @@ module _ {s : List ℕ} {q : Query} {values names : List ℕ} {start t : ℕ} (d
         requesters-short = fit .requesters-short;
         few = fit .few;
         constants-room = omega arith;
-        consts-room = room .0;
+        consts-room = free .0;
         holds = made .holds;
         tight = made .tight;
-        places-room = room .2;
-        pool-room = room .1;
-        numbers = omega (arith, made .holds .counted, made .few, h);
+        places-room = free .2;
+        pool-room = free .1;
+        numbers = omega (arith, made .holds .counted, made .few, h, fit .all);
         code-room = omega (arith, made .low, h, made .code-long);
       }
 
@@ -177,80 +169,109 @@ module _ {s : List ℕ} {q : Query} {values names : List ℕ} {start t : ℕ} (d
   same-reading v u at = ap (λ (n : ℕ). readAssertion n (counted s v)) (at .1) ∙ ap (readAssertion (u .standing)) (at .0)
 
   -- one assertion more
-  step : {size : Size} {l : List Assertion} {i : ℕ} {e : Ends} {x : Store} {a c d : List ℕ} (made : Made size q start direct l i e x a c d) → i < most → (v : ℕ) (u : Supplied) → AssertionAt s v u
-      → fullAt all v e x ≡ false → length (u .text) ≤ 8192 → Small (reading u) → (front page : List ℕ) → length front ≡ 3 + 3 * i → page ≡ front ++ drop (3 + 3 * i) sheet
-      → Reached size q start direct sheet (joining q l (reading u)) (suc i) (front ++ entryBytes (reading u)) (onOne a c d page i e (oneIn all v x (e .count) (e .end) (e .size)))
+  step : {size : Size} {direct : List ℕ} {l : List Assertion} {i : ℕ} {e : Ends} {x : Store} {a c d : List ℕ} (made : Made size room q start direct l i e x a c d) → i < most → (v : ℕ) (u : Supplied) → AssertionAt s v u
+      → fullAt all v e x ≡ false → length (u .text) ≤ mostText → Small (reading u) → (front page : List ℕ) → length front ≡ 3 + 3 * i → page ≡ front ++ drop (3 + 3 * i) sheet
+      → Reached size room q start direct sheet (joining q l (reading u)) (suc i) (front ++ entryBytes (reading u)) (onOne a c d page i e (oneIn all v x (e .count) (e .end) (e .size)))
   unfolding oneIn
-  step {i = i} {e = e} {x = x} made h v u at not short few front page fe pe =
-      let less : i < 32 = omega (arith, h, fit .at-most) in
-      let b : length (counted s v) ≤ 8192 = omega (arith, short, ap length (at .0)) in
+  step {size = size} {i = i} {e = e} {x = x} made h v u at not short few front page fe pe =
+      let less : i < room = omega (arith, h, fit .at-most) in
+      let free = full-not (length (x .consts)) start (length (counted s v)) (length (x .pool)) (e .end) (length (x .places)) (e .count) not in
+      let wide : e .count + mostNamed ≤ size .places = omega (arith, free .2, made .places-long) in
+      let b : length (counted s v) ≤ mostText = omega (arith, short, ap length (at .0)) in
       let r : ReadAs q (givenAt v) t (before x) (made .names) (e .count) (e .end) (e .size) (reading u) (readIn (givenAt v) t (before x) (e .count) (e .end) (e .size))
       = subst (λ (w : Read). ReadAs q (givenAt v) t (before x) (made .names) (e .count) (e .end) (e .size) w (readIn (givenAt v) t (before x) (e .count) (e .end) (e .size)))
       (same-reading v u at) (read-as t (ready made less v b not)) in
-      noted-made made less (givenAt v) refl t (fit .top-is) front sheet page fe pe (omega (arith, h, fit .room)) (reading u)
+      noted-made made less (fit .all) wide (givenAt v) refl t (fit .top-is) front sheet page fe pe (omega (arith, h, fit .paper)) (reading u)
       (readIn (givenAt v) t (before x) (e .count) (e .end) (e .size)) few r
 
-  at-short : (v : ℕ) (u : Supplied) → AssertionAt s v u → length (u .text) ≤ 8192 → length (counted s v) ≤ 8192
+  at-short : (v : ℕ) (u : Supplied) → AssertionAt s v u → length (u .text) ≤ mostText → length (counted s v) ≤ mostText
   at-short v u at short = omega (arith, short, ap length (at .0))
 
   -- large tables are never too small
-  never-full : {l : List Assertion} {i : ℕ} {e : Ends} {x : Store} {a c d : List ℕ} → Made large q start direct l i e x a c d → i < 32
-      → (v : ℕ) → length (counted s v) ≤ 8192 → fullAt all v e x ≡ false
+  never-full : {direct : List ℕ} {l : List Assertion} {i : ℕ} {e : Ends} {x : Store} {a c d : List ℕ} → Made large room q start direct l i e x a c d → i < room
+      → (v : ℕ) → length (counted s v) ≤ mostText → fullAt all v e x ≡ false
   unfolding full
   never-full {e = e} {x = x} made h v short =
       rw (
-        le-leb (start + 64 + length (counted s v)) (length (x .consts)) (omega (arith, fit .start-low, short, made .consts-long)),
-        le-leb (e .end + 17 * 258) (length (x .pool)) (omega (arith, made .tight, made .few, h, made .pool-long)),
-        le-leb (e .count + 17) (length (x .places)) (omega (arith, made .few, h, made .places-long)),
+        le-leb (start + mostLengths + length (counted s v)) (length (x .consts)) (omega (arith, fit .start-low, short, made .consts-long)),
+        le-leb (e .end + mostEntered) (length (x .pool)) (omega (arith, made .tight, made .few, h, fit .all, made .pool-long)),
+        le-leb (e .count + mostNamed) (length (x .places)) (omega (arith, made .few, h, fit .all, made .places-long)),
       )
 
-  -- all of them, in large tables
-  each-large : {ps : List ℕ} {m seen : List Supplied} → Lie (AssertionAt s) ps m → All SuppliedOk seen m → AllSmall (map reading m)
-      → (l : List Assertion) (i : ℕ) (front : List ℕ) (z : Each) → i + length m ≤ most → Reached large q start direct sheet l i front z
-      → Ended large q start direct sheet (l ++ map (ranked q) (keptOf (map reading m))) (i + length m) (front ++ entriesBytes (map reading m)) (eachFrom all ps i z)
-  unfolding eachFrom keptOf entriesBytes
-  each-large lie[] each[] smalls l i front z h r = rw (append-nil l, append-nil front, add-zero i) (ended i z r)
-  each-large (lie∷ {v = v} {vs = vs} {a = u} {l = m} at lies) (each∷ ok oks) smalls l i front _ h (reached-at e x a c d page made fe pe) =
-      let n : suc i + length m ≡ i + suc (length m) = omega arith in
-      let not : fullAt all v e x ≡ false = never-full made (omega (arith, h, fit .at-most)) v (at-short v u at (ok .1 .1)) in
-      rw not (ended-same (joining-is q l (reading u) (map reading m)) n (append-assoc front (entryBytes (reading u)) (entriesBytes (map reading m)))
-      (each-large lies oks (small-tail smalls) (joining q l (reading u)) (suc i) (front ++ entryBytes (reading u))
-      (onOne a c d page i e (oneIn all v x (e .count) (e .end) (e .size))) (omega (arith, h))
-      (step made (omega (arith, h)) v u at not (ok .1 .1) (small-head smalls) front page fe pe)))
-
-  -- the assertions from the one with the number i on, in small tables first
-  each-small : (texts : List ℕ) {ps : List ℕ} {m seen : List Supplied} → Lie (AssertionAt s) ps m → All SuppliedOk seen m → AllSmall (map reading m)
-      → (l : List Assertion) (i : ℕ) (front : List ℕ) (z : Each) → i + length m ≤ most → i + length m ≡ length texts → drop i texts ≡ ps
-      → Reached small q start direct sheet l i front z
-      → onStretch all texts direct (eachFrom all ps i z)
+  -- that the assertions from the one with the number i on, read into tables of a size and then of the sizes behind it, give the answer
+  abbrev Solves : Size → List Size → Type 0
+  Solves size sizes =
+      (texts ps : List ℕ) (m seen : List Supplied) → Lie (AssertionAt s) ps m → All SuppliedOk seen m → AllSmall (map reading m)
+      → (direct : List ℕ) (l : List Assertion) (i : ℕ) (front : List ℕ) (z : Each) → i + length m ≤ most → i + length m ≡ length texts → drop i texts ≡ ps
+      → Reached size room q start direct sheet l i front z
+      → onStretch sizes all texts direct (eachFrom all ps i z)
       ≡ gives q (l ++ map (ranked q) (keptOf (map reading m))) ((front ++ entriesBytes (map reading m)) ++ drop (3 + 3 * (i + length m)) sheet)
-  unfolding eachFrom keptOf entriesBytes grownIn
-  each-small texts lie[] each[] smalls l i front _ h n de (reached-at e x a c d page made fe pe) =
-      rw (append-nil l, append-nil front, add-zero i, le-ltb i (length texts) (omega (arith, n)))
-      (solved-ended {size = small} {sheet = sheet} {front = front} t (fit .top-is) (ended i (eachBy e x a c d page) (reached-at e x a c d page made fe pe)))
-  each-small texts {seen = seen} (lie∷ {v = v} {vs = vs} {a = u} {l = m} at lies) (each∷ ok oks) smalls l i front _ h n de (reached-at e x a c d page made fe pe) =
-      split (fullAt all v e x)
-      (λ f. rw (f, lt-ltb i (length texts) (omega (arith, n)), de)
-      (solved-ended t (fit .top-is) (each-large {seen = seen} (lie∷ at lies) (each∷ ok oks) smalls l i front _ h
-      (reached-at e _ a c d page (made-larger made (fit .start-low) (omega (arith, h, fit .at-most))) fe pe))))
-      (λ f. let k : suc i + length m ≡ i + suc (length m) = omega arith in
-      rw f
-      (each-small texts lies oks (small-tail smalls) (joining q l (reading u)) (suc i) (front ++ entryBytes (reading u))
+
+  -- one is read, and the others as supposed
+  next-same : (m : List Supplied) (l : List Assertion) (i : ℕ) (front : List ℕ) (u : Supplied)
+      → gives q (joining q l (reading u) ++ map (ranked q) (keptOf (map reading m)))
+      (((front ++ entryBytes (reading u)) ++ entriesBytes (map reading m)) ++ drop (3 + 3 * (suc i + length m)) sheet)
+      ≡ gives q (l ++ map (ranked q) (keptOf (map reading (u ∷ m)))) ((front ++ entriesBytes (map reading (u ∷ m))) ++ drop (3 + 3 * (i + length (u ∷ m))) sheet)
+  unfolding entriesBytes
+  next-same m l i front u =
+      let k : suc i + length m ≡ i + suc (length m) = omega arith in
+      gives-same q sheet (joining-is q l (reading u) (map reading m)) (append-assoc front (entryBytes (reading u)) (entriesBytes (map reading m))) k
+
+  -- none is left
+  solved-all : {size : Size} (direct : List ℕ) (l : List Assertion) (i : ℕ) (front : List ℕ) {e : Ends} {x : Store} {a c d page : List ℕ} → Made size room q start direct l i e x a c d
+      → page ≡ front ++ drop (3 + 3 * i) sheet
+      → solvedBy (rowsGive a c d (x .code) direct e t) page ≡ gives q (l ++ map (ranked q) (keptOf (map reading []))) ((front ++ entriesBytes (map reading [])) ++ drop (3 + 3 * (i + 0)) sheet)
+  unfolding keptOf entriesBytes
+  solved-all direct l i front made pe = rw (append-nil l, append-nil front, add-zero i) (solved-at t (fit .top-is) made front sheet pe)
+
+  -- in large tables
+  each-last : Solves large []
+  unfolding eachFrom onStretch
+  each-last texts _ _ seen lie[] each[] smalls direct l i front _ h n de (reached-at e x a c d page made fe pe) = solved-all direct l i front made pe
+  each-last texts _ _ seen (lie∷ {v = v} {vs = vs} {a = u} {l = m} at lies) (each∷ ok oks) smalls direct l i front _ h n de (reached-at e x a c d page made fe pe) =
+      let not : fullAt all v e x ≡ false = never-full made (omega (arith, h, fit .at-most)) v (at-short v u at (ok .1 .1)) in
+      let k : suc i + length m ≡ i + suc (length m) = omega arith in
+      rw not
+      (each-last texts vs m _ lies oks (small-tail smalls) direct (joining q l (reading u)) (suc i) (front ++ entryBytes (reading u))
       (onOne a c d page i e (oneIn all v x (e .count) (e .end) (e .size))) (omega (arith, h)) (k ∙ n) (drop-next texts i v vs de)
-      (step made (omega (arith, h)) v u at f (ok .1 .1) (small-head smalls) front page fe pe)
-      ∙ gives-same q sheet (joining-is q l (reading u) (map reading m)) (append-assoc front (entryBytes (reading u)) (entriesBytes (map reading m))) k))
+      (step made (omega (arith, h)) v u at not (ok .1 .1) (small-head smalls) front page fe pe)
+      ∙ next-same m l i front u)
+
+  -- in tables of a size that fits into the next
+  module _ (size next : Size) (sizes : List Size) (within : Within size next) (later : Solves next sizes) where
+    each-more : Solves size (next ∷ sizes)
+    unfolding eachFrom onStretch
+    each-more texts _ _ seen lie[] each[] smalls direct l i front _ h n de (reached-at e x a c d page made fe pe) =
+        rw (le-ltb i (length texts) (omega (arith, n))) (solved-all direct l i front made pe)
+    each-more texts _ _ seen (lie∷ {v = v} {vs = vs} {a = u} {l = m} at lies) (each∷ ok oks) smalls direct l i front _ h n de (reached-at e x a c d page made fe pe) =
+        split (fullAt all v e x)
+        (λ f. rw (f, lt-ltb i (length texts) (omega (arith, n)), de)
+        (later texts (v ∷ vs) (u ∷ m) seen (lie∷ at lies) (each∷ ok oks) smalls _ l i front _ h n de
+        (reached-at e _ a c d page (made-larger made next within (fit .start-low)) fe pe)))
+        (λ f. let k : suc i + length m ≡ i + suc (length m) = omega arith in
+        rw f
+        (each-more texts vs m _ lies oks (small-tail smalls) direct (joining q l (reading u)) (suc i) (front ++ entryBytes (reading u))
+        (onOne a c d page i e (oneIn all v x (e .count) (e .end) (e .size))) (omega (arith, h)) (k ∙ n) (drop-next texts i v vs de)
+        (step made (omega (arith, h)) v u at f (ok .1 .1) (small-head smalls) front page fe pe)
+        ∙ next-same m l i front u))
+
+  each-middle : Solves middle (large ∷ [])
+  each-middle = each-more middle large [] middle-large each-last
+
+  each-small : Solves small (middle ∷ large ∷ [])
+  each-small = each-more small middle (large ∷ []) small-middle each-middle
 
 -- before the first
 start-made : (s : List ℕ) (q : Query) (start : ℕ) (consts : List ℕ) (x : Index) (pool places direct : List ℕ) → Started s q start consts x pool places direct
-    → (code a c d : List ℕ) → length code ≡ 1536 → length a ≡ 32 → length c ≡ 32 → length d ≡ 32
-    → Made small q start direct [] 0 (endsOf (x .count) (x .end) 0 0) (store consts pool places code) a c d
-start-made s q start consts x pool places direct st code a c d ke ae ce de = record {
+    → (room : ℕ) (code a c d : List ℕ) → length code ≡ room * mostCode → length a ≡ room → length c ≡ room → length d ≡ room
+    → Made small room q start direct [] 0 (endsOf (x .count) (x .end) 0 0) (store consts pool places code) a c d
+start-made s q start consts x pool places direct st room code a c d ke ae ce de = record {
   names = startNames q;
   holds = st .holds;
   stock = record {
     filling = st .filling;
     covers = asked-covers (policy ∷ []) (q .requesters);
-    marks = st .marks ∙ ap (λ (n : ℕ). map (asking (q .requesters)) (startNames q) ++ replicate (553 - n) 0) (st .holds .counted);
+    marks = st .marks ∙ ap (λ (n : ℕ). map (asking (q .requesters)) (startNames q) ++ replicate (small .places - n) 0) (st .holds .counted);
   };
   tight = st .tight;
   few = omega (arith, st .few);
@@ -286,58 +307,71 @@ top-same q values e h = omega (arith, e, h)
 module _ (s : List ℕ) (q : Query) (page : List ℕ) (start : ℕ) (consts : List ℕ) (x : Index) (pool places direct : List ℕ) (st : Started s q start consts x pool places direct)
     (values names texts : List ℕ) where
   module _ (vl : Lie (StringAt s) values (q .values)) (nl : Lie (AttributeAt s) names (q .attributes)) (tl : Lie (AssertionAt s) texts (q .assertions))
-      (oks : All SuppliedOk [] (q .assertions)) (smalls : AllSmall (map reading (q .assertions))) (low : length (q .values) ≤ 256) (few : length (q .assertions) ≤ 32)
-      (room : 3 + 3 * length (q .assertions) ≤ length page) where
+      (oks : All SuppliedOk [] (q .assertions)) (smalls : AllSmall (map reading (q .assertions))) (low : length (q .values) ≤ 256)
+      (paper : 3 + 3 * length (q .assertions) ≤ length page) where
     n : length texts ≡ length (q .assertions)
     n = lie-length tl
 
     te : topOf values ≡ top (q .values)
     te = top-same q values (lie-length vl) low
 
-    fit : Fit s q values names start (topOf values) page (length (q .assertions))
-    fit = record {
-      values-lie = vl;
-      names-lie = nl;
-      start-low = st .start-low;
-      values-short = st .values-short;
-      requesters-short = st .requesters-short;
-      few = low;
-      top-is = te;
-      at-most = few;
-      room = room;
-    }
-
-    made : Made small q start direct [] 0 (endsOf (x .count) (x .end) 0 0) (store consts pool places (replicate 1536 0)) (replicate 32 0) (replicate 32 0) (replicate 32 0)
-    made = start-made s q start consts x pool places direct st (replicate 1536 0) (replicate 32 0) (replicate 32 0) (replicate 32 0)
-        (length-replicate {A = ℕ} 1536 0) (length-replicate {A = ℕ} 32 0) (length-replicate {A = ℕ} 32 0) (length-replicate {A = ℕ} 32 0)
-
-    head-is : headerInto page (length texts) ≡ (1 ∷ pairBytes (3 * length texts)) ++ drop 3 page
-    head-is = header-is page (length texts) (omega (arith, room)) (omega (arith, n, few))
-
     page-is : _≡_ {A = Solved} (gives q (map (ranked q) (keptOf (map reading (q .assertions)))) (((1 ∷ pairBytes (3 * length texts)) ++ entriesBytes (map reading (q .assertions))) ++ drop (3 + 3 * (0 + length (q .assertions))) page))
         (solvedAs q page)
     unfolding classOf roundsOf reachedOf system readings
     page-is = ap (solvedBy (record { rank = rank (system q) policy; rounds = rounds (system q); reached = reached (system q) })) (page-end q (length texts) page n)
 
+    -- with so many rows
+    module _ (room : ℕ) (few : length (q .assertions) ≤ room) (all : room ≤ mostAssertions) where
+      fit : Fit s q values names start (topOf values) page (length (q .assertions)) room
+      fit = record {
+        values-lie = vl;
+        names-lie = nl;
+        start-low = st .start-low;
+        values-short = st .values-short;
+        requesters-short = st .requesters-short;
+        few = low;
+        top-is = te;
+        at-most = few;
+        all = all;
+        paper = paper;
+      }
+
+      made : Made small room q start direct [] 0 (endsOf (x .count) (x .end) 0 0) (store consts pool places (replicate (room * mostCode) 0)) (replicate room 0) (replicate room 0) (replicate room 0)
+      made = start-made s q start consts x pool places direct st room (replicate (room * mostCode) 0) (replicate room 0) (replicate room 0) (replicate room 0)
+          (length-replicate {A = ℕ} (room * mostCode) 0) (length-replicate {A = ℕ} room 0) (length-replicate {A = ℕ} room 0) (length-replicate {A = ℕ} room 0)
+
+      head-is : headerInto page (length texts) ≡ (1 ∷ pairBytes (3 * length texts)) ++ drop 3 page
+      head-is = header-is page (length texts) (omega (arith, paper)) (omega (arith, n, few, all))
+
     -- in small tables first
-    filled-from : filledIn s values names texts start consts pool places direct x page
+    filled-from : length (q .assertions) ≤ someRows → filledIn s values names texts start consts pool places direct x page
         ≡ solvedAs q page
     unfolding filledIn
-    filled-from =
-        each-small direct fit texts tl oks smalls [] 0 (1 ∷ pairBytes (3 * length texts)) _ (omega arith) (omega (arith, n)) refl
-        (reached-at (endsOf (x .count) (x .end) 0 0) (store consts pool places (replicate 1536 0)) (replicate 32 0) (replicate 32 0) (replicate 32 0) (headerInto page (length texts))
-        made (front-start (3 * length texts)) head-is)
+    filled-from few =
+        each-small (fit someRows few (omega arith)) texts texts (q .assertions) [] tl oks smalls direct [] 0 (1 ∷ pairBytes (3 * length texts)) _ (omega arith) (omega (arith, n)) refl
+        (reached-at (endsOf (x .count) (x .end) 0 0) (store consts pool places (replicate someCode 0)) (replicate someRows 0) (replicate someRows 0) (replicate someRows 0) (headerInto page (length texts))
+        (made someRows few (omega arith)) (front-start (3 * length texts)) (head-is someRows few (omega arith)))
         ∙ page-is
 
-    -- in large tables at once
-    long-from : filledLong s values names texts start consts pool places direct x page
-        ≡ solvedAs q page
-    unfolding filledLong grownIn
-    long-from =
-        solved-ended (topOf values) te (each-large direct fit tl oks smalls [] 0 (1 ∷ pairBytes (3 * length texts)) _ (omega arith)
-        (reached-at (endsOf (x .count) (x .end) 0 0) _ (replicate 32 0) (replicate 32 0) (replicate 32 0) (headerInto page (length texts))
-        (made-larger made (st .start-low) (omega arith)) (front-start (3 * length texts)) head-is))
-        ∙ page-is
+    -- in tables of any size that the small ones fit into, at once
+    module _ (few : length (q .assertions) ≤ mostAssertions) where
+      grown-from : (size : Size) (sizes : List Size) → Within small size → Solves (fit mostAssertions few (omega arith)) size sizes
+          → grownIn size sizes (fixed s values names (topOf values) start) texts (take start consts) (take (x .end) pool) (take (x .count) places) (take (x .count) direct)
+          (replicate mostPrograms 0) (replicate mostAssertions 0) (replicate mostAssertions 0) (replicate mostAssertions 0) (headerInto page (length texts)) 0 (endsOf (x .count) (x .end) 0 0)
+          ≡ solvedAs q page
+      unfolding grownIn
+      grown-from size sizes within solves =
+          solves texts texts (q .assertions) [] tl oks smalls _ [] 0 (1 ∷ pairBytes (3 * length texts)) _ (omega arith) (omega (arith, n)) refl
+          (reached-at (endsOf (x .count) (x .end) 0 0) _ (replicate mostAssertions 0) (replicate mostAssertions 0) (replicate mostAssertions 0) (headerInto page (length texts))
+          (made-larger (made mostAssertions few (omega arith)) size within (st .start-low)) (front-start (3 * length texts)) (head-is mostAssertions few (omega arith)))
+          ∙ page-is
+
+      long-from : filledLong s values names texts start consts pool places direct x page ≡ solvedAs q page
+      unfolding filledLong
+      long-from =
+          split (ltb middleMost (x .end))
+          (λ h. rw h (grown-from large [] small-large (each-last (fit mostAssertions few (omega arith)))))
+          (λ h. rw h (grown-from middle (large ∷ []) small-middle (each-middle (fit mostAssertions few (omega arith)))))
 
 small-readings : (s : List ℕ) (q : Query) → Bytes s → readRecord s ≡ accepted q → AllSmall (map reading (q .assertions))
 unfolding readings
@@ -356,13 +390,13 @@ module _ (s : List ℕ) (q : Query) (b : Bytes s) (e : readRecord s ≡ accepted
   lies : Lies s q
   lies = read-lies s q e
 
-  pub filled-is : filledIn s (valuesAt q) (attributesAt q) (assertionsAt q)
+  pub filled-is : length (q .assertions) ≤ someRows → filledIn s (valuesAt q) (attributesAt q) (assertionsAt q)
       start consts pool places direct x page
       ≡ solvedAs q page
-  filled-is =
+  filled-is few =
       filled-from s q page start consts x pool places direct st (valuesAt q) (attributesAt q)
       (assertionsAt q) (lies .values) (lies .attributes) (lies .assertions) (valid .assertions .1)
-      (small-readings s q b e) (omega (arith, valid .values .0 .1)) (valid .assertions .0 .1) (page-room q page room)
+      (small-readings s q b e) (omega (arith, valid .values .0 .1)) (page-room q page room) few
 
   pub long-is : filledLong s (valuesAt q) (attributesAt q) (assertionsAt q)
       start consts pool places direct x page
@@ -370,4 +404,4 @@ module _ (s : List ℕ) (q : Query) (b : Bytes s) (e : readRecord s ≡ accepted
   long-is =
       long-from s q page start consts x pool places direct st (valuesAt q) (attributesAt q)
       (assertionsAt q) (lies .values) (lies .attributes) (lies .assertions) (valid .assertions .1)
-      (small-readings s q b e) (omega (arith, valid .values .0 .1)) (valid .assertions .0 .1) (page-room q page room)
+      (small-readings s q b e) (omega (arith, valid .values .0 .1)) (page-room q page room) (valid .assertions .0 .1)

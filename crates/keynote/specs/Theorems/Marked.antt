@@ -7,6 +7,7 @@ use Prim.Native.Nat.{ℕ, zero, suc, _+_, _-_, _*_, _≤_, _<_}
 use native.Mathlib.Omega.{arith}
 use lib.ListN.{length, set, replicate, length-append, length-map}
 use lib.Seq.{set-at}
+use Rattle.limits.specs.Limits.{mostRequesters, mostIdentifier, mostPrincipals, mostCounted}
 use Rattle.text.specs.Choice.{split, clash, bool-iff}
 use Rattle.text.specs.Counted.{counted}
 use Rattle.record.specs.Lies.{Lie, lie[], lie∷, StringAt}
@@ -17,9 +18,10 @@ use Rattle.index.specs.Index.{enter, enterAll, Holds}
 use Rattle.compliance.specs.Tables.{place}
 use Rattle.compliance.specs.Theorems.Fill.{place-added}
 use Rattle.compliance.specs.Theorems.Filling.{asking, Filling, fill-name}
-use Rattle.fields.specs.Working.Identifying.{Kept}
+use Rattle.index.specs.Working.Entering.{Kept}
 use Rattle.fields.specs.Theorems.Identified.{EntryRead, entry-at, entry-read}
 use Rattle.system.specs.declared.asked.Index.{Index}
+use Rattle.system.specs.Working.Sizes.{small}
 use Rattle.system.specs.Working.Asking.{Asked, asked, onEntered, askIn, allFrom}
 
 map-snoc : (f : Principal → ℕ) (l : List Principal) (p : Principal) → map f (l ++ (p ∷ [])) ≡ map f l ++ (f p ∷ [])
@@ -90,18 +92,18 @@ module _ (done names : List Principal) (p : Principal) (n : ℕ) where
 
 pub record Stage (requesters : List Principal) (top : ℕ) (done names : List Principal) (x : Index) (pool places direct : List ℕ) : Type 0 where
   pub holds : Holds pool places (x .count) (x .end) names
-  pub tight : x .end ≤ 258 * x .count
+  pub tight : x .end ≤ mostCounted * x .count
   pub few : x .count ≤ 1 + length done
-  pub marks : direct ≡ map (asking done) names ++ replicate (553 - x .count) 0
+  pub marks : direct ≡ map (asking done) names ++ replicate (small .places - x .count) 0
   pub filling : Filling names [] [] [] [] (map (asking requesters) names) [] requesters top
-  pub pool-long : length pool ≡ 8192
-  pub places-long : length places ≡ 128
+  pub pool-long : length pool ≡ small .pool
+  pub places-long : length places ≡ small .places
 
 pub data Staged (requesters : List Principal) (top : ℕ) (done names : List Principal) : Asked → Type 0 where
   staged : (x : Index) (pool places direct : List ℕ) → Stage requesters top done names x pool places direct → Staged requesters top done names (asked x pool places direct)
 
 module _ (requesters : List Principal) (top : ℕ) where
-  fill-enter : (names : List Principal) (p : Principal) → length names < 553 → Filling names [] [] [] [] (map (asking requesters) names) [] requesters top
+  fill-enter : (names : List Principal) (p : Principal) → length names < mostPrincipals → Filling names [] [] [] [] (map (asking requesters) names) [] requesters top
       → Filling (enter names p) [] [] [] [] (map (asking requesters) (enter names p)) [] requesters top
   unfolding enter
   fill-enter names p h f =
@@ -109,15 +111,15 @@ module _ (requesters : List Principal) (top : ℕ) where
       (λ m. rw m f)
       (λ m. rw (m, map-snoc (asking requesters) names p) (fill-name names [] [] [] [] (map (asking requesters) names) [] requesters top f p m h))
 
-  module _ (done names : List Principal) (x : Index) (pool places direct : List ℕ) (st : Stage requesters top done names x pool places direct) (p : Principal) (low : length done ≤ 7) where
+  module _ (done names : List Principal) (x : Index) (pool places direct : List ℕ) (st : Stage requesters top done names x pool places direct) (p : Principal) (low : length done < mostRequesters) where
     entered-staged : {k : Kept} → EntryRead pool places (x .count) (x .end) names p k → Staged requesters top (done ++ (p ∷ [])) (enter names p) (onEntered direct x k)
     entered-staged (entry-at c e pool′ places′ h t f g pl ll) =
-        let n : length names < 553 = omega (arith, st .holds .counted, st .few, low) in
+        let n : length names < mostPrincipals = omega (arith, st .holds .counted, st .few, low) in
         let b : x .count ≡ length names = st .holds .counted in
         let w : c ≡ length (enter names p) = h .counted in
-        let old : direct ≡ map (asking done) names ++ replicate (553 - length names) 0 = st .marks ∙ rw b in
-        let new : set direct (place (enter names p) p) 1 ≡ map (asking (done ++ (p ∷ []))) (enter names p) ++ replicate (553 - c) 0
-        = ap (λ (d : List ℕ). set d (place (enter names p) p) 1) old ∙ mark-is done names p 553 (st .filling .represents .distinct) n ∙ rw w in
+        let old : direct ≡ map (asking done) names ++ replicate (small .places - length names) 0 = st .marks ∙ rw b in
+        let new : set direct (place (enter names p) p) 1 ≡ map (asking (done ++ (p ∷ []))) (enter names p) ++ replicate (small .places - c) 0
+        = ap (λ (d : List ℕ). set d (place (enter names p) p) 1) old ∙ mark-is done names p (small .places) (st .filling .represents .distinct) (omega (arith, st .holds .counted, st .few, low)) ∙ rw w in
         staged _ pool′ places′ (set direct (place (enter names p) p) 1) (record {
           holds = h;
           tight = t;
@@ -128,7 +130,7 @@ module _ (requesters : List Principal) (top : ℕ) where
           places-long = ll ∙ st .places-long;
         })
 
-    pub ask-staged : length p ≤ 256 → Staged requesters top (done ++ (p ∷ [])) (enter names p) (askIn pool places direct x p)
+    pub ask-staged : length p ≤ mostIdentifier → Staged requesters top (done ++ (p ∷ [])) (enter names p) (askIn pool places direct x p)
     unfolding askIn
     ask-staged h =
         entered-staged (entry-read pool places (x .count) (x .end) names (st .holds) (st .tight) p h
@@ -136,7 +138,7 @@ module _ (requesters : List Principal) (top : ℕ) where
 
   -- all requesters at their places
   pub all-staged : (s : List ℕ) {vs : List ℕ} {l : List Principal} → Lie (StringAt s) vs l → {seen : List Principal} → Each RequesterOk seen l
-      → (done names : List Principal) → length done + length l ≤ 8 → {a : Asked} → Staged requesters top done names a
+      → (done names : List Principal) → length done + length l ≤ mostRequesters → {a : Asked} → Staged requesters top done names a
       → Staged requesters top (done ++ l) (enterAll names l) (allFrom s vs a)
   unfolding allFrom enterAll
   all-staged s lie[] {seen} ok done names h t = rw (append-nil done) t

@@ -6,13 +6,14 @@ use native.Mathlib.Omega.{arith}
 use lib.ListN.{length, drop, length-append, length-drop}
 use lib.Seq.{take-at, drop-drop, drop-append-add}
 use borrow.Author.Tests.{le-ltb}
+use Rattle.limits.specs.Limits.{mostAssertions}
 use Rattle.text.specs.Copy.{put}
 use Rattle.assertion.specs.Read.{Read}
 use Rattle.system.specs.Working.Noting.{entryInto, headerInto}
 use Rattle.keynote.specs.Report.{reasonOf, placeOf, pairBytes, entryBytes}
 
 -- the first three bytes
-pub header-is : (page : List ℕ) (n : ℕ) → 3 ≤ length page → n ≤ 32 → headerInto page n ≡ (1 ∷ pairBytes (3 * n)) ++ drop 3 page
+pub header-is : (page : List ℕ) (n : ℕ) → 3 ≤ length page → n ≤ mostAssertions → headerInto page n ≡ (1 ∷ pairBytes (3 * n)) ++ drop 3 page
 unfolding headerInto put pairBytes
 header-is page n h k =
     let m : n % 65536 ≡ n = omega (arith, k) in

@@ -5,6 +5,7 @@ use Prim.Native.Nat.{ℕ, suc, _+_, _-_, _≤_}
 use native.Mathlib.Omega.{arith}
 use lib.ListN.{length, take, drop, length-append}
 use lib.Seq.{take-at, drop-at}
+use Rattle.limits.specs.Limits.{mostItems}
 use Rattle.text.specs.Copy.{put}
 use Rattle.text.specs.CopyLaws.{put-length}
 use Rattle.record.specs.Query.{Query}
@@ -97,7 +98,7 @@ all-length q =
 accepted-is : {v n a c v′ n′ a′ c′ : ℕ} → Accepted v n a c ≡ Accepted v′ n′ a′ c′ → (v ≡ v′) × ((n ≡ n′) × ((a ≡ a′) × (c ≡ c′)))
 accepted-is e = (cc, (cc, (cc, cc)))
 
-pub accepted-parts : (s : List ℕ) (q : Query) → Bytes s → readRecord s ≡ accepted q → (t table : List ℕ) → 88 ≤ length t
+pub accepted-parts : (s : List ℕ) (q : Query) → Bytes s → readRecord s ≡ accepted q → (t table : List ℕ) → mostItems ≤ length t
     → (values requesters attributes assertions : ℕ) → told (Accepted values requesters attributes assertions) table ≡ readInto s t
     → Parts q t table values requesters attributes assertions
 unfolding groupEnds
@@ -110,7 +111,7 @@ accepted-parts s q bytes e t table room values requesters attributes assertions 
     let re : requesters ≡ length (q .values) + length (q .requesters) = ends .1 .0 in
     let ae : attributes ≡ length (q .values) + length (q .requesters) + length (q .attributes) = ends .1 .1 .0 in
     let ce : assertions ≡ length (q .values) + length (q .requesters) + length (q .attributes) + length (q .assertions) = ends .1 .1 .1 in
-    let most : assertions ≤ 88 = omega (arith, ce, v .values .0 .1, v .requesters .0 .1, v .attributes .0 .1, v .assertions .0 .1) in
+    let most : assertions ≤ mostItems = omega (arith, ce, v .values .0 .1, v .requesters .0 .1, v .attributes .0 .1, v .assertions .0 .1) in
     let long : length table ≡ length t = ap length is ∙ put-length t 0 (places q) (omega (arith, all-length q, most, ce, room)) in
     let a = places-length stringSize 2 2 (q .values) in
     let b = places-length stringSize 2 (requestersStart q) (q .requesters) in

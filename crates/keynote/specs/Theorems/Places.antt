@@ -11,7 +11,7 @@ use borrow.Author.Tests.{eqb-true, eqb-false, leb-true, leb-false}
 use Rattle.text.specs.Choice.{pick, split}
 use Rattle.text.specs.Equal.{equal}
 use Rattle.record.specs.Query.{Attribute}
-use Rattle.limits.specs.Limits.{mostLicensees}
+use Rattle.limits.specs.Limits.{mostLicensees, mostBrackets, mostConstants, mostLiteral}
 use Rattle.lexical.specs.Kind
 use Rattle.lexical.specs.Line.{tokenAt}
 use Rattle.lexical.specs.LineLaws.{token-real, token-fault, token-end}
@@ -22,7 +22,6 @@ use Rattle.lexical.specs.declared.token.Token.{Token}
 use Rattle.principal.specs.Principal.{Principal, same, policy}
 use Rattle.compliance.specs.Licensees.{Expression, name, and, or, named, empty, given}
 use Rattle.syntax.specs.Parsed.{Parsed, ok, aside, andThen, refusal, unexpected}
-use Rattle.fields.specs.Limits.{mostBrackets, mostConstants, mostLiteral}
 use Rattle.fields.specs.Parsed.{behind, wordOf, ending, ended}
 use Rattle.fields.specs.Identifier.{sizeFault, nameFault, identifierFault, identifier}
 use Rattle.fields.specs.Version.{two, versionNumber, versionLiteral, version}

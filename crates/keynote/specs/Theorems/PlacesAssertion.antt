@@ -9,7 +9,7 @@ use lib.Dec.{eqb}
 use lib.ListN.{length, getD, length-map}
 use borrow.Author.Tests.{eqb-true}
 use Rattle.text.specs.Choice.{split}
-use Rattle.limits.specs.Limits.{mostText}
+use Rattle.limits.specs.Limits.{mostText, mostAssertions}
 use Rattle.record.specs.Query.{Query, Supplied}
 use Rattle.record.specs.Read.{accepted}
 use Rattle.record.specs.Record.{readRecord}
@@ -133,7 +133,7 @@ unfolding entriesBytes entryBytes
 entries-bytes small[] = bytes-nil
 entries-bytes (small∷ {r = r} {l = l} h t) = pair-bytes (reasonOf r) (placeOf r) (entriesBytes l) (omega (arith, h .reason)) (h .place) (entries-bytes t)
 
-report-small : {l : List Read} → AllSmall l → length l ≤ 32 → Bytes (report l)
+report-small : {l : List Read} → AllSmall l → length l ≤ mostAssertions → Bytes (report l)
 unfolding report
 report-small {l} a h = pair-bytes 1 (3 * length l) (entriesBytes l) (omega arith) (omega arith) (entries-bytes a)
 

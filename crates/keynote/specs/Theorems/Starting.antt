@@ -5,6 +5,7 @@ use Prim.Native.Nat.{ℕ, suc, _+_, _-_, _*_, _≤_}
 use native.Mathlib.Omega.{arith}
 use lib.ListN.{length, replicate, length-append}
 use borrow.Author.Tests.{le-leb, le-ltb, ne-eqb}
+use Rattle.limits.specs.Limits.{mostValue, mostRequester, mostIdentifier, mostValuesJoined, mostRequestersJoined}
 use Rattle.text.specs.Copy.{put}
 use Rattle.text.specs.CopyLaws.{put-length}
 use Rattle.text.specs.Counted.{counted}
@@ -14,15 +15,17 @@ use Rattle.record.specs.Encode.{stringBytes, itemsBytes}
 use Rattle.record.specs.Lies.{Lie, lie[], lie∷, StringAt}
 use Rattle.record.specs.Valid.{Each, each[], each∷, Valid, ValueOk, RequesterOk}
 use Rattle.principal.specs.Principal.{Principal, policy}
-use Rattle.principal.specs.Members.{member}
+use Rattle.principal.specs.Members.{member, d[]}
 use Rattle.index.specs.Entry.{entriesFrom}
+use Rattle.index.specs.Tree.{tree-none}
 use Rattle.index.specs.Index.{enter, Holds}
 use Rattle.compliance.specs.Theorems.Filling.{asking, fill-start}
 use Rattle.constants.specs.Constants.{written, countedInto, begunInto}
 use Rattle.expression.specs.Conditions.{top}
-use Rattle.fields.specs.Working.Identifying.{Kept}
+use Rattle.index.specs.Working.Entering.{Kept}
 use Rattle.fields.specs.Theorems.Identified.{EntryRead, entry-at, entry-read}
 use Rattle.system.specs.declared.asked.Index.{Index}
+use Rattle.system.specs.Working.Sizes.{small}
 use Rattle.system.specs.Working.Asking.{Begun, begun, onBegun, beginIn}
 use Rattle.keynote.specs.Theorems.Marked.{Stage}
 
@@ -37,40 +40,40 @@ pub data Short (n : ℕ) : List (List ℕ) → Type 0 where
   short[] : Short n []
   short∷ : {b : List ℕ} {l : List (List ℕ)} → length b ≤ n → Short n l → Short n (b ∷ l)
 
-values-few : {seen l : List (List ℕ)} → Each ValueOk seen l → Short 64 l
+values-few : {seen l : List (List ℕ)} → Each ValueOk seen l → Short mostValue l
 values-few each[] = short[]
 values-few (each∷ k t) = short∷ (k .0 .0 .1) (values-few t)
 
-requesters-few : {seen l : List (List ℕ)} → Each RequesterOk seen l → Short 256 l
+requesters-few : {seen l : List (List ℕ)} → Each RequesterOk seen l → Short mostRequester l
 requesters-few each[] = short[]
 requesters-few (each∷ k t) = short∷ (k .0 .0 .1) (requesters-few t)
 
 -- each value with its comma, and each requester with its own
-followed-64 : {l : List (List ℕ)} → Short 64 l → length (followed l) ≤ 65 * length l
+followed-values : {l : List (List ℕ)} → Short mostValue l → length (followed l) ≤ (mostValue + 1) * length l
 unfolding followed
-followed-64 short[] = omega arith
-followed-64 (short∷ {b = b} {l = l} h t) = omega (arith, h, followed-64 t, length-append b (followed l))
+followed-values short[] = omega arith
+followed-values (short∷ {b = b} {l = l} h t) = omega (arith, h, followed-values t, length-append b (followed l))
 
-followed-256 : {l : List (List ℕ)} → Short 256 l → length (followed l) ≤ 257 * length l
+followed-requesters : {l : List (List ℕ)} → Short mostRequester l → length (followed l) ≤ (mostRequester + 1) * length l
 unfolding followed
-followed-256 short[] = omega arith
-followed-256 (short∷ {b = b} {l = l} h t) = omega (arith, h, followed-256 t, length-append b (followed l))
+followed-requesters short[] = omega arith
+followed-requesters (short∷ {b = b} {l = l} h t) = omega (arith, h, followed-requesters t, length-append b (followed l))
 
-joined-64 : {l : List (List ℕ)} → Short 64 l → length (joined l) ≤ 65 * length l
+joined-values : {l : List (List ℕ)} → Short mostValue l → length (joined l) ≤ (mostValue + 1) * length l
 unfolding joined
-joined-64 short[] = omega arith
-joined-64 (short∷ {b = b} {l = l} h t) = omega (arith, h, followed-64 t, length-append b (followed l))
+joined-values short[] = omega arith
+joined-values (short∷ {b = b} {l = l} h t) = omega (arith, h, followed-values t, length-append b (followed l))
 
-joined-256 : {l : List (List ℕ)} → Short 256 l → length (joined l) ≤ 257 * length l
+joined-requesters : {l : List (List ℕ)} → Short mostRequester l → length (joined l) ≤ (mostRequester + 1) * length l
 unfolding joined
-joined-256 short[] = omega arith
-joined-256 (short∷ {b = b} {l = l} h t) = omega (arith, h, followed-256 t, length-append b (followed l))
+joined-requesters short[] = omega arith
+joined-requesters (short∷ {b = b} {l = l} h t) = omega (arith, h, followed-requesters t, length-append b (followed l))
 
-pub values-joined : (q : Query) → Valid q → length (joined (q .values)) ≤ 1040
-values-joined q v = omega (arith, joined-64 (values-few (v .values .1)), v .values .0 .1)
+pub values-joined : (q : Query) → Valid q → length (joined (q .values)) ≤ mostValuesJoined
+values-joined q v = omega (arith, joined-values (values-few (v .values .1)), v .values .0 .1)
 
-pub requesters-joined : (q : Query) → Valid q → length (joined (q .requesters)) ≤ 2056
-requesters-joined q v = omega (arith, joined-256 (requesters-few (v .requesters .1)), v .requesters .0 .1)
+pub requesters-joined : (q : Query) → Valid q → length (joined (q .requesters)) ≤ mostRequestersJoined
+requesters-joined q v = omega (arith, joined-requesters (requesters-few (v .requesters .1)), v .requesters .0 .1)
 
 -- ---- the buffer of constants
 
@@ -103,7 +106,17 @@ pub data Rooted (requesters : List Principal) (top : ℕ) (direct : List ℕ) : 
 
 holds-none : (pool places : List ℕ) → Holds pool places 0 0 []
 unfolding itemsBytes entriesFrom
-holds-none pool places = record { bytes = refl; entries = refl; counted = refl; ends = refl; inPool = omega arith; inTable = omega arith }
+holds-none pool places = record {
+  bytes = refl;
+  entries = refl;
+  tree = tree-none places;
+  distinct = d[];
+  counted = refl;
+  ends = refl;
+  inPool = omega arith;
+  inTable = omega arith;
+  near = omega arith;
+}
 
 enter-first : enter [] policy ≡ policy ∷ []
 unfolding enter member
@@ -113,14 +126,14 @@ nobody-asks : asking [] policy ≡ 0
 unfolding member
 nobody-asks = refl
 
-policy-short : length policy ≤ 256
+policy-short : length policy ≤ mostIdentifier
 unfolding policy
 policy-short = omega arith
 
 first-zero : (n x : ℕ) → x ≡ 1 → replicate {A = ℕ} (suc n) 0 ≡ map (asking []) (policy ∷ []) ++ replicate {A = ℕ} (suc n - x) 0
 first-zero n x e = let z : suc n - x ≡ n = omega (arith, e) in rw (z, nobody-asks)
 
-module _ (requesters : List Principal) (top : ℕ) (pool places : List ℕ) (pl : length pool ≡ 8192) (ll : length places ≡ 128) (direct : List ℕ) (zero : direct ≡ replicate 553 0) where
+module _ (requesters : List Principal) (top : ℕ) (pool places : List ℕ) (pl : length pool ≡ small .pool) (ll : length places ≡ small .places) (direct : List ℕ) (zero : direct ≡ replicate (small .places) 0) where
   first-rooted : {k : Kept} → EntryRead pool places 0 0 [] policy k → Rooted requesters top direct (onBegun k)
   first-rooted (entry-at c e pool′ places′ h t f g p l) =
       let hs : Holds pool′ places′ c e (policy ∷ []) = rw enter-first at h in
@@ -128,7 +141,7 @@ module _ (requesters : List Principal) (top : ℕ) (pool places : List ℕ) (pl 
         holds = hs;
         tight = t;
         few = f;
-        marks = zero ∙ first-zero 552 c (hs .counted);
+        marks = zero ∙ first-zero (small .places - 1) c (hs .counted);
         filling = fill-start requesters top;
         pool-long = p ∙ pl;
         places-long = l ∙ ll;

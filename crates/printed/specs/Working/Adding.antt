@@ -7,6 +7,7 @@ use native.Mathlib.Numerals.{add-one}
 use lib.Dec.{ltb}
 use lib.ListN.{length, getD, List·getD-eq-default}
 use borrow.Author.Tests.{lt-ltb, le-ltb, eq-eqb, ne-eqb}
+use Rattle.limits.specs.Limits.{mostReport}
 use Rattle.text.specs.Choice.{pick}
 use Rattle.text.specs.Counted.{pairAt}
 use Rattle.keynote.specs.Outcome.{outcome, pageAfter}
@@ -111,7 +112,7 @@ head-added out w values end n ne a b r ao bo o ae be e =
     fill-then out 0 _ _ b r bo o (fill-then out 0 _ _ a b ao bo ce be) e
 
 -- `answer_lines`
-module _ (out s end : List ℕ) (w : Outcome) (we : w ≡ outcome s 99) where
+module _ (out s end : List ℕ) (w : Outcome) (we : w ≡ outcome s mostReport) where
   pub refused-lines : (w .number ≡ 0 → ⊥) → (r : ℕ) (o : List ℕ) → filled r o ≡ fillAt out 0 (refusalLine w end) → filled r o ≡ fillAt out 0 (lines s end)
   unfolding lines outcomeLines
   refused-lines h r o e = rw (← we, ne-eqb (w .number) 0 h) e

@@ -8,9 +8,9 @@ use lib.ListN.{length, getD, drop, set, drop-of-length-le}
 use lib.Seq.{drop-cons, set-out}
 use Rattle.text.specs.Counted.{counted}
 use Rattle.principal.specs.Principal.{policy}
-use Rattle.fields.specs.Working.Identifying.{Kept, entry, enterIn}
-use Rattle.fields.specs.declared.identifier.Entry.{Entry}
-use Rattle.fields.specs.declared.identifier.Entry.the-variants.{At, Full}
+use Rattle.index.specs.Working.Entering.{Kept, numbered, enterIn}
+use Rattle.index.specs.declared.Numbered.{Numbered}
+use Rattle.index.specs.declared.Numbered.the-variants.{At, Full}
 use Rattle.system.specs.declared.asked.Index.{Index}
 
 -- the index's count and end, its pool and table, and the marks
@@ -21,8 +21,8 @@ abbrev pub indexed : ℕ → ℕ → Index
 indexed c e = record { count = c; end = e }
 
 abbrev pub onEntered : List ℕ → Index → Kept → Asked
-onEntered direct x (entry Full p l) = asked x p l direct
-onEntered direct x (entry (At i c e) p l) = asked (indexed c e) p l (set direct i 1)
+onEntered direct x (numbered Full p l) = asked x p l direct
+onEntered direct x (numbered (At i c e) p l) = asked (indexed c e) p l (set direct i 1)
 
 unfoldable pub askIn : List ℕ → List ℕ → List ℕ → Index → List ℕ → Asked
 askIn pool places direct x id = onEntered direct x (enterIn pool places (x .count) (x .end) id)
@@ -37,7 +37,7 @@ pub mark-past : (l : List ℕ) (k : ℕ) → length l ≤ k → l ≡ set l k 1
 mark-past l k h = sym (set-out l k 1 h)
 
 -- `ask`
-module _ (pool places direct : List ℕ) (x : Index) (id : List ℕ) (r : Entry) (p l : List ℕ) (e : entry r p l ≡ enterIn pool places (x .count) (x .end) id) where
+module _ (pool places direct : List ℕ) (x : Index) (id : List ℕ) (r : Numbered) (p l : List ℕ) (e : numbered r p l ≡ enterIn pool places (x .count) (x .end) id) where
   pub ask-full : r ≡ Full → asked x p l direct ≡ askIn pool places direct x id
   unfolding askIn
   ask-full k = rw (← e, k)
@@ -66,14 +66,14 @@ pub data Begun : Type 0 where
   begun : Index → List ℕ → List ℕ → Begun
 
 abbrev pub onBegun : Kept → Begun
-onBegun (entry Full p l) = begun (indexed 0 0) p l
-onBegun (entry (At i c e) p l) = begun (indexed c e) p l
+onBegun (numbered Full p l) = begun (indexed 0 0) p l
+onBegun (numbered (At i c e) p l) = begun (indexed c e) p l
 
 unfoldable pub beginIn : List ℕ → List ℕ → Begun
 beginIn pool places = onBegun (enterIn pool places 0 0 policy)
 
 -- `begin`
-module _ (pool places : List ℕ) (r : Entry) (p l : List ℕ) (e : entry r p l ≡ enterIn pool places 0 0 (80 ∷ 79 ∷ 76 ∷ 73 ∷ 67 ∷ 89 ∷ [])) where
+module _ (pool places : List ℕ) (r : Numbered) (p l : List ℕ) (e : numbered r p l ≡ enterIn pool places 0 0 (80 ∷ 79 ∷ 76 ∷ 73 ∷ 67 ∷ 89 ∷ [])) where
   pub begin-full : r ≡ Full → begun (indexed 0 0) p l ≡ beginIn pool places
   unfolding beginIn policy
   begin-full k = rw (← e, k)

@@ -2,13 +2,14 @@
 use mathlib.Core.Path.{_≡_, refl, sym, ap, _∙_}
 use mathlib.Core.List.{List, [], _∷_}
 use mathlib.Core.Bool.{Bool, true, false}
-use Prim.Native.Nat.{ℕ, zero, suc, _+_, _-_, _*_, _<_, _≤_}
+use Prim.Native.Nat.{ℕ, zero, suc, _+_, _-_, _<_, _≤_}
 use native.Mathlib.Omega.{arith}
 use native.Mathlib.Numerals.{add-one}
 use lib.ListN.{length, getD, drop, replicate, drop-of-length-le, List·getD-eq-default}
 use lib.Seq.{drop-cons}
 use lib.Dec.{ltb, leb}
 use borrow.Author.Tests.{lt-ltb, le-ltb, lt-leb, le-leb, leb-true, leb-false}
+use Rattle.limits.specs.Limits.{mostConstants, mostNamed, mostEntered, mostLengths}
 use Rattle.text.specs.Choice.{pick, split}
 use Rattle.text.specs.Counted.{counted}
 use Rattle.assertion.specs.Working.Field.{given, tabled}
@@ -44,11 +45,11 @@ pub data One : Type 0 where
 abbrev pub oneOf : Result → One
 oneOf (readBy r x) = oneBy r (store (x .consts) (x .pool) (x .places) (x .code))
 
--- the assertion at a place: 16 entries for its constants
+-- the assertion at a place, with entries for its constants
 unfoldable pub oneIn : Fixed → ℕ → Store → ℕ → ℕ → ℕ → One
 oneIn f at x count end size =
     oneOf (readIn (given (counted (f .bytes) at) (getD (f .bytes) (at - 3) 0) (f .bytes) (f .values) (f .names) (f .start)) (f .top)
-    (tabled (x .consts) (replicate 16 0) (x .pool) (x .places) (x .code)) count end size)
+    (tabled (x .consts) (replicate mostConstants 0) (x .pool) (x .places) (x .code)) count end size)
 
 -- the ends, the tables, the rows and the page
 pub data Each : Type 0 where
@@ -63,7 +64,7 @@ onOne a c d page i e (oneBy r x) = onNoted x (noteIn a c d page i e r)
 -- is a table too small for one assertion more?
 unfoldable pub full : ℕ → ℕ → ℕ → ℕ → ℕ → ℕ → ℕ → Bool
 full consts start text pool end places count =
-    pick (leb (start + 64 + text) consts) (pick (leb (end + 17 * 258) pool) (pick (leb (count + 17) places) false true) true) true
+    pick (leb (start + mostLengths + text) consts) (pick (leb (end + mostEntered) pool) (pick (leb (count + mostNamed) places) false true) true) true
 
 abbrev pub fullAt : Fixed → ℕ → Ends → Store → Bool
 fullAt f at e x = full (length (x .consts)) (f .start) (length (counted (f .bytes) at)) (length (x .pool)) (e .end) (length (x .places)) (e .count)
@@ -89,7 +90,7 @@ standing-low s at r h e = let z : at - 3 ≡ 0 = omega (arith, h) in e ∙ rw z
 pub one-is : (bytes values names : List ℕ) (top start at : ℕ) (x : Store) (count end size : ℕ) (text : List ℕ) (standing : ℕ) (r : Reading) (consts constants pool places code : List ℕ)
     → text ≡ counted bytes at → standing ≡ getD bytes (at - 3) 0
     → readBy r (tabled consts constants pool places code)
-    ≡ readIn (given text standing bytes values names start) top (tabled (x .consts) (replicate 16 0) (x .pool) (x .places) (x .code)) count end size
+    ≡ readIn (given text standing bytes values names start) top (tabled (x .consts) (replicate mostConstants 0) (x .pool) (x .places) (x .code)) count end size
     → oneBy r (store consts pool places code) ≡ oneIn (fixed bytes values names top start) at x count end size
 unfolding oneIn
 one-is bytes values names top start at x count end size text standing r consts constants pool places code te se e = rw (← te, ← se, ← e)
@@ -106,41 +107,41 @@ module _ (consts start text pool end places count : ℕ) where
   abbrev is : Bool
   is = full consts start text pool end places count
 
-  no-text : consts < start + 64 + text → true ≡ is
+  no-text : consts < start + mostLengths + text → true ≡ is
   unfolding full
   no-text h = rw (lt-leb _ _ h)
 
-  no-pool : pool < end + 17 * 258 → true ≡ is
+  no-pool : pool < end + mostEntered → true ≡ is
   unfolding full
-  no-pool h = split (leb (start + 64 + text) consts) (λ e. rw (e, lt-leb _ _ h)) (λ e. rw e)
+  no-pool h = split (leb (start + mostLengths + text) consts) (λ e. rw (e, lt-leb _ _ h)) (λ e. rw e)
 
   pub full-start : consts < start → true ≡ is
   full-start h = no-text (omega (arith, h))
 
-  pub full-lengths : start ≤ consts → consts - start < 64 → true ≡ is
+  pub full-lengths : start ≤ consts → consts - start < mostLengths → true ≡ is
   full-lengths h k = no-text (omega (arith, h, k))
 
-  pub full-text : start ≤ consts → 64 ≤ consts - start → consts - start - 64 < text → true ≡ is
+  pub full-text : start ≤ consts → mostLengths ≤ consts - start → consts - start - mostLengths < text → true ≡ is
   full-text h k l = no-text (omega (arith, h, k, l))
 
   pub full-end : pool < end → true ≡ is
   full-end h = no-pool (omega (arith, h))
 
-  pub full-pool : end ≤ pool → pool - end < 4386 → true ≡ is
+  pub full-pool : end ≤ pool → pool - end < mostEntered → true ≡ is
   full-pool h k = no-pool (omega (arith, h, k))
 
   pub full-count : places < count → true ≡ is
   unfolding full
   full-count h =
-      split (leb (start + 64 + text) consts)
-      (λ e. split (leb (end + 17 * 258) pool) (λ f. rw (e, f, lt-leb (count + 17) places (omega (arith, h)))) (λ f. rw (e, f))) (λ e. rw e)
+      split (leb (start + mostLengths + text) consts)
+      (λ e. split (leb (end + mostEntered) pool) (λ f. rw (e, f, lt-leb (count + mostNamed) places (omega (arith, h)))) (λ f. rw (e, f))) (λ e. rw e)
 
-  pub full-places : start ≤ consts → 64 ≤ consts - start → text ≤ consts - start - 64 → end ≤ pool → 4386 ≤ pool - end → count ≤ places → ltb (places - count) 17 ≡ is
+  pub full-places : start ≤ consts → mostLengths ≤ consts - start → text ≤ consts - start - mostLengths → end ≤ pool → mostEntered ≤ pool - end → count ≤ places → ltb (places - count) mostNamed ≡ is
   unfolding full
   full-places h k l m n o =
-      rw (le-leb (start + 64 + text) consts (omega (arith, h, k, l)), le-leb (end + 17 * 258) pool (omega (arith, m, n)))
-      (split (leb (count + 17) places)
-      (λ e. rw (e, le-ltb (places - count) 17 (omega (arith, leb-true (count + 17) places e, o)))) (λ e. rw (e, lt-ltb (places - count) 17 (omega (arith, leb-false (count + 17) places e, o)))))
+      rw (le-leb (start + mostLengths + text) consts (omega (arith, h, k, l)), le-leb (end + mostEntered) pool (omega (arith, m, n)))
+      (split (leb (count + mostNamed) places)
+      (λ e. rw (e, le-ltb (places - count) mostNamed (omega (arith, leb-true (count + mostNamed) places e, o)))) (λ e. rw (e, lt-ltb (places - count) mostNamed (omega (arith, leb-false (count + mostNamed) places e, o)))))
 
 -- `read_each`, with the invariant `eachFrom f (drop i ps) i .. ≡ z`
 module _ (bytes values names : List ℕ) (top start : ℕ) (ps : List ℕ) (i : ℕ) (e : Ends) (x : Store) (a c d page : List ℕ) (z : Went)

@@ -1,76 +1,46 @@
-use mathlib.Core.Path.{_≡_}
-use Prim.Native.Nat.{_≤_, _*_}
-use lib.ListN.{length, take}
-use Rattle.text.specs.Equal.{equal}
-use Rattle.text.specs.Working.Backward.{same-apart, same-start, same-rest, same-unlike, same-like}
+use Rattle.text.specs.Working.Backward.{same-apart, same-blocks, same-differ}
 use borrow.Author.Needs.{needs}
 use Rattle.text.proofs.same_bytes.Statement.{statement}
 use Rattle.text.proofs.same_bytes.Tie as tie
 use Rattle.text.proofs.same_bytes.Reads as reads
 use Rattle.text.proofs.same_bytes.Lts as lts
+use Rattle.text.proofs.same_above.Reads as same-above-reads
 use Rattle.text.proofs.same_below.Reads as same-below-reads
+use Rattle.text.proofs.same_few.Reads as same-few-reads
 
-abbrev Inv-loop : tie.InvT-loop
-Inv-loop a b k i₀ i = (k * 64 ≤ i) × (i ≤ length a) × (length a ≡ length b) × (equal (take i a) (take i b) ≡ equal a b)
-
-abbrev μ-loop : tie.MeasureT-loop
-μ-loop a b k i₀ i = i
-
-returns : tie.Need-returns Inv-loop μ-loop
+returns : tie.Need-returns
 returns c = search same-apart
 
-loop-holds : tie.Need-loop-holds Inv-loop μ-loop
-loop-holds c = search (needs, same-start)
+same-few-requires : tie.Need-same-few-requires
+same-few-requires c κs = search needs
 
-mul-loop : tie.Need-mul-loop Inv-loop μ-loop
-mul-loop c = search needs
+returns-2 : tie.Need-returns-2
+returns-2 c = search needs
 
-sub-if2 : tie.Need-sub-if2 Inv-loop μ-loop
-sub-if2 c = search needs
+mul-same-above : tie.Need-mul-same-above
+mul-same-above c = search needs
 
-shared-slice-read-if2 : tie.Need-shared-slice-read-if2 Inv-loop μ-loop
-shared-slice-read-if2 c = search needs
+same-above-requires : tie.Need-same-above-requires
+same-above-requires c κs = search needs
 
-sub-if2-2 : tie.Need-sub-if2-2 Inv-loop μ-loop
-sub-if2-2 c = search needs
-
-shared-slice-read-if2-2 : tie.Need-shared-slice-read-if2-2 Inv-loop μ-loop
-shared-slice-read-if2-2 c = search needs
-
-returns-2 : tie.Need-returns-2 Inv-loop μ-loop
-returns-2 c = search same-unlike
-
-sub-i : tie.Need-sub-i Inv-loop μ-loop
-sub-i c = search needs
-
-loop-less : tie.Need-loop-less Inv-loop μ-loop
-loop-less c = search needs
-
-loop-again : tie.Need-loop-again Inv-loop μ-loop
-loop-again c = search (needs, same-like)
-
-same-below-requires : tie.Need-same-below-requires Inv-loop μ-loop
+same-below-requires : tie.Need-same-below-requires
 same-below-requires c κs = search needs
 
-returns-3 : tie.Need-returns-3 Inv-loop μ-loop
-returns-3 c = search same-rest
+returns-3 : tie.Need-returns-3
+returns-3 c = search same-blocks
+
+returns-4 : tie.Need-returns-4
+returns-4 c = search same-differ
 
 pub same-bytes-spec : {M : Type 1} → statement M
 same-bytes-spec =
     tie.close
     (tie.spec
-    Inv-loop
-    μ-loop
     returns
-    loop-holds
-    mul-loop
-    sub-if2
-    shared-slice-read-if2
-    sub-if2-2
-    shared-slice-read-if2-2
+    same-few-requires
     returns-2
-    sub-i
-    loop-less
-    loop-again
+    mul-same-above
+    same-above-requires
     same-below-requires
-    returns-3)
+    returns-3
+    returns-4)

@@ -106,7 +106,7 @@ blocks-more a b i n r h t te tt inv =
     omega (arith, inv, w, m)
 
 -- the ways out of `same_below`
-take-more : (m n : ℕ) (l : List ℕ) → take (m + n) l ≡ take m l ++ take n (drop m l)
+pub take-more : (m n : ℕ) (l : List ℕ) → take (m + n) l ≡ take m l ++ take n (drop m l)
 take-more zero n l = rw (zero-add n)
 take-more (suc m) n [] = rw (take-nil (suc m + n), take-nil n)
 take-more (suc m) n (x ∷ l) = rw (suc-add m n, take-more m n l)

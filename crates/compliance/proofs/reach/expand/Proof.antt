@@ -23,13 +23,13 @@ same-length-2 : tie.Need-same-length-2
 same-length-2 c = search needs
 
 returns : tie.Need-returns
-returns c = search expand-in
+returns c = (search expand-in, search needs)
 
 same-length-3 : tie.Need-same-length-3
 same-length-3 c = search needs
 
 returns-2 : tie.Need-returns-2
-returns-2 c = search expand-out
+returns-2 c = (search expand-out, search needs)
 
 pub expand-spec : {M : Type 1} → statement M
 expand-spec =

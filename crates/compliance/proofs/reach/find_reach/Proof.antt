@@ -1,4 +1,4 @@
-use Rattle.compliance.specs.Working.Reach.{found-is}
+use Rattle.compliance.specs.Working.Reach.{found-is, spare-on}
 use borrow.Author.Needs.{needs}
 use Rattle.compliance.proofs.reach.find_reach.Statement.{statement}
 use Rattle.compliance.proofs.reach.find_reach.Tie as tie
@@ -20,7 +20,7 @@ same-length-2 : tie.Need-same-length-2
 same-length-2 c = search needs
 
 returns : tie.Need-returns
-returns c = search found-is
+returns c = (search found-is, search spare-on)
 
 pub find-reach-spec : {M : Type 1} → statement M
 find-reach-spec =

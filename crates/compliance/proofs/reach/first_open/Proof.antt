@@ -1,7 +1,8 @@
 use mathlib.Core.Path.{_≡_}
 use Prim.Native.Nat.{_-_}
 use lib.ListN.{length}
-use Rattle.compliance.specs.Working.Reach.{openFrom, open-start, open-here, open-later, open-none}
+use Rattle.compliance.specs.Working.Reach.{openFrom, open-start, open-none, open-here, open-later}
+use Rattle.compliance.specs.Working.Words.{flagsIn}
 use borrow.Author.Needs.{needs}
 use Rattle.compliance.proofs.reach.first_open.Statement.{statement}
 use Rattle.compliance.proofs.reach.first_open.Tie as tie
@@ -10,10 +11,10 @@ use Rattle.compliance.proofs.reach.first_open.Lts as lts
 use Rattle.compliance.proofs.reach.is_open.Reads as is-open-reads
 
 abbrev Inv-loop : tie.InvT-loop
-Inv-loop authors done reach j₀ j = openFrom authors done reach (length authors - j) j ≡ openFrom authors done reach (length authors) 0
+Inv-loop authors done n reach j₀ j = openFrom authors done (flagsIn n reach) (length authors - j) j ≡ openFrom authors done (flagsIn n reach) (length authors) 0
 
 abbrev μ-loop : tie.MeasureT-loop
-μ-loop authors done reach j₀ j = length authors - j
+μ-loop authors done n reach j₀ j = length authors - j
 
 loop-holds : tie.Need-loop-holds Inv-loop μ-loop
 loop-holds c = search open-start

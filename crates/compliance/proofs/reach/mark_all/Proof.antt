@@ -1,7 +1,8 @@
 use mathlib.Core.Path.{_≡_}
 use Prim.Native.Nat.{_-_}
 use lib.ListN.{length}
-use Rattle.compliance.specs.Working.Reach.{markFrom, markedAll, mark-start, mark-more, mark-end}
+use Rattle.compliance.specs.Working.Reach.{markFrom, markedAll, mark-start, mark-more, mark-end, spare-on}
+use Rattle.compliance.specs.Working.Words.{flagsIn, spareIn}
 use borrow.Author.Needs.{needs}
 use Rattle.compliance.proofs.reach.mark_all.Statement.{statement}
 use Rattle.compliance.proofs.reach.mark_all.Tie as tie
@@ -10,13 +11,13 @@ use Rattle.compliance.proofs.reach.mark_all.Lts as lts
 use Rattle.compliance.proofs.reach.mark.Reads as mark-reads
 
 abbrev Inv-loop : tie.InvT-loop
-Inv-loop code reach₀ i₀ reach i = (length reach ≡ length reach₀) × (markFrom code i reach ≡ markedAll code reach₀)
+Inv-loop n code reach₀ i₀ reach i = (length reach ≡ length reach₀) × (markFrom code i (flagsIn n reach) ≡ markedAll code (flagsIn n reach₀)) × (spareIn n reach ≡ spareIn n reach₀)
 
 abbrev μ-loop : tie.MeasureT-loop
-μ-loop code reach₀ i₀ reach i = length code - i
+μ-loop n code reach₀ i₀ reach i = length code - i
 
 loop-holds : tie.Need-loop-holds Inv-loop μ-loop
-loop-holds c = (search needs, search mark-start)
+loop-holds c = (search needs, search mark-start, search needs)
 
 mul-mark : tie.Need-mul-mark Inv-loop μ-loop
 mul-mark c = search needs
@@ -34,13 +35,13 @@ loop-less : tie.Need-loop-less Inv-loop μ-loop
 loop-less c = search needs
 
 loop-again : tie.Need-loop-again Inv-loop μ-loop
-loop-again c = (search needs, search mark-more)
+loop-again c = (search needs, search mark-more, search spare-on)
 
 same-length : tie.Need-same-length Inv-loop μ-loop
 same-length c = search needs
 
 returns : tie.Need-returns Inv-loop μ-loop
-returns c = search mark-end
+returns c = (search mark-end, search needs)
 
 pub mark-all-spec : {M : Type 1} → statement M
 mark-all-spec =

@@ -5,12 +5,13 @@ use Rattle.compliance.proofs.rounds.direct_rank.Tie as tie
 use Rattle.compliance.proofs.rounds.direct_rank.Reads as reads
 use Rattle.compliance.proofs.rounds.direct_rank.Lts as lts
 use Rattle.compliance.proofs.machine.number_at.Reads as number-at-reads
+use Rattle.compliance.proofs.words.flag.Reads as flag-reads
+
+flag-requires : tie.Need-flag-requires
+flag-requires c κs = search needs
 
 number-at-requires : tie.Need-number-at-requires
 number-at-requires c κs = search needs
-
-number-at-requires-2 : tie.Need-number-at-requires-2
-number-at-requires-2 c κs = search needs
 
 returns : tie.Need-returns
 returns c = search direct-top
@@ -23,4 +24,4 @@ returns-3 c = search direct-out
 
 pub direct-rank-spec : {M : Type 1} → statement M
 direct-rank-spec =
-    tie.close (tie.spec number-at-requires number-at-requires-2 returns returns-2 returns-3)
+    tie.close (tie.spec flag-requires number-at-requires returns returns-2 returns-3)

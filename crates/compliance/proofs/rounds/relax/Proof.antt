@@ -8,18 +8,19 @@ use Rattle.compliance.proofs.machine.index_at.Reads as index-at-reads
 use Rattle.compliance.proofs.machine.number_at.Reads as number-at-reads
 use Rattle.compliance.proofs.rounds.granted.Reads as granted-reads
 use Rattle.compliance.proofs.rounds.raise.Reads as raise-reads
+use Rattle.compliance.proofs.words.flag.Reads as flag-reads
 
 index-at-requires : tie.Need-index-at-requires
 index-at-requires c κs = search needs
+
+flag-requires : tie.Need-flag-requires
+flag-requires c κs = search needs
 
 number-at-requires : tie.Need-number-at-requires
 number-at-requires c κs = search needs
 
 number-at-requires-2 : tie.Need-number-at-requires-2
 number-at-requires-2 c κs = search needs
-
-number-at-requires-3 : tie.Need-number-at-requires-3
-number-at-requires-3 c κs = search needs
 
 granted-requires : tie.Need-granted-requires
 granted-requires c κs = search needs
@@ -50,9 +51,9 @@ relax-spec =
     tie.close
     (tie.spec
     index-at-requires
+    flag-requires
     number-at-requires
     number-at-requires-2
-    number-at-requires-3
     granted-requires
     raise-requires
     same-length

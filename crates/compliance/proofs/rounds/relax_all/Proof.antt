@@ -1,3 +1,4 @@
+use Rattle.compliance.specs.Working.Words.{flagsOf}
 use mathlib.Core.Path.{_≡_}
 use Prim.Native.Nat.{_-_}
 use lib.ListN.{length}
@@ -11,7 +12,7 @@ use Rattle.compliance.proofs.rounds.relax_all.Lts as lts
 use Rattle.compliance.proofs.rounds.relax.Reads as relax-reads
 
 abbrev Inv-loop : tie.InvT-loop
-Inv-loop authors conds ends code top reach ranks next₀ stack₀ j₀ next stack j = (length next ≡ length next₀) × (length stack ≡ length stack₀) × (relaxFrom authors conds ends code top (length stack₀) reach ranks (length authors - j) j next ≡ relaxFrom authors conds ends code top (length stack₀) reach ranks (length authors) 0 next₀)
+Inv-loop authors conds ends code top reach ranks next₀ stack₀ j₀ next stack j = (length next ≡ length next₀) × (length stack ≡ length stack₀) × (relaxFrom authors conds ends code top (length stack₀) (flagsOf reach) ranks (length authors - j) j next ≡ relaxFrom authors conds ends code top (length stack₀) (flagsOf reach) ranks (length authors) 0 next₀)
 
 abbrev μ-loop : tie.MeasureT-loop
 μ-loop authors conds ends code top reach ranks next₀ stack₀ j₀ next stack j = length authors - j

@@ -1,3 +1,4 @@
+use Rattle.compliance.specs.Working.Words.{flagsOf}
 use mathlib.Core.Path.{_≡_}
 use mathlib.Core.List.{_++_}
 use Prim.Native.Nat.{_-_, _≤_}
@@ -12,7 +13,7 @@ use Rattle.compliance.proofs.rounds.set_direct.Lts as lts
 use Rattle.compliance.proofs.rounds.direct_rank.Reads as direct-rank-reads
 
 abbrev Inv-loop : tie.InvT-loop
-Inv-loop direct reach top next₀ i₀ next i = (i ≤ length next₀) × (length next ≡ length next₀) × (next ≡ directTable direct reach top i ++ drop i next₀)
+Inv-loop direct reach top next₀ i₀ next i = (i ≤ length next₀) × (length next ≡ length next₀) × (next ≡ directTable direct (flagsOf reach) top i ++ drop i next₀)
 
 abbrev μ-loop : tie.MeasureT-loop
 μ-loop direct reach top next₀ i₀ next i = length next₀ - i

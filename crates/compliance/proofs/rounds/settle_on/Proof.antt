@@ -1,3 +1,4 @@
+use Rattle.compliance.specs.Working.Words.{flagsOf}
 use mathlib.Core.Path.{_≡_}
 use Prim.Native.Nat.{_-_}
 use lib.ListN.{length}
@@ -12,7 +13,7 @@ use Rattle.compliance.proofs.rounds.adopt.Reads as adopt-reads
 use Rattle.compliance.proofs.rounds.relax_all.Reads as relax-all-reads
 
 abbrev Inv-loop : tie.InvT-loop
-Inv-loop authors conds ends code top reach ranks₀ next₀ stack₀ limit n₀ ranks next stack n = (length ranks ≡ length next) × (length next ≡ length next₀) × (length ranks ≡ length ranks₀) × (length stack ≡ length stack₀) × Rising authors conds ends code top (length stack₀) reach next₀ ranks next × (settleOn authors conds ends code top (length stack₀) reach next₀ (limit - n) n ranks ≡ settleOn authors conds ends code top (length stack₀) reach next₀ limit 0 ranks₀)
+Inv-loop authors conds ends code top reach ranks₀ next₀ stack₀ limit n₀ ranks next stack n = (length ranks ≡ length next) × (length next ≡ length next₀) × (length ranks ≡ length ranks₀) × (length stack ≡ length stack₀) × Rising authors conds ends code top (length stack₀) (flagsOf reach) next₀ ranks next × (settleOn authors conds ends code top (length stack₀) (flagsOf reach) next₀ (limit - n) n ranks ≡ settleOn authors conds ends code top (length stack₀) (flagsOf reach) next₀ limit 0 ranks₀)
 
 abbrev μ-loop : tie.MeasureT-loop
 μ-loop authors conds ends code top reach ranks₀ next₀ stack₀ limit n₀ ranks next stack n = limit - n

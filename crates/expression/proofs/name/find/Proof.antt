@@ -9,7 +9,7 @@ use Rattle.expression.proofs.name.find.Tie as tie
 use Rattle.expression.proofs.name.find.Reads as reads
 use Rattle.expression.proofs.name.find.Lts as lts
 use Rattle.text.proofs.counted_at.Reads as counted-at-reads
-use Rattle.text.proofs.same_bytes.Reads as same-bytes-reads
+use Rattle.expression.proofs.name.is_name.Reads as is-name-reads
 
 abbrev Inv-loop : tie.InvT-loop
 Inv-loop s places name i₀ i = firstRest s name places i ≡ firstFrom s name 0 places
@@ -29,8 +29,8 @@ shared-slice-read-p c = search needs
 counted-at-requires : tie.Need-counted-at-requires Inv-loop μ-loop
 counted-at-requires c κs = search needs
 
-same-bytes-requires : tie.Need-same-bytes-requires Inv-loop μ-loop
-same-bytes-requires c κs = search needs
+is-name-requires : tie.Need-is-name-requires Inv-loop μ-loop
+is-name-requires c κs = search needs
 
 add-i : tie.Need-add-i Inv-loop μ-loop
 add-i c = search needs
@@ -57,7 +57,7 @@ find-spec =
     mul-p
     shared-slice-read-p
     counted-at-requires
-    same-bytes-requires
+    is-name-requires
     add-i
     loop-less
     loop-again

@@ -7,30 +7,30 @@ use Rattle.fields.proofs.authorizer.authorizer.Reads as reads
 use Rattle.fields.proofs.authorizer.authorizer.Lts as lts
 use Rattle.fields.proofs.authorizer.authored.Reads as authored-reads
 use Rattle.fields.proofs.identifier.enter_token.Reads as enter-token-reads
-use Rattle.fields.proofs.identifier.entered.Reads as entered-reads
+use Rattle.index.proofs.enter.Reads as enter-reads
 use Rattle.fields.proofs.identifier.identifier_fault.Reads as identifier-fault-reads
 use Rattle.fields.proofs.identifier.is_whole.Reads as is-whole-reads
 
 is-whole-requires : tie.Need-is-whole-requires
 is-whole-requires c κs = search needs
 
-add-entered : tie.Need-add-entered
-add-entered c = search whole-fits
+add-enter : tie.Need-add-enter
+add-enter c = search whole-fits
 
-sub-entered : tie.Need-sub-entered
-sub-entered c = search whole-some
+sub-enter : tie.Need-sub-enter
+sub-enter c = search whole-some
 
-sub-entered-2 : tie.Need-sub-entered-2
-sub-entered-2 c = search whole-from
+sub-enter-2 : tie.Need-sub-enter-2
+sub-enter-2 c = search whole-from
 
-part-entered-start : tie.Need-part-entered-start
-part-entered-start c = search whole-from
+part-enter-start : tie.Need-part-enter-start
+part-enter-start c = search whole-from
 
-part-entered-end : tie.Need-part-entered-end
-part-entered-end c = search whole-within
+part-enter-end : tie.Need-part-enter-end
+part-enter-end c = search whole-within
 
-entered-requires : tie.Need-entered-requires
-entered-requires c κs = search needs
+enter-requires : tie.Need-enter-requires
+enter-requires c κs = search needs
 
 authored-requires : tie.Need-authored-requires
 authored-requires c κs = search needs
@@ -70,12 +70,12 @@ authorizer-spec =
     tie.close
     (tie.spec
     is-whole-requires
-    add-entered
-    sub-entered
-    sub-entered-2
-    part-entered-start
-    part-entered-end
-    entered-requires
+    add-enter
+    sub-enter
+    sub-enter-2
+    part-enter-start
+    part-enter-end
+    enter-requires
     authored-requires
     same-length
     same-length-2

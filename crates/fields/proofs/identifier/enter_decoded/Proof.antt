@@ -5,7 +5,7 @@ use borrow.Author.Needs.{needs}
 use Rattle.fields.proofs.identifier.enter_decoded.Tie as tie
 use Rattle.fields.proofs.identifier.enter_decoded.Reads as reads
 use Rattle.fields.proofs.identifier.enter_decoded.Lts as lts
-use Rattle.fields.proofs.identifier.entered.Reads as entered-reads
+use Rattle.index.proofs.enter.Reads as enter-reads
 use Rattle.lexical.proofs.decode_into.Reads as decode-into-reads
 use Rattle.lexical.proofs.literal_length.Reads as literal-length-reads
 
@@ -24,11 +24,11 @@ decode-into-requires c κs = search needs
 array-share-prefix-id : tie.Need-array-share-prefix-id
 array-share-prefix-id c = search needs
 
-slice-aggregate-entered : tie.Need-slice-aggregate-entered
-slice-aggregate-entered c = search (needs, front-long)
+slice-aggregate-enter : tie.Need-slice-aggregate-enter
+slice-aggregate-enter c = search (needs, front-long)
 
-entered-requires : tie.Need-entered-requires
-entered-requires c κs = search needs
+enter-requires : tie.Need-enter-requires
+enter-requires c κs = search needs
 
 same-length : tie.Need-same-length
 same-length c = search needs
@@ -51,8 +51,8 @@ enter-decoded-spec =
     slice-aggregate-decode-into
     decode-into-requires
     array-share-prefix-id
-    slice-aggregate-entered
-    entered-requires
+    slice-aggregate-enter
+    enter-requires
     same-length
     same-length-2
     returns-2

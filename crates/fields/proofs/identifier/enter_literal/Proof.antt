@@ -6,7 +6,7 @@ use Rattle.fields.proofs.identifier.enter_literal.Tie as tie
 use Rattle.fields.proofs.identifier.enter_literal.Reads as reads
 use Rattle.fields.proofs.identifier.enter_literal.Lts as lts
 use Rattle.fields.proofs.identifier.enter_decoded.Reads as enter-decoded-reads
-use Rattle.fields.proofs.identifier.entered.Reads as entered-reads
+use Rattle.index.proofs.enter.Reads as enter-reads
 use Rattle.lexical.proofs.literal.bare_end.Reads as bare-end-reads
 
 bare-end-requires : tie.Need-bare-end-requires
@@ -33,20 +33,20 @@ sub-if2 c = search bare-from
 returns-2 : tie.Need-returns-2
 returns-2 c = search bare-long
 
-add-entered : tie.Need-add-entered
-add-entered c = search bare-fits
+add-enter : tie.Need-add-enter
+add-enter c = search bare-fits
 
-sub-entered : tie.Need-sub-entered
-sub-entered c = search bare-from
+sub-enter : tie.Need-sub-enter
+sub-enter c = search bare-from
 
-part-entered-start : tie.Need-part-entered-start
-part-entered-start c = search bare-from
+part-enter-start : tie.Need-part-enter-start
+part-enter-start c = search bare-from
 
-part-entered-end : tie.Need-part-entered-end
-part-entered-end c = search bare-within
+part-enter-end : tie.Need-part-enter-end
+part-enter-end c = search bare-within
 
-entered-requires : tie.Need-entered-requires
-entered-requires c κs = search needs
+enter-requires : tie.Need-enter-requires
+enter-requires c κs = search needs
 
 same-length-3 : tie.Need-same-length-3
 same-length-3 c = search needs
@@ -69,11 +69,11 @@ enter-literal-spec =
     add-if2
     sub-if2
     returns-2
-    add-entered
-    sub-entered
-    part-entered-start
-    part-entered-end
-    entered-requires
+    add-enter
+    sub-enter
+    part-enter-start
+    part-enter-end
+    enter-requires
     same-length-3
     same-length-4
     returns-3)

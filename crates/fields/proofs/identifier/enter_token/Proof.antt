@@ -5,7 +5,7 @@ use Rattle.fields.proofs.identifier.enter_token.Tie as tie
 use Rattle.fields.proofs.identifier.enter_token.Reads as reads
 use Rattle.fields.proofs.identifier.enter_token.Lts as lts
 use Rattle.expression.proofs.name.attribute.Reads as attribute-reads
-use Rattle.fields.proofs.identifier.entered.Reads as entered-reads
+use Rattle.index.proofs.enter.Reads as enter-reads
 use Rattle.fields.proofs.identifier.enter_literal.Reads as enter-literal-reads
 use Rattle.fields.proofs.out.word.Reads as word-reads
 
@@ -27,8 +27,8 @@ word-requires c κs = search needs
 attribute-requires : tie.Need-attribute-requires
 attribute-requires c κs = search needs
 
-entered-requires : tie.Need-entered-requires
-entered-requires c κs = search needs
+enter-requires : tie.Need-enter-requires
+enter-requires c κs = search needs
 
 same-length-3 : tie.Need-same-length-3
 same-length-3 c = search needs
@@ -49,7 +49,7 @@ enter-token-spec =
     returns
     word-requires
     attribute-requires
-    entered-requires
+    enter-requires
     same-length-3
     same-length-4
     returns-2)

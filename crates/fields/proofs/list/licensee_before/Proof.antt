@@ -6,7 +6,7 @@ use Rattle.fields.proofs.list.licensee_before.Tie as tie
 use Rattle.fields.proofs.list.licensee_before.Reads as reads
 use Rattle.fields.proofs.list.licensee_before.Lts as lts
 use Rattle.fields.proofs.identifier.enter_token.Reads as enter-token-reads
-use Rattle.fields.proofs.identifier.entered.Reads as entered-reads
+use Rattle.index.proofs.enter.Reads as enter-reads
 use Rattle.fields.proofs.identifier.identifier_fault.Reads as identifier-fault-reads
 use Rattle.fields.proofs.identifier.is_whole.Reads as is-whole-reads
 use Rattle.fields.proofs.list.placed.Reads as placed-reads
@@ -17,23 +17,23 @@ is-whole-requires c κs = search needs
 returns : tie.Need-returns
 returns c = search whole-most
 
-add-entered : tie.Need-add-entered
-add-entered c = let w = c .before .before .before .before .before .is-whole in let f = whole-fits _ _ (w .result) (w .ensures) (c .before .before .before .before .if1 .taken) in search f
+add-enter : tie.Need-add-enter
+add-enter c = let w = c .before .before .before .before .before .is-whole in let f = whole-fits _ _ (w .result) (w .ensures) (c .before .before .before .before .if1 .taken) in search f
 
-sub-entered : tie.Need-sub-entered
-sub-entered c = let w = c .before .before .before .before .before .is-whole in let f = whole-some _ _ (w .result) (w .ensures) (c .before .before .before .before .if1 .taken) in search f
+sub-enter : tie.Need-sub-enter
+sub-enter c = let w = c .before .before .before .before .before .is-whole in let f = whole-some _ _ (w .result) (w .ensures) (c .before .before .before .before .if1 .taken) in search f
 
-sub-entered-2 : tie.Need-sub-entered-2
-sub-entered-2 c = let w = c .before .before .before .before .before .is-whole in let f = whole-from _ _ (w .result) (w .ensures) (c .before .before .before .before .if1 .taken) in search f
+sub-enter-2 : tie.Need-sub-enter-2
+sub-enter-2 c = let w = c .before .before .before .before .before .is-whole in let f = whole-from _ _ (w .result) (w .ensures) (c .before .before .before .before .if1 .taken) in search f
 
-part-entered-start : tie.Need-part-entered-start
-part-entered-start c = let w = c .before .before .before .before .before .is-whole in let f = whole-from _ _ (w .result) (w .ensures) (c .before .before .before .before .if1 .taken) in search f
+part-enter-start : tie.Need-part-enter-start
+part-enter-start c = let w = c .before .before .before .before .before .is-whole in let f = whole-from _ _ (w .result) (w .ensures) (c .before .before .before .before .if1 .taken) in search f
 
-part-entered-end : tie.Need-part-entered-end
-part-entered-end c = let w = c .before .before .before .before .before .is-whole in let f = whole-within _ _ (w .result) (w .ensures) (c .before .before .before .before .if1 .taken) in search f
+part-enter-end : tie.Need-part-enter-end
+part-enter-end c = let w = c .before .before .before .before .before .is-whole in let f = whole-within _ _ (w .result) (w .ensures) (c .before .before .before .before .if1 .taken) in search f
 
-entered-requires : tie.Need-entered-requires
-entered-requires c κs = search needs
+enter-requires : tie.Need-enter-requires
+enter-requires c κs = search needs
 
 placed-requires : tie.Need-placed-requires
 placed-requires c κs = search needs
@@ -83,12 +83,12 @@ licensee-before-spec =
     (tie.spec
     is-whole-requires
     returns
-    add-entered
-    sub-entered
-    sub-entered-2
-    part-entered-start
-    part-entered-end
-    entered-requires
+    add-enter
+    sub-enter
+    sub-enter-2
+    part-enter-start
+    part-enter-end
+    enter-requires
     placed-requires
     same-length
     same-length-2

@@ -3,7 +3,7 @@ use Rattle.system.proofs.asked.ask.Statement.{statement}
 use Rattle.system.proofs.asked.ask.Tie as tie
 use Rattle.system.proofs.asked.ask.Reads as reads
 use Rattle.system.proofs.asked.ask.Lts as lts
-use Rattle.fields.proofs.identifier.enter.Reads as enter-reads
+use Rattle.index.proofs.enter.Reads as enter-reads
 use Rattle.system.proofs.asked.mark.Reads as mark-reads
 use Rattle.system.specs.Working.Asking.{ask-full, ask-at}
 

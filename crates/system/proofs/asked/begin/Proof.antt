@@ -3,7 +3,7 @@ use Rattle.system.proofs.asked.begin.Statement.{statement}
 use Rattle.system.proofs.asked.begin.Tie as tie
 use Rattle.system.proofs.asked.begin.Reads as reads
 use Rattle.system.proofs.asked.begin.Lts as lts
-use Rattle.fields.proofs.identifier.enter.Reads as enter-reads
+use Rattle.index.proofs.enter.Reads as enter-reads
 use Rattle.system.specs.Working.Asking.{begin-full, begin-at}
 
 slice-aggregate-enter : tie.Need-slice-aggregate-enter

@@ -1,4 +1,4 @@
-use Rattle.system.specs.Working.Solving.{solve-long, solve-is}
+use Rattle.system.specs.Working.Solving.{solve-long, solve-many, solve-is}
 use borrow.Author.Needs.{needs}
 use Rattle.system.proofs.solved.solved.Statement.{statement}
 use Rattle.system.proofs.solved.solved.Tie as tie
@@ -58,6 +58,27 @@ same-length c = search needs
 returns : tie.Need-returns
 returns c = solve-long _ _ _ _ _ _ _ _ (c .before .before .before .before .before .before .before .before .before .before .before .before .before .before .before .before .before .before .before .before .before .before .begin .ensures) _ _ _ (c .before .before .before .before .before .before .before .before .before .before .before .before .before .before .before .before .before .before .begin2 .ensures) _ _ _ _ (c .before .before .before .before .before .before .before .before .before .before .before .before .ask-all .ensures) _ (c .before .before .before .before .before .before .before .before .if1 .taken) (c .before .before .fill-long .ensures)
 
+slice-aggregate-fill-long-5 : tie.Need-slice-aggregate-fill-long-5
+slice-aggregate-fill-long-5 c = search needs
+
+slice-aggregate-fill-long-6 : tie.Need-slice-aggregate-fill-long-6
+slice-aggregate-fill-long-6 c = search needs
+
+slice-aggregate-fill-long-7 : tie.Need-slice-aggregate-fill-long-7
+slice-aggregate-fill-long-7 c = search needs
+
+slice-aggregate-fill-long-8 : tie.Need-slice-aggregate-fill-long-8
+slice-aggregate-fill-long-8 c = search needs
+
+fill-long-requires-2 : tie.Need-fill-long-requires-2
+fill-long-requires-2 c κs = search needs
+
+same-length-2 : tie.Need-same-length-2
+same-length-2 c = search needs
+
+returns-2 : tie.Need-returns-2
+returns-2 c = solve-many _ _ _ _ _ _ _ _ (c .before .before .before .before .before .before .before .before .before .before .before .before .before .before .before .before .before .before .before .before .before .before .before .begin .ensures) _ _ _ (c .before .before .before .before .before .before .before .before .before .before .before .before .before .before .before .before .before .before .before .begin2 .ensures) _ _ _ _ (c .before .before .before .before .before .before .before .before .before .before .before .before .before .ask-all .ensures) _ (c .before .before .before .before .before .before .before .before .before .if1 .left) (c .before .before .before .before .before .before .before .before .if2 .taken) (c .before .before .fill-long2 .ensures)
+
 slice-aggregate-fill : tie.Need-slice-aggregate-fill
 slice-aggregate-fill c = search needs
 
@@ -73,11 +94,11 @@ slice-aggregate-fill-4 c = search needs
 fill-requires : tie.Need-fill-requires
 fill-requires c κs = search needs
 
-same-length-2 : tie.Need-same-length-2
-same-length-2 c = search needs
+same-length-3 : tie.Need-same-length-3
+same-length-3 c = search needs
 
-returns-2 : tie.Need-returns-2
-returns-2 c = solve-is _ _ _ _ _ _ _ _ (c .before .before .before .before .before .before .before .before .before .before .before .before .before .before .before .before .before .before .before .before .before .before .before .before .before .begin .ensures) _ _ _ (c .before .before .before .before .before .before .before .before .before .before .before .before .before .before .before .before .before .before .before .before .before .begin2 .ensures) _ _ _ _ (c .before .before .before .before .before .before .before .before .before .before .before .before .before .before .before .ask-all .ensures) _ (c .before .before .before .before .before .before .before .before .before .before .before .if1 .left) (c .before .before .before .before .before .fill .ensures)
+returns-3 : tie.Need-returns-3
+returns-3 c = solve-is _ _ _ _ _ _ _ _ (c .before .before .before .before .before .before .before .before .before .before .before .before .before .before .before .before .before .before .before .before .before .before .before .before .before .before .begin .ensures) _ _ _ (c .before .before .before .before .before .before .before .before .before .before .before .before .before .before .before .before .before .before .before .before .before .before .begin2 .ensures) _ _ _ _ (c .before .before .before .before .before .before .before .before .before .before .before .before .before .before .before .before .ask-all .ensures) _ (c .before .before .before .before .before .before .before .before .before .before .before .before .if1 .left) (c .before .before .before .before .before .before .before .before .before .before .before .if2 .left) (c .before .before .before .before .before .fill .ensures)
 
 pub solved-spec : {M : Type 1} → statement M
 solved-spec =
@@ -99,10 +120,17 @@ solved-spec =
     fill-long-requires
     same-length
     returns
+    slice-aggregate-fill-long-5
+    slice-aggregate-fill-long-6
+    slice-aggregate-fill-long-7
+    slice-aggregate-fill-long-8
+    fill-long-requires-2
+    same-length-2
+    returns-2
     slice-aggregate-fill
     slice-aggregate-fill-2
     slice-aggregate-fill-3
     slice-aggregate-fill-4
     fill-requires
-    same-length-2
-    returns-2)
+    same-length-3
+    returns-3)
