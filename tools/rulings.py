@@ -176,24 +176,21 @@ MAB = b'mab@keynote.research.att.com'
 JF = b'jf@keynote.research.att.com'
 
 
-def email(name, b, requester, attributes, rank, rounds, reached, fault=KEPT):
+def email(name, requester, attributes, rank, rounds):
     attributes = [(b'app_domain', b'RFC822-EMAIL')] + attributes
-    bytes_ = record([b'_MIN', b'_MAX'], [requester], attributes, [(1, A), (2, b), (2, C), (2, D)])
-    ruling(name, bytes_, answered(rank, 2, rounds, reached, KEPT, fault, KEPT, KEPT))
+    bytes_ = record([b'_MIN', b'_MAX'], [requester], attributes, [(1, A), (2, B), (2, C), (2, D)])
+    ruling(name, bytes_, answered(rank, 2, rounds, 8, KEPT, KEPT, KEPT, KEPT))
 
 
-# "~=" is refused, so B as printed is dropped and only RSA:abc123 is reached; with a plain test in its place all eight keys are.
-# Where the class is 1 it comes by way of Alice, RSA:abc123 and POLICY: one round each, and one for the requester.
-email('email-printed', B, b'DSA:12340987', [(b'address', MAB)], 0, 0, 2, (8, B.index(b'~=')))
-plain = B.replace(b'address ~=', b'address >=').replace(rb'^.*@keynote\\.research\\.att\\.com$', b'@')
+# All eight keys are reached. Where the class is 1 it comes by way of Alice, RSA:abc123 and POLICY: one round each, and one for the requester.
 blaze, feigenbaum = (b'name', b'M. Blaze'), (b'name', b'J. Feigenbaum')
-email('email-mab', plain, b'DSA:12340987', [(b'address', MAB)], 1, 4, 8)
-email('email-mab-name', plain, b'DSA:12340987', [(b'address', MAB), blaze], 1, 4, 8)
-email('email-other-address', plain, b'DSA:12340987', [(b'address', b'angelos@dsl.cis.upenn.edu')], 0, 1, 8)
-email('email-other-key', plain, b'DSA:abc991', [(b'address', MAB), blaze], 0, 1, 8)
-email('email-other-name', plain, b'DSA:12340987', [(b'address', MAB), feigenbaum], 0, 1, 8)
-email('email-jf', plain, b'DSA:abc991', [(b'address', JF)], 1, 4, 8)
-email('email-small-letters', plain, b'dsa:12340987', [(b'address', MAB)], 1, 4, 8)
+email('email-mab', b'DSA:12340987', [(b'address', MAB)], 1, 4)
+email('email-mab-name', b'DSA:12340987', [(b'address', MAB), blaze], 1, 4)
+email('email-other-address', b'DSA:12340987', [(b'address', b'angelos@dsl.cis.upenn.edu')], 0, 1)
+email('email-other-key', b'DSA:abc991', [(b'address', MAB), blaze], 0, 1)
+email('email-other-name', b'DSA:12340987', [(b'address', MAB), feigenbaum], 0, 1)
+email('email-jf', b'DSA:abc991', [(b'address', JF)], 1, 4)
+email('email-small-letters', b'dsa:12340987', [(b'address', MAB)], 1, 4)
 
 
 def spend(name, h, requesters, dollars, rank, rounds, fault=KEPT):

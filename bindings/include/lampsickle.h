@@ -3,7 +3,7 @@
  *
  * Link with -lkeynote from target/staticlib, which `rt staticlib keynote` writes, for Linux on x86-64. The library allocates nothing, reads
  * and writes no file, and keeps no state between calls, so it may be called from many threads at once. Its tables lie on the stack: a thread
- * that calls it needs 512 KiB (docs/ARCHITECTURE.md has what was measured).
+ * that calls it needs 640 KiB (docs/ARCHITECTURE.md has what was measured).
  */
 #ifndef LAMPSICKLE_H
 #define LAMPSICKLE_H
@@ -50,7 +50,7 @@ enum lampsickle_reason {
     LAMPSICKLE_INTEGER = 5,      /* an integer or a threshold is out of range */
     LAMPSICKLE_NOT_2 = 6,        /* KeyNote-Version isn't 2 */
     LAMPSICKLE_LIMIT = 7,        /* a limit is passed */
-    LAMPSICKLE_UNSUPPORTED = 8,  /* "~=", "&" as conversion, or a float literal */
+    LAMPSICKLE_UNSUPPORTED = 8,  /* "&" as conversion, or a float literal */
     LAMPSICKLE_UNVERIFIED = 9    /* standing 0, or a credential that speaks for POLICY */
 };
 

@@ -2,6 +2,7 @@
 //! worth is the library's to say: nothing here changes a record.
 
 pub mod literal;
+pub mod pattern;
 #[cfg(test)]
 mod random;
 pub mod reading;
@@ -15,4 +16,5 @@ pub const LICENSEES: usize = 16;
 pub const BRACKETS: usize = 16;
 pub const PREFIXES: usize = 16;
 pub const LITERAL_BYTES: usize = 2_048;
+pub const PATTERN_BYTES: usize = 256;
 pub const PRINCIPAL_BYTES: Range = Range { least: 1, most: 256 };

@@ -3,15 +3,18 @@
 
 use std::fmt::Write;
 
-use lampsickle::{limits, Answer, Refusal};
+use lampsickle::{limits, Answer, Query, Refusal};
 
 use crate::arguments::{Word, Words};
+use crate::assertion::reading::{self, Flawed};
 use crate::end::{End, Trouble};
 use crate::help;
 use crate::input::{front, Front};
 use crate::json::Object;
 use crate::output::answered;
+use crate::place::spot;
 use crate::report::{all_set_aside, class_json, class_text, entry_json, refusal_json, refusal_text, Source};
+use crate::terminal::width;
 use crate::text::{counted, quoted, shown};
 
 /// A part of a record, decoded.
@@ -73,7 +76,11 @@ fn in_words(front: &Front, decoded: &Decoded, asked: &Result<Answer, Refusal>) -
         writeln!(text, "{:>6}  {}", part.start, part.words).expect("a string takes all");
     }
     match asked {
-        Ok(answer) => text + &class_text(&decoded.values, answer) + &all_set_aside(&decoded.sources, answer),
+        Ok(answer) => {
+            let aside = all_set_aside(&decoded.sources, answer);
+            let flaws = flaws(&decoded.sources, answer).into_iter().map(|(source, flaw)| flaw_drawn(source, &flaw));
+            text + &class_text(&decoded.values, answer) + &aside + &flaws.collect::<String>()
+        }
         Err(refusal) => text + &drawn(&front.bytes, refusal.place) + &refusal_text(*refusal) + "\n",
     }
 }
@@ -91,11 +98,39 @@ fn in_json(decoded: &Decoded, asked: &Result<Answer, Refusal>) -> String {
         Ok(answer) => {
             let items = decoded.sources.iter().zip(&answer.entries);
             let entries: Vec<String> = items.map(|(source, entry)| entry_json(source, None, *entry)).collect();
-            class_json(&decoded.values, answer).list("assertions", &entries)
+            let object = class_json(&decoded.values, answer).list("assertions", &entries);
+            let flaws = flaws(&decoded.sources, answer);
+            match flaws.is_empty() {
+                true => object,
+                false => object
+                    .list("patterns", &flaws.iter().map(|(source, flaw)| flaw_json(source, flaw)).collect::<Vec<_>>()),
+            }
         }
         Err(refusal) => refusal_json(*refusal),
     };
     object.list("parts", &parts).done() + "\n"
+}
+
+/// The literals of assertions that were kept that stand for patterns and are none.
+fn flaws<'a>(sources: &'a [Source], answer: &Answer) -> Vec<(&'a Source, Flawed)> {
+    let kept = sources.iter().zip(&answer.entries).filter(|(_, entry)| entry.reason == 0);
+    // A literal is the same in every query.
+    let read = |source: &Source| reading::read(&source.text, &Query::default()).flaws;
+    let all = kept.flat_map(|(source, _)| read(source).into_iter().map(move |flaw| (source, flaw)));
+    all.filter(|(_, flaw)| flaw.literal).collect()
+}
+
+/// A flaw of a pattern, with its line and a caret.
+fn flaw_drawn(source: &Source, flaw: &Flawed) -> String {
+    let spot = spot(&source.text, flaw.place);
+    let drawn = spot.drawn(source.line + spot.line - 1, width());
+    format!("{}: warning: {}\n{drawn}", source.at(flaw.place), flaw.told())
+}
+
+fn flaw_json(source: &Source, flaw: &Flawed) -> String {
+    let spot = spot(&source.text, flaw.place);
+    let object = Object::default().text("file", &source.file).number("line", source.line + spot.line - 1);
+    object.number("column", spot.column).number("place", flaw.place).text("words", flaw.told()).done()
 }
 
 /// The bytes around a place, in hexadecimal digits, with a caret under it.

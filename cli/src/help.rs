@@ -69,8 +69,9 @@ OPTIONS OF ask
         --require CLASS      exit with 1 where the class is lower than CLASS
         --strict             exit with 5 where an assertion was set aside
         --no-warn KIND,...   leave warnings of these kinds unsaid: number (\"@\"
-                             makes 0 of what is no number), unset (a name that is
-                             read isn't set), unread (nothing reads an attribute)
+                             makes 0 of what is no number), pattern (what stands
+                             behind \"~=\" is none), unset (a name that is read
+                             isn't set), unread (nothing reads an attribute)
 
     A file may hold several assertions, separated by blank lines, but one given
     by --verified; a part with nothing but comments is skipped. Of several each

@@ -112,7 +112,6 @@ fn unlabelled(line: &[u8]) -> String {
 
 fn unsupported(here: &[u8]) -> String {
     let what = match here.first() {
-        Some(b'~') => "a pattern test (\"~=\")",
         Some(b'&') => "a conversion to a float (\"&\")",
         _ => "a float",
     };

@@ -148,6 +148,20 @@ fn warnings_of_attributes() {
 }
 
 #[test]
+fn warnings_of_patterns() {
+    let text = "Authorizer: \"POLICY\"\nConditions: x ~= \"a**\" || x ~= p || x ~= \"^\" . p || x ~= \"b\";\n";
+    let ask = |more: &[&str]| aside(&plain(&[&["--local", "-", "-a", "x=1"][..], more].concat()), text.as_bytes());
+    let words = ask(&["-a", "p=[a"]);
+    let expected = "lampsickle: warning: -:2:21: this is no pattern, so the test is an error: \
+there is nothing that this \"*\" could repeat (--no-warn pattern)
+lampsickle: warning: -:2:29: \"[a\" is no pattern, so the test is an error: this set isn't closed (--no-warn pattern)
+lampsickle: warning: -:2:39: \"^[a\" is no pattern, so the test is an error: this set isn't closed (--no-warn pattern)\n";
+    assert_eq!(words, expected);
+    assert_eq!(ask(&["-a", "p=[a", "--no-warn", "pattern"]), "");
+    assert_eq!(ask(&["-a", "p=[a]"]).lines().count(), 1);
+}
+
+#[test]
 fn warnings_of_names_that_are_not_set() {
     let text = "Local-Constants: c = \"1\"\nAuthorizer: \"POLICY\"\n\
                 Conditions: c == \"1\" && nam == \"\" && TRUE && _MAX_TRUST != \"\";\n";

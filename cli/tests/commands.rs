@@ -84,6 +84,24 @@ fn explained_in_json() {
     assert!(text.contains("{\"start\":19,\"end\":20,\"words\":\"1 requester\"}"), "{text}");
 }
 
+/// A literal that is no pattern, with a caret at what is wrong in it.
+#[test]
+fn explained_patterns() {
+    let text = "Authorizer: \"POLICY\"\nConditions: \"a\" ~= \"\\\\.[b-a]\" || x ~= p || x ~= (\"c|\");\n";
+    let record = run(&plain(&["--local", "-", "-a", "p=(", "-a", "x=1", "--record", "-"]), text.as_bytes()).stdout;
+    let explained = printed(&run(&["explain", "-"], &record));
+    assert!(explained.contains("-, assertion 0:2:27: warning: this is no pattern, so the test is an error: this range"));
+    let line = text.lines().nth(1).expect("two lines");
+    assert!(explained.contains(&format!("  2 | {line}\n    | {}^\n", " ".repeat(26))), "{explained}");
+    assert!(explained.contains("the last branch is empty\n") && !explained.contains("isn't closed"), "{explained}");
+    let json = printed(&run(&["explain", "--json", "-"], &record));
+    assert!(
+        json.contains("\"patterns\":[{\"file\":\"-, assertion 0\",\"line\":2,\"column\":27,\"place\":47,"),
+        "{json}"
+    );
+    assert!(!printed(&run(&["explain", "--json", "-"], &first_ruling())).contains("patterns"));
+}
+
 #[test]
 fn batches() {
     let (record, long) = (first_ruling(), vec![1; 200_000]);

@@ -86,7 +86,7 @@ pub fn one(task: &Task, number: u64, run: &mut Run) -> Result<(), Box<Difference
 }
 
 fn add(sum: &mut Run, run: &Run) {
-    let Coverage { numbers, reasons, ranks, rounds, reached, spellings, crowds } = &run.coverage;
+    let Coverage { numbers, reasons, ranks, rounds, reached, spellings, crowds, patterns } = &run.coverage;
     merge(&mut sum.coverage.numbers, numbers);
     merge(&mut sum.coverage.reasons, reasons);
     merge(&mut sum.coverage.ranks, ranks);
@@ -94,6 +94,7 @@ fn add(sum: &mut Run, run: &Run) {
     merge(&mut sum.coverage.reached, reached);
     merge(&mut sum.coverage.spellings, spellings);
     merge(&mut sum.coverage.crowds, crowds);
+    sum.coverage.patterns.add(patterns);
     sum.pairs += run.pairs;
     sum.differing_pairs += run.differing_pairs;
 }

@@ -13,10 +13,38 @@ pub type Find = fn(&[u8], &[usize], &[u8]) -> usize;
 
 mod linked {
     extern "C" {
-        pub fn lampsickle_find(s: *const u8, length: usize, places: *const usize, count: usize, name: *const u8, size: usize) -> usize;
-        pub fn lampsickle_find_front(s: *const u8, length: usize, places: *const usize, count: usize, name: *const u8, size: usize) -> usize;
-        pub fn lampsickle_find_last(s: *const u8, length: usize, places: *const usize, count: usize, name: *const u8, size: usize) -> usize;
-        pub fn lampsickle_find_backward(s: *const u8, length: usize, places: *const usize, count: usize, name: *const u8, size: usize) -> usize;
+        pub fn lampsickle_find(
+            s: *const u8,
+            length: usize,
+            places: *const usize,
+            count: usize,
+            name: *const u8,
+            size: usize,
+        ) -> usize;
+        pub fn lampsickle_find_front(
+            s: *const u8,
+            length: usize,
+            places: *const usize,
+            count: usize,
+            name: *const u8,
+            size: usize,
+        ) -> usize;
+        pub fn lampsickle_find_last(
+            s: *const u8,
+            length: usize,
+            places: *const usize,
+            count: usize,
+            name: *const u8,
+            size: usize,
+        ) -> usize;
+        pub fn lampsickle_find_backward(
+            s: *const u8,
+            length: usize,
+            places: *const usize,
+            count: usize,
+            name: *const u8,
+            size: usize,
+        ) -> usize;
     }
 }
 

@@ -139,7 +139,7 @@ fn spend() -> Vec<Ruling> {
     cases.into_iter().map(of).collect()
 }
 
-/// Section 6's e-mail policy with a plain test for the pattern, and as printed.
+/// Section 6's e-mail policy with a plain test for the pattern, and with a pattern.
 fn email() -> Vec<Ruling> {
     let a = "Authorizer: \"POLICY\"\nLicensees: \"RSA:abc123\"\n";
     let c = "KeyNote-Version: 2\nAuthorizer: \"DSA:4401ff92\"\nLicensees: \"DSA:12340987\"
@@ -159,13 +159,26 @@ Licensees: Alice || Bob\nConditions: (app_domain == \"RFC822-EMAIL\") && ({test}
     let draft = |test: &str, address: &str| asked_by("DSA:12340987", test, address);
     // The RFC asks with keys in small letters.
     let small = |key: &str| asked_by(key, "address > \"m\"", "mab@keynote.research.att.com");
-    let pattern = "address ~= \"^.*@keynote$\"";
-    let place = b(pattern).find("~=").expect("it stands there");
+    let pattern = r#"address ~= "^.*@keynote\\.research\\.att\\.com$""#;
+    let anywhere = r#"address ~= "^.*@keynote\.research""#;
+    let mab = "mab@keynote.research.att.com";
     vec![
         ruling("e-mail", &draft("address > \"m\"", "mab@keynote.research.att.com"), Ruled::Solved(1, 4, 5)),
         ruling("e-mail, small letters", &small("dsa:12340987"), Ruled::Solved(1, 4, 5)),
         ruling("e-mail, another key", &small("dsa:12340988"), Ruled::Rank(0)),
         ruling("e-mail of another", &draft("address > \"m\"", "angelos@dsl.cis.upenn.edu"), Ruled::Rank(0)),
-        ruling("e-mail by pattern", &draft(pattern, "mab@keynote.research.att.com"), Ruled::Entry(8, place)),
+        ruling("e-mail by pattern", &draft(pattern, mab), Ruled::Solved(1, 4, 5)),
+        ruling("e-mail by pattern, another's", &asked_by("DSA:4401ff92", pattern, "mab@att.com"), Ruled::Rank(0)),
+        ruling(
+            "e-mail by pattern, no dot",
+            &asked_by("DSA:4401ff92", pattern, "a@keynoteXresearch.att.com"),
+            Ruled::Rank(0),
+        ),
+        ruling(
+            "e-mail by pattern, any byte",
+            &asked_by("DSA:4401ff92", anywhere, "a@keynoteXresearch"),
+            Ruled::Rank(1),
+        ),
+        ruling("e-mail by no pattern", &draft("address ~= \"(\"", mab), Ruled::Rank(0)),
     ]
 }

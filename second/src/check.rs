@@ -157,7 +157,7 @@ fn conditions(tokens: &[Token]) -> Result<(), Fault> {
         match token.kind {
             Kind::Digits => integer(token)?,
             Kind::Literal => literal_bytes(token)?,
-            Kind::Float | Kind::Ampersand | Kind::Match => demand(false, NOT_OFFERED, token)?,
+            Kind::Float | Kind::Ampersand => demand(false, NOT_OFFERED, token)?,
             _ => {}
         }
         behind_operand =

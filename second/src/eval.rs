@@ -5,6 +5,7 @@ use std::cmp::Ordering;
 use crate::environment::Environment;
 use crate::integer::{self, Error};
 use crate::limits;
+use crate::pattern;
 use crate::store::{Assertion, Comparison, Node, Row};
 
 /// A value that has been computed and not yet used.
@@ -28,11 +29,37 @@ pub struct Evaluator<'a> {
     stack: Vec<Value<'a>>,
     /// The built strings on the stack, one behind the other.
     built: Vec<u8>,
+    /// Whether pattern tests are listed as they are met.
+    watched: bool,
+    pattern_tests: Vec<PatternTest>,
+}
+
+/// A pattern test that was met.
+#[derive(Clone, Debug, PartialEq, Eq)]
+pub struct PatternTest {
+    pub pattern: Vec<u8>,
+    pub string: Vec<u8>,
+    pub found: Result<bool, pattern::Fault>,
 }
 
 impl<'a> Evaluator<'a> {
     pub fn new(environment: &'a Environment<'a>) -> Self {
-        Self { environment, constants: Row::default(), stack: Vec::new(), built: Vec::new() }
+        Self {
+            environment,
+            constants: Row::default(),
+            stack: Vec::new(),
+            built: Vec::new(),
+            watched: false,
+            pattern_tests: Vec::new(),
+        }
+    }
+
+    /// The pattern tests that an assertion's Conditions meet.
+    pub fn pattern_tests(&mut self, assertion: &Assertion) -> Vec<PatternTest> {
+        self.watched = true;
+        self.conditions(assertion);
+        self.watched = false;
+        std::mem::take(&mut self.pattern_tests)
     }
 
     /// The rank of an assertion's Conditions; a missing field is top.
@@ -124,6 +151,7 @@ impl<'a> Evaluator<'a> {
                 let left = self.pop_integer();
                 Value::Truth(holds(comparison, left.cmp(&right)))
             }
+            Node::Match => Value::Truth(self.match_pattern()?),
             Node::Not => Value::Truth(!self.pop_truth()),
             _ => unreachable!("steps of a clause are taken in run"),
         };
@@ -149,6 +177,21 @@ impl<'a> Evaluator<'a> {
         self.drop_built(&right);
         self.drop_built(&left);
         truth
+    }
+
+    /// A pattern that isn't valid is an error.
+    fn match_pattern(&mut self) -> Result<bool, Error> {
+        let pattern = self.stack.pop().expect("a pattern");
+        let string = self.stack.pop().expect("a string");
+        let (expression, bytes) = (self.bytes(&pattern), self.bytes(&string));
+        let found = pattern::matches(expression, bytes);
+        if self.watched {
+            let test = PatternTest { pattern: expression.to_vec(), string: bytes.to_vec(), found };
+            self.pattern_tests.push(test);
+        }
+        self.drop_built(&pattern);
+        self.drop_built(&string);
+        found.map_err(|_| Error)
     }
 
     /// Joins the two strings on top of the stack.

@@ -9,6 +9,8 @@ pub mod damage;
 pub mod edge;
 pub mod expression;
 pub mod keys;
+pub mod pattern;
+pub mod pattern_coverage;
 pub mod scene;
 pub mod sketch;
 pub mod tally;

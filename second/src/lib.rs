@@ -22,6 +22,7 @@ pub mod literal;
 pub mod names;
 pub mod paper;
 pub mod parse;
+pub mod pattern;
 pub mod principal;
 pub mod print;
 pub mod random;

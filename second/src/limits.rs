@@ -49,6 +49,7 @@ pub const INTEGER_LITERAL: u32 = 2_147_483_647;
 
 // Evaluation.
 pub const STRING_BYTES: usize = 4_096;
+pub const PATTERN_BYTES: usize = 256;
 
 // The journal.
 pub const JOURNAL_BYTES: Range = Range::new(16, 65_535);

@@ -164,7 +164,7 @@ impl Conditions<'_> {
     fn pattern(&mut self, left: Type, right: Type) -> Option<Type> {
         self.as_text(left)?;
         self.as_text(right)?;
-        self.emit(Node::NotOffered);
+        self.emit(Node::Match);
         Some(Type::Test)
     }
 

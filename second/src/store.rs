@@ -51,6 +51,8 @@ pub enum Node {
     Power,
     CompareTexts(Comparison),
     CompareIntegers(Comparison),
+    /// Whether a string matches a pattern.
+    Match,
     Not,
     /// Between the two sides: a false left side decides.
     And {
@@ -70,7 +72,7 @@ pub enum Node {
     Top,
     /// The clause's value is computed.
     Value,
-    /// Floats and patterns; a text that has them is set aside.
+    /// Floats; a text that has them is set aside.
     NotOffered,
 }
 

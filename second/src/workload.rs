@@ -69,6 +69,9 @@ pub fn all() -> Vec<Workload> {
     for rounds in [2, 4, 8, 16, 32] {
         all.push(workload(format!("rounds {rounds}"), &rounds_of(rounds)));
     }
+    for (name, pattern, string) in patterns() {
+        all.push(workload(format!("pattern: {name}"), &pattern_test(&pattern, string)));
+    }
     for bytes in [40, 256] {
         all.push(workload(format!("keys of {bytes}, other case"), &keys(bytes, other_case)));
         all.push(workload(format!("keys of {bytes}, other end"), &keys(bytes, other_end)));
@@ -279,6 +282,29 @@ pub fn rounds_of(rounds: usize) -> Draft {
         draft = draft.local(format!("Authorizer: \"POLICY\"\nLicensees: \"other {index}\"\n"));
     }
     draft
+}
+
+/// Patterns, and of what a string of 4,096 bytes consists.
+fn patterns() -> [(&'static str, String, &'static str); 9] {
+    [
+        ("a byte", "z".into(), "a"),
+        ("literal", "keynote research".into(), "keynote "),
+        ("anchored", "^keynote".into(), "keynote "),
+        ("address", r"^.*@keynote\\.research\\.att\\.com$".into(), "mab@keynote."),
+        ("branches", "(pilot|tug|berth|mooring|anchorage|quay)[0-9]".into(), "anchorage tug "),
+        ("sets", "[0-9A-F]+:[^a-z]*[x-z]".into(), "0A:B9 "),
+        ("stars", "(a*b*)*c".into(), "aab"),
+        ("stars in stars", "((a*)*(b*)*)*c".into(), "aab"),
+        // 256 bytes, with two ways to go on at 127 places.
+        ("worst", "a?".repeat(127) + "bb", "a"),
+    ]
+}
+
+/// One test of a pattern on 4,096 bytes.
+pub fn pattern_test(pattern: &str, part: &str) -> Draft {
+    let half: String = part.chars().cycle().take(limits::ATTRIBUTE_BYTES.most).collect();
+    let text = format!("Authorizer: \"POLICY\"\nConditions: x . x ~= \"{pattern}\";\n");
+    Draft::plain().attribute("x", half).local(text)
 }
 
 /// Long hexadecimal keys, sixteen to an assertion, as many assertions as fit.

@@ -13,6 +13,8 @@ use crate::text::{brief, quoted};
 pub enum Kind {
     /// "@" makes 0 of a string, since it is no number or none in range.
     Number,
+    /// What stands behind "~=" is no pattern.
+    Pattern,
     /// A name is read that isn't set.
     Unset,
     /// An attribute is set that nothing reads.
@@ -20,11 +22,12 @@ pub enum Kind {
 }
 
 impl Kind {
-    pub const ALL: [Kind; 3] = [Kind::Number, Kind::Unset, Kind::Unread];
+    pub const ALL: [Kind; 4] = [Kind::Number, Kind::Pattern, Kind::Unset, Kind::Unread];
 
     pub fn name(self) -> &'static str {
         match self {
             Self::Number => "number",
+            Self::Pattern => "pattern",
             Self::Unset => "unset",
             Self::Unread => "unread",
         }
@@ -52,6 +55,7 @@ pub fn found(
     for kind in kinds {
         match kind {
             Kind::Number => readings.iter().for_each(|(source, reading)| told.numbers(source, reading)),
+            Kind::Pattern => readings.iter().for_each(|(source, reading)| told.patterns(source, reading)),
             Kind::Unset => readings.iter().for_each(|(source, reading)| told.unset_names(source, reading)),
             Kind::Unread => told.unread(attributes, readings),
         }
@@ -69,6 +73,12 @@ struct Told<'a> {
 impl Told<'_> {
     fn numbers(&mut self, source: &Source, reading: &Reading) {
         reading.conversions.iter().for_each(|conversion| self.number(source, conversion));
+    }
+
+    fn patterns(&mut self, source: &Source, reading: &Reading) {
+        for flaw in &reading.flaws {
+            self.warnings.push((Kind::Pattern, format!("{}: {}", source.at(flaw.place), flaw.told())));
+        }
     }
 
     fn unset_names(&mut self, source: &Source, reading: &Reading) {

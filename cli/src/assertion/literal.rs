@@ -34,6 +34,20 @@ pub fn read(text: &[u8], start: usize) -> Result<Literal, Flawed> {
     Ok(Literal { value, end: place + 1 })
 }
 
+/// Where the byte of a literal's value stands that has so many before it; behind the
+/// last one the closing quote does.
+pub fn place_of(text: &[u8], start: usize, index: usize) -> usize {
+    let mut value = Vec::new();
+    let mut place = start + 1;
+    while text.get(place) != Some(&b'"') {
+        match unit(text, place, &mut value) {
+            Ok(behind) if value.len() <= index => place = behind,
+            _ => break,
+        }
+    }
+    place
+}
+
 /// What stands at a place inside; the place behind it.
 fn unit(text: &[u8], place: usize, value: &mut Vec<u8>) -> Result<usize, Flaw> {
     match text.get(place) {
@@ -106,6 +120,12 @@ mod tests {
         for (text, flaw) in flaws {
             assert_eq!(value(text), Err(flaw), "{text:?}");
         }
+    }
+
+    #[test]
+    fn places_of_bytes() {
+        let text = b"x \"a\\n\\\n  \\101b\"";
+        assert_eq!([0, 1, 2, 3, 4, 9].map(|index| place_of(text, 2, index)), [3, 4, 10, 14, 15, 15]);
     }
 
     /// The library's word on a literal: whether it is one and stands for a value.

@@ -3,7 +3,9 @@
 use lampsickle::Query;
 
 use super::literal;
+use super::pattern;
 use super::tokens::{Field, Kind, Token, Tokens};
+use crate::text::quoted;
 
 /// What Conditions read.
 #[derive(Default)]
@@ -14,6 +16,27 @@ pub struct Reading {
     pub computed: bool,
     /// Strings of which "@" makes integers.
     pub conversions: Vec<Conversion>,
+    /// What stands behind "~=" and is no pattern.
+    pub flaws: Vec<Flawed>,
+}
+
+/// A pattern that is none.
+#[derive(Clone, Debug, PartialEq, Eq)]
+pub struct Flawed {
+    /// What is wrong in a literal; the "~=" before another string.
+    pub place: usize,
+    /// Whether the pattern is one literal.
+    pub literal: bool,
+    pub pattern: Vec<u8>,
+    pub words: String,
+}
+
+impl Flawed {
+    /// Why the test is an error.
+    pub fn told(&self) -> String {
+        let which = if self.literal { "this".to_string() } else { quoted(&self.pattern) };
+        format!("{which} is no pattern, so the test is an error: {}", self.words)
+    }
 }
 
 /// A string that is converted.
@@ -51,6 +74,7 @@ pub fn read(text: &[u8], query: &Query) -> Reading {
                 let string = scope.operand(index + 1).map(|(string, _)| string);
                 reading.conversions.extend(string.map(|string| Conversion { place: token.start, string }));
             }
+            (Kind::Sign, b"~=") => reading.flaws.extend(scope.flawed(index)),
             _ => {}
         }
     }
@@ -115,6 +139,24 @@ impl Scope<'_> {
             }
             _ => None,
         }
+    }
+
+    /// What is wrong with the pattern behind a "~=".
+    fn flawed(&self, index: usize) -> Option<Flawed> {
+        let (string, next) = self.joined(index + 1)?;
+        let flaw = pattern::flawed(&string.value)?;
+        let mut literals = self.tokens[index + 1..next].iter().filter(|token| !self.is_bracket(token));
+        let (first, more) = (literals.next()?, literals.next());
+        let literal = first.kind == Kind::Literal && more.is_none();
+        let place = match literal {
+            true => literal::place_of(self.text, first.start, flaw.place),
+            false => self.tokens[index].start,
+        };
+        Some(Flawed { place, literal, pattern: string.value, words: flaw.words })
+    }
+
+    fn is_bracket(&self, token: &Token) -> bool {
+        token.is(self.text, b"(") || token.is(self.text, b")")
     }
 
     /// Operands joined by ".".
@@ -185,6 +227,23 @@ mod tests {
         let values: Vec<&[u8]> = reading.conversions.iter().map(|item| item.string.value.as_slice()).collect();
         assert_eq!(values, [&b""[..], b"56"]);
         assert!(!reading.conversions[0].string.set && reading.conversions[1].string.set);
+    }
+
+    #[test]
+    fn patterns_that_are_none() {
+        let text =
+            b"Authorizer: \"a\"\nConditions: x~=\"a\\\\.(\" && (x~=(\"b\")) && x~=p && x~=\"c\" . p && x~=(\"\\052\");";
+        let reading = read(text, &query(&[("p", "[a")]));
+        let found: Vec<(usize, bool, &[u8])> =
+            reading.flaws.iter().map(|flaw| (flaw.place, flaw.literal, flaw.pattern.as_slice())).collect();
+        let place = |part: &str, more: usize| String::from_utf8_lossy(text).find(part).expect("it stands there") + more;
+        let expected: [(usize, bool, &[u8]); 4] = [
+            (place("(\" &&", 0), true, b"a\\.("),
+            (place("~=p", 0), false, b"[a"),
+            (place("~=\"c", 0), false, b"c[a"),
+            (place("\\052", 0), true, b"*"),
+        ];
+        assert_eq!(found, expected);
     }
 
     #[test]

@@ -6,4 +6,5 @@ mod generated;
 mod journal;
 mod orders;
 mod paper;
+mod patterns;
 mod register;

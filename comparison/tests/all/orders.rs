@@ -25,7 +25,8 @@ fn each_name_is_found_where_it_is() {
 fn random_names_are_found_alike() {
     let mut random = Random::new(202);
     for _ in 0..20_000 {
-        let length = |random: &mut Random| [0, 1, 2, 7, 8, 9, 15, 16, 17, 63, 64, 65, 71, 72, 127, 128, 130][random.below(17)];
+        let length =
+            |random: &mut Random| [0, 1, 2, 7, 8, 9, 15, 16, 17, 63, 64, 65, 71, 72, 127, 128, 130][random.below(17)];
         let size = length(&mut random);
         let mut names: Vec<Vec<u8>> = Vec::new();
         for _ in 0..random.below(6) {

@@ -164,23 +164,19 @@ module _ (k : ℕ) (s m : List ℕ) (top level nest sort place : ℕ) (t : Token
     chain-other h = sym (loop-done _ _ _ (t, sort, place, top, m) _ (simp (lt-leb _ _ in-s, sym oe, loose level o f fe h))) ∙ inv
 
     module _ (ff : f ≡ false) where
-      pub chain-match : o ≡ Numbered.MATCH → ran (Aside 8 (t .start)) m ≡ a
-      unfolding chainRest
-      chain-match h = sym (loop-done _ _ _ (t, sort, place, top, m) _ (simp (lt-leb _ _ in-s, sym oe, bound level o f fe ff, eq-eqb _ _ h))) ∙ inv
-
-      module _ (on : o ≡ Numbered.MATCH → ⊥) (r : Out) (b : List ℕ) (re : ran r b ≡ joinedAt k s m top o nest sort place (t .end)) where
+      module _ (r : Out) (b : List ℕ) (re : ran r b ≡ joinedAt k s m top o nest sort place (t .end)) where
         pub chain-aside : (x p : ℕ) → r ≡ Aside x p → ran (Aside x p) b ≡ a
         unfolding chainRest
         chain-aside x p e =
-            sym (loop-done _ _ _ (t, sort, place, top, m) (ran (Aside x p) b) (simp (lt-leb _ _ in-s, sym oe, bound level o f fe ff, ne-eqb _ _ on, sym re, e))) ∙ inv
+            sym (loop-done _ _ _ (t, sort, place, top, m) (ran (Aside x p) b) (simp (lt-leb _ _ in-s, sym oe, bound level o f fe ff, sym re, e))) ∙ inv
 
         module _ (x p u : ℕ) (n : Token) (e : r ≡ Found x p u n) where
           pub chain-stuck : n .start ≤ t .start → ran (Aside 0 (t .start)) b ≡ a
           unfolding chainRest
           chain-stuck h =
-              sym (loop-done _ _ _ (t, sort, place, top, m) (ran (Aside 0 (t .start)) b) (simp (lt-leb _ _ in-s, sym oe, bound level o f fe ff, ne-eqb _ _ on, sym re, e, le-leb _ _ h))) ∙ inv
+              sym (loop-done _ _ _ (t, sort, place, top, m) (ran (Aside 0 (t .start)) b) (simp (lt-leb _ _ in-s, sym oe, bound level o f fe ff, sym re, e, le-leb _ _ h))) ∙ inv
 
           pub chain-more : t .start < n .start → chainRest k s b u level nest x p n ≡ a
           unfolding chainRest
           chain-more h =
-              sym (loop-next _ _ _ (t, sort, place, top, m) (n, x, p, u, b) (simp (lt-leb _ _ in-s, sym oe, bound level o f fe ff, ne-eqb _ _ on, sym re, e, lt-leb _ _ h)) (omega arith)) ∙ inv
+              sym (loop-next _ _ _ (t, sort, place, top, m) (n, x, p, u, b) (simp (lt-leb _ _ in-s, sym oe, bound level o f fe ff, sym re, e, lt-leb _ _ h)) (omega arith)) ∙ inv

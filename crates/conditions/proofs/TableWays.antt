@@ -41,7 +41,7 @@ module _ (k : ℕ) (p : k ≡ Kind.POWER → ⊥) (t : k ≡ Kind.TIMES → ⊥)
   unfolding Numbered.numberOperator
   number-none h = simp (ne-eqb _ _ p, ne-eqb _ _ t, ne-eqb _ _ d, ne-eqb _ _ r, ne-eqb _ _ u, ne-eqb _ _ m, sym ce, eq-eqb _ _ h)
 
-  pub number-compared : (c ≡ Numbered.NONE → ⊥) → c + 6 ≡ Numbered.numberOperator k
+  pub number-compared : (c ≡ Numbered.NONE → ⊥) → c + 7 ≡ Numbered.numberOperator k
   unfolding Numbered.numberOperator
   number-compared h = simp (ne-eqb _ _ p, ne-eqb _ _ t, ne-eqb _ _ d, ne-eqb _ _ r, ne-eqb _ _ u, ne-eqb _ _ m, sym ce, ne-eqb _ _ h)
 
@@ -106,11 +106,11 @@ module _ (op : ℕ) where
     operand-test l = simp (not-opposite, lt-ltb _ _ l)
 
     module _ (l : op ≤ Op.AT-LEAST) where
-      pub operand-compared : Op.TEXT-AT-LEAST < op → Table.NUMBER ≡ Numbered.operandOf op
+      pub operand-compared : Op.MATCHES < op → Table.NUMBER ≡ Numbered.operandOf op
       unfolding Numbered.operandOf
       operand-compared m = simp (not-opposite, le-ltb _ _ l, lt-ltb _ _ m)
 
-      pub operand-matched : op ≤ Op.TEXT-AT-LEAST → Table.TEXT ≡ Numbered.operandOf op
+      pub operand-matched : op ≤ Op.MATCHES → Table.TEXT ≡ Numbered.operandOf op
       unfolding Numbered.operandOf
       operand-matched m = simp (not-opposite, le-ltb _ _ l, le-ltb _ _ m, lt-ltb _ _ h)
 
@@ -141,7 +141,7 @@ module _ (op : ℕ) where
           ne-eqb op Op.OPPOSITE (λ z. let no : ⊥ = omega (arith, l, z) in no),
           ne-eqb op Op.NEGATE (λ z. let no : ⊥ = omega (arith, l, z) in no),
           le-ltb Op.AT-LEAST op (omega (arith, h)),
-          le-ltb Op.TEXT-AT-LEAST op (omega (arith, h)),
+          le-ltb Op.MATCHES op (omega (arith, h)),
           le-ltb _ _ h,
           lt-ltb _ _ l,
         )
@@ -149,7 +149,7 @@ module _ (op : ℕ) where
     pub operand-plain : op ≤ Op.JOIN → (op ≡ Op.NEGATE → ⊥) → (op ≡ Op.OPPOSITE → ⊥) → Table.TEXT ≡ Numbered.operandOf op
     unfolding Numbered.operandOf
     operand-plain l n o =
-        simp (ne-eqb _ _ o, ne-eqb _ _ n, le-ltb Op.AT-LEAST op (omega (arith, h)), le-ltb Op.TEXT-AT-LEAST op (omega (arith, h)), le-ltb _ _ h, le-ltb _ _ l)
+        simp (ne-eqb _ _ o, ne-eqb _ _ n, le-ltb Op.AT-LEAST op (omega (arith, h)), le-ltb Op.MATCHES op (omega (arith, h)), le-ltb _ _ h, le-ltb _ _ l)
 
     pub result-sum : Op.JOIN < op → Table.NUMBER ≡ Numbered.resultOf op
     unfolding Numbered.resultOf

@@ -61,12 +61,11 @@ abbrev pub onJoined : Token → Parsed Part → Step State (Parsed Part)
 onJoined t (aside r p) = done (aside r p)
 onJoined t (ok (part x e) n) = pick (leb (n .start) (t .start)) (done (aside 0 (t .start))) (next (n, x, e))
 
--- reason 8: "~=" where a comparison of strings may stand
 abbrev pub chainTurn : (Binary → ℕ → ℕ → Expr → ℕ → Parsed Part) → List ℕ → ℕ → ℕ → State → Step State (Parsed Part)
 chainTurn joined s level nest x =
     pick (leb (length s) (x .0 .start)) (done (ok (part (x .1) (x .2)) (x .0)))
     (pick (Table.binds level (Table.operator (x .1) (x .0 .kind)))
-    (Table.onInfix (Table.operator (x .1) (x .0 .kind)) (done (ok (part (x .1) (x .2)) (x .0))) (done (aside 8 (x .0 .start)))
+    (Table.onInfix (Table.operator (x .1) (x .0 .kind)) (done (ok (part (x .1) (x .2)) (x .0)))
     (λ op. onJoined (x .0) (joined op nest (x .1) (x .2) (x .0 .end))))
     (done (ok (part (x .1) (x .2)) (x .0))))
 

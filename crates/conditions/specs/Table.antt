@@ -58,10 +58,9 @@ allows want k =
     (pick (beginsFloat k) true
     (pick (eqb want NUMBER) false (beginsString k)))))))
 
--- what a token writes behind an operand: no operator; "~=", which has reason 8; or an operator
+-- what a token writes behind an operand: no operator, or one
 pub data Infix : Type 0 where
   no-infix : Infix
-  matching : Infix
   between : Binary → Infix
 
 -- and before an operand
@@ -70,10 +69,9 @@ pub data Prefix : Type 0 where
   before : Unary → Prefix
 
 -- go on by what it is
-abbrev pub onInfix : {A : Type 0} → Infix → A → A → (Binary → A) → A
-onInfix no-infix none match some = none
-onInfix matching none match some = match
-onInfix (between op) none match some = some op
+abbrev pub onInfix : {A : Type 0} → Infix → A → (Binary → A) → A
+onInfix no-infix none some = none
+onInfix (between op) none some = some op
 
 abbrev pub onPrefix : {A : Type 0} → Prefix → A → (Unary → A) → A
 onPrefix no-prefix none some = none
@@ -101,7 +99,7 @@ numberOperator k =
 
 -- the operator behind a string
 unfoldable pub textOperator : ℕ → Infix
-textOperator k = pick (eqb k Kind.DOT) (between Operator.join) (pick (eqb k Kind.MATCHES) matching (comparison Operator.strings k))
+textOperator k = pick (eqb k Kind.DOT) (between Operator.join) (pick (eqb k Kind.MATCHES) (between Operator.matches) (comparison Operator.strings k))
 
 -- the operator behind a test; another token has the other operator
 unfoldable pub testOperator : ℕ → Infix → Infix
@@ -126,6 +124,7 @@ unfoldable pub levelOf : Binary → ℕ
 levelOf Operator.either = 0
 levelOf Operator.both = 1
 levelOf (Operator.comparison side relation) = 2
+levelOf Operator.matches = 2
 levelOf Operator.join = 3
 levelOf Operator.plus = 3
 levelOf Operator.minus = 3
@@ -168,10 +167,9 @@ rightWant op = wantOf (binaryTakes op)
 unfoldable pub rightLevel : Binary → ℕ
 rightLevel op = levelOf op + 1
 
--- does what a token writes belong to this level or one above? "~=" is a comparison
+-- does what a token writes belong to this level or one above?
 unfoldable pub binds : ℕ → Infix → Bool
 binds level no-infix = false
-binds level matching = leb level 2
 binds level (between op) = leb level (levelOf op)
 
 -- brackets hold a whole test, or a whole string or integer

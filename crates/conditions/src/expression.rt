@@ -7,7 +7,6 @@ use crate::emit::settle_for;
 use crate::emit::unexpected;
 use crate::leaf::ROW;
 use crate::leaf::leaf;
-use crate::table::MATCH;
 use crate::table::NONE;
 use crate::table::inside_level;
 use crate::table::is_allowed;
@@ -210,12 +209,6 @@ fn chain(
                 place,
                 top,
                 next: t,
-            };
-        }
-        if o == MATCH {
-            return Out::Aside {
-                reason: 8,
-                at: t.start,
             };
         }
         match joined(s, code, top, o, nest, sort, place, t.end, d - 1) {

@@ -25,9 +25,6 @@ pub const FALSE: u8 = 4;
 
 pub const NONE: u32 = 0;
 
-// No entry stores it: an entry has room for operations below 64.
-pub const MATCH: u32 = 64;
-
 // May a token of this kind stand where this is wanted?
 pub fn is_allowed(want: u8, k: usize) -> bool
     ensures { λ r. ⌜ r ≡ allows want k ⌝ }
@@ -157,7 +154,7 @@ pub fn number_operator(k: usize) -> u32
     if c == NONE {
         return NONE;
     }
-    c + 6
+    c + 7
 }
 
 // The operator behind a string, or NONE.
@@ -168,7 +165,7 @@ pub fn text_operator(k: usize) -> u32
         return syntax::JOIN;
     }
     if k == kind::MATCHES {
-        return MATCH;
+        return syntax::MATCHES;
     }
     comparison_of(k)
 }
@@ -262,7 +259,7 @@ pub fn operand_of(op: u32) -> u8
         if syntax::AT_LEAST < op {
             return TEST;
         }
-        if syntax::TEXT_AT_LEAST < op {
+        if syntax::MATCHES < op {
             return NUMBER;
         }
         return TEXT;

@@ -10,6 +10,9 @@ use Rattle.text.specs.Decimal.{decimal}
 use Rattle.text.specs.declared.Integer.{Integer}
 use Rattle.text.specs.declared.Order.{Order}
 use Rattle.text.specs.declared.Order.the-variants.{Less, Equal, Greater}
+use Rattle.pattern.specs.Test.{testOf}
+use Rattle.pattern.specs.declared.Answer.{Answer}
+use Rattle.pattern.specs.declared.Answer.the-variants.{Yes, No, Error}
 use Rattle.syntax.specs.Operator.{Unary, Binary, Relation}
 use Rattle.syntax.specs.Operator as Operator
 use Rattle.expression.specs.Value.{Value, text, integer, test, fault, onText, onInteger, onTest}
@@ -43,6 +46,16 @@ relates Operator.greater o = isGreater o
 relates Operator.at-most o = not (isGreater o)
 relates Operator.at-least o = not (isLess o)
 
+-- "A match anywhere in the string is a yes"; what is no pattern is "an error in the test"
+abbrev pub answered : Answer → Value
+answered Yes = test true
+answered No = test false
+answered Error = fault
+
+-- the string a, the pattern b
+unfoldable pub matched : List ℕ → List ℕ → Value
+matched a b = answered (testOf b a)
+
 -- two strings, two integers
 unfoldable pub onTexts : (List ℕ → List ℕ → Value) → Value → Value → Value
 onTexts f v w = onText (λ a. onText (λ b. f a b) w) v
@@ -61,6 +74,7 @@ binaryOf Operator.plus v w = onIntegers plus v w
 binaryOf Operator.minus v w = onIntegers minus v w
 binaryOf (Operator.comparison Operator.strings r) v w = onTexts (λ a b. test (relates r (order a b))) v w
 binaryOf (Operator.comparison Operator.integers r) v w = onIntegers (λ a b. test (relates r (compared a b))) v w
+binaryOf Operator.matches v w = onTexts matched v w
 binaryOf Operator.both v w = onTest (λ t. pick t (onTest test w) (test false)) v
 binaryOf Operator.either v w = onTest (λ t. pick t (test true) (onTest test w)) v
 

@@ -4,3 +4,4 @@ pub mod Queried
 pub mod Topmost
 pub mod Standing
 pub mod Numbered
+pub mod Matched

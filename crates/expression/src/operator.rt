@@ -19,6 +19,7 @@ use crate::value::is_text;
 use crate::value::pack_operand;
 use crate::value::rank_in;
 use crate::value::told;
+use pattern::Answer;
 use text::Integer;
 use text::Order;
 ghost use mathlib.Core.Path.{_≡_};
@@ -32,7 +33,7 @@ ghost use Rattle.text.specs.Decimal.{integer as signed};
 ghost use Rattle.expression.specs.Value.{operand, rank};
 ghost use Rattle.expression.specs.Operands.{pack, valueOf, holdsIn, testIn};
 ghost use Rattle.expression.specs.Integers.{ranged, apart};
-ghost use Rattle.expression.specs.Operations.{isLess, isEqual, isGreater, held, converted, negative, opposite as not-of};
+ghost use Rattle.expression.specs.Operations.{isLess, isEqual, isGreater, answered, matched, held, converted, negative, opposite as not-of};
 ghost use Rattle.expression.specs.Working.Numbered.{relatesBy, arithmetic, textual, logical, ofTexts, ofIntegers, ofTests, isTextual, binaryBy};
 ghost use Rattle.expression.specs.Conditions.{rankOf};
 ghost use Rattle.expression.specs.Working.Clauses.{applied, combined};
@@ -211,6 +212,24 @@ fn join(a: &[u8], b: &[u8]) -> Operand
     Operand::Text { length: n }
 }
 
+// What a pattern test gives: what is no pattern is a fault.
+fn answer(x: Answer) -> Operand
+    ensures { λ r. ⌜ r ≡ operand (answered x) ⌝ }
+{
+    match x {
+        Answer::Yes => Operand::Test { holds: true },
+        Answer::No => Operand::Test { holds: false },
+        Answer::Error => Operand::Fault,
+    }
+}
+
+// The string a against the pattern b.
+fn match_strings(a: &[u8], b: &[u8]) -> Operand
+    ensures { λ r. ⌜ r ≡ operand (matched (now (a .entry)) (now (b .entry))) ⌝ }
+{
+    answer(pattern::pattern_test(b, a))
+}
+
 // Two strings.
 fn of_strings(op: u32, a: &[u8], b: &[u8]) -> Operand
     ensures { λ r. ⌜ r ≡ operand (textual op (now (a .entry)) (now (b .entry))) ⌝ }
@@ -227,6 +246,9 @@ fn of_strings(op: u32, a: &[u8], b: &[u8]) -> Operand
         return Operand::Test {
             holds: opposite(text::same_bytes(a, b)),
         };
+    }
+    if op == syntax::MATCHES {
+        return match_strings(a, b);
     }
     let o = text::compare(a, b);
     let k = minus(op, syntax::TEXT_EQUAL);
@@ -297,7 +319,7 @@ fn is_textual(op: u32) -> bool
     if op <= syntax::MINUS {
         return false;
     }
-    op <= syntax::TEXT_AT_LEAST
+    op <= syntax::MATCHES
 }
 
 // An operator of expressions on two operands.

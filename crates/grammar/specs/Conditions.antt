@@ -1,5 +1,5 @@
 -- The grammar of Conditions over kinds of token: types as nonterminals (B02), and the precedence classes in it (B01): a class of a type is a
--- nonterminal, and its operators take the class above on their right, so they group "left to right in a class". Reason 8's three are in it, "as in the RFC".
+-- nonterminal, and its operators take the class above on their right, so they group "left to right in a class". Floats and "&", which have reason 8, are in it, "as in the RFC".
 -- Assumes nothing.
 use mathlib.Core.List.{List, [], _∷_, _++_}
 use Prim.Native.Nat.{ℕ}

@@ -1,5 +1,5 @@
 -- What a Conditions field's tokens say: the trees of crate syntax, production by production, over the tokens of a text. A class's operators have the
--- class itself on the left and the class above on the right, so a tree groups as the classes do. Reason 8's three have no tree. Assumes nothing.
+-- class itself on the left and the class above on the right, so a tree groups as the classes do. Reason 8's two, floats and "&", have no tree. Assumes nothing.
 use mathlib.Core.Path.{_≡_}
 use mathlib.Core.Bool.{true, false}
 use mathlib.Core.List.{List, [], _∷_, _++_}
@@ -68,6 +68,8 @@ pub data TestTree (s : List ℕ) : Class → List Token → Expr → Type 0 wher
       → TestTree s operand (ts ++ t ∷ us) (binary (Operator.comparison Operator.integers o) e f)
   compare-texts : (t : Token) (ts us : List Token) (e f : Expr) (o : Relation) → CompareOp (t .kind) o → StrTree s whole ts e → StrTree s whole us f
       → TestTree s operand (ts ++ t ∷ us) (binary (Operator.comparison Operator.strings o) e f)
+  match-tree : (t : Token) (ts us : List Token) (e f : Expr) → t .kind ≡ Kind.MATCHES → StrTree s whole ts e → StrTree s whole us f
+      → TestTree s operand (ts ++ t ∷ us) (binary Operator.matches e f)
   not-tree : (t : Token) (ts : List Token) (e : Expr) → t .kind ≡ Kind.NOT → TestTree s operand ts e → TestTree s operand (t ∷ ts) (unary Operator.opposite e)
   test-bracket-tree : (t u : Token) (ts : List Token) (e : Expr) → t .kind ≡ Kind.OPEN → u .kind ≡ Kind.CLOSE → TestTree s whole ts e
       → TestTree s operand (t ∷ ts ++ u ∷ []) e

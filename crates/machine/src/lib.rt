@@ -29,6 +29,7 @@ ghost use Rattle.text.specs.Choice.{pick};
 ghost use Rattle.text.specs.Class.{word};
 ghost use Rattle.text.specs.Counted.{counted};
 ghost use Rattle.lexical.specs.Literal.{decodedAt};
+ghost use Rattle.syntax.specs.Op.{PLAIN, RAISE};
 ghost use Rattle.expression.specs.Conditions.{indexFrom};
 ghost use Rattle.expression.specs.Operands.{rankIn};
 ghost use Rattle.expression.specs.Tables.{lookupIn};
@@ -549,7 +550,7 @@ fn raise_step(
     t: usize,
 ) -> Tops
     requires { ⌜ (n ≤ length (now stack)) × (t ≤ length (now bytes)) ⌝ }
-    ensures { λ r. ⌜ Live r (now (stack .exit)) (now (bytes .entry)) (binaryStep (length (now (stack .entry))) (map (counted (now (query .entry))) (now (values .entry))) 34 (take n (now (stack .entry))) (take t (now (bytes .entry)))) ⌝ }
+    ensures { λ r. ⌜ Live r (now (stack .exit)) (now (bytes .entry)) (binaryStep (length (now (stack .entry))) (map (counted (now (query .entry))) (now (values .entry))) RAISE (take n (now (stack .entry))) (take t (now (bytes .entry)))) ⌝ }
 {
     if n < 4 {
         return Tops::Stuck;
@@ -583,7 +584,7 @@ fn plain_step(
     t: usize,
 ) -> Tops
     requires { ⌜ (n ≤ length (now stack)) × (t ≤ length (now bytes)) ⌝ }
-    ensures { λ r. ⌜ Live r (now (stack .exit)) (now (bytes .entry)) (raised (length (now (stack .entry))) (map (counted (now (query .entry))) (now (values .entry))) (unaryStep (length (now (stack .entry))) (map (counted (now (query .entry))) (now (values .entry))) 31 (take n (now (stack .entry))) (take t (now (bytes .entry))))) ⌝ }
+    ensures { λ r. ⌜ Live r (now (stack .exit)) (now (bytes .entry)) (raised (length (now (stack .entry))) (map (counted (now (query .entry))) (now (values .entry))) (unaryStep (length (now (stack .entry))) (map (counted (now (query .entry))) (now (values .entry))) PLAIN (take n (now (stack .entry))) (take t (now (bytes .entry))))) ⌝ }
 {
     if 4 <= n {
         if stack[n - 4] == 5 {

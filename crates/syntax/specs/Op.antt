@@ -89,54 +89,58 @@ TEXT-AT-MOST = 20
 abbrev pub TEXT-AT-LEAST : ℕ
 TEXT-AT-LEAST = 21
 
+-- "~="
+abbrev pub MATCHES : ℕ
+MATCHES = 22
+
 -- "==" of integers
 abbrev pub EQUAL : ℕ
-EQUAL = 22
+EQUAL = 23
 
 -- "!=" of integers
 abbrev pub UNEQUAL : ℕ
-UNEQUAL = 23
+UNEQUAL = 24
 
 -- "<" of integers
 abbrev pub LESS : ℕ
-LESS = 24
+LESS = 25
 
 -- ">" of integers
 abbrev pub GREATER : ℕ
-GREATER = 25
+GREATER = 26
 
 -- "<=" of integers
 abbrev pub AT-MOST : ℕ
-AT-MOST = 26
+AT-MOST = 27
 
 -- ">=" of integers
 abbrev pub AT-LEAST : ℕ
-AT-LEAST = 27
+AT-LEAST = 28
 
 -- "&&"
 abbrev pub BOTH : ℕ
-BOTH = 28
+BOTH = 29
 
 -- "||"
 abbrev pub EITHER : ℕ
-EITHER = 29
+EITHER = 30
 
 -- a program begins: its rank so far is 0
 abbrev pub BEGIN : ℕ
-BEGIN = 30
+BEGIN = 31
 
 -- a clause that is a test
 abbrev pub PLAIN : ℕ
-PLAIN = 31
+PLAIN = 32
 
 -- a clause with a string
 abbrev pub VALUED : ℕ
-VALUED = 32
+VALUED = 33
 
 -- a clause with a program
 abbrev pub NESTED : ℕ
-NESTED = 33
+NESTED = 34
 
 -- the higher of two ranks: a clause's is brought to its program's; no entry stores it
 abbrev pub RAISE : ℕ
-RAISE = 34
+RAISE = 35

@@ -48,6 +48,7 @@ binaryNumber Operator.remainder = Op.REMAINDER
 binaryNumber Operator.plus = Op.PLUS
 binaryNumber Operator.minus = Op.MINUS
 binaryNumber (Operator.comparison side relation) = comparisonNumber side relation
+binaryNumber Operator.matches = Op.MATCHES
 binaryNumber Operator.both = Op.BOTH
 binaryNumber Operator.either = Op.EITHER
 

@@ -22,7 +22,7 @@ pub data Relation : Type 0 where
   at-most : Relation
   at-least : Relation
 
--- between operands: "."; "^", "*", "/", "%", "+", "-"; a comparison; "&&", "||"
+-- between operands: "."; "^", "*", "/", "%", "+", "-"; a comparison; "~="; "&&", "||"
 pub data Binary : Type 0 where
   join : Binary
   power : Binary
@@ -32,6 +32,7 @@ pub data Binary : Type 0 where
   plus : Binary
   minus : Binary
   comparison : Side → Relation → Binary
+  matches : Binary
   both : Binary
   either : Binary
 
@@ -61,6 +62,7 @@ binaryTakes remainder = an-integer
 binaryTakes plus = an-integer
 binaryTakes minus = an-integer
 binaryTakes (comparison side relation) = sideSort side
+binaryTakes matches = a-string
 binaryTakes both = a-test
 binaryTakes either = a-test
 
@@ -80,6 +82,7 @@ binaryGives remainder = an-integer
 binaryGives plus = an-integer
 binaryGives minus = an-integer
 binaryGives (comparison side relation) = a-test
+binaryGives matches = a-test
 binaryGives both = a-test
 binaryGives either = a-test
 

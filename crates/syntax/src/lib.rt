@@ -43,29 +43,31 @@ pub const TEXT_AT_MOST: u32 = 20;
 
 pub const TEXT_AT_LEAST: u32 = 21;
 
-pub const EQUAL: u32 = 22;
+pub const MATCHES: u32 = 22;
 
-pub const UNEQUAL: u32 = 23;
+pub const EQUAL: u32 = 23;
 
-pub const LESS: u32 = 24;
+pub const UNEQUAL: u32 = 24;
 
-pub const GREATER: u32 = 25;
+pub const LESS: u32 = 25;
 
-pub const AT_MOST: u32 = 26;
+pub const GREATER: u32 = 26;
 
-pub const AT_LEAST: u32 = 27;
+pub const AT_MOST: u32 = 27;
 
-pub const BOTH: u32 = 28;
+pub const AT_LEAST: u32 = 28;
 
-pub const EITHER: u32 = 29;
+pub const BOTH: u32 = 29;
 
-pub const BEGIN: u32 = 30;
+pub const EITHER: u32 = 30;
 
-pub const PLAIN: u32 = 31;
+pub const BEGIN: u32 = 31;
 
-pub const VALUED: u32 = 32;
+pub const PLAIN: u32 = 32;
 
-pub const NESTED: u32 = 33;
+pub const VALUED: u32 = 33;
+
+pub const NESTED: u32 = 34;
 
 // The higher of two ranks; no entry stores it.
-pub const RAISE: u32 = 34;
+pub const RAISE: u32 = 35;

@@ -4,6 +4,7 @@ use std::collections::BTreeMap;
 use std::fmt;
 
 use super::crowd;
+use super::pattern_coverage::PatternCoverage;
 use crate::{check, limits, record, solution_by_bytes, Outcome};
 
 #[derive(Clone, Debug, Default, PartialEq, Eq)]
@@ -18,6 +19,7 @@ pub struct Coverage {
     pub spellings: BTreeMap<&'static str, u64>,
     /// Queries that are large in one way or another.
     pub crowds: BTreeMap<&'static str, u64>,
+    pub patterns: PatternCoverage,
 }
 
 /// What equality of bytes may change.
@@ -57,6 +59,7 @@ impl Coverage {
     /// Counts what tells one query from another.
     pub fn count_query(&mut self, record: &[u8], outcome: &Outcome, report: &[u8]) {
         self.count_spellings(record, outcome);
+        self.patterns.count(record);
         let met = crowds(record, outcome, report);
         for (what, _) in CROWDS.iter().zip(met).filter(|(_, met)| *met) {
             *self.crowds.entry(what).or_default() += 1;
@@ -96,6 +99,7 @@ impl Coverage {
         for what in CROWDS {
             need(self.crowds.contains_key(what), what.into());
         }
+        missing.extend(self.patterns.missing());
         missing
     }
 }
@@ -108,7 +112,8 @@ impl fmt::Display for Coverage {
         writeln!(formatter, "rounds  {:?}", self.rounds)?;
         writeln!(formatter, "reached {:?}", self.reached)?;
         writeln!(formatter, "changed by spellings {:?}", self.spellings)?;
-        write!(formatter, "large ones {:?}", self.crowds)
+        writeln!(formatter, "large ones {:?}", self.crowds)?;
+        write!(formatter, "{}", self.patterns)
     }
 }
 

@@ -1,5 +1,6 @@
 //! Random expressions of each type, as rows of tokens.
 
+use super::pattern;
 use super::scene::Scene;
 use crate::random::Random;
 
@@ -63,7 +64,19 @@ pub fn test(random: &mut Random, scene: &Scene, depth: usize) -> Tokens {
 
 fn comparison(random: &mut Random, scene: &Scene, depth: usize) -> Tokens {
     let operator = *random.pick(&["==", "!=", "<", ">", "<=", ">=", "=="]);
-    if random.once_in(2) {
+    if random.once_in(12) {
+        let pattern = pattern::pattern(random);
+        let subject = match random.once_in(3) {
+            true => string(random, scene, depth),
+            false => {
+                let string = pattern::string(random, &pattern);
+                vec![literal(random, &string)]
+            }
+        };
+        joined([subject, token("~="), vec![literal(random, &pattern)]])
+    } else if random.once_in(24) {
+        joined([string(random, scene, depth), token("~="), string(random, scene, depth)])
+    } else if random.once_in(2) {
         joined([string(random, scene, depth), token(operator), string(random, scene, depth)])
     } else {
         joined([integer(random, scene, depth), token(operator), integer(random, scene, depth)])

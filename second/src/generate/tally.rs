@@ -2,6 +2,7 @@
 //! that none hides another.
 
 use super::expression;
+use super::pattern;
 use super::scene::Scene;
 use crate::draft::Draft;
 use crate::limits;
@@ -25,6 +26,9 @@ pub fn record(random: &mut Random) -> Vec<u8> {
         draft = draft.attribute(name, value);
     }
     draft = draft.attribute("long", vec![b'v'; limits::ATTRIBUTE_BYTES.most]);
+    let valid = pattern::valid(random);
+    draft = draft.attribute(pattern::SUBJECT, pattern::string(random, &valid)).attribute(pattern::PATTERN, valid);
+    draft = draft.attribute(pattern::BROKEN_PATTERN, pattern::broken(random));
     for index in 0..TESTS {
         let text = counted(random, &scene, &draft, index);
         draft = draft.local(text);
@@ -54,20 +58,22 @@ fn threshold(count: usize) -> String {
 }
 
 fn test(random: &mut Random, scene: &Scene, draft: &Draft) -> Vec<u8> {
-    match random.below(11) {
+    match random.below(13) {
         0..=3 => integers(random).into(),
         4 => converted(random).into(),
         5 => lengths(random).into(),
         6 => strings(random).into(),
         7 => joined_names(random, draft),
         8 => spellings(random).into(),
-        _ => any(random, scene),
+        9 | 10 => short(random, pattern::test),
+        _ => short(random, |random| expression::test(random, scene, 4).join(&b' ')),
     }
 }
 
-fn any(random: &mut Random, scene: &Scene) -> Vec<u8> {
+/// Makes tests until one isn't too long.
+fn short(random: &mut Random, make: impl Fn(&mut Random) -> Vec<u8>) -> Vec<u8> {
     loop {
-        let test = expression::test(random, scene, 4).join(&b' ');
+        let test = make(random);
         if test.len() <= TEST_BYTES {
             return test;
         }

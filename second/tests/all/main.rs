@@ -4,6 +4,7 @@ mod generated;
 mod grammar;
 mod open_points;
 mod oracle;
+mod patterns;
 mod places;
 mod principals;
 mod records;

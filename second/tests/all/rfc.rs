@@ -150,10 +150,19 @@ fn email_in_small_letters() {
 
 #[test]
 fn email_as_printed() {
-    let (rank, entries) = email(B, "DSA:12340987", &[("app_domain", "RFC822-EMAIL"), ("address", MAB)]);
-    let place = (B.find("~=").unwrap() as u16).to_be_bytes();
-    assert_eq!(rank, 0);
-    assert_eq!(entries, [0, 0, 0, 8, place[0], place[1], 0, 0, 0, 0, 0, 0]);
+    let rank = |b: &str, requester: &str, address: &str| {
+        let (rank, entries) = email(b, requester, &[("app_domain", "RFC822-EMAIL"), ("address", address)]);
+        assert_eq!(entries, [0; 12]);
+        rank
+    };
+    assert_eq!(rank(B, "DSA:12340987", MAB), 1);
+    let alice = "dsa:4401ff92";
+    assert_eq!(rank(B, alice, "angelos@keynote.research.att.com"), 1);
+    assert_eq!(rank(B, alice, "angelos@dsl.cis.upenn.edu"), 0);
+    assert_eq!(rank(B, alice, "angelos@keynote.research.att.com.example"), 0);
+    // A literal needs two backslashes for a dot: one vanishes.
+    let dots = "angelos@keynoteXresearchXattXcom";
+    assert_eq!((rank(B, alice, dots), rank(&B.replace("\\\\.", "\\."), alice, dots)), (0, 1));
 }
 
 fn spend(h: &str, requesters: &str, dollars: &str) -> (u8, Vec<u8>) {

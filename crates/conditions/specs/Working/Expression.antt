@@ -58,8 +58,7 @@ abbrev pub chainTurn : (List ℕ → ℕ → ℕ → ℕ → ℕ → ℕ → ℕ
 chainTurn joined s level nest x =
     pick (leb (length s) (x .0 .start)) (done (ran (Found (x .1) (x .2) (x .3) (x .0)) (x .4)))
     (pick (Numbered.binds level (Numbered.operator (x .1) (x .0 .kind)))
-    (pick (eqb (Numbered.operator (x .1) (x .0 .kind)) Numbered.MATCH) (done (ran (Aside 8 (x .0 .start)) (x .4)))
-    (onJoined (x .0) (joined (x .4) (x .3) (Numbered.operator (x .1) (x .0 .kind)) nest (x .1) (x .2) (x .0 .end))))
+    (onJoined (x .0) (joined (x .4) (x .3) (Numbered.operator (x .1) (x .0 .kind)) nest (x .1) (x .2) (x .0 .end)))
     (done (ran (Found (x .1) (x .2) (x .3) (x .0)) (x .4))))
 
 abbrev pub chainLoop : (List ℕ → ℕ → ℕ → ℕ → ℕ → ℕ → ℕ → Ran) → List ℕ → List ℕ → ℕ → ℕ → ℕ → ℕ → ℕ → Token → Ran

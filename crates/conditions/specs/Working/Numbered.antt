@@ -6,15 +6,11 @@ use Rattle.text.specs.Choice.{pick}
 use Rattle.lexical.specs.Kind
 use Rattle.syntax.specs.Op
 use Rattle.syntax.specs.Operation.{unaryNumber, binaryNumber}
-use Rattle.conditions.specs.Table.{ANY, TEXT, NUMBER, INTEGER, TEST, Infix, no-infix, matching, between, Prefix, no-prefix, before}
+use Rattle.conditions.specs.Table.{ANY, TEXT, NUMBER, INTEGER, TEST, Infix, no-infix, between, Prefix, no-prefix, before}
 
 -- no operator
 abbrev pub NONE : ℕ
 NONE = 0
-
--- "~=", which no entry stores: an entry has room for numbers below 64
-abbrev pub MATCH : ℕ
-MATCH = 64
 
 -- the comparison of strings that a token writes, or NONE
 unfoldable pub comparison : ℕ → ℕ
@@ -26,7 +22,7 @@ comparison k =
     (pick (eqb k Kind.AT-MOST) Op.TEXT-AT-MOST
     (pick (eqb k Kind.AT-LEAST) Op.TEXT-AT-LEAST NONE)))))
 
--- the operator behind an integer; a comparison of integers stands six behind that of strings
+-- the operator behind an integer; a comparison of integers stands seven behind that of strings
 unfoldable pub numberOperator : ℕ → ℕ
 numberOperator k =
     pick (eqb k Kind.POWER) Op.POWER
@@ -35,11 +31,11 @@ numberOperator k =
     (pick (eqb k Kind.REMAINDER) Op.REMAINDER
     (pick (eqb k Kind.PLUS) Op.PLUS
     (pick (eqb k Kind.MINUS) Op.MINUS
-    (pick (eqb (comparison k) NONE) NONE (comparison k + 6)))))))
+    (pick (eqb (comparison k) NONE) NONE (comparison k + 7)))))))
 
 -- the operator behind a string
 unfoldable pub textOperator : ℕ → ℕ
-textOperator k = pick (eqb k Kind.DOT) Op.JOIN (pick (eqb k Kind.MATCHES) MATCH (comparison k))
+textOperator k = pick (eqb k Kind.DOT) Op.JOIN (pick (eqb k Kind.MATCHES) Op.MATCHES (comparison k))
 
 -- the operator behind a test
 unfoldable pub testOperator : ℕ → ℕ
@@ -75,7 +71,7 @@ unfoldable pub operandOf : ℕ → ℕ
 operandOf op =
     pick (eqb op Op.OPPOSITE) TEST
     (pick (ltb Op.AT-LEAST op) TEST
-    (pick (ltb Op.TEXT-AT-LEAST op) NUMBER
+    (pick (ltb Op.MATCHES op) NUMBER
     (pick (ltb Op.MINUS op) TEXT
     (pick (eqb op Op.NEGATE) NUMBER
     (pick (ltb Op.JOIN op) NUMBER TEXT)))))
@@ -115,7 +111,6 @@ binds level op = pick (eqb op NONE) false (pick (ltb (levelOf op) level) false t
 -- the number that the code holds for what a token writes
 abbrev pub infixNumber : Infix → ℕ
 infixNumber no-infix = NONE
-infixNumber matching = MATCH
 infixNumber (between op) = binaryNumber op
 
 abbrev pub prefixNumber : Prefix → ℕ

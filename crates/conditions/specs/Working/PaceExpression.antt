@@ -18,7 +18,7 @@ use Rattle.conditions.specs.Working.Numbered
 use Rattle.conditions.specs.Word.{nextAt}
 use Rattle.conditions.specs.Working.Emit.{Ran, ran, settledTop, settled, finishAt, closedAt}
 use Rattle.conditions.specs.Working.Expression
-use Rattle.conditions.specs.Working.Pace.{Sound, real, next-sound, next-after, debt, settled-most, Paced, paced-aside, paced-found, paced-refused, paced-on, finish-paced, leaf-paced, seven, eight, Goes, goes-on, ends, loop-holds}
+use Rattle.conditions.specs.Working.Pace.{Sound, real, next-sound, next-after, debt, settled-most, Paced, paced-aside, paced-found, paced-refused, paced-on, finish-paced, leaf-paced, seven, Goes, goes-on, ends, loop-holds}
 use Rattle.conditions.specs.Working.TieTable.{operator-number, prefix-number, unary-row, unary-want, right-want, right-level, binds-number, alike-prefix, alike-infix}
 use Rattle.conditions.specs.Working.Reach.{allowed-real, spread, spread-level, operand-level-most, prefix-level, operand-wanted, inside-most, inside-wanted, level-most, binds-level, operator-token, right-wanted}
 use Rattle.conditions.specs.declared.emit.Out.the-variants.{Found, Aside}
@@ -103,9 +103,8 @@ module _ (s : List ℕ) where
           rw (operator-number sort (t .kind), binds-number level (Table.operator sort (t .kind))) (chosen (Turns (t, sort, place, top, m)) (leb (length s) (t .start)) _ _
           (λ h. ends (ran (Found sort place top t) m) (paced-found sort place top t m k i j))
           (λ h. chosen (Turns (t, sort, place, top, m)) (Table.binds level (Table.operator sort (t .kind))) _ _
-          (λ e. alike-infix (λ (i : Table.Infix). Turns (t, sort, place, top, m)) level (Table.operator sort (t .kind)) Table.no-infix Table.matching Table.between _
+          (λ e. alike-infix (λ (i : Table.Infix). Turns (t, sort, place, top, m)) level (Table.operator sort (t .kind)) Table.no-infix Table.between
           (λ op. Expression.onJoined t (Expression.joinedAt d s m top op nest sort place (t .end))) e
-          (ends (ran (Aside 8 (t .start)) m) (paced-aside 8 (t .start) m eight))
           (λ op l. let b : level ≤ Table.levelOf op = binds-level level op (rw l at e) in
           let w : (t .start < t .end) × (t .end ≤ length s) = real s t k (operator-token level (t .kind) sort e) in
           joined-on t sort place top m (leb-false (length s) (t .start) h) i (t .end) (w .0) _

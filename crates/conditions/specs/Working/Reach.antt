@@ -8,7 +8,7 @@ use borrow.Author.Tests.{leb-true, eqb-true, eqb-false}
 use Rattle.text.specs.Choice.{pick, split, clash}
 use Rattle.lexical.specs.Kind
 use Rattle.lexical.specs.Bounds.{chosen}
-use Rattle.syntax.specs.Operator.{Unary, Binary, Side, lookup, convert, negate, opposite, join, power, times, over, remainder, plus, minus, comparison, both, either, strings, integers}
+use Rattle.syntax.specs.Operator.{Unary, Binary, Side, lookup, convert, negate, opposite, join, power, times, over, remainder, plus, minus, comparison, matches, both, either, strings, integers}
 use Rattle.conditions.specs.Table.{Infix, no-infix, between, Prefix, no-prefix, before}
 use Rattle.conditions.specs.Table
 
@@ -123,6 +123,7 @@ level-most remainder = omega arith
 level-most plus = omega arith
 level-most minus = omega arith
 level-most (comparison side r) = omega arith
+level-most matches = omega arith
 level-most both = omega arith
 level-most either = omega arith
 
@@ -138,6 +139,7 @@ right-wanted plus h = omega (arith, h)
 right-wanted minus h = omega (arith, h)
 right-wanted (comparison strings r) h = omega (arith, h)
 right-wanted (comparison integers r) h = omega (arith, h)
+right-wanted matches h = omega (arith, h)
 right-wanted both h = omega arith
 right-wanted either h = omega arith
 

@@ -112,8 +112,7 @@ module _ (s : List ℕ) (short : length s < 65536) where
           rw (operator-number sort (t .kind), binds-number level (Table.operator sort (t .kind))) (both Turns (leb (length s) (t .start)) _ _ _ _
           (λ h. both-done (ok (part sort e) t) (ran (Found sort place top t) m) (same-part sort place top e t m near within g))
           (λ h. both Turns (Table.binds level (Table.operator sort (t .kind))) _ _ _ _
-          (λ k. alike-infix Turns level (Table.operator sort (t .kind)) _ _ _ _ (λ op. Write.onJoined t (Write.joinedAt d s m top op nest sort place (t .end))) k
-          (both-done (aside 8 (t .start)) (ran (Aside 8 (t .start)) m) (same-aside 8 (t .start) m (kept g)))
+          (λ k. alike-infix Turns level (Table.operator sort (t .kind)) _ _ (λ op. Write.onJoined t (Write.joinedAt d s m top op nest sort place (t .end))) k
           (λ op l. joined-on t _ _ (joined m top op sort place (t .end) e near g)))
           (λ k. both-done (ok (part sort e) t) (ran (Found sort place top t) m) (same-part sort place top e t m near within g))))
 

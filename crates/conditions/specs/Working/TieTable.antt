@@ -7,10 +7,10 @@ use lib.Dec.{eqb, ltb, leb}
 use borrow.Author.Tests.{ltb-true, ltb-false, lt-leb, le-leb, ne-eqb}
 use Rattle.text.specs.Choice.{pick, split, clash}
 use Rattle.lexical.specs.Kind
-use Rattle.syntax.specs.Operator.{Unary, Binary, Sort, a-string, an-integer, a-test, unaryTakes, unaryGives, binaryTakes, binaryGives, lookup, convert, negate, opposite, join, power, times, over, remainder, plus, minus, comparison, both, either, strings, integers, equal, unequal, less, greater, at-most, at-least}
+use Rattle.syntax.specs.Operator.{Unary, Binary, Sort, a-string, an-integer, a-test, unaryTakes, unaryGives, binaryTakes, binaryGives, lookup, convert, negate, opposite, join, power, times, over, remainder, plus, minus, comparison, matches, both, either, strings, integers, equal, unequal, less, greater, at-most, at-least}
 use Rattle.syntax.specs.Operation.{unaryNumber, binaryNumber}
 use Rattle.syntax.specs.Theorems.Numbers.{unary-between, binary-between}
-use Rattle.conditions.specs.Table.{Infix, no-infix, matching, between, Prefix, no-prefix, before, sortOf}
+use Rattle.conditions.specs.Table.{Infix, no-infix, between, Prefix, no-prefix, before, sortOf}
 use Rattle.conditions.specs.Table
 use Rattle.conditions.specs.Working.Numbered.{infixNumber, prefixNumber}
 use Rattle.conditions.specs.Working.Numbered
@@ -30,19 +30,19 @@ text-compared k =
     (λ h. alike Is (eqb k Kind.AT-MOST) _ _ _ _ (λ h. refl)
     (λ h. alike Is (eqb k Kind.AT-LEAST) _ _ _ _ (λ h. refl) (λ h. refl))))))
 
--- a comparison of integers stands six behind that of strings
-abbrev Six : ℕ → Infix → Type 0
-Six n i = pick (eqb n Numbered.NONE) Numbered.NONE (n + 6) ≡ infixNumber i
+-- a comparison of integers stands seven behind that of strings
+abbrev Seven : ℕ → Infix → Type 0
+Seven n i = pick (eqb n Numbered.NONE) Numbered.NONE (n + 7) ≡ infixNumber i
 
-number-compared : (k : ℕ) → Six (Numbered.comparison k) (Table.comparison integers k)
+number-compared : (k : ℕ) → Seven (Numbered.comparison k) (Table.comparison integers k)
 unfolding Numbered.comparison Table.comparison
 number-compared k =
-    alike Six (eqb k Kind.EQUAL) _ _ _ _ (λ h. refl)
-    (λ h. alike Six (eqb k Kind.UNEQUAL) _ _ _ _ (λ h. refl)
-    (λ h. alike Six (eqb k Kind.LESS) _ _ _ _ (λ h. refl)
-    (λ h. alike Six (eqb k Kind.GREATER) _ _ _ _ (λ h. refl)
-    (λ h. alike Six (eqb k Kind.AT-MOST) _ _ _ _ (λ h. refl)
-    (λ h. alike Six (eqb k Kind.AT-LEAST) _ _ _ _ (λ h. refl) (λ h. refl))))))
+    alike Seven (eqb k Kind.EQUAL) _ _ _ _ (λ h. refl)
+    (λ h. alike Seven (eqb k Kind.UNEQUAL) _ _ _ _ (λ h. refl)
+    (λ h. alike Seven (eqb k Kind.LESS) _ _ _ _ (λ h. refl)
+    (λ h. alike Seven (eqb k Kind.GREATER) _ _ _ _ (λ h. refl)
+    (λ h. alike Seven (eqb k Kind.AT-MOST) _ _ _ _ (λ h. refl)
+    (λ h. alike Seven (eqb k Kind.AT-LEAST) _ _ _ _ (λ h. refl) (λ h. refl))))))
 
 number-number : (k : ℕ) → Is (Numbered.numberOperator k) (Table.numberOperator k)
 unfolding Numbered.numberOperator Table.numberOperator
@@ -118,6 +118,7 @@ binary-row (comparison integers less) = (refl, refl, refl)
 binary-row (comparison integers greater) = (refl, refl, refl)
 binary-row (comparison integers at-most) = (refl, refl, refl)
 binary-row (comparison integers at-least) = (refl, refl, refl)
+binary-row matches = (refl, refl, refl)
 binary-row both = (refl, refl, refl)
 binary-row either = (refl, refl, refl)
 
@@ -140,7 +141,6 @@ at-least-level a b = split (ltb a b) (λ e. rw (e, lt-leb b a (ltb-true a b e)))
 pub binds-number : (level : ℕ) (i : Infix) → Numbered.binds level (infixNumber i) ≡ Table.binds level i
 unfolding Numbered.binds Table.binds Numbered.levelOf
 binds-number level no-infix = refl
-binds-number level matching = at-least-level 2 level
 binds-number level (between op) =
     rw (ne-eqb (binaryNumber op) 0 (λ z. omega (arith, z, binary-between op .0)), level-is op) (at-least-level (Table.levelOf op) level)
   where
@@ -154,9 +154,8 @@ module _ {A B : Type 0} (T : A → B → Type 0) where
   alike-prefix no-prefix a f c g h k = h
   alike-prefix (before op) a f c g h k = rw (ne-eqb (unaryNumber op) 0 (λ z. omega (arith, z, unary-between op .0))) (k op refl)
 
-  pub alike-infix : (level : ℕ) (i : Infix) (a b : A) (f : Binary → A) (d : B) (g : ℕ → B) → Table.binds level i ≡ true → T b d → ((op : Binary) → i ≡ between op → T (f op) (g (binaryNumber op)))
-      → T (Table.onInfix i a b f) (pick (eqb (infixNumber i) Numbered.MATCH) d (g (infixNumber i)))
+  pub alike-infix : (level : ℕ) (i : Infix) (a : A) (f : Binary → A) (g : ℕ → B) → Table.binds level i ≡ true → ((op : Binary) → i ≡ between op → T (f op) (g (binaryNumber op)))
+      → T (Table.onInfix i a f) (g (infixNumber i))
   unfolding Table.binds
-  alike-infix level no-infix a b f d g h k l = clash h refl
-  alike-infix level matching a b f d g h k l = k
-  alike-infix level (between op) a b f d g h k l = rw (ne-eqb (binaryNumber op) Numbered.MATCH (λ z. omega (arith, z, binary-between op .1))) (l op refl)
+  alike-infix level no-infix a f g h k = clash h refl
+  alike-infix level (between op) a f g h k = k op refl

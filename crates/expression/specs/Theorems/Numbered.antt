@@ -4,7 +4,7 @@ use mathlib.Core.Bool.{false}
 use mathlib.Core.List.{List}
 use Prim.Native.Nat.{ℕ}
 use Rattle.text.specs.Choice.{clash}
-use Rattle.syntax.specs.Operator.{Unary, Binary, isLookup, lookup, convert, negate, opposite, join, power, times, over, remainder, plus, minus, comparison, both, either, strings, integers, equal, unequal, less, greater, at-most, at-least}
+use Rattle.syntax.specs.Operator.{Unary, Binary, isLookup, lookup, convert, negate, opposite, join, power, times, over, remainder, plus, minus, comparison, matches, both, either, strings, integers, equal, unequal, less, greater, at-most, at-least}
 use Rattle.syntax.specs.Operation.{unaryNumber, binaryNumber}
 use Rattle.expression.specs.Value.{Value}
 use Rattle.expression.specs.Operations.{relates, onTexts, onIntegers, unaryOf, binaryOf}
@@ -40,5 +40,6 @@ binary-number (comparison integers less) v w = refl
 binary-number (comparison integers greater) v w = refl
 binary-number (comparison integers at-most) v w = refl
 binary-number (comparison integers at-least) v w = refl
+binary-number matches v w = refl
 binary-number both v w = refl
 binary-number either v w = refl

@@ -7,10 +7,10 @@ use Rattle.text.specs.Choice.{pick}
 use Rattle.text.specs.Order.{order}
 use Rattle.text.specs.declared.Integer.{Integer}
 use Rattle.text.specs.declared.Order.{Order}
-use Rattle.syntax.specs.Op.{JOIN, POWER, TIMES, OVER, REMAINDER, PLUS, MINUS, TEXT-EQUAL, TEXT-AT-LEAST, EQUAL, AT-LEAST, BOTH, EITHER}
+use Rattle.syntax.specs.Op.{JOIN, POWER, TIMES, OVER, REMAINDER, PLUS, MINUS, TEXT-EQUAL, MATCHES, EQUAL, AT-LEAST, BOTH, EITHER}
 use Rattle.expression.specs.Value.{Value, test, fault, onText, onInteger, onTest}
 use Rattle.expression.specs.Integers.{plus, minus, times, over, remainder, power, compared}
-use Rattle.expression.specs.Operations.{held, isLess, isEqual, isGreater}
+use Rattle.expression.specs.Operations.{held, matched, isLess, isEqual, isGreater}
 
 -- the comparisons are numbered alike for strings and for integers: == != < > <= >=
 unfoldable pub relatesBy : ℕ → Order → Bool
@@ -31,9 +31,9 @@ arithmetic op a b =
     (pick (eqb op PLUS) (plus a b)
     (pick (eqb op MINUS) (minus a b) (test (relatesBy (op - EQUAL) (compared a b))))))))
 
--- two strings: "." or a comparison, "by byte; a proper prefix is less"
+-- two strings: ".", "~=" or a comparison, "by byte; a proper prefix is less"
 unfoldable pub textual : ℕ → List ℕ → List ℕ → Value
-textual op a b = pick (eqb op JOIN) (held (a ++ b)) (test (relatesBy (op - TEXT-EQUAL) (order a b)))
+textual op a b = pick (eqb op JOIN) (held (a ++ b)) (pick (eqb op MATCHES) (matched a b) (test (relatesBy (op - TEXT-EQUAL) (order a b))))
 
 -- "&& and || go left to right and stop once decided"
 unfoldable pub logical : ℕ → Bool → Value → Value
@@ -50,7 +50,7 @@ unfoldable pub ofTests : ℕ → Value → Value → Value
 ofTests op v w = onTest (λ t. logical op t w) v
 
 unfoldable pub isTextual : ℕ → Bool
-isTextual op = pick (eqb op JOIN) true (pick (leb op MINUS) false (leb op TEXT-AT-LEAST))
+isTextual op = pick (eqb op JOIN) true (pick (leb op MINUS) false (leb op MATCHES))
 
 unfoldable pub binaryBy : ℕ → Value → Value → Value
 binaryBy op v w = pick (isTextual op) (ofTexts op v w) (pick (leb op AT-LEAST) (ofIntegers op v w) (pick (leb op EITHER) (ofTests op v w) fault))

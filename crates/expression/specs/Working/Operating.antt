@@ -14,11 +14,14 @@ use Rattle.text.specs.OrderLaws.{order-refl, order-equal}
 use Rattle.text.specs.Decimal.{integer as signed, decimal}
 use Rattle.text.specs.declared.Integer.{Integer}
 use Rattle.text.specs.declared.Order.{Order}
+use Rattle.pattern.specs.Test.{testOf}
+use Rattle.pattern.specs.declared.Answer.{Answer}
+use Rattle.pattern.specs.declared.Answer.the-variants.{Yes, No, Error}
 use Rattle.text.specs.declared.Order.the-variants.{Less, Equal, Greater}
 use Rattle.expression.specs.Value.{Value, text, integer, test, fault, operand, onText, onInteger, onTest}
 use Rattle.expression.specs.Operands.{valueOf, isText, isNumber, integerIn, isTest, holdsIn, rankIn, testIn}
 use Rattle.expression.specs.Integers.{plus, minus, times, over, remainder, power, negated, compared}
-use Rattle.expression.specs.Operations.{isLess, isEqual, isGreater, held, converted, negative, opposite}
+use Rattle.expression.specs.Operations.{isLess, isEqual, isGreater, answered, matched, held, converted, negative, opposite}
 use Rattle.expression.specs.Working.Numbered.{relatesBy, arithmetic, textual, logical, ofTexts, ofIntegers, ofTests, isTextual, binaryBy}
 use Rattle.expression.specs.Conditions.{indexFrom, rankOf, gate, top}
 use Rattle.expression.specs.Working.Clauses.{applied, combined}
@@ -190,7 +193,7 @@ module _ (op : ℕ) (a b : Integer) (r : Operand) where
             does-minus h e = e ∙ simp (ne-eqb _ _ n10, ne-eqb _ _ n11, ne-eqb _ _ n12, ne-eqb _ _ n13, ne-eqb _ _ n14, eq-eqb _ _ h)
 
 module _ (op : ℕ) (a b : Integer) (n10 : op ≡ 10 → ⊥) (n11 : op ≡ 11 → ⊥) (n12 : op ≡ 12 → ⊥) (n13 : op ≡ 13 → ⊥) (n14 : op ≡ 14 → ⊥) (n15 : op ≡ 15 → ⊥) where
-  pub does-compare : (o : Order) → o ≡ compared a b → (k : ℕ) → k ≡ op - 22 → (t : Bool) → t ≡ relatesBy k o → Test t ≡ operand (arithmetic op a b)
+  pub does-compare : (o : Order) → o ≡ compared a b → (k : ℕ) → k ≡ op - 23 → (t : Bool) → t ≡ relatesBy k o → Test t ≡ operand (arithmetic op a b)
   unfolding arithmetic operand
   does-compare o oe k ke t te = rw (te, ke, oe) (simp (ne-eqb _ _ n10, ne-eqb _ _ n11, ne-eqb _ _ n12, ne-eqb _ _ n13, ne-eqb _ _ n14, ne-eqb _ _ n15))
 
@@ -225,6 +228,25 @@ equal-is a b =
     (λ h. ap isEqual (ap (order a) (sym (equal-true a b h)) ∙ order-refl a))
     (λ h. let q : a ≡ b = order-equal a b (is-equal (order a b) h) in rw q (equal-refl b))
 
+-- the ways out of `answer`
+module _ (x : Answer) where
+  pub answer-yes : x ≡ Yes → Test true ≡ operand (answered x)
+  unfolding operand
+  answer-yes e = rw e
+
+  pub answer-no : x ≡ No → Test false ≡ operand (answered x)
+  unfolding operand
+  answer-no e = rw e
+
+  pub answer-error : x ≡ Error → Fault ≡ operand (answered x)
+  unfolding operand
+  answer-error e = rw e
+
+-- the way out of `match_strings`
+pub matches-is : (a b : List ℕ) (x : Answer) → x ≡ testOf b a → (r : Operand) → r ≡ operand (answered x) → r ≡ operand (matched a b)
+unfolding matched
+matches-is a b x e r f = f ∙ ap (λ (y : Answer). operand (answered y)) e
+
 -- the ways out of `of_strings`
 module _ (op : ℕ) (a b : List ℕ) where
   pub does-join : (r : Operand) → op ≡ 9 → r ≡ operand (held (a ++ b)) → r ≡ operand (textual op a b)
@@ -241,9 +263,13 @@ module _ (op : ℕ) (a b : List ℕ) where
       unfolding textual operand relatesBy
       does-differ h t te u ue = rw (ue, te, ne-eqb _ _ n9, h) (ap (λ (k : Bool). Test (not k)) (equal-is a b))
 
-    pub does-order : (o : Order) → o ≡ order a b → (k : ℕ) → k ≡ op - 16 → (t : Bool) → t ≡ relatesBy k o → Test t ≡ operand (textual op a b)
+    pub does-match : (r : Operand) → op ≡ 22 → r ≡ operand (matched a b) → r ≡ operand (textual op a b)
+    unfolding textual
+    does-match r h e = e ∙ simp (ne-eqb _ _ n9, eq-eqb _ _ h)
+
+    pub does-order : (op ≡ 22 → ⊥) → (o : Order) → o ≡ order a b → (k : ℕ) → k ≡ op - 16 → (t : Bool) → t ≡ relatesBy k o → Test t ≡ operand (textual op a b)
     unfolding textual operand
-    does-order o oe k ke t te = rw (te, ke, oe) (simp (ne-eqb _ _ n9))
+    does-order n22 o oe k ke t te = rw (te, ke, oe) (simp (ne-eqb _ _ n9, ne-eqb _ _ n22))
 
 -- the ways out of `texts`, `integers` and `tests`
 module _ (op : ℕ) (x y : Operand) (a b : List ℕ) (t : Bool) where
@@ -286,7 +312,7 @@ module _ (op : ℕ) (x y : Operand) (a b : List ℕ) (t : Bool) where
       unfolding ofTests
       tests-are = rw (test-is x a (sym te ∙ yes), he)
 
-      module _ (both : op ≡ 28) where
+      module _ (both : op ≡ 29) where
         pub both-more : h ≡ true → (r : Operand) → r ≡ testIn y → r ≡ operand (ofTests op (valueOf x a) (valueOf y b))
         unfolding logical
         both-more ht r e = rw tests-are (e ∙ test-in y b ∙ simp (eq-eqb _ _ both, ht))
@@ -295,7 +321,7 @@ module _ (op : ℕ) (x y : Operand) (a b : List ℕ) (t : Bool) where
         unfolding logical operand
         both-done hf = rw tests-are (simp (eq-eqb _ _ both, hf))
 
-      module _ (either : op ≡ 28 → ⊥) where
+      module _ (either : op ≡ 29 → ⊥) where
         pub either-done : h ≡ true → Test true ≡ operand (ofTests op (valueOf x a) (valueOf y b))
         unfolding logical operand
         either-done ht = rw tests-are (simp (ne-eqb _ _ either, ht))
@@ -311,16 +337,16 @@ module _ (op : ℕ) (v w : Value) (r : Operand) (t : Bool) (te : t ≡ isTextual
   binary-texts h e = e ∙ simp (sym te, h)
 
   module _ (no : t ≡ false) where
-    pub binary-integers : op ≤ 27 → r ≡ operand (ofIntegers op v w) → r ≡ operand (binaryBy op v w)
+    pub binary-integers : op ≤ 28 → r ≡ operand (ofIntegers op v w) → r ≡ operand (binaryBy op v w)
     unfolding binaryBy
     binary-integers h e = e ∙ simp (sym te, no, le-leb _ _ h)
 
-    module _ (n : 27 < op) where
-      pub binary-tests : op ≤ 29 → r ≡ operand (ofTests op v w) → r ≡ operand (binaryBy op v w)
+    module _ (n : 28 < op) where
+      pub binary-tests : op ≤ 30 → r ≡ operand (ofTests op v w) → r ≡ operand (binaryBy op v w)
       unfolding binaryBy
       binary-tests h e = e ∙ simp (sym te, no, lt-leb _ _ n, le-leb _ _ h)
 
-      pub binary-none : 29 < op → Fault ≡ operand (binaryBy op v w)
+      pub binary-none : 30 < op → Fault ≡ operand (binaryBy op v w)
       unfolding binaryBy operand
       binary-none h = simp (sym te, no, lt-leb _ _ n, lt-leb _ _ h)
 
@@ -335,26 +361,26 @@ module _ (vals : List (List ℕ)) (y : Operand) (b : List ℕ) (t : Bool) (te : 
 
 -- the ways out of `combine`
 module _ (vals : List (List ℕ)) (op : ℕ) (x y : Operand) (a b : List ℕ) where
-  pub combine-binary : (r : Operand) → op ≤ 29 → r ≡ operand (binaryBy op (valueOf x a) (valueOf y b)) → r ≡ operand (combined vals op (valueOf x a) (valueOf y b))
+  pub combine-binary : (r : Operand) → op ≤ 30 → r ≡ operand (binaryBy op (valueOf x a) (valueOf y b)) → r ≡ operand (combined vals op (valueOf x a) (valueOf y b))
   unfolding combined
   combine-binary r h e = e ∙ simp (le-leb _ _ h)
 
-  module _ (above : 29 < op) where
-    pub combine-valued : op ≡ 32 → (n : ℕ) → n ≡ rankOf vals (valueOf y b) → (m : ℕ) → m ≡ pick (holdsIn x) n 0
+  module _ (above : 30 < op) where
+    pub combine-valued : op ≡ 33 → (n : ℕ) → n ≡ rankOf vals (valueOf y b) → (m : ℕ) → m ≡ pick (holdsIn x) n 0
         → Rank m ≡ operand (combined vals op (valueOf x a) (valueOf y b))
     unfolding combined operand
     combine-valued h n ne m me = simp (lt-leb _ _ above, eq-eqb _ _ h) (ap Rank (me ∙ gate-is x a n ∙ ap (gate (valueOf x a)) ne))
 
-    module _ (n32 : op ≡ 32 → ⊥) where
-      pub combine-nested : op ≡ 33 → (n : ℕ) → n ≡ rankIn y → (m : ℕ) → m ≡ pick (holdsIn x) n 0 → Rank m ≡ operand (combined vals op (valueOf x a) (valueOf y b))
+    module _ (n33 : op ≡ 33 → ⊥) where
+      pub combine-nested : op ≡ 34 → (n : ℕ) → n ≡ rankIn y → (m : ℕ) → m ≡ pick (holdsIn x) n 0 → Rank m ≡ operand (combined vals op (valueOf x a) (valueOf y b))
       unfolding combined operand
       combine-nested h n ne m me =
-          simp (lt-leb _ _ above, ne-eqb _ _ n32, eq-eqb _ _ h) (ap Rank (me ∙ gate-is x a n ∙ ap (gate (valueOf x a)) (ne ∙ rank-is y b)))
+          simp (lt-leb _ _ above, ne-eqb _ _ n33, eq-eqb _ _ h) (ap Rank (me ∙ gate-is x a n ∙ ap (gate (valueOf x a)) (ne ∙ rank-is y b)))
 
-      pub combine-raise : (op ≡ 33 → ⊥) → (m n : ℕ) → m ≡ rankIn x → n ≡ rankIn y → (k : ℕ) → k ≡ max m n → Rank k ≡ operand (combined vals op (valueOf x a) (valueOf y b))
+      pub combine-raise : (op ≡ 34 → ⊥) → (m n : ℕ) → m ≡ rankIn x → n ≡ rankIn y → (k : ℕ) → k ≡ max m n → Rank k ≡ operand (combined vals op (valueOf x a) (valueOf y b))
       unfolding combined operand
-      combine-raise n33 m n me ne k ke =
-          simp (lt-leb _ _ above, ne-eqb _ _ n32, ne-eqb _ _ n33) (ap Rank (ke ∙ cc (me ∙ rank-is x a, ne ∙ rank-is y b)))
+      combine-raise n34 m n me ne k ke =
+          simp (lt-leb _ _ above, ne-eqb _ _ n33, ne-eqb _ _ n34) (ap Rank (ke ∙ cc (me ∙ rank-is x a, ne ∙ rank-is y b)))
 
 -- the ways out of `convert`, `negate_operand` and `oppose`
 module _ (x : Operand) (a : List ℕ) (t : Bool) where

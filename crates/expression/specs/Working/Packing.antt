@@ -78,7 +78,7 @@ module _ (op x y : ℕ) (q : Packed) where
   pub naturals-other : (v : Operand) → v ≡ operand (arithmetic op (signed false x) (signed false y)) → q ≡ pack v → q ≡ pack (operand (arithmetic op (signed false x) (signed false y)))
   naturals-other v ve e = e ∙ ap pack ve
 
-  pub naturals-order : 22 ≤ op → (o : Order) → o ≡ compared (signed false x) (signed false y) → (k : ℕ) → k ≡ op - 22 → (t : Bool) → t ≡ relatesBy k o → q ≡ pack (Test t)
+  pub naturals-order : 23 ≤ op → (o : Order) → o ≡ compared (signed false x) (signed false y) → (k : ℕ) → k ≡ op - 23 → (t : Bool) → t ≡ relatesBy k o → q ≡ pack (Test t)
       → q ≡ pack (operand (arithmetic op (signed false x) (signed false y)))
   naturals-order h o oe k ke t te e =
       e ∙ ap pack (does-compare op (signed false x) (signed false y)

@@ -11,11 +11,11 @@ use Rattle.lexical.specs.Bounds.{chosen}
 use Rattle.lexical.specs.Word.{word-true, word-false}
 use Rattle.lexical.specs.declared.token.Token.{Token}
 use Rattle.syntax.specs.Expr.{Expr}
-use Rattle.grammar.specs.Conditions.{Class, operand, power, product, conjunction, whole, TRUTH, Name, any-name, truth-name, Str, str-literal, str-name, str-lookup, str-bracket, str-one, str-join, Product, times, divide, remainder, Sum, plus, minus, Int, int-literal, int-minus, int-convert, int-bracket, int-one, int-power, int-up, int-product, int-term, int-sum, less, greater, at-most, at-least, Compare, order, equal, unequal, of-integers, of-strings, Tests, test-truth, test-comparison, test-not, test-bracket, test-one, test-and, test-ands, test-or, Clauses, no-clause, clause, tested, valued, nested}
+use Rattle.grammar.specs.Conditions.{Class, operand, power, product, conjunction, whole, TRUTH, Name, any-name, truth-name, Str, str-literal, str-name, str-lookup, str-bracket, str-one, str-join, Product, times, divide, remainder, Sum, plus, minus, Int, int-literal, int-minus, int-convert, int-bracket, int-one, int-power, int-up, int-product, int-term, int-sum, less, greater, at-most, at-least, Compare, order, equal, unequal, of-integers, of-strings, matching, Tests, test-truth, test-comparison, test-not, test-bracket, test-one, test-and, test-ands, test-or, Clauses, no-clause, clause, tested, valued, nested}
 use Rattle.grammar.specs.Spelled.{spelled, kindIn, kindsIn}
 use Rattle.grammar.specs.Working.Marks.{kinds-append, around, before}
 use Rattle.syntax.specs.Operator.{Binary, Relation}
-use Rattle.grammar.specs.Trees.{StrTree, literal-tree, name-tree, lookup-tree, text-bracket, text-one, join-tree, ProductOp, times-op, divide-op, remainder-op, SumOp, plus-op, minus-op, IntTree, number-tree, negate-tree, convert-tree, number-bracket, number-one, power-tree, number-up, product-tree, number-term, sum-tree, CompareOp, equal-op, unequal-op, less-op, greater-op, at-most-op, at-least-op, TestTree, true-tree, false-tree, compare-numbers, compare-texts, not-tree, test-bracket-tree, test-once, and-tree, test-up, or-tree, Says, a-program, a-clause, ProgramTree, no-clauses, one-more, plain-tree, valued-tree, nested-tree}
+use Rattle.grammar.specs.Trees.{StrTree, literal-tree, name-tree, lookup-tree, text-bracket, text-one, join-tree, ProductOp, times-op, divide-op, remainder-op, SumOp, plus-op, minus-op, IntTree, number-tree, negate-tree, convert-tree, number-bracket, number-one, power-tree, number-up, product-tree, number-term, sum-tree, CompareOp, equal-op, unequal-op, less-op, greater-op, at-most-op, at-least-op, TestTree, true-tree, false-tree, compare-numbers, compare-texts, match-tree, not-tree, test-bracket-tree, test-once, and-tree, test-up, or-tree, Says, a-program, a-clause, ProgramTree, no-clauses, one-more, plain-tree, valued-tree, nested-tree}
 
 -- any token but a name is of the lexer's kind
 pub kind-other : (s : List ℕ) (t : Token) → eqb (t .kind) Kind.NAME ≡ false → kindIn s t ≡ t .kind
@@ -94,6 +94,9 @@ module _ (s : List ℕ) where
   test-shadow _ _ _ (compare-texts t ts us e f o k d g) =
       around (kindIn s) (Tests operand) t ts us (t .kind) (kind-other s t (compare-shadow _ o k .1))
       (test-comparison _ (of-strings _ _ _ (compare-shadow _ o k .0) (str-shadow whole ts e d) (str-shadow whole us f g)))
+  test-shadow _ _ _ (match-tree t ts us e f k d g) =
+      around (kindIn s) (Tests operand) t ts us Kind.MATCHES (kind-mark s t Kind.MATCHES k refl)
+      (test-comparison _ (matching _ _ (str-shadow whole ts e d) (str-shadow whole us f g)))
   test-shadow _ _ _ (not-tree t ts e k d) = marked (Tests operand) t ts Kind.NOT k refl (test-not _ (test-shadow operand ts e d))
   test-shadow _ _ _ (test-bracket-tree t u ts e k l d) = bracketed (Tests operand) t u ts k l (test-bracket _ (test-shadow whole ts e d))
   test-shadow _ _ _ (test-once ts e d) = test-one _ (test-shadow operand ts e d)

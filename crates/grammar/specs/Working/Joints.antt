@@ -13,7 +13,7 @@ use Rattle.lexical.specs.Word.{word-true, word-false}
 use Rattle.lexical.specs.declared.token.Token.{Token}
 use Rattle.syntax.specs.Operator.{Binary, Side, Relation, binaryTakes, binaryGives}
 use Rattle.syntax.specs.Operator as Operator
-use Rattle.conditions.specs.Table.{Infix, no-infix, matching, between}
+use Rattle.conditions.specs.Table.{Infix, no-infix, between}
 use Rattle.conditions.specs.Table
 use Rattle.conditions.specs.Working.Reach.{level-most, operator-token}
 use Rattle.grammar.specs.Conditions.{TRUTH}
@@ -63,6 +63,7 @@ pub data Joint : ℕ → Binary → ℕ → ℕ → ℕ → Type 0 where
   j-join : Joint Kind.DOT Operator.join 3 Table.TEXT Table.TEXT
   j-numbers : (k : ℕ) (x : Relation) → CompareOp k x → Joint k (Operator.comparison Operator.integers x) 2 Table.NUMBER Table.TEST
   j-texts : (k : ℕ) (x : Relation) → CompareOp k x → Joint k (Operator.comparison Operator.strings x) 2 Table.TEXT Table.TEST
+  j-match : Joint Kind.MATCHES Operator.matches 2 Table.TEXT Table.TEST
   j-and : Joint Kind.AND Operator.both 1 Table.TEST Table.TEST
   j-or : Joint Kind.OR Operator.either 0 Table.TEST Table.TEST
 
@@ -81,6 +82,7 @@ joint-tabled _ _ _ _ _ (j-sum _ _ minus-op) = tabled refl refl refl
 joint-tabled _ _ _ _ _ j-join = tabled refl refl refl
 joint-tabled _ _ _ _ _ (j-numbers _ _ _) = tabled refl refl refl
 joint-tabled _ _ _ _ _ (j-texts _ _ _) = tabled refl refl refl
+joint-tabled _ _ _ _ _ j-match = tabled refl refl refl
 joint-tabled _ _ _ _ _ j-and = tabled refl refl refl
 joint-tabled _ _ _ _ _ j-or = tabled refl refl refl
 
@@ -102,13 +104,13 @@ joint-mark _ _ _ _ _ (j-sum _ _ minus-op) = refl
 joint-mark _ _ _ _ _ j-join = refl
 joint-mark _ _ _ _ _ (j-numbers k x c) = compare-mark k x c
 joint-mark _ _ _ _ _ (j-texts k x c) = compare-mark k x c
+joint-mark _ _ _ _ _ j-match = refl
 joint-mark _ _ _ _ _ j-and = refl
 joint-mark _ _ _ _ _ j-or = refl
 
 -- the operator that a kind writes behind a sort
 pub data Operated (sort k : ℕ) : Infix → Type 0 where
   no-operator : Operated sort k no-infix
-  match-operator : Operated sort k matching
   joins : (op : Binary) (l o r : ℕ) → Joint k op l o r → Fits o sort → Operated sort k (between op)
 
 data Compared (side : Side) (k : ℕ) : Infix → Type 0 where
@@ -151,7 +153,7 @@ text-operated : (sort k : ℕ) → Fits Table.TEXT sort → Operated sort k (Tab
 unfolding Table.textOperator
 text-operated sort k f =
     chosen (Operated sort k) (eqb k Kind.DOT) _ _ (λ e. rw (eqb-true k _ e) (joins _ 3 Table.TEXT Table.TEXT j-join f))
-    (λ e. chosen (Operated sort k) (eqb k Kind.MATCHES) _ _ (λ e. match-operator) (λ e. text-compared sort k (Table.comparison Operator.strings k) f (compares Operator.strings k)))
+    (λ e. chosen (Operated sort k) (eqb k Kind.MATCHES) _ _ (λ e. rw (eqb-true k _ e) (joins _ 2 Table.TEXT Table.TEST j-match f)) (λ e. text-compared sort k (Table.comparison Operator.strings k) f (compares Operator.strings k)))
 
 test-operated : (sort k : ℕ) (other : Infix) → Fits Table.TEST sort → Operated sort k other → Operated sort k (Table.testOperator k other)
 unfolding Table.testOperator
@@ -171,13 +173,11 @@ operated _ k is-false = test-operated Table.FALSE k (Table.textOperator k) fit-f
 pub binds-less : (level m : ℕ) (i : Infix) → Table.binds level i ≡ false → level ≤ m → Table.binds m i ≡ false
 unfolding Table.binds
 binds-less level m no-infix h l = refl
-binds-less level m matching h l = lt-leb m 2 (omega (arith, leb-false level 2 h, l))
 binds-less level m (between op) h l = lt-leb m (Table.levelOf op) (omega (arith, leb-false level (Table.levelOf op) h, l))
 
 pub binds-high : (m : ℕ) (i : Infix) → 5 < m → Table.binds m i ≡ false
 unfolding Table.binds
 binds-high m no-infix h = refl
-binds-high m matching h = lt-leb m 2 (omega (arith, h))
 binds-high m (between op) h = lt-leb m (Table.levelOf op) (omega (arith, level-most op, h))
 
 pub binds-none : (level sort k : ℕ) → k ≤ Kind.BAD-LINE → Table.binds level (Table.operator sort k) ≡ false

@@ -13,8 +13,8 @@ use Rattle.conditions.specs.Table
 use Rattle.conditions.specs.Working.Numbered as Numbered
 use Rattle.grammar.specs.Theorems.Shadow.{product-shadow, sum-shadow, compare-shadow}
 use Rattle.grammar.specs.Working.Stations.{Spot, in-clause, in-bracket, Frame, tests, right, Place, p-dead, p-over, p-begin, p-arrow, p-block, p-any, p-text, p-number, p-have, strict, station, endAt}
-use Rattle.grammar.specs.Working.Stationed.{Words, w-text, w-word, Held, h-test, h-word, Junction, junction-and, junction-or, strict-strict, power-number, product-number, sum-number, dot-text, words-dot, number-compare, words-compare, held-junction}
-use Rattle.grammar.specs.Working.Joints.{is-test, is-text, is-number, Fits, fit-test, fit-text, fit-number, fit-true, fit-false, fit-true-name, fit-false-name, Unfit, unfit-text, unfit-number, Joint, j-power, j-product, j-sum, j-join, j-numbers, j-texts, j-and, j-or, Tabled, tabled, joint-tabled, TestFit, test-fits, test-unfit, test-fit, Operated, no-operator, match-operator, joins, operated, binds-less}
+use Rattle.grammar.specs.Working.Stationed.{Words, w-text, w-word, Held, h-test, h-word, Junction, junction-and, junction-or, strict-strict, power-number, product-number, sum-number, dot-text, words-dot, number-compare, words-compare, words-match, held-junction}
+use Rattle.grammar.specs.Working.Joints.{is-test, is-text, is-number, Fits, fit-test, fit-text, fit-number, fit-true, fit-false, fit-true-name, fit-false-name, Unfit, unfit-text, unfit-number, Joint, j-power, j-product, j-sum, j-join, j-numbers, j-texts, j-match, j-and, j-or, Tabled, tabled, joint-tabled, TestFit, test-fits, test-unfit, test-fit, Operated, no-operator, joins, operated, binds-less}
 use Rattle.grammar.specs.Working.Told.{goal, Suits, suits-any, suits-text, suits-number, suits-integer}
 
 -- the places where a reader of a level begins; one operand may stand for a string of any sort
@@ -78,18 +78,14 @@ none-low : Table.binds 0 Table.no-infix ≡ false
 unfolding Table.binds
 none-low = refl
 
-match-high : Table.binds 2 Table.matching ≡ true
-unfolding Table.binds
-match-high = refl
-
 tabled-level : (op : Binary) (l o r : ℕ) → Tabled op l o r → Table.levelOf op ≡ l
 tabled-level op l o r (tabled a b c) = a
 
 pub unfit-low : (sort k : ℕ) (i : Table.Infix) → Unfit sort → Operated sort k i → Table.binds 2 i ≡ false → Table.binds 0 i ≡ false
 unfit-low sort k _ u no-operator b = none-low
-unfit-low sort k _ u match-operator b = clash match-high b
 unfit-low _ k _ unfit-text (joins op l o r j-join fit-text) b = level-two op (omega (arith, tabled-level op l o r (joint-tabled k op l o r j-join))) b
 unfit-low _ k _ unfit-text (joins op l o r (j-texts _ x c) fit-text) b = level-two op (omega (arith, tabled-level op l o r (joint-tabled k op l o r (j-texts k x c)))) b
+unfit-low _ k _ unfit-text (joins op l o r j-match fit-text) b = level-two op (omega (arith, tabled-level op l o r (joint-tabled k op l o r j-match))) b
 unfit-low _ k _ unfit-number (joins op l o r j-power fit-number) b = level-two op (omega (arith, tabled-level op l o r (joint-tabled k op l o r j-power))) b
 unfit-low _ k _ unfit-number (joins op l o r (j-product _ _ c) fit-number) b = level-two op (omega (arith, tabled-level op l o r (joint-tabled k op l o r (j-product k op c)))) b
 unfit-low _ k _ unfit-number (joins op l o r (j-sum _ _ c) fit-number) b = level-two op (omega (arith, tabled-level op l o r (joint-tabled k op l o r (j-sum k op c)))) b
@@ -199,13 +195,18 @@ joint-onward level _ _ _ _ _ _ _ _ a (start-any S) u (j-numbers k y c) fit-numbe
 joint-onward level _ sort _ _ _ _ _ _ a (start-any S) u (j-texts k y c) f h =
     typed (p-any S) 3 Table.TEXT Table.TEXT Table.TEST _ (p-text Table.TEXT (right (strict S))) (any-text S k _ (words-compare S k (compare-shadow k y c .0)) sort f) (start-text (right (strict S))) text-test
     (λ x j g b. right-text (strict S) j (text-fit x j 3 g b))
+joint-onward level _ sort _ _ _ _ _ _ a (start-any S) u j-match f h =
+    typed (p-any S) 3 Table.TEXT Table.TEXT Table.TEST _ (p-text Table.TEXT (right (strict S))) (any-text S Kind.MATCHES _ (words-match S) sort f) (start-text (right (strict S))) text-test
+    (λ x j g b. right-text (strict S) j (text-fit x j 3 g b))
 joint-onward level _ sort _ _ _ _ _ _ a (start-any S) u j-and f h = junction S 2 Kind.AND (omega arith) junction-and sort f
 joint-onward level _ sort _ _ _ _ _ _ a (start-any S) u j-or f h = junction S 1 Kind.OR (omega arith) junction-or sort f
 joint-onward level _ _ _ _ _ _ _ _ a (start-text F) suits-text j-join fit-text h =
     typed (p-text Table.TEXT F) 4 Table.TEXT Table.TEXT Table.TEXT _ (p-text Table.TEXT F) (dot-text F) (start-text F) text-test (λ x j g b. refl)
 joint-onward level _ _ _ _ _ _ _ _ (asked-text i g) (start-text F) suits-text (j-texts k y c) fit-text h = absurd (let bad : ⊥ = omega (arith, i, h) in bad)
+joint-onward level _ _ _ _ _ _ _ _ (asked-text i g) (start-text F) suits-text j-match fit-text h = absurd (let bad : ⊥ = omega (arith, i, h) in bad)
 joint-onward level _ _ _ _ _ _ _ _ a (start-operand x F i) suits-text j-join fit-text h = absurd (let bad : ⊥ = omega (arith, i, h) in bad)
 joint-onward level _ _ _ _ _ _ _ _ a (start-operand x F i) suits-text (j-texts k y c) fit-text h = absurd (let bad : ⊥ = omega (arith, i, h) in bad)
+joint-onward level _ _ _ _ _ _ _ _ a (start-operand x F i) suits-text j-match fit-text h = absurd (let bad : ⊥ = omega (arith, i, h) in bad)
 joint-onward level _ _ _ _ _ _ _ _ a (start-number F) suits-number j-power fit-number h = arithmetic (p-number Table.NUMBER F) F 6 Kind.POWER refl (power-number F)
 joint-onward level _ _ _ _ _ _ _ _ a (start-number F) suits-number (j-product k op c) fit-number h = arithmetic (p-number Table.NUMBER F) F 5 k refl (product-number F k (product-shadow k op c .0))
 joint-onward level _ _ _ _ _ _ _ _ a (start-number F) suits-number (j-sum k op c) fit-number h = arithmetic (p-number Table.NUMBER F) F 4 k refl (sum-number F k (sum-shadow k op c .0))
@@ -223,10 +224,12 @@ joint-suits level _ _ _ _ _ _ _ a (suits-any sort x) (j-sum k op c) f h = suits-
 joint-suits level _ _ _ _ _ _ _ a (suits-any sort x) j-join f h = suits-any _ is-text
 joint-suits level _ _ _ _ _ _ _ a (suits-any sort x) (j-numbers k y c) f h = suits-any _ is-test
 joint-suits level _ _ _ _ _ _ _ a (suits-any sort x) (j-texts k y c) f h = suits-any _ is-test
+joint-suits level _ _ _ _ _ _ _ a (suits-any sort x) j-match f h = suits-any _ is-test
 joint-suits level _ _ _ _ _ _ _ a (suits-any sort x) j-and f h = suits-any _ is-test
 joint-suits level _ _ _ _ _ _ _ a (suits-any sort x) j-or f h = suits-any _ is-test
 joint-suits level _ _ _ _ _ _ _ a suits-text j-join fit-text h = suits-text
 joint-suits level _ _ _ _ _ _ _ (asked-text i g) suits-text (j-texts k y c) fit-text h = absurd (let bad : ⊥ = omega (arith, i, h) in bad)
+joint-suits level _ _ _ _ _ _ _ (asked-text i g) suits-text j-match fit-text h = absurd (let bad : ⊥ = omega (arith, i, h) in bad)
 joint-suits level _ _ _ _ _ _ _ a suits-number j-power f h = suits-number
 joint-suits level _ _ _ _ _ _ _ a suits-number (j-product k op c) f h = suits-number
 joint-suits level _ _ _ _ _ _ _ a suits-number (j-sum k op c) f h = suits-number
@@ -250,6 +253,7 @@ joint-ends _ _ _ _ _ (j-sum k op c) sort j f b = number-fit sort j 4 f b
 joint-ends _ _ _ _ _ j-join sort j f b = text-fit sort j 4 f b
 joint-ends _ _ _ _ _ (j-numbers k y c) sort j f b = test-none j
 joint-ends _ _ _ _ _ (j-texts k y c) sort j f b = test-none j
+joint-ends _ _ _ _ _ j-match sort j f b = test-none j
 joint-ends _ _ _ _ _ j-and sort j f b = test-low j
 joint-ends _ _ _ _ _ j-or sort j f b = test-ends 1 sort j f b
 
@@ -260,6 +264,7 @@ joint-asked _ _ _ _ _ (j-sum k op c) = asked-integer (omega arith) (omega arith)
 joint-asked _ _ _ _ _ j-join = asked-text (omega arith) (omega arith)
 joint-asked _ _ _ _ _ (j-numbers k y c) = asked-integer (omega arith) (omega arith)
 joint-asked _ _ _ _ _ (j-texts k y c) = asked-text (omega arith) (omega arith)
+joint-asked _ _ _ _ _ j-match = asked-text (omega arith) (omega arith)
 joint-asked _ _ _ _ _ j-and = asked-any (omega arith)
 joint-asked _ _ _ _ _ j-or = asked-any (omega arith)
 
@@ -270,6 +275,7 @@ joint-goal _ _ _ _ _ (j-sum k op c) = refl
 joint-goal _ _ _ _ _ j-join = refl
 joint-goal _ _ _ _ _ (j-numbers k y c) = refl
 joint-goal _ _ _ _ _ (j-texts k y c) = refl
+joint-goal _ _ _ _ _ j-match = refl
 joint-goal _ _ _ _ _ j-and = refl
 joint-goal _ _ _ _ _ j-or = refl
 

@@ -382,9 +382,8 @@ module _ (s : List ℕ) where
             chosen (Went μ out turn Stands (u, sort, e)) (leb (length s) (u .start)) _ _
             (λ z. went-done (ok (part sort e) u) (λ l ts low p x y d b g. stopped u sort e (late u sort (leb-true _ _ z) x) l ts low p x y d b g))
             (λ z. chosen (Went μ out turn Stands (u, sort, e)) (Table.binds level (Table.operator sort (u .kind))) _ _
-            (λ h. infix-cases (Went μ out turn Stands (u, sort, e)) (Table.operator sort (u .kind)) _ _ _
+            (λ h. infix-cases (Went μ out turn Stands (u, sort, e)) (Table.operator sort (u .kind)) _ _
             (λ n. went-done (ok (part sort e) u) (λ l ts low p x y d b g. stopped u sort e (unbound level (Table.operator sort (u .kind)) n) l ts low p x y d b g))
-            (λ n. went-done (aside 8 (u .start)) (λ l ts low p x y d b g. otherwise 8 (u .start) (λ k. let bad : ⊥ = omega (arith, k) in bad)))
             (λ op n. on-joined μ out turn u sort e (join op nest sort e (u .end))
             (λ l ts low p x y d b g. by-operator u sort e l ts low p x y d g op (subst (Operated sort (u .kind)) n (operated sort (u .kind) (suits-sorted want sort y))) (subst (λ (i : Table.Infix). Table.binds level i ≡ true) n h)
             (subst (λ (i : Table.Infix). Table.binds (l + 1) i ≡ false) n (ap (Table.binds (l + 1)) (sym (operator-kind s u sort)) ∙ b)) (join op nest sort e (u .end))

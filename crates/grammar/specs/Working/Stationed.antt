@@ -285,7 +285,7 @@ words-compare S _ equal _ _ w-word = refl
 words-compare S _ unequal _ _ w-text = refl
 words-compare S _ unequal _ _ w-word = refl
 
-words-match : (S : Spot) (sort : ℕ) (F : Frame) → Words S sort F → station (p-have sort F) Kind.MATCHES ≡ p-text Table.TEXT (right (strict S))
+pub words-match : (S : Spot) (sort : ℕ) (F : Frame) → Words S sort F → station (p-have sort F) Kind.MATCHES ≡ p-text Table.TEXT (right (strict S))
 unfolding station Table.operator Table.textOperator Table.testOperator Table.comparison Table.binds Table.levelOf
 words-match S _ _ w-text = refl
 words-match S _ _ w-word = refl

@@ -14,9 +14,9 @@ use Rattle.syntax.specs.Expr.{Expr, truth, binary}
 use Rattle.conditions.specs.Table
 use Rattle.conditions.specs.Operand.{settledTree}
 use Rattle.grammar.specs.Conditions.{Class, operand, power, product, conjunction, whole}
-use Rattle.grammar.specs.Trees.{StrTree, literal-tree, text-bracket, text-one, join-tree, IntTree, number-tree, number-bracket, number-one, power-tree, number-up, product-tree, number-term, sum-tree, ProductOp, SumOp, CompareOp, equal-op, TestTree, compare-numbers, compare-texts, test-bracket-tree, test-once, and-tree, test-up, or-tree}
+use Rattle.grammar.specs.Trees.{StrTree, literal-tree, text-bracket, text-one, join-tree, IntTree, number-tree, number-bracket, number-one, power-tree, number-up, product-tree, number-term, sum-tree, ProductOp, SumOp, CompareOp, equal-op, TestTree, compare-numbers, compare-texts, match-tree, test-bracket-tree, test-once, and-tree, test-up, or-tree}
 use Rattle.grammar.specs.Working.Marks.{mark}
-use Rattle.grammar.specs.Working.Joints.{Sorted, is-test, is-text, is-number, is-true, is-false, Fits, fit-test, fit-text, fit-number, fit-true, fit-false, fit-true-name, fit-false-name, Joint, j-power, j-product, j-sum, j-join, j-numbers, j-texts, j-and, j-or}
+use Rattle.grammar.specs.Working.Joints.{Sorted, is-test, is-text, is-number, is-true, is-false, Fits, fit-test, fit-text, fit-number, fit-true, fit-false, fit-true-name, fit-false-name, Joint, j-power, j-product, j-sum, j-join, j-numbers, j-texts, j-match, j-and, j-or}
 
 -- the classes of the levels
 abbrev pub textClass : ℕ → Class
@@ -129,6 +129,7 @@ module _ (s : List ℕ) where
       told-test 2 _ _ (compare-numbers t ts us e f x (subst (λ (y : ℕ). CompareOp y x) (sym z) c) d g)
   joined _ _ _ _ _ t _ _ _ _ (j-texts k x c) z (told-text _ ts e d) (told-text _ us f g) =
       told-test 2 _ _ (compare-texts t ts us e f x (subst (λ (y : ℕ). CompareOp y x) (sym z) c) d g)
+  joined _ _ _ _ _ t _ _ _ _ j-match z (told-text _ ts e d) (told-text _ us f g) = told-test 2 _ _ (match-tree t ts us e f z d g)
   joined _ _ _ _ _ t _ _ _ _ j-and z (told-test _ ts e d) (told-test _ us f g) = told-test 1 _ _ (and-tree t ts us e f z d g)
   joined _ _ _ _ _ t _ _ _ _ j-or z (told-test _ ts e d) (told-test _ us f g) = told-test 0 _ _ (or-tree t ts us e f z d g)
 

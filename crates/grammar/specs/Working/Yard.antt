@@ -21,8 +21,8 @@ use Rattle.conditions.specs.Operand.{settledTree}
 use borrow.Author.Tests.{eqb-true, ne-eqb}
 use Rattle.grammar.specs.Conditions.{Class, operand, power, product, conjunction, whole}
 use Rattle.grammar.specs.Spelled.{spelled}
-use Rattle.grammar.specs.Trees.{StrTree, literal-tree, name-tree, lookup-tree, text-bracket, text-one, join-tree, times-op, divide-op, remainder-op, plus-op, minus-op, IntTree, number-tree, negate-tree, convert-tree, number-bracket, number-one, power-tree, number-up, product-tree, number-term, sum-tree, CompareOp, equal-op, unequal-op, less-op, greater-op, at-most-op, at-least-op, TestTree, true-tree, false-tree, compare-numbers, compare-texts, not-tree, test-bracket-tree, test-once, and-tree, test-up, or-tree, Says, a-program, a-clause, ProgramTree, no-clauses, one-more, plain-tree, valued-tree, nested-tree}
-use Rattle.grammar.specs.Working.Joints.{Joint, j-power, j-product, j-sum, j-join, j-numbers, j-texts, j-and, j-or, Tabled, tabled, joint-tabled}
+use Rattle.grammar.specs.Trees.{StrTree, literal-tree, name-tree, lookup-tree, text-bracket, text-one, join-tree, times-op, divide-op, remainder-op, plus-op, minus-op, IntTree, number-tree, negate-tree, convert-tree, number-bracket, number-one, power-tree, number-up, product-tree, number-term, sum-tree, CompareOp, equal-op, unequal-op, less-op, greater-op, at-most-op, at-least-op, TestTree, true-tree, false-tree, compare-numbers, compare-texts, match-tree, not-tree, test-bracket-tree, test-once, and-tree, test-up, or-tree, Says, a-program, a-clause, ProgramTree, no-clauses, one-more, plain-tree, valued-tree, nested-tree}
+use Rattle.grammar.specs.Working.Joints.{Joint, j-power, j-product, j-sum, j-join, j-numbers, j-texts, j-match, j-and, j-or, Tabled, tabled, joint-tabled}
 use Rattle.grammar.specs.Working.Automaton.{run, run-append}
 use Rattle.grammar.specs.Working.Marks.{at-kind}
 use Rattle.grammar.specs.Working.Pending.{Entry, pending, opening, reduce, reduce-same, Stops, stops-end, stops-open, stops-low, stops-up, stops-is, reduce-own}
@@ -102,7 +102,7 @@ abbrev clauseEnded : Context → Clause → Yard
 clauseEnded (context role p B) c = y-want (context role-test (also p c) B) []
 
 abbrev operated : Context → ℕ → Value × Waiting → Yard
-operated C k x = Table.onInfix (Table.operator (x .0 .0) k) y-lost y-lost (λ op. y-want C (pending (levelOf k) (joined op (x .0)) ∷ x .1))
+operated C k x = Table.onInfix (Table.operator (x .0 .0) k) y-lost (λ op. y-want C (pending (levelOf k) (joined op (x .0)) ∷ x .1))
 
 abbrev before : Context → Waiting → ℕ → Yard
 before C P k = Table.onPrefix (Table.prefixOperator k) y-lost (λ op. y-want C (pending (pick (eqb k Kind.NOT) 1 6) (prefixed op) ∷ P))
@@ -220,6 +220,7 @@ module _ (s : List ℕ) where
   joint-operator _ _ _ _ _ j-join = operator-is refl refl refl refl (from-text Kind.DOT Operator.join refl refl refl)
   joint-operator _ _ _ _ _ (j-numbers k x c) = numbers-compared k x c
   joint-operator _ _ _ _ _ (j-texts k x c) = texts-compared k x c (numbers-compared k x c)
+  joint-operator _ _ _ _ _ j-match = operator-is refl refl refl refl (from-text Kind.MATCHES Operator.matches refl refl refl)
   joint-operator _ _ _ _ _ j-and = operator-is refl refl refl refl (from-test Kind.AND Operator.both refl refl refl)
   joint-operator _ _ _ _ _ j-or = operator-is refl refl refl refl (from-test Kind.OR Operator.either refl refl refl)
 
@@ -245,9 +246,9 @@ module _ (s : List ℕ) where
           led : yard (y-have C v₁ P₁) t ≡ y-want C Q
           led =
               have-operator C v₁ P₁ t (at Kind.CLOSE a) (at Kind.ARROW b) (at Kind.SEMICOLON c) ∙ ap (λ (y : ℕ). operated C y (reduce (levelOf y) v₁ P₁)) z
-              ∙ ap (λ (y : ℕ). Table.onInfix (Table.operator (reduce y v₁ P₁ .0 .0) k) y-lost y-lost (λ op. y-want C (pending y (joined op (reduce y v₁ P₁ .0)) ∷ reduce y v₁ P₁ .1))) lev
-              ∙ ap (λ (y : Value × Waiting). Table.onInfix (Table.operator (y .0 .0) k) y-lost y-lost (λ op. y-want C (pending l (joined op (y .0)) ∷ y .1))) (g ∙ stops-is l v P st)
-              ∙ ap (λ (y : Table.Infix). Table.onInfix y y-lost y-lost (λ op. y-want C (pending l (joined op v) ∷ P))) (acts e v x)
+              ∙ ap (λ (y : ℕ). Table.onInfix (Table.operator (reduce y v₁ P₁ .0 .0) k) y-lost (λ op. y-want C (pending y (joined op (reduce y v₁ P₁ .0)) ∷ reduce y v₁ P₁ .1))) lev
+              ∙ ap (λ (y : Value × Waiting). Table.onInfix (Table.operator (y .0 .0) k) y-lost (λ op. y-want C (pending l (joined op (y .0)) ∷ y .1))) (g ∙ stops-is l v P st)
+              ∙ ap (λ (y : Table.Infix). Table.onInfix y y-lost (λ op. y-want C (pending l (joined op v) ∷ P))) (acts e v x)
 
           made : (w : Value) → Means o f w → joined op v w ≡ (r, binary op e f)
           made w y = rw (eo, er) (ap (λ (a : Expr). (r, binary op a (settledTree o (w .0) (w .1)))) (means-settled o e v x) ∙ ap (λ (a : Expr). (r, binary op e a)) (means-settled o f w y))
@@ -426,6 +427,11 @@ module _ (s : List ℕ) where
       sim-at 1 C Table.TEST _ P _ _ (run-append yard (y-want C P) ts (t ∷ us))
       (sim-down 1 2 C Table.TEST _ P _ (omega arith)
       (two (t .kind) (Operator.comparison Operator.strings o) 2 Table.TEXT Table.TEST C P e f t us 3 (runs (y-want C P) ts) (j-texts (t .kind) o k) (means-test _) refl st (omega arith)
+      (sim-down 2 3 C Table.TEXT e P _ (omega arith) (str-sim whole ts e d C P (text-room (stops-up 2 3 P (omega arith) st)))) (λ Q sq. str-sim whole us f g C Q (text-room sq))))
+  test-sim _ _ _ (match-tree t ts us e f k d g) C P (test-room st) =
+      sim-at 1 C Table.TEST _ P _ _ (run-append yard (y-want C P) ts (t ∷ us))
+      (sim-down 1 2 C Table.TEST _ P _ (omega arith)
+      (two Kind.MATCHES Operator.matches 2 Table.TEXT Table.TEST C P e f t us 3 (runs (y-want C P) ts) j-match (means-test _) k st (omega arith)
       (sim-down 2 3 C Table.TEXT e P _ (omega arith) (str-sim whole ts e d C P (text-room (stops-up 2 3 P (omega arith) st)))) (λ Q sq. str-sim whole us f g C Q (text-room sq))))
   test-sim _ _ _ (not-tree t ts e z d) C P h =
       one C P t ts 1 Operator.opposite Table.TEST Table.TEST e refl refl (means-test _) (want-mark C P t Kind.NOT z refl refl refl refl)

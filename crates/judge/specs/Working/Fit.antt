@@ -254,7 +254,7 @@ module _ (s : List ℕ) where
       turn-at t sort e i j p =
           chosen Turned (leb (length s) (t .start)) _ _ (λ h. kept-done _ (holds-ok _ t (fit sort e i j p)))
           (λ h. chosen Turned (Table.binds level (Table.operator sort (t .kind))) _ _
-          (λ k. infix-cases Turned (Table.operator sort (t .kind)) _ _ _ (λ l. kept-done _ (holds-ok _ t (fit sort e i j p))) (λ l. kept-done _ (holds-aside _ _))
+          (λ k. infix-cases Turned (Table.operator sort (t .kind)) _ _ (λ l. kept-done _ (holds-ok _ t (fit sort e i j p)))
           (λ op l. on-joined t _ (joined sort (t .kind) e (t .end) op l (binds-level level op (rw l at k)) i j p)))
           (λ k. kept-done _ (holds-ok _ t (fit sort e i j p))))
 

@@ -12,7 +12,7 @@ use Rattle.syntax.specs.Operator.{Unary, Binary, Sort, a-string, an-integer, a-
 use Rattle.syntax.specs.Expr.{Expr, truth, unary, binary}
 use Rattle.machine.specs.Need.{spanOf, span}
 use Rattle.machine.specs.Theorems.Bounds.{span-least}
-use Rattle.conditions.specs.Table.{Infix, no-infix, matching, between}
+use Rattle.conditions.specs.Table.{Infix, no-infix, between}
 use Rattle.conditions.specs.Table
 use Rattle.conditions.specs.Operand.{settledTree}
 
@@ -27,7 +27,6 @@ Steep op = 1 + lift (Table.levelOf op + 1) ≤ lift (Table.levelOf op)
 -- "Both sides of a comparison have one type": an operator on strings, on integers or on tests
 data Operates (sort : ℕ) : Infix → Type 0 where
   by-none : Operates sort no-infix
-  by-match : Operates sort matching
   by-text : (op : Binary) → Steep op → Operates sort (between op)
   by-number : (i : Infix) → sort ≡ Table.NUMBER → Operates sort i
   by-test : (op : Binary) → binaryTakes op ≡ a-test → (sort ≡ Table.TEXT → ⊥) → Operates sort (between op)
@@ -46,7 +45,7 @@ text-operates : (sort k : ℕ) → Operates sort (Table.textOperator k)
 unfolding Table.textOperator Table.levelOf
 text-operates sort k =
     chosen (Operates sort) (eqb k Kind.DOT) _ _ (λ e. by-text _ (omega arith))
-    (λ e. chosen (Operates sort) (eqb k Kind.MATCHES) _ _ (λ e. by-match) (λ e. comparison-operates sort k))
+    (λ e. chosen (Operates sort) (eqb k Kind.MATCHES) _ _ (λ e. by-text _ (omega arith)) (λ e. comparison-operates sort k))
 
 operates : (sort k : ℕ) → Operates sort (Table.operator sort k)
 unfolding Table.operator Table.testOperator

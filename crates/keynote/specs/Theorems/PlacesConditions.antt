@@ -73,7 +73,7 @@ module _ (s : List ℕ) where
   chain-placed joined g level nest sort e t i = loop-keeps ChainIn (Placed s 0) _ _ (chainTurn joined s level nest) (λ x j. zero-at (x .0) j)
       (λ x j. keeps-pick _ _ (leb (length s) (x .0 .start)) (k-done _ (p-ok _ (x .0) j))
       (keeps-pick _ _ (Table.binds level (Table.operator (x .1) (x .0 .kind)))
-      (infix-cases (Keeps ChainIn (Placed s 0)) (Table.operator (x .1) (x .0 .kind)) _ _ _ (λ z. k-done _ (p-ok _ (x .0) j)) (λ z. k-done _ (at-token 8 (x .0) j zero-le (omega arith)))
+      (infix-cases (Keeps ChainIn (Placed s 0)) (Table.operator (x .1) (x .0 .kind)) _ _ (λ z. k-done _ (p-ok _ (x .0) j))
       (λ op z. on-joined (x .0) j (g op nest (x .1) (x .2) (x .0 .end) (j .ends))))
       (k-done _ (p-ok _ (x .0) j)))) (t, sort, e) i
 

@@ -59,9 +59,9 @@ mutual
   program-need (also p q) (code-also {c = c} {d = d} k l) = rw (length-append c d) (omega (arith, program-need p k, clause-need q l, program-some p k))
 
   clause-need : {s : List ℕ} (q : Clause) {c : List ℕ} → ClauseCodes s q c → clauseNeed q ≤ length c
-  clause-need (plain e) (code-plain {c = c} k) = rw (length-append c (entry 31 0 ∷ [])) (omega (arith, need-code k))
-  clause-need (valued e f) (code-valued {c = c} {d = d} k l) = rw (append-two c d (entry 32 0)) (omega (arith, need-code k, need-code l, some-entry k))
-  clause-need (nested e p) (code-nested {c = c} {d = d} k l) = rw (append-two c d (entry 33 0)) (omega (arith, need-code k, program-need p l, some-entry k))
+  clause-need (plain e) (code-plain {c = c} k) = rw (length-append c (entry 32 0 ∷ [])) (omega (arith, need-code k))
+  clause-need (valued e f) (code-valued {c = c} {d = d} k l) = rw (append-two c d (entry 33 0)) (omega (arith, need-code k, need-code l, some-entry k))
+  clause-need (nested e p) (code-nested {c = c} {d = d} k l) = rw (append-two c d (entry 34 0)) (omega (arith, need-code k, program-need p l, some-entry k))
 
 -- no more bytes than 4,096 for each operand
 pub span-least : (e : Expr) → span e ≤ 4096

@@ -40,7 +40,7 @@ use Rattle.machine.specs.Working.Stacking.{pair, topped, count-is, top-i
 
 combined-is : (vals : List (List ℕ)) (op : Binary) (v w : Value) → combined vals (binaryNumber op) v w ≡ binaryOf op v w
 unfolding combined
-combined-is vals op v w = rw (le-leb (binaryNumber op) 29 (binary-between op .1)) (binary-number op v w)
+combined-is vals op v w = rw (le-leb (binaryNumber op) 30 (binary-between op .1)) (binary-number op v w)
 
 -- a test that fails, and what "&&" makes of it
 failing : (v : Value) → eqb (kindOf (operand v)) 3 ≡ true → v ≡ test false
@@ -52,25 +52,25 @@ failing (test false) h = refl
 failing (rank n) h = clash h refl
 failing fault h = clash h refl
 
-both-false : (op : Binary) (w : Value) → binaryNumber op ≡ 28 → binaryOf op (test false) w ≡ test false
+both-false : (op : Binary) (w : Value) → binaryNumber op ≡ 29 → binaryOf op (test false) w ≡ test false
 unfolding binaryBy isTextual ofTests logical
 both-false op w o = sym (binary-number op (test false) w) ∙ ap (λ (n : ℕ). binaryBy n (test false) w) o
 
 -- what the machine makes of a clause
 module _ (vals : List (List ℕ)) where
-  raise-is : (r m : ℕ) → combined vals 34 (rank r) (rank m) ≡ rank (max r m)
+  raise-is : (r m : ℕ) → combined vals 35 (rank r) (rank m) ≡ rank (max r m)
   unfolding combined rankIn operand
   raise-is r m = refl
 
-  plain-is : (v : Value) → applied vals 31 v ≡ rank (gate v (top vals))
+  plain-is : (v : Value) → applied vals 32 v ≡ rank (gate v (top vals))
   unfolding applied
   plain-is v = refl
 
-  valued-is : (v w : Value) → combined vals 32 v w ≡ rank (gate v (rankOf vals w))
+  valued-is : (v w : Value) → combined vals 33 v w ≡ rank (gate v (rankOf vals w))
   unfolding combined
   valued-is v w = refl
 
-  nested-is : (v : Value) (n : ℕ) → combined vals 33 v (rank n) ≡ rank (gate v n)
+  nested-is : (v : Value) (n : ℕ) → combined vals 34 v (rank n) ≡ rank (gate v n)
   unfolding combined rankIn operand
   nested-is v n = refl
 
@@ -123,11 +123,11 @@ module _ (depth space : ℕ) (s : List ℕ) (look : List ℕ → List ℕ) (env 
     stays : (op : ℕ) → 4 < op → (rest : List ℕ) → after x (entry op 0 ∷ rest) (topped vs bs v) ≡ run (entry op 0 ∷ rest) (topped vs bs v)
     stays op h rest =
         unmoved (entry op 0 ∷ rest)
-        (λ y. split (ltb 29 op) (λ f. on-clause 0 0 0 (entry op 0) rest op (entry-op op 0 (omega arith)) h (ltb-true 29 op f) ∙ stop-same op 0 0)
-        (λ f. on-none 0 0 0 (entry op 0) rest op (entry-op op 0 (omega arith)) h (ltb-false 29 op f) refl))
+        (λ y. split (ltb 30 op) (λ f. on-clause 0 0 0 (entry op 0) rest op (entry-op op 0 (omega arith)) h (ltb-true 30 op f) ∙ stop-same op 0 0)
+        (λ f. on-none 0 0 0 (entry op 0) rest op (entry-op op 0 (omega arith)) h (ltb-false 30 op f) refl))
 
     -- a right side that no test decides
-    undecided : (op : ℕ) → 9 ≤ op → op ≤ 29 → {f : Expr} {d : List ℕ} → Codes s f d → (rest : List ℕ) → (isFalse (vs ++ pair v) ≡ true → op ≡ 28 → ⊥)
+    undecided : (op : ℕ) → 9 ≤ op → op ≤ 30 → {f : Expr} {d : List ℕ} → Codes s f d → (rest : List ℕ) → (isFalse (vs ++ pair v) ≡ true → op ≡ 29 → ⊥)
         → after x (d ++ (entry op 0 ∷ rest)) (topped vs bs v) ≡ run (d ++ (entry op 0 ∷ rest)) (topped vs bs v)
     undecided op low high {d = d} k rest bar =
         unmoved (d ++ (entry op 0 ∷ rest))
@@ -139,16 +139,16 @@ module _ (depth space : ℕ) (s : List ℕ) (look : List ℕ → List ℕ) (env 
 
   -- a test that fails decides "&&": its right side is passed by
   decided : (x : ℕ) → leb x 4 ≡ false → {f : Expr} {d : List ℕ} → Codes s f d → (rest vs bs : List ℕ)
-      → after x (d ++ (entry 28 0 ∷ rest)) (topped vs bs (test false)) ≡ after 28 rest (topped vs bs (test false))
+      → after x (d ++ (entry 29 0 ∷ rest)) (topped vs bs (test false)) ≡ after 29 rest (topped vs bs (test false))
   unfolding needless topped operand kindOf
   decided x a4 {d = d} k rest vs bs =
       let t : isFalse (vs ++ pair (test false)) ≡ true = false-top vs (test false) in
-      let x : List ℕ = entry 28 0 ∷ [] in
-      let y : d ++ (entry 28 0 ∷ rest) ≡ (d ++ x) ++ rest = sym (append-assoc d x rest) in
+      let x : List ℕ = entry 29 0 ∷ [] in
+      let y : d ++ (entry 29 0 ∷ rest) ≡ (d ++ x) ++ rest = sym (append-assoc d x rest) in
       let a : length d + 1 ≡ length (d ++ x) = sym (length-append d x) in
-      let z : goOn 0 0 0 (d ++ (entry 28 0 ∷ rest)) ≡ length (d ++ x) + goOn 0 0 0 rest =
-      on-code k 0 0 0 (entry 28 0 ∷ rest)
-      ∙ on-both 1 0 (0 + length d) (entry 28 0) rest 28 (entry-op 28 0 (omega arith)) (omega arith) (omega arith) (λ z. omega arith) (omega arith) refl refl
+      let z : goOn 0 0 0 (d ++ (entry 29 0 ∷ rest)) ≡ length (d ++ x) + goOn 0 0 0 rest =
+      on-code k 0 0 0 (entry 29 0 ∷ rest)
+      ∙ on-both 1 0 (0 + length d) (entry 29 0) rest 29 (entry-op 29 0 (omega arith)) (omega arith) (omega arith) (λ z. omega arith) (omega arith) refl refl
       ∙ (let b : 0 + length d + 1 ≡ length (d ++ x) + 0 = omega (arith, a) in ap (λ (n : ℕ). goOn 0 n n rest) b)
       ∙ on-shift (length (d ++ x)) 0 0 0 rest in
       rw (a4, t, z) (ap (λ (l : List ℕ). execBehind depth space s look (env .values) (length (d ++ x) + goOn 0 0 0 rest) l (on (vs ++ pair (test false)) (bs ++ bytesOf (test false)))) y
@@ -156,14 +156,14 @@ module _ (depth space : ℕ) (s : List ℕ) (look : List ℕ → List ℕ) (env 
 
   -- and it passes its clause's string by
   spared : (x : ℕ) → leb x 4 ≡ false → {f : Expr} {d : List ℕ} → Codes s f d → (rest vs bs : List ℕ)
-      → after x (d ++ (entry 32 0 ∷ rest)) (topped vs bs (test false)) ≡ run (entry 32 0 ∷ rest) (topped vs bs (test false))
+      → after x (d ++ (entry 33 0 ∷ rest)) (topped vs bs (test false)) ≡ run (entry 33 0 ∷ rest) (topped vs bs (test false))
   unfolding needless topped operand kindOf stopAt
   spared x a4 {d = d} k rest vs bs =
       let t : isFalse (vs ++ pair (test false)) ≡ true = false-top vs (test false) in
       let a : 0 + length d ≡ length d + 0 = omega arith in
-      let z : goOn 0 0 0 (d ++ (entry 32 0 ∷ rest)) ≡ length d + 0 =
-      on-code k 0 0 0 (entry 32 0 ∷ rest) ∙ on-clause 1 0 (0 + length d) (entry 32 0) rest 32 (entry-op 32 0 (omega arith)) (omega arith) (omega arith) ∙ a in
-      rw (a4, t, z) (exec-pass depth space s look (env .values) d (entry 32 0 ∷ rest) 0 (on (vs ++ pair (test false)) (bs ++ bytesOf (test false))))
+      let z : goOn 0 0 0 (d ++ (entry 33 0 ∷ rest)) ≡ length d + 0 =
+      on-code k 0 0 0 (entry 33 0 ∷ rest) ∙ on-clause 1 0 (0 + length d) (entry 33 0) rest 33 (entry-op 33 0 (omega arith)) (omega arith) (omega arith) ∙ a in
+      rw (a4, t, z) (exec-pass depth space s look (env .values) d (entry 33 0 ∷ rest) 0 (on (vs ++ pair (test false)) (bs ++ bytesOf (test false))))
 
   -- a program that has the highest rank keeps it: its other clauses are passed by
   module _ (rest vs bs : List ℕ) (r : ℕ) where
@@ -175,7 +175,7 @@ module _ (depth space : ℕ) (s : List ℕ) (look : List ℕ → List ℕ) (env 
     unfolding operand kindOf sizeOf
     rank-high = high-top vs (rank r) highest
 
-    closes : after 31 (entry 33 0 ∷ rest) (topped vs bs (rank r)) ≡ run (entry 33 0 ∷ rest) (topped vs bs (rank r))
+    closes : after 32 (entry 34 0 ∷ rest) (topped vs bs (rank r)) ≡ run (entry 34 0 ∷ rest) (topped vs bs (rank r))
     unfolding needless topped
     closes = split (leb highest r) (λ f. rw (rank-top, rank-high, f, end-here rest)) (λ f. rw (rank-top, rank-high, f))
 
@@ -186,8 +186,8 @@ module _ (depth space : ℕ) (s : List ℕ) (look : List ℕ → List ℕ) (env 
         let b : highest ≤ r = leb-true _ _ f in
         omega (arith, a, b)
 
-    settle : (q : Clause) {c : List ℕ} → ClauseCodes s q c → run (c ++ rest) (topped vs bs (rank r)) ≡ after 31 rest (topped vs bs (rank (max r (clause env q))))
-        → after 31 (c ++ rest) (topped vs bs (rank r)) ≡ after 31 rest (topped vs bs (rank (max r (clause env q))))
+    settle : (q : Clause) {c : List ℕ} → ClauseCodes s q c → run (c ++ rest) (topped vs bs (rank r)) ≡ after 32 rest (topped vs bs (rank (max r (clause env q))))
+        → after 32 (c ++ rest) (topped vs bs (rank r)) ≡ after 32 rest (topped vs bs (rank (max r (clause env q))))
     unfolding needless topped
     settle q {c = c} k go =
         split (leb highest r)
@@ -217,7 +217,7 @@ module _ (depth space : ℕ) (s : List ℕ) (look : List ℕ → List ℕ) (env 
     unfolding stepOf pushStep operand bytesOf
     false-step = place-is depth vs h bs (test false) refl
 
-    begin-step : stepOf depth space s look (env .values) 30 0 vs bs ≡ topped vs bs (rank 0)
+    begin-step : stepOf depth space s look (env .values) 31 0 vs bs ≡ topped vs bs (rank 0)
     unfolding stepOf actOf clauseStep operand bytesOf
     begin-step = place-is depth vs h bs (rank 0) refl
 
@@ -234,14 +234,14 @@ module _ (depth space : ℕ) (s : List ℕ) (look : List ℕ → List ℕ) (env 
     unfolding stepOf actOf
     binary-step op v w =
         let n : ℕ = binaryNumber op in
-        let b : (9 ≤ n) × (n ≤ 29) = binary-between op in
-        rw (lt-leb n 4 (omega (arith, b .0)), ne-eqb n 5 (λ z. omega (arith, z, b .0)), lt-leb n 8 (omega (arith, b .0)), le-leb n 29 (b .1))
+        let b : (9 ≤ n) × (n ≤ 30) = binary-between op in
+        rw (lt-leb n 4 (omega (arith, b .0)), ne-eqb n 5 (λ z. omega (arith, z, b .0)), lt-leb n 8 (omega (arith, b .0)), le-leb n 30 (b .1))
         (binary-is depth vs h (env .values) n bs v w ∙ ap (topped vs bs) (combined-is (env .values) op v w))
 
     -- a clause's rank is brought to its program's
     raise-step : (r m : ℕ) → raised depth (env .values) (topped (vs ++ pair (rank r)) (bs ++ bytesOf (rank r)) (rank m)) ≡ topped vs bs (rank (max r m))
     unfolding raised topped
-    raise-step r m = binary-is depth vs h (env .values) 34 bs (rank r) (rank m) ∙ ap (topped vs bs) (raise-is (env .values) r m)
+    raise-step r m = binary-is depth vs h (env .values) 35 bs (rank r) (rank m) ∙ ap (topped vs bs) (raise-is (env .values) r m)
 
   -- a right side that a test decides, or one that is run
   decide : (x : ℕ) (op : Binary) (v w : Value) → eqb (kindOf (operand v)) 5 ≡ false → {f : Expr} {d : List ℕ} → Codes s f d → (rest vs bs : List ℕ)
@@ -251,13 +251,13 @@ module _ (depth space : ℕ) (s : List ℕ) (look : List ℕ → List ℕ) (env 
   decide x op v w other {d = d} k rest vs bs go =
       let n : ℕ = binaryNumber op in
       let low : 9 ≤ n = binary-between op .0 in
-      let high : n ≤ 29 = binary-between op .1 in
+      let high : n ≤ 30 = binary-between op .1 in
       split (leb x 4) (λ a. go (pushed x a (d ++ (entry n 0 ∷ rest)) vs bs v))
       (λ a. split (isFalse (vs ++ pair v))
-      (λ t. split (eqb n 28)
-      (λ b. let o : n ≡ 28 = eqb-true n 28 b in let e : v ≡ test false = failing v (sym (false-top vs v) ∙ t) in
+      (λ t. split (eqb n 29)
+      (λ b. let o : n ≡ 29 = eqb-true n 29 b in let e : v ≡ test false = failing v (sym (false-top vs v) ∙ t) in
       rw (o, e, both-false op w o) (decided x a k rest vs bs))
-      (λ b. go (undecided x vs bs v other n low high k rest (λ y o. eqb-false n 28 b o))))
+      (λ b. go (undecided x vs bs v other n low high k rest (λ y o. eqb-false n 29 b o))))
       (λ t. go (undecided x vs bs v other n low high k rest (λ y o. clash y t))))
 
   -- an expression's code leaves its value on top
@@ -302,28 +302,28 @@ module _ (depth space : ℕ) (s : List ℕ) (look : List ℕ → List ℕ) (env 
     high : length vs′ + 2 ≤ depth
     high = rw (count-is vs (rank r)) (omega arith)
 
-    plain-step : (v : Value) → stepOf depth space s look (env .values) 31 0 (vs′ ++ pair v) (bs′ ++ bytesOf v) ≡ topped vs bs (rank (max r (gate v (top (env .values)))))
+    plain-step : (v : Value) → stepOf depth space s look (env .values) 32 0 (vs′ ++ pair v) (bs′ ++ bytesOf v) ≡ topped vs bs (rank (max r (gate v (top (env .values)))))
     unfolding stepOf actOf clauseStep
     plain-step v =
-        ap (raised depth (env .values)) (unary-is depth vs′ high (env .values) 31 bs′ v ∙ ap (topped vs′ bs′) (plain-is (env .values) v))
+        ap (raised depth (env .values)) (unary-is depth vs′ high (env .values) 32 bs′ v ∙ ap (topped vs′ bs′) (plain-is (env .values) v))
         ∙ raise-step vs bs (omega arith) r (gate v (top (env .values)))
 
     valued-step : (v w : Value) → eqb (kindOf (operand v)) 5 ≡ false
-        → stepOf depth space s look (env .values) 32 0 ((vs′ ++ pair v) ++ pair w) ((bs′ ++ bytesOf v) ++ bytesOf w) ≡ topped vs bs (rank (max r (gate v (rankOf (env .values) w))))
+        → stepOf depth space s look (env .values) 33 0 ((vs′ ++ pair v) ++ pair w) ((bs′ ++ bytesOf v) ++ bytesOf w) ≡ topped vs bs (rank (max r (gate v (rankOf (env .values) w))))
     unfolding stepOf actOf clauseStep
     valued-step v w other =
-        rw (idle-not vs′ v w other) (ap (raised depth (env .values)) (binary-is depth vs′ high (env .values) 32 bs′ v w ∙ ap (topped vs′ bs′) (valued-is (env .values) v w))
+        rw (idle-not vs′ v w other) (ap (raised depth (env .values)) (binary-is depth vs′ high (env .values) 33 bs′ v w ∙ ap (topped vs′ bs′) (valued-is (env .values) v w))
         ∙ raise-step vs bs (omega arith) r (gate v (rankOf (env .values) w)))
 
     nested-step : (v : Value) (n : ℕ) → eqb (kindOf (operand v)) 5 ≡ false
-        → stepOf depth space s look (env .values) 33 0 ((vs′ ++ pair v) ++ pair (rank n)) ((bs′ ++ bytesOf v) ++ bytesOf (rank n)) ≡ topped vs bs (rank (max r (gate v n)))
+        → stepOf depth space s look (env .values) 34 0 ((vs′ ++ pair v) ++ pair (rank n)) ((bs′ ++ bytesOf v) ++ bytesOf (rank n)) ≡ topped vs bs (rank (max r (gate v n)))
     unfolding stepOf actOf clauseStep
     nested-step v n other =
-        rw (idle-not vs′ v (rank n) other) (ap (raised depth (env .values)) (binary-is depth vs′ high (env .values) 33 bs′ v (rank n) ∙ ap (topped vs′ bs′) (nested-is (env .values) v n))
+        rw (idle-not vs′ v (rank n) other) (ap (raised depth (env .values)) (binary-is depth vs′ high (env .values) 34 bs′ v (rank n) ∙ ap (topped vs′ bs′) (nested-is (env .values) v n))
         ∙ raise-step vs bs (omega arith) r (gate v n))
 
     -- the rank stays where the test fails and its string was passed by
-    idle-step : stepOf depth space s look (env .values) 32 0 (vs′ ++ pair (test false)) (bs′ ++ bytesOf (test false)) ≡ topped vs bs (rank r)
+    idle-step : stepOf depth space s look (env .values) 33 0 (vs′ ++ pair (test false)) (bs′ ++ bytesOf (test false)) ≡ topped vs bs (rank r)
     unfolding stepOf actOf clauseStep topped bytesOf operand kindOf
     idle-step =
         let i : isIdle (vs′ ++ pair (test false)) ≡ true = idle-top vs (rank r) (test false) in
@@ -331,17 +331,17 @@ module _ (depth space : ℕ) (s : List ℕ) (look : List ℕ → List ℕ) (env 
 
     -- a string that is passed by, or one that is run
     valuing : (x : ℕ) (v w : Value) → eqb (kindOf (operand v)) 5 ≡ false → {f : Expr} {d : List ℕ} → Codes s f d → (rest : List ℕ)
-        → (after x (d ++ (entry 32 0 ∷ rest)) (topped vs′ bs′ v) ≡ run (d ++ (entry 32 0 ∷ rest)) (topped vs′ bs′ v)
-        → after x (d ++ (entry 32 0 ∷ rest)) (topped vs′ bs′ v) ≡ after 32 rest (topped vs bs (rank (max r (gate v (rankOf (env .values) w))))))
-        → after x (d ++ (entry 32 0 ∷ rest)) (topped vs′ bs′ v) ≡ after 32 rest (topped vs bs (rank (max r (gate v (rankOf (env .values) w)))))
+        → (after x (d ++ (entry 33 0 ∷ rest)) (topped vs′ bs′ v) ≡ run (d ++ (entry 33 0 ∷ rest)) (topped vs′ bs′ v)
+        → after x (d ++ (entry 33 0 ∷ rest)) (topped vs′ bs′ v) ≡ after 33 rest (topped vs bs (rank (max r (gate v (rankOf (env .values) w))))))
+        → after x (d ++ (entry 33 0 ∷ rest)) (topped vs′ bs′ v) ≡ after 33 rest (topped vs bs (rank (max r (gate v (rankOf (env .values) w)))))
     unfolding topped
     valuing x v w other {d = d} k rest go =
-        split (leb x 4) (λ a. go (pushed x a (d ++ (entry 32 0 ∷ rest)) vs′ bs′ v))
+        split (leb x 4) (λ a. go (pushed x a (d ++ (entry 33 0 ∷ rest)) vs′ bs′ v))
         (λ a. split (isFalse (vs′ ++ pair v))
         (λ t. let e : v ≡ test false = failing v (sym (false-top vs′ v) ∙ t) in
         let z : max r 0 ≡ r = omega arith in
-        rw (e, z) (spared x a k rest vs′ bs′ ∙ enter 32 0 (omega arith) rest (vs′ ++ pair (test false)) (bs′ ++ bytesOf (test false)) _ idle-step))
-        (λ t. go (unmoved x vs′ bs′ v other (d ++ (entry 32 0 ∷ rest)) (λ y. clash y t))))
+        rw (e, z) (spared x a k rest vs′ bs′ ∙ enter 33 0 (omega arith) rest (vs′ ++ pair (test false)) (bs′ ++ bytesOf (test false)) _ idle-step))
+        (λ t. go (unmoved x vs′ bs′ v other (d ++ (entry 33 0 ∷ rest)) (λ y. clash y t))))
 
   flat : (bs : List ℕ) (r : ℕ) → length (bs ++ bytesOf (rank r)) ≡ length bs
   flat bs r = rw (plain-rank r .none, append-nil bs)
@@ -351,8 +351,8 @@ module _ (depth space : ℕ) (s : List ℕ) (look : List ℕ → List ℕ) (env 
 
     -- a program's code leaves its rank on top
     pub run-program : (p : Program) {c : List ℕ} → ProgramCodes s p c → (rest vs bs : List ℕ)
-        → length vs + 2 * programNeed p ≤ depth → length bs + programRoom p ≤ space → run (c ++ rest) (on vs bs) ≡ after 31 rest (topped vs bs (rank (conditions env p)))
-    run-program none code-none rest vs bs h m = enter 30 0 (omega arith) rest vs bs _ (begin-step vs bs (omega arith))
+        → length vs + 2 * programNeed p ≤ depth → length bs + programRoom p ≤ space → run (c ++ rest) (on vs bs) ≡ after 32 rest (topped vs bs (rank (conditions env p)))
+    run-program none code-none rest vs bs h m = enter 31 0 (omega arith) rest vs bs _ (begin-step vs bs (omega arith))
     run-program (also p q) (code-also {c = c} {d = d} k l) rest vs bs h m =
         ap (λ (x : List ℕ). run x (on vs bs)) (append-assoc c d rest)
         ∙ run-program p k (d ++ rest) vs bs (omega arith) (omega arith)
@@ -360,40 +360,40 @@ module _ (depth space : ℕ) (s : List ℕ) (look : List ℕ → List ℕ) (env 
 
     run-clause : (q : Clause) {c : List ℕ} → ClauseCodes s q c → (rest vs bs : List ℕ) (r : ℕ)
         → length vs + 2 * (1 + clauseNeed q) ≤ depth → length bs + clauseRoom q ≤ space
-        → run (c ++ rest) (topped vs bs (rank r)) ≡ after 31 rest (topped vs bs (rank (max r (clause env q))))
+        → run (c ++ rest) (topped vs bs (rank r)) ≡ after 32 rest (topped vs bs (rank (max r (clause env q))))
     run-clause (plain e) (code-plain {c = c} k) rest vs bs r h m =
         let v : Value = evaluate env e in
         let vs1 : List ℕ = vs ++ pair (rank r) in
         let bs1 : List ℕ = bs ++ bytesOf (rank r) in
-        ap (λ (x : List ℕ). run x (topped vs bs (rank r))) (append-assoc c (entry 31 0 ∷ []) rest)
-        ∙ run-expression k (entry 31 0 ∷ rest) vs1 bs1 (rw (count-is vs (rank r)) (omega arith)) (rw (flat bs r) m)
-        ∙ stays (lastOf e) vs1 bs1 v (unranked env e) 31 (omega arith) rest
-        ∙ enter 31 0 (omega arith) rest (vs1 ++ pair v) (bs1 ++ bytesOf v) _ (plain-step vs bs (omega (arith, need-some e)) r v)
+        ap (λ (x : List ℕ). run x (topped vs bs (rank r))) (append-assoc c (entry 32 0 ∷ []) rest)
+        ∙ run-expression k (entry 32 0 ∷ rest) vs1 bs1 (rw (count-is vs (rank r)) (omega arith)) (rw (flat bs r) m)
+        ∙ stays (lastOf e) vs1 bs1 v (unranked env e) 32 (omega arith) rest
+        ∙ enter 32 0 (omega arith) rest (vs1 ++ pair v) (bs1 ++ bytesOf v) _ (plain-step vs bs (omega (arith, need-some e)) r v)
     run-clause (valued e f) (code-valued {c = c} {d = d} k l) rest vs bs r h m =
         let v : Value = evaluate env e in
         let w : Value = evaluate env f in
         let vs1 : List ℕ = vs ++ pair (rank r) in
         let bs1 : List ℕ = bs ++ bytesOf (rank r) in
-        ap (λ (x : List ℕ). run x (topped vs bs (rank r))) (append-assoc (c ++ d) (entry 32 0 ∷ []) rest ∙ append-assoc c d (entry 32 0 ∷ rest))
-        ∙ run-expression k (d ++ (entry 32 0 ∷ rest)) vs1 bs1 (rw (count-is vs (rank r)) (omega arith)) (rw (flat bs r) (omega arith))
+        ap (λ (x : List ℕ). run x (topped vs bs (rank r))) (append-assoc (c ++ d) (entry 33 0 ∷ []) rest ∙ append-assoc c d (entry 33 0 ∷ rest))
+        ∙ run-expression k (d ++ (entry 33 0 ∷ rest)) vs1 bs1 (rw (count-is vs (rank r)) (omega arith)) (rw (flat bs r) (omega arith))
         ∙ valuing vs bs (omega (arith, need-some e)) r (lastOf e) v w (unranked env e) l rest
         (λ still. still
-        ∙ run-expression l (entry 32 0 ∷ rest) (vs1 ++ pair v) (bs1 ++ bytesOf v) (rw (count-is vs1 v, count-is vs (rank r)) (omega arith))
+        ∙ run-expression l (entry 33 0 ∷ rest) (vs1 ++ pair v) (bs1 ++ bytesOf v) (rw (count-is vs1 v, count-is vs (rank r)) (omega arith))
         (rw (length-append bs1 (bytesOf v), flat bs r) (omega (arith, within-span env e)))
-        ∙ stays (lastOf f) (vs1 ++ pair v) (bs1 ++ bytesOf v) w (unranked env f) 32 (omega arith) rest
-        ∙ enter 32 0 (omega arith) rest ((vs1 ++ pair v) ++ pair w) ((bs1 ++ bytesOf v) ++ bytesOf w) _ (valued-step vs bs (omega (arith, need-some e)) r v w (unranked env e)))
+        ∙ stays (lastOf f) (vs1 ++ pair v) (bs1 ++ bytesOf v) w (unranked env f) 33 (omega arith) rest
+        ∙ enter 33 0 (omega arith) rest ((vs1 ++ pair v) ++ pair w) ((bs1 ++ bytesOf v) ++ bytesOf w) _ (valued-step vs bs (omega (arith, need-some e)) r v w (unranked env e)))
     run-clause (nested e p) (code-nested {c = c} {d = d} k l) rest vs bs r h m =
         let v : Value = evaluate env e in
         let n : ℕ = conditions env p in
         let vs1 : List ℕ = vs ++ pair (rank r) in
         let bs1 : List ℕ = bs ++ bytesOf (rank r) in
-        ap (λ (x : List ℕ). run x (topped vs bs (rank r))) (append-assoc (c ++ d) (entry 33 0 ∷ []) rest ∙ append-assoc c d (entry 33 0 ∷ rest))
-        ∙ run-expression k (d ++ (entry 33 0 ∷ rest)) vs1 bs1 (rw (count-is vs (rank r)) (omega arith)) (rw (flat bs r) (omega arith))
-        ∙ to-program (lastOf e) vs1 bs1 v (unranked env e) (entry 33 0 ∷ rest) p l
-        ∙ run-program p l (entry 33 0 ∷ rest) (vs1 ++ pair v) (bs1 ++ bytesOf v) (rw (count-is vs1 v, count-is vs (rank r)) (omega arith))
+        ap (λ (x : List ℕ). run x (topped vs bs (rank r))) (append-assoc (c ++ d) (entry 34 0 ∷ []) rest ∙ append-assoc c d (entry 34 0 ∷ rest))
+        ∙ run-expression k (d ++ (entry 34 0 ∷ rest)) vs1 bs1 (rw (count-is vs (rank r)) (omega arith)) (rw (flat bs r) (omega arith))
+        ∙ to-program (lastOf e) vs1 bs1 v (unranked env e) (entry 34 0 ∷ rest) p l
+        ∙ run-program p l (entry 34 0 ∷ rest) (vs1 ++ pair v) (bs1 ++ bytesOf v) (rw (count-is vs1 v, count-is vs (rank r)) (omega arith))
         (rw (length-append bs1 (bytesOf v), flat bs r) (omega (arith, within-span env e)))
         ∙ closes rest (vs1 ++ pair v) (bs1 ++ bytesOf v) n
-        ∙ enter 33 0 (omega arith) rest ((vs1 ++ pair v) ++ pair (rank n)) ((bs1 ++ bytesOf v) ++ bytesOf (rank n)) _ (nested-step vs bs (omega (arith, need-some e)) r v n (unranked env e))
+        ∙ enter 34 0 (omega arith) rest ((vs1 ++ pair v) ++ pair (rank n)) ((bs1 ++ bytesOf v) ++ bytesOf (rank n)) _ (nested-step vs bs (omega (arith, need-some e)) r v n (unranked env e))
 
 -- "Conditions": in buffers large enough the machine's result is the program's rank
 module _ {rec consts values names constants : List ℕ} {env : Environment} (shows : Shows rec consts values names constants env) (depth space : ℕ) where

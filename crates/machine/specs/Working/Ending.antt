@@ -28,23 +28,23 @@ across k l n c d p q j rest =
 
 -- one entry, by its operation
 module _ (k op at : ℕ) (p : at < 65536) where
-  across-entry : (op ≡ 30 → ⊥) → (op ≡ 33 → ⊥) → Across k k (entry op at ∷ [])
+  across-entry : (op ≡ 31 → ⊥) → (op ≡ 34 → ⊥) → Across k k (entry op at ∷ [])
   unfolding ended closing begun
-  across-entry a b j rest = rw (entry-op op at p, ne-eqb op 33 b, ne-eqb op 30 a)
+  across-entry a b j rest = rw (entry-op op at p, ne-eqb op 34 b, ne-eqb op 31 a)
 
-across-begin : (k : ℕ) → Across k (k + 1) (entry 30 0 ∷ [])
+across-begin : (k : ℕ) → Across k (k + 1) (entry 31 0 ∷ [])
 unfolding ended closing begun
-across-begin k j rest = rw (entry-op 30 0 (omega arith))
+across-begin k j rest = rw (entry-op 31 0 (omega arith))
 
-across-end : (k : ℕ) → Across (k + 1) k (entry 33 0 ∷ [])
+across-end : (k : ℕ) → Across (k + 1) k (entry 34 0 ∷ [])
 unfolding ended closing begun
 across-end k j rest =
     let z : k + 1 - 1 ≡ k = omega arith in
-    rw (entry-op 33 0 (omega arith), ne-eqb (k + 1) 0 (λ y. omega arith), z)
+    rw (entry-op 34 0 (omega arith), ne-eqb (k + 1) 0 (λ y. omega arith), z)
 
-pub end-here : (rest : List ℕ) → ended 0 0 (entry 33 0 ∷ rest) ≡ 0
+pub end-here : (rest : List ℕ) → ended 0 0 (entry 34 0 ∷ rest) ≡ 0
 unfolding ended closing
-end-here rest = rw (entry-op 33 0 (omega arith))
+end-here rest = rw (entry-op 34 0 (omega arith))
 
 -- expressions, programs and clauses
 across-code : {s : List ℕ} {e : Expr} {c : List ℕ} → Codes s e c → (k : ℕ) → Across k k c
@@ -59,7 +59,7 @@ across-code (code-unary {op = o} {c = c} l) k =
     across k k k c (entry op 0 ∷ []) (across-code l k) (across-entry k op 0 (omega arith) (λ z. omega (arith, z, b .1)) (λ z. omega (arith, z, b .1)))
 across-code (code-binary {op = o} {c = c} {d = d} l m) k =
     let op : ℕ = binaryNumber o in
-    let b : (9 ≤ op) × (op ≤ 29) = binary-between o in
+    let b : (9 ≤ op) × (op ≤ 30) = binary-between o in
     across k k k (c ++ d) (entry op 0 ∷ []) (across k k k c d (across-code l k) (across-code m k)) (across-entry k op 0 (omega arith) (λ z. omega (arith, z, b .1)) (λ z. omega (arith, z, b .1)))
 
 mutual
@@ -69,11 +69,11 @@ mutual
 
   pub across-clause : {s : List ℕ} (q : Clause) {c : List ℕ} → ClauseCodes s q c → (k : ℕ) → Across k k c
   across-clause (plain e) (code-plain {c = c} l) k =
-      across k k k c (entry 31 0 ∷ []) (across-code l k) (across-entry k 31 0 (omega arith) (λ z. omega arith) (λ z. omega arith))
+      across k k k c (entry 32 0 ∷ []) (across-code l k) (across-entry k 32 0 (omega arith) (λ z. omega arith) (λ z. omega arith))
   across-clause (valued e f) (code-valued {c = c} {d = d} l m) k =
-      across k k k (c ++ d) (entry 32 0 ∷ []) (across k k k c d (across-code l k) (across-code m k)) (across-entry k 32 0 (omega arith) (λ z. omega arith) (λ z. omega arith))
+      across k k k (c ++ d) (entry 33 0 ∷ []) (across k k k c d (across-code l k) (across-code m k)) (across-entry k 33 0 (omega arith) (λ z. omega arith) (λ z. omega arith))
   across-clause (nested e p) (code-nested {c = c} {d = d} l m) k =
-      across k (k + 1) k (c ++ d) (entry 33 0 ∷ []) (across k k (k + 1) c d (across-code l k) (across-program p m k)) (across-end k)
+      across k (k + 1) k (c ++ d) (entry 34 0 ∷ []) (across k k (k + 1) c d (across-code l k) (across-program p m k)) (across-end k)
 
 -- places counted from n on
 pub end-shift : (n k j : ℕ) (es : List ℕ) → ended k (n + j) es ≡ n + ended k j es
@@ -104,34 +104,34 @@ module _ (code : List ℕ) (k j r : ℕ) (inv : ended k j (drop j code) ≡ r) w
 
 -- the ways out of `is_closing`, `begun_then` and `concluded`
 module _ (op k : ℕ) where
-  pub closing-none : (op ≡ 33 → ⊥) → false ≡ closing op k
+  pub closing-none : (op ≡ 34 → ⊥) → false ≡ closing op k
   unfolding closing
-  closing-none h = rw (ne-eqb op 33 h)
+  closing-none h = rw (ne-eqb op 34 h)
 
-  pub closing-nested : op ≡ 33 → (b : Bool) → b ≡ eqb k 0 → b ≡ closing op k
+  pub closing-nested : op ≡ 34 → (b : Bool) → b ≡ eqb k 0 → b ≡ closing op k
   unfolding closing
-  closing-nested h b e = rw (eq-eqb op 33 h) e
+  closing-nested h b e = rw (eq-eqb op 34 h) e
 
-  pub begun-more : op ≡ 30 → k + 1 ≡ begun op k
+  pub begun-more : op ≡ 31 → k + 1 ≡ begun op k
   unfolding begun
-  begun-more h = rw (eq-eqb op 30 h)
+  begun-more h = rw (eq-eqb op 31 h)
 
-  module _ (n30 : op ≡ 30 → ⊥) where
-    pub begun-same : (op ≡ 33 → ⊥) → k ≡ begun op k
+  module _ (n31 : op ≡ 31 → ⊥) where
+    pub begun-same : (op ≡ 34 → ⊥) → k ≡ begun op k
     unfolding begun
-    begun-same h = rw (ne-eqb op 30 n30, ne-eqb op 33 h)
+    begun-same h = rw (ne-eqb op 31 n31, ne-eqb op 34 h)
 
-    module _ (h : op ≡ 33) where
+    module _ (h : op ≡ 34) where
       pub begun-fewer : k - 1 ≡ begun op k
       unfolding begun
-      begun-fewer = rw (ne-eqb op 30 n30, eq-eqb op 33 h)
+      begun-fewer = rw (ne-eqb op 31 n31, eq-eqb op 34 h)
 
       pub begun-none : k ≡ 0 → 0 ≡ begun op k
       begun-none e = let z : k - 1 ≡ 0 = omega (arith, e) in sym z ∙ begun-fewer
 
   begun-most : begun op k ≤ k + 1
   unfolding begun
-  begun-most = split (eqb op 30) (λ a. rw a (omega arith)) (λ a. split (eqb op 33) (λ b. rw (a, b) (omega arith)) (λ b. rw (a, b) (omega arith)))
+  begun-most = split (eqb op 31) (λ a. rw a (omega arith)) (λ a. split (eqb op 34) (λ b. rw (a, b) (omega arith)) (λ b. rw (a, b) (omega arith)))
 
   pub begun-within : (j y : ℕ) → k ≤ j → y ≡ begun op k → y ≤ j + 1
   begun-within j y h e = omega (arith, h, e, begun-most)

@@ -17,6 +17,7 @@ use Rattle.expression.specs.Operands.{kindOf}
 use Rattle.expression.specs.Integers.{ranged, apart, plus, minus, times, over, remainder, power, negated}
 use Rattle.expression.specs.Names.{Environment, lookup}
 use Rattle.expression.specs.Operations.{held, converted, negative, opposite, unaryOf}
+use Rattle.expression.specs.Theorems.Matched.{matched-cases}
 use Rattle.expression.specs.Working.Numbered.{arithmetic, textual, logical, ofTexts, ofIntegers, ofTests, isTextual, binaryBy}
 use Rattle.expression.specs.Conditions.{evaluate}
 use Rattle.expression.specs.Theorems.Numbered.{binary-number}
@@ -77,7 +78,7 @@ module _ (P : Value → Type 0) where
       pub of-tests : (op : ℕ) (v w : Value) → P (ofTests op v w)
       unfolding ofTests logical
       of-tests op v w =
-          of-test (λ t. logical op t w) v (λ t. of-pick (eqb op 28) (of-pick t (of-test test w told) (told false)) (of-pick t (told true) (of-test test w told)))
+          of-test (λ t. logical op t w) v (λ t. of-pick (eqb op 29) (of-pick t (of-test test w told) (told false)) (of-pick t (told true) (of-test test w told)))
 
       pub of-converted : (v : Value) → P (converted v)
       unfolding converted
@@ -127,14 +128,15 @@ texts-unranked : (op : ℕ) (v w : Value) → Unranked (ofTexts op v w)
 unfolding ofTexts textual
 texts-unranked op v w =
     of-text Unranked fault-unranked (λ a. onText (λ b. textual op a b) w) v
-    (λ a. of-text Unranked fault-unranked (λ b. textual op a b) w (λ b. of-pick Unranked (eqb op 9) (held-unranked (a ++ b)) (test-unranked _)))
+    (λ a. of-text Unranked fault-unranked (λ b. textual op a b) w (λ b. of-pick Unranked (eqb op 9) (held-unranked (a ++ b))
+    (of-pick Unranked (eqb op 22) (matched-cases Unranked fault-unranked test-unranked a b) (test-unranked _))))
 
 binary-unranked : (op : ℕ) (v w : Value) → Unranked (binaryBy op v w)
 unfolding binaryBy
 binary-unranked op v w =
     of-pick Unranked (isTextual op) (texts-unranked op v w)
-    (of-pick Unranked (leb op 27) (of-integers Unranked fault-unranked integer-unranked test-unranked op v w)
-    (of-pick Unranked (leb op 29) (of-tests Unranked fault-unranked integer-unranked test-unranked op v w) fault-unranked))
+    (of-pick Unranked (leb op 28) (of-integers Unranked fault-unranked integer-unranked test-unranked op v w)
+    (of-pick Unranked (leb op 30) (of-tests Unranked fault-unranked integer-unranked test-unranked op v w) fault-unranked))
 
 value-unranked : (env : Environment) (e : Expr) → Unranked (evaluate env e)
 unfolding evaluate

@@ -44,32 +44,32 @@ module _ (k known j e : ℕ) (es : List ℕ) (op : ℕ) (oe : e / 65536 ≡ op) 
   on-push h = rw (oe, le-leb op 4 h, le-leb op 8 (omega (arith, h)))
 
   module _ (n4 : 4 < op) where
-    pub on-clause : 29 < op → goOn k known j (e ∷ es) ≡ stopAt op k known j
+    pub on-clause : 30 < op → goOn k known j (e ∷ es) ≡ stopAt op k known j
     unfolding goOn outer
-    on-clause h = rw (oe, lt-leb op 4 n4, lt-ltb 29 op h)
+    on-clause h = rw (oe, lt-leb op 4 n4, lt-ltb 30 op h)
 
-    module _ (n29 : op ≤ 29) where
+    module _ (n30 : op ≤ 30) where
       pub on-none : k ≡ 0 → goOn k known j (e ∷ es) ≡ known
       unfolding goOn outer stopAt
-      on-none h = rw (oe, lt-leb op 4 n4, le-ltb 29 op n29, eq-eqb k 0 h, ne-eqb op 32 (λ z. omega (arith, z, n29)))
+      on-none h = rw (oe, lt-leb op 4 n4, le-ltb 30 op n30, eq-eqb k 0 h, ne-eqb op 33 (λ z. omega (arith, z, n30)))
 
       module _ (n0 : k ≡ 0 → ⊥) where
         pub on-unary : op ≤ 8 → goOn k known j (e ∷ es) ≡ goOn k known (j + 1) es
         unfolding goOn outer above behindOf
-        on-unary h = rw (oe, lt-leb op 4 n4, le-ltb 29 op n29, ne-eqb k 0 n0, le-leb op 8 h)
+        on-unary h = rw (oe, lt-leb op 4 n4, le-ltb 30 op n30, ne-eqb k 0 n0, le-leb op 8 h)
 
         module _ (n8 : 8 < op) where
           pub on-inner : (k ≡ 1 → ⊥) → goOn k known j (e ∷ es) ≡ goOn (k - 1) known (j + 1) es
           unfolding goOn outer above behindOf
-          on-inner h = rw (oe, lt-leb op 4 n4, le-ltb 29 op n29, ne-eqb k 0 n0, lt-leb op 8 n8, ne-eqb k 1 h)
+          on-inner h = rw (oe, lt-leb op 4 n4, le-ltb 30 op n30, ne-eqb k 0 n0, lt-leb op 8 n8, ne-eqb k 1 h)
 
-          pub on-both : k ≡ 1 → op ≡ 28 → goOn k known j (e ∷ es) ≡ goOn 0 (j + 1) (j + 1) es
+          pub on-both : k ≡ 1 → op ≡ 29 → goOn k known j (e ∷ es) ≡ goOn 0 (j + 1) (j + 1) es
           unfolding goOn outer above behindOf
-          on-both h b = rw (oe, lt-leb op 4 n4, le-ltb 29 op n29, ne-eqb k 0 n0, lt-leb op 8 n8, eq-eqb k 1 h, eq-eqb op 28 b, h)
+          on-both h b = rw (oe, lt-leb op 4 n4, le-ltb 30 op n30, ne-eqb k 0 n0, lt-leb op 8 n8, eq-eqb k 1 h, eq-eqb op 29 b, h)
 
-          pub on-other : k ≡ 1 → (op ≡ 28 → ⊥) → goOn k known j (e ∷ es) ≡ known
+          pub on-other : k ≡ 1 → (op ≡ 29 → ⊥) → goOn k known j (e ∷ es) ≡ known
           unfolding goOn outer stopAt
-          on-other h b = rw (oe, lt-leb op 4 n4, le-ltb 29 op n29, ne-eqb k 0 n0, lt-leb op 8 n8, eq-eqb k 1 h, ne-eqb op 28 b, ne-eqb op 32 (λ z. omega (arith, z, n29)))
+          on-other h b = rw (oe, lt-leb op 4 n4, le-ltb 30 op n30, ne-eqb k 0 n0, lt-leb op 8 n8, eq-eqb k 1 h, ne-eqb op 29 b, ne-eqb op 33 (λ z. omega (arith, z, n30)))
 
 pub entry-op : (op at : ℕ) → at < 65536 → entry op at / 65536 ≡ op
 unfolding entry
@@ -93,7 +93,7 @@ on-code (code-unary {op = o} {c = c} l) k known j rest =
 on-code (code-binary {op = o} {c = c} {d = d} l m) k known j rest =
     let op : ℕ = binaryNumber o in
     let low : 9 ≤ op = binary-between o .0 in
-    let high : op ≤ 29 = binary-between o .1 in
+    let high : op ≤ 30 = binary-between o .1 in
     let x : List ℕ = entry op 0 ∷ [] in
     let z : j + length c + length d + 1 ≡ j + length ((c ++ d) ++ x) = rw (length-append (c ++ d) x, length-append c d) (omega arith) in
     let y : k + 1 + 1 - 1 ≡ k + 1 = omega arith in
@@ -106,7 +106,7 @@ on-code (code-binary {op = o} {c = c} {d = d} l m) k known j rest =
 -- a program begins with an entry before which nothing is passed by
 pub on-program : {s : List ℕ} {p : Program} {c : List ℕ} → ProgramCodes s p c → (rest : List ℕ) → goOn 0 0 0 (c ++ rest) ≡ 0
 unfolding stopAt
-on-program code-none rest = on-clause 0 0 0 (entry 30 0) rest 30 (entry-op 30 0 (omega arith)) (omega arith) (omega arith)
+on-program code-none rest = on-clause 0 0 0 (entry 31 0) rest 31 (entry-op 31 0 (omega arith)) (omega arith) (omega arith)
 on-program (code-also {c = c} {d = d} k l) rest = ap (goOn 0 0 0) (append-assoc c d rest) ∙ on-program k (d ++ rest)
 
 -- places counted from n on
@@ -116,11 +116,11 @@ behind-shift n op k known next = split (leb op 8) (λ a. rw a) (λ a. split (eqb
 
 pub stop-same : (op k n : ℕ) → stopAt op k n n ≡ n
 unfolding stopAt
-stop-same op k n = split (eqb op 32) (λ a. split (eqb k 1) (λ b. rw (a, b)) (λ b. rw (a, b))) (λ a. rw a)
+stop-same op k n = split (eqb op 33) (λ a. split (eqb k 1) (λ b. rw (a, b)) (λ b. rw (a, b))) (λ a. rw a)
 
 stop-shift : (n op k known here : ℕ) → stopAt op k (n + known) (n + here) ≡ n + stopAt op k known here
 unfolding stopAt
-stop-shift n op k known here = split (eqb op 32) (λ a. split (eqb k 1) (λ b. rw (a, b)) (λ b. rw (a, b))) (λ a. rw a)
+stop-shift n op k known here = split (eqb op 33) (λ a. split (eqb k 1) (λ b. rw (a, b)) (λ b. rw (a, b))) (λ a. rw a)
 
 pub on-shift : (n k known j : ℕ) (es : List ℕ) → goOn k (n + known) (n + j) es ≡ n + goOn k known j es
 unfolding goOn
@@ -160,28 +160,28 @@ module _ (op k : ℕ) where
   above-push h = rw (le-leb op 4 h)
 
   module _ (n4 : 4 < op) where
-    pub outer-clause : 29 < op → true ≡ outer op k
+    pub outer-clause : 30 < op → true ≡ outer op k
     unfolding outer
-    outer-clause h = rw (lt-leb op 4 n4, lt-ltb 29 op h)
+    outer-clause h = rw (lt-leb op 4 n4, lt-ltb 30 op h)
 
-    module _ (n29 : op ≤ 29) where
+    module _ (n30 : op ≤ 30) where
       pub outer-none : k ≡ 0 → true ≡ outer op k
       unfolding outer
-      outer-none h = rw (lt-leb op 4 n4, le-ltb 29 op n29, eq-eqb k 0 h)
+      outer-none h = rw (lt-leb op 4 n4, le-ltb 30 op n30, eq-eqb k 0 h)
 
       module _ (n0 : k ≡ 0 → ⊥) where
         pub outer-unary : op ≤ 8 → false ≡ outer op k
         unfolding outer
-        outer-unary h = rw (lt-leb op 4 n4, le-ltb 29 op n29, ne-eqb k 0 n0, le-leb op 8 h)
+        outer-unary h = rw (lt-leb op 4 n4, le-ltb 30 op n30, ne-eqb k 0 n0, le-leb op 8 h)
 
         module _ (n8 : 8 < op) where
           pub outer-inner : (k ≡ 1 → ⊥) → false ≡ outer op k
           unfolding outer
-          outer-inner h = rw (lt-leb op 4 n4, le-ltb 29 op n29, ne-eqb k 0 n0, lt-leb op 8 n8, ne-eqb k 1 h)
+          outer-inner h = rw (lt-leb op 4 n4, le-ltb 30 op n30, ne-eqb k 0 n0, lt-leb op 8 n8, ne-eqb k 1 h)
 
-          pub outer-left : (k ≡ 1) → (b : Bool) → b ≡ not (eqb op 28) → b ≡ outer op k
+          pub outer-left : (k ≡ 1) → (b : Bool) → b ≡ not (eqb op 29) → b ≡ outer op k
           unfolding outer
-          outer-left h b be = rw (lt-leb op 4 n4, le-ltb 29 op n29, ne-eqb k 0 n0, lt-leb op 8 n8, eq-eqb k 1 h) be
+          outer-left h b be = rw (lt-leb op 4 n4, le-ltb 30 op n30, ne-eqb k 0 n0, lt-leb op 8 n8, eq-eqb k 1 h) be
 
     pub above-unary : op ≤ 8 → k ≡ above op k
     unfolding above
@@ -216,15 +216,15 @@ module _ (op k : ℕ) where
       unfolding behindOf
       behind-known h = rw (lt-leb op 8 n8, ne-eqb k 1 h)
 
-    pub stop-other : (op ≡ 32 → ⊥) → known ≡ stopAt op k known next
+    pub stop-other : (op ≡ 33 → ⊥) → known ≡ stopAt op k known next
     unfolding stopAt
-    stop-other h = rw (ne-eqb op 32 h)
+    stop-other h = rw (ne-eqb op 33 h)
 
-    module _ (h : op ≡ 32) where
+    module _ (h : op ≡ 33) where
       pub stop-known : (k ≡ 1 → ⊥) → known ≡ stopAt op k known next
       unfolding stopAt
-      stop-known b = rw (eq-eqb op 32 h, ne-eqb k 1 b)
+      stop-known b = rw (eq-eqb op 33 h, ne-eqb k 1 b)
 
       pub stop-here : k ≡ 1 → next ≡ stopAt op k known next
       unfolding stopAt
-      stop-here b = rw (eq-eqb op 32 h, eq-eqb k 1 b)
+      stop-here b = rw (eq-eqb op 33 h, eq-eqb k 1 b)

@@ -58,13 +58,13 @@ module _ (s : List ℕ) (look : List ℕ → List ℕ) (op at : ℕ) where
     push-test n2 b be is = rw (ne-eqb op 0 n0, ne-eqb op 1 n1, ne-eqb op 2 n2, ← be) (put-live st m n t (Test b) hn ht r st′ is)
 
 -- the ways out of `plain_step`
-module _ (vals : List (List ℕ)) (depth : ℕ) (vs bs m : List ℕ) (r : Tops) (st′ : List ℕ) (l : Live r st′ m (unaryStep depth vals 31 vs bs)) where
-  pub plain-stuck : r ≡ Stuck → Live Stuck st′ m (raised depth vals (unaryStep depth vals 31 vs bs))
+module _ (vals : List (List ℕ)) (depth : ℕ) (vs bs m : List ℕ) (r : Tops) (st′ : List ℕ) (l : Live r st′ m (unaryStep depth vals 32 vs bs)) where
+  pub plain-stuck : r ≡ Stuck → Live Stuck st′ m (raised depth vals (unaryStep depth vals 32 vs bs))
   unfolding raised
   plain-stuck re = rw (live-out r st′ m _ re l) (record { within = tt; holds = refl })
 
-  pub plain-raised : (n t : ℕ) → r ≡ At n t → length st′ ≡ depth → (r′ : Tops) (st″ : List ℕ) → Live r′ st″ m (binaryStep (length st′) vals 34 (take n st′) (take t m))
-      → Live r′ st″ m (raised depth vals (unaryStep depth vals 31 vs bs))
+  pub plain-raised : (n t : ℕ) → r ≡ At n t → length st′ ≡ depth → (r′ : Tops) (st″ : List ℕ) → Live r′ st″ m (binaryStep (length st′) vals 35 (take n st′) (take t m))
+      → Live r′ st″ m (raised depth vals (unaryStep depth vals 32 vs bs))
   unfolding raised
   plain-raised n t re de r′ st″ l′ = rw (live-in r st′ m _ n t re l .1 .1, ← de) l′
 
@@ -97,32 +97,32 @@ module _ (st : List ℕ) (n : ℕ) (hn : n ≤ length st) where
 
 -- the ways out of `clause_step`
 module _ (vals : List (List ℕ)) (op : ℕ) where
-  pub clause-begin : op ≡ 30 → (st m : List ℕ) (n t : ℕ) → n ≤ length st → t ≤ length m → (r : Tops) (st′ : List ℕ) → landed r st′ ≡ putAt st n t (Rank 0)
+  pub clause-begin : op ≡ 31 → (st m : List ℕ) (n t : ℕ) → n ≤ length st → t ≤ length m → (r : Tops) (st′ : List ℕ) → landed r st′ ≡ putAt st n t (Rank 0)
       → Live r st′ m (clauseStep (length st) vals op (take n st) (take t m))
   unfolding clauseStep
-  clause-begin h st m n t hn ht r st′ is = rw (eq-eqb op 30 h) (put-live st m n t (Rank 0) hn ht r st′ is)
+  clause-begin h st m n t hn ht r st′ is = rw (eq-eqb op 31 h) (put-live st m n t (Rank 0) hn ht r st′ is)
 
-  module _ (n30 : op ≡ 30 → ⊥) (depth : ℕ) (vs bs m : List ℕ) (r : Tops) (st′ : List ℕ) where
-    pub clause-plain : op ≡ 31 → Live r st′ m (raised depth vals (unaryStep depth vals 31 vs bs)) → Live r st′ m (clauseStep depth vals op vs bs)
+  module _ (n31 : op ≡ 31 → ⊥) (depth : ℕ) (vs bs m : List ℕ) (r : Tops) (st′ : List ℕ) where
+    pub clause-plain : op ≡ 32 → Live r st′ m (raised depth vals (unaryStep depth vals 32 vs bs)) → Live r st′ m (clauseStep depth vals op vs bs)
     unfolding clauseStep
     clause-plain h l = rw (h) l
 
-    module _ (n31 : op ≡ 31 → ⊥) (b : Bool) (be : b ≡ isIdle vs) (bf : b ≡ false) (l : Live r st′ m (binaryStep depth vals op vs bs)) where
+    module _ (n32 : op ≡ 32 → ⊥) (b : Bool) (be : b ≡ isIdle vs) (bf : b ≡ false) (l : Live r st′ m (binaryStep depth vals op vs bs)) where
       pub clause-stuck : r ≡ Stuck → Live Stuck st′ m (clauseStep depth vals op vs bs)
       unfolding clauseStep raised
-      clause-stuck re = rw (ne-eqb op 30 n30, ne-eqb op 31 n31, ← be, bf, live-out r st′ m _ re l) (record { within = tt; holds = refl })
+      clause-stuck re = rw (ne-eqb op 31 n31, ne-eqb op 32 n32, ← be, bf, live-out r st′ m _ re l) (record { within = tt; holds = refl })
 
-      pub clause-raised : (n t : ℕ) → r ≡ At n t → length st′ ≡ depth → (r′ : Tops) (st″ : List ℕ) → Live r′ st″ m (binaryStep (length st′) vals 34 (take n st′) (take t m))
+      pub clause-raised : (n t : ℕ) → r ≡ At n t → length st′ ≡ depth → (r′ : Tops) (st″ : List ℕ) → Live r′ st″ m (binaryStep (length st′) vals 35 (take n st′) (take t m))
           → Live r′ st″ m (clauseStep depth vals op vs bs)
       unfolding clauseStep raised
-      clause-raised n t re de r′ st″ l′ = rw (ne-eqb op 30 n30, ne-eqb op 31 n31, ← be, bf, live-in r st′ m _ n t re l .1 .1, ← de) l′
+      clause-raised n t re de r′ st″ l′ = rw (ne-eqb op 31 n31, ne-eqb op 32 n32, ← be, bf, live-in r st′ m _ n t re l .1 .1, ← de) l′
 
   -- a test that is idle
   module _ (st m : List ℕ) (n t : ℕ) (hn : n ≤ length st) (b : Bool) (be : b ≡ isIdle (take n st)) (bt : b ≡ true) where
-    pub clause-idle : t ≤ length m → (op ≡ 30 → ⊥) → (op ≡ 31 → ⊥) → Live (At (n - 2) t) st m (clauseStep (length st) vals op (take n st) (take t m))
+    pub clause-idle : t ≤ length m → (op ≡ 31 → ⊥) → (op ≡ 32 → ⊥) → Live (At (n - 2) t) st m (clauseStep (length st) vals op (take n st) (take t m))
     unfolding clauseStep
-    clause-idle ht n30 n31 =
-        rw (ne-eqb op 30 n30, ne-eqb op 31 n31, ← be, bt, below-is st n hn (idle-two st n hn b be bt))
+    clause-idle ht n31 n32 =
+        rw (ne-eqb op 31 n31, ne-eqb op 32 n32, ← be, bt, below-is st n hn (idle-two st n hn b be bt))
         (record { within = (omega (arith, hn), ht); holds = refl })
 
 -- the ways out of `act`
@@ -137,13 +137,13 @@ module _ (depth room : ℕ) (look : List ℕ → List ℕ) (vals : List (List �
     act-unary h l = rw (ne-eqb op 5 n5, le-leb op 8 h) l
 
     module _ (n8 : 8 < op) where
-      pub act-binary : op ≤ 29 → Live r st m (binaryStep depth vals op vs bs) → Live r st m (actOf depth room look vals op vs bs)
+      pub act-binary : op ≤ 30 → Live r st m (binaryStep depth vals op vs bs) → Live r st m (actOf depth room look vals op vs bs)
       unfolding actOf
-      act-binary h l = rw (ne-eqb op 5 n5, lt-leb op 8 n8, le-leb op 29 h) l
+      act-binary h l = rw (ne-eqb op 5 n5, lt-leb op 8 n8, le-leb op 30 h) l
 
-      pub act-clause : 29 < op → Live r st m (clauseStep depth vals op vs bs) → Live r st m (actOf depth room look vals op vs bs)
+      pub act-clause : 30 < op → Live r st m (clauseStep depth vals op vs bs) → Live r st m (actOf depth room look vals op vs bs)
       unfolding actOf
-      act-clause h l = rw (ne-eqb op 5 n5, lt-leb op 8 n8, lt-leb op 29 h) l
+      act-clause h l = rw (ne-eqb op 5 n5, lt-leb op 8 n8, lt-leb op 30 h) l
 
 -- what is left of the code from i on
 unfoldable pub execFrom : ℕ → ℕ → List ℕ → (List ℕ → List ℕ) → List (List ℕ) → List ℕ → ℕ → List ℕ → List ℕ → State

@@ -18,7 +18,8 @@ use Rattle.syntax.specs.Expr.{Expr, literal, name, number, truth, unary, binary
 use Rattle.expression.specs.Value.{Value, text, integer, test, rank, fault, bytesOf, onText}
 use Rattle.expression.specs.Integers.{ranged}
 use Rattle.expression.specs.Names.{Environment, lookup}
-use Rattle.expression.specs.Operations.{held, converted, negative, opposite, unaryOf}
+use Rattle.expression.specs.Operations.{held, converted, negative, opposite, unaryOf, matched}
+use Rattle.expression.specs.Theorems.Matched.{matched-cases}
 use Rattle.expression.specs.Working.Numbered.{textual, ofTexts, ofIntegers, ofTests, isTextual, binaryBy}
 use Rattle.expression.specs.Conditions.{evaluate}
 use Rattle.expression.specs.Working.Clauses.{applied, combined}
@@ -61,6 +62,9 @@ plain-integers = of-integers Plain plain-fault plain-integer plain-test
 plain-tests : (op : ℕ) (v w : Value) → Plain (ofTests op v w)
 plain-tests = of-tests Plain plain-fault plain-integer plain-test
 
+plain-matched : (a b : List ℕ) → Plain (matched a b)
+plain-matched = matched-cases Plain plain-fault plain-test
+
 plain-converted : (v : Value) → Plain (converted v)
 plain-converted = of-converted Plain plain-fault plain-integer plain-test
 
@@ -98,7 +102,9 @@ front-held l = front-pick (ltb 4096 (length l)) {a = fault} {b = text l} (front-
 
 front-textual : (op : ℕ) (a b : List ℕ) → Front (textual op a b) (a ++ b)
 unfolding textual
-front-textual op a b = front-pick (eqb op 9) {a = held (a ++ b)} (front-held (a ++ b)) (front-plain _ _ (plain-test _))
+front-textual op a b =
+    front-pick (eqb op 9) {a = held (a ++ b)} (front-held (a ++ b))
+    (front-pick (eqb op 22) {a = matched a b} (front-plain _ _ (plain-matched a b)) (front-plain _ _ (plain-test _)))
 
 front-texts : (op : ℕ) (v w : Value) → Front (ofTexts op v w) (bytesOf v ++ bytesOf w)
 unfolding ofTexts bytesOf
@@ -116,9 +122,9 @@ front-texts op fault w = front-plain fault _ plain-fault
 pub front-combined : (vals : List (List ℕ)) (op : ℕ) (v w : Value) → Front (combined vals op v w) (bytesOf v ++ bytesOf w)
 unfolding combined binaryBy
 front-combined vals op v w =
-    front-pick (leb op 29) {a = binaryBy op v w}
-    (front-pick (isTextual op) {a = ofTexts op v w} (front-texts op v w) (front-plain _ _ (plain-pick (leb op 27) (plain-integers op v w) (plain-pick (leb op 29) (plain-tests op v w) plain-fault))))
-    (front-plain _ _ (plain-pick (eqb op 32) (plain-rank _) (plain-pick (eqb op 33) (plain-rank _) (plain-rank _))))
+    front-pick (leb op 30) {a = binaryBy op v w}
+    (front-pick (isTextual op) {a = ofTexts op v w} (front-texts op v w) (front-plain _ _ (plain-pick (leb op 28) (plain-integers op v w) (plain-pick (leb op 30) (plain-tests op v w) plain-fault))))
+    (front-plain _ _ (plain-pick (eqb op 33) (plain-rank _) (plain-pick (eqb op 34) (plain-rank _) (plain-rank _))))
 
 -- a value of at most 4,096 bytes
 record Short (v : Value) : Type 0 where
@@ -142,23 +148,24 @@ short-texts : (op : ℕ) (v w : Value) → Short (ofTexts op v w)
 unfolding ofTexts textual
 short-texts op v w =
     short-on-text (λ a. onText (λ b. textual op a b) w) v
-    (λ a. short-on-text (λ b. textual op a b) w (λ b. short-pick (eqb op 9) {a = held (a ++ b)} (short-held (a ++ b)) (short-plain (test _) (plain-test _))))
+    (λ a. short-on-text (λ b. textual op a b) w (λ b. short-pick (eqb op 9) {a = held (a ++ b)} (short-held (a ++ b))
+    (short-pick (eqb op 22) {a = matched a b} (short-plain (matched a b) (plain-matched a b)) (short-plain (test _) (plain-test _)))))
 
 short-binary : (op : ℕ) (v w : Value) → Short (binaryBy op v w)
 unfolding binaryBy
 short-binary op v w =
     short-pick (isTextual op) {a = ofTexts op v w} (short-texts op v w)
-    (short-plain _ (plain-pick (leb op 27) (plain-integers op v w) (plain-pick (leb op 29) (plain-tests op v w) plain-fault)))
+    (short-plain _ (plain-pick (leb op 28) (plain-integers op v w) (plain-pick (leb op 30) (plain-tests op v w) plain-fault)))
 
 plain-texts : (op : ℕ) (v w : Value) → eqb op 9 ≡ false → Plain (ofTexts op v w)
 unfolding ofTexts textual
 plain-texts op v w h =
-    plain-on-text (λ a. onText (λ b. textual op a b) w) v (λ a. plain-on-text (λ b. textual op a b) w (λ b. rw h (plain-test _)))
+    plain-on-text (λ a. onText (λ b. textual op a b) w) v (λ a. plain-on-text (λ b. textual op a b) w (λ b. rw h (plain-pick (eqb op 22) (plain-matched a b) (plain-test _))))
 
 plain-binary : (op : ℕ) (v w : Value) → eqb op 9 ≡ false → Plain (binaryBy op v w)
 unfolding binaryBy
 plain-binary op v w h =
-    plain-pick (isTextual op) (plain-texts op v w h) (plain-pick (leb op 27) (plain-integers op v w) (plain-pick (leb op 29) (plain-tests op v w) plain-fault))
+    plain-pick (isTextual op) (plain-texts op v w h) (plain-pick (leb op 28) (plain-integers op v w) (plain-pick (leb op 30) (plain-tests op v w) plain-fault))
 
 -- a value has at most the span of what its operator gives
 span-unary : (look : List ℕ → List ℕ) (op : Unary) (v : Value) → length (bytesOf (unaryOf look op v)) ≤ spanOf (unaryGives op)
@@ -177,8 +184,9 @@ span-binary Operator.remainder v w = rw (plain-binary 13 v w refl .none) (omega 
 span-binary Operator.plus v w = rw (plain-binary 14 v w refl .none) (omega arith)
 span-binary Operator.minus v w = rw (plain-binary 15 v w refl .none) (omega arith)
 span-binary (Operator.comparison side r) v w = rw (plain-binary (comparisonNumber side r) v w (ne-eqb (comparisonNumber side r) 9 (λ z. omega (arith, z, comparison-between side r .0))) .none) (omega arith)
-span-binary Operator.both v w = rw (plain-binary 28 v w refl .none) (omega arith)
-span-binary Operator.either v w = rw (plain-binary 29 v w refl .none) (omega arith)
+span-binary Operator.matches v w = rw (plain-binary 22 v w refl .none) (omega arith)
+span-binary Operator.both v w = rw (plain-binary 29 v w refl .none) (omega arith)
+span-binary Operator.either v w = rw (plain-binary 30 v w refl .none) (omega arith)
 
 -- an expression's value has at most its span
 pub within-span : (env : Environment) (e : Expr) → length (bytesOf (evaluate env e)) ≤ span e

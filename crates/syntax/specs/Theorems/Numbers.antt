@@ -6,7 +6,7 @@ use Prim.Native.Nat.{ℕ, _<_, _≤_}
 use native.Mathlib.Omega.{arith}
 use lib.ListN.{getD}
 use Rattle.syntax.specs.Op
-use Rattle.syntax.specs.Operator.{Unary, Binary, Side, Relation, lookup, convert, negate, opposite, join, power, times, over, remainder, plus, minus, comparison, both, either, strings, integers, equal, unequal, less, greater, at-most, at-least}
+use Rattle.syntax.specs.Operator.{Unary, Binary, Side, Relation, lookup, convert, negate, opposite, join, power, times, over, remainder, plus, minus, comparison, matches, both, either, strings, integers, equal, unequal, less, greater, at-most, at-least}
 use Rattle.syntax.specs.Operation.{Operation, literal, name, number, truth, unary, binary, begin, plain, valued, nested, raise, unaryNumber, comparisonNumber, binaryNumber, numberOf}
 
 -- the operations in the order of their numbers
@@ -16,7 +16,7 @@ operations =
     ∷ unary lookup ∷ unary convert ∷ unary negate ∷ unary opposite
     ∷ binary join ∷ binary power ∷ binary times ∷ binary over ∷ binary remainder ∷ binary plus ∷ binary minus
     ∷ binary (comparison strings equal) ∷ binary (comparison strings unequal) ∷ binary (comparison strings less)
-    ∷ binary (comparison strings greater) ∷ binary (comparison strings at-most) ∷ binary (comparison strings at-least)
+    ∷ binary (comparison strings greater) ∷ binary (comparison strings at-most) ∷ binary (comparison strings at-least) ∷ binary matches
     ∷ binary (comparison integers equal) ∷ binary (comparison integers unequal) ∷ binary (comparison integers less)
     ∷ binary (comparison integers greater) ∷ binary (comparison integers at-most) ∷ binary (comparison integers at-least)
     ∷ binary both ∷ binary either
@@ -46,6 +46,7 @@ listed (binary (comparison strings less)) = refl
 listed (binary (comparison strings greater)) = refl
 listed (binary (comparison strings at-most)) = refl
 listed (binary (comparison strings at-least)) = refl
+listed (binary matches) = refl
 listed (binary (comparison integers equal)) = refl
 listed (binary (comparison integers unequal)) = refl
 listed (binary (comparison integers less)) = refl
@@ -94,6 +95,7 @@ binary-between remainder = (omega arith, omega arith)
 binary-between plus = (omega arith, omega arith)
 binary-between minus = (omega arith, omega arith)
 binary-between (comparison side r) = (omega (arith, comparison-between side r .0), omega (arith, comparison-between side r .1))
+binary-between matches = (omega arith, omega arith)
 binary-between both = (omega arith, omega arith)
 binary-between either = (omega arith, omega arith)
 

@@ -1,4 +1,4 @@
-use Rattle.conditions.proofs.ExpressionWays.{bracketed-0, bracketed-full, bracketed-aside, bracketed-found, chain-0, chain-start, chain-other, chain-match, chain-aside, chain-stuck, chain-more, chain-end, expr-0, expr-aside, expr-found, joined-0, joined-aside, joined-found, operand-0, operand-prefixed, operand-bracketed, operand-leaf, operand-not, prefixed-0, prefixed-row, prefixed-aside, prefixed-found}
+use Rattle.conditions.proofs.ExpressionWays.{bracketed-0, bracketed-full, bracketed-aside, bracketed-found, chain-0, chain-start, chain-other, chain-aside, chain-stuck, chain-more, chain-end, expr-0, expr-aside, expr-found, joined-0, joined-aside, joined-found, operand-0, operand-prefixed, operand-bracketed, operand-leaf, operand-not, prefixed-0, prefixed-row, prefixed-aside, prefixed-found}
 use mathlib.Core.Path.{_≡_}
 use Prim.Native.Nat.{_-_}
 use lib.ListN.{length}
@@ -249,12 +249,6 @@ chain-same-length t c = search needs
 chain-returns-2 : (t : ℕ) → chain-lts.Need-returns-2 (chain-claims t) (chain-at t) chain.Post chain-Inv-loop chain-μ-loop
 chain-returns-2 t c = search chain-other
 
-chain-same-length-2 : (t : ℕ) → chain-lts.Need-same-length-2 (chain-claims t) (chain-at t) chain.Post chain-Inv-loop chain-μ-loop
-chain-same-length-2 t c = search needs
-
-chain-returns-3 : (t : ℕ) → chain-lts.Need-returns-3 (chain-claims t) (chain-at t) chain.Post chain-Inv-loop chain-μ-loop
-chain-returns-3 t c = search chain-match
-
 chain-sub-joined : (t : ℕ) → chain-lts.Need-sub-joined (chain-claims t) (chain-at t) chain.Post chain-Inv-loop chain-μ-loop
 chain-sub-joined t c = search needs
 
@@ -264,20 +258,20 @@ chain-joined-requires t c κs = search needs
 chain-enum-known-reason : (t : ℕ) → chain-lts.Need-enum-known-reason (chain-claims t) (chain-at t) chain.Post chain-Inv-loop chain-μ-loop
 chain-enum-known-reason t c = search needs
 
-chain-same-length-3 : (t : ℕ) → chain-lts.Need-same-length-3 (chain-claims t) (chain-at t) chain.Post chain-Inv-loop chain-μ-loop
-chain-same-length-3 t c = search needs
+chain-same-length-2 : (t : ℕ) → chain-lts.Need-same-length-2 (chain-claims t) (chain-at t) chain.Post chain-Inv-loop chain-μ-loop
+chain-same-length-2 t c = search needs
 
-chain-returns-4 : (t : ℕ) → chain-lts.Need-returns-4 (chain-claims t) (chain-at t) chain.Post chain-Inv-loop chain-μ-loop
-chain-returns-4 t c = search chain-aside
+chain-returns-3 : (t : ℕ) → chain-lts.Need-returns-3 (chain-claims t) (chain-at t) chain.Post chain-Inv-loop chain-μ-loop
+chain-returns-3 t c = search chain-aside
 
 chain-enum-known-x : (t : ℕ) → chain-lts.Need-enum-known-x (chain-claims t) (chain-at t) chain.Post chain-Inv-loop chain-μ-loop
 chain-enum-known-x t c = search needs
 
-chain-same-length-4 : (t : ℕ) → chain-lts.Need-same-length-4 (chain-claims t) (chain-at t) chain.Post chain-Inv-loop chain-μ-loop
-chain-same-length-4 t c = search needs
+chain-same-length-3 : (t : ℕ) → chain-lts.Need-same-length-3 (chain-claims t) (chain-at t) chain.Post chain-Inv-loop chain-μ-loop
+chain-same-length-3 t c = search needs
 
-chain-returns-5 : (t : ℕ) → chain-lts.Need-returns-5 (chain-claims t) (chain-at t) chain.Post chain-Inv-loop chain-μ-loop
-chain-returns-5 t c = search chain-stuck
+chain-returns-4 : (t : ℕ) → chain-lts.Need-returns-4 (chain-claims t) (chain-at t) chain.Post chain-Inv-loop chain-μ-loop
+chain-returns-4 t c = search chain-stuck
 
 chain-loop-less : (t : ℕ) → chain-lts.Need-loop-less (chain-claims t) (chain-at t) chain.Post chain-Inv-loop chain-μ-loop
 chain-loop-less t c = search needs
@@ -285,11 +279,11 @@ chain-loop-less t c = search needs
 chain-loop-again : (t : ℕ) → chain-lts.Need-loop-again (chain-claims t) (chain-at t) chain.Post chain-Inv-loop chain-μ-loop
 chain-loop-again t c = (search needs, search chain-more)
 
-chain-same-length-5 : (t : ℕ) → chain-lts.Need-same-length-5 (chain-claims t) (chain-at t) chain.Post chain-Inv-loop chain-μ-loop
-chain-same-length-5 t c = search needs
+chain-same-length-4 : (t : ℕ) → chain-lts.Need-same-length-4 (chain-claims t) (chain-at t) chain.Post chain-Inv-loop chain-μ-loop
+chain-same-length-4 t c = search needs
 
-chain-returns-6 : (t : ℕ) → chain-lts.Need-returns-6 (chain-claims t) (chain-at t) chain.Post chain-Inv-loop chain-μ-loop
-chain-returns-6 t c = search chain-end
+chain-returns-5 : (t : ℕ) → chain-lts.Need-returns-5 (chain-claims t) (chain-at t) chain.Post chain-Inv-loop chain-μ-loop
+chain-returns-5 t c = search chain-end
 
 expression-returns : (t : ℕ) → expression-lts.Need-returns (expression-claims t) (expression-at t) expression.Post
 expression-returns t c = search expr-0
@@ -505,20 +499,18 @@ pub +bracketed+chain+expression+joined+operand+prefixed-spec : {M : Type 1} → 
     (chain-is-loose-requires t)
     (chain-same-length t)
     (chain-returns-2 t)
-    (chain-same-length-2 t)
-    (chain-returns-3 t)
     (chain-sub-joined t)
     (chain-joined-requires t)
     (chain-enum-known-reason t)
+    (chain-same-length-2 t)
+    (chain-returns-3 t)
+    (chain-enum-known-x t)
     (chain-same-length-3 t)
     (chain-returns-4 t)
-    (chain-enum-known-x t)
-    (chain-same-length-4 t)
-    (chain-returns-5 t)
     (chain-loop-less t)
     (chain-loop-again t)
-    (chain-same-length-5 t)
-    (chain-returns-6 t))
+    (chain-same-length-4 t)
+    (chain-returns-5 t))
     (λ t. expression-lts.spec
     (operand-below t, operand.Post, chain-below t, chain.Post)
     (expression-at t)

@@ -11,11 +11,11 @@ returns c = (search level-comparison, search needs)
 
 returns-2 : tie.Need-returns-2
 unfolding levelOf
-returns-2 c = (search (level-known 28), search needs)
+returns-2 c = (search (level-known 29), search needs)
 
 returns-3 : tie.Need-returns-3
 unfolding levelOf
-returns-3 c = (search (level-known 29), search needs)
+returns-3 c = (search (level-known 30), search needs)
 
 returns-4 : tie.Need-returns-4
 returns-4 c = (search level-other, search needs)

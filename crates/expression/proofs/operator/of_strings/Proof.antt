@@ -1,4 +1,4 @@
-use Rattle.expression.specs.Working.Operating.{does-join, does-equal, does-differ, does-order}
+use Rattle.expression.specs.Working.Operating.{does-join, does-equal, does-differ, does-match, does-order}
 use borrow.Author.Needs.{needs}
 use Rattle.expression.proofs.operator.of_strings.Statement.{statement}
 use Rattle.expression.proofs.operator.of_strings.Tie as tie
@@ -6,6 +6,7 @@ use Rattle.expression.proofs.operator.of_strings.Reads as reads
 use Rattle.expression.proofs.operator.of_strings.Lts as lts
 use Rattle.expression.proofs.integer.opposite.Reads as opposite-reads
 use Rattle.expression.proofs.operator.join.Reads as join-reads
+use Rattle.expression.proofs.operator.match_strings.Reads as match-strings-reads
 use Rattle.expression.proofs.operator.minus.Reads as minus-reads
 use Rattle.expression.proofs.operator.relation.Reads as relation-reads
 use Rattle.text.proofs.compare.Reads as compare-reads
@@ -32,6 +33,12 @@ opposite-requires c κs = search needs
 returns-3 : tie.Need-returns-3
 returns-3 c = search does-differ
 
+match-strings-requires : tie.Need-match-strings-requires
+match-strings-requires c κs = search needs
+
+returns-4 : tie.Need-returns-4
+returns-4 c = search does-match
+
 compare-requires : tie.Need-compare-requires
 compare-requires c κs = search needs
 
@@ -41,8 +48,8 @@ minus-requires c κs = search needs
 relation-requires : tie.Need-relation-requires
 relation-requires c κs = search needs
 
-returns-4 : tie.Need-returns-4
-returns-4 c = search does-order
+returns-5 : tie.Need-returns-5
+returns-5 c = search does-order
 
 pub of-strings-spec : {M : Type 1} → statement M
 of-strings-spec =
@@ -55,7 +62,9 @@ of-strings-spec =
     same-bytes-requires-2
     opposite-requires
     returns-3
+    match-strings-requires
+    returns-4
     compare-requires
     minus-requires
     relation-requires
-    returns-4)
+    returns-5)

@@ -1,0 +1,9 @@
+pub mod Class
+pub mod Tree
+pub mod Match
+pub mod Bytes
+pub mod Grammar
+pub mod Verdict
+pub mod Test
+pub mod Theorems
+pub mod Working
