@@ -10,7 +10,6 @@ use Rattle.text.specs.Choice.{pick, split, clash}
 use Rattle.text.specs.Loop.{loop-next, loop-done}
 use Rattle.lexical.specs.Kind
 use Rattle.lexical.specs.declared.token.Token.{Token}
-
 use Rattle.conditions.specs.Working.Numbered
 use Rattle.conditions.specs.Word.{nextAt}
 use Rattle.conditions.specs.Working.Emit.{Ran, ran, settledTop, settled, refused, finishAt, closedAt}
