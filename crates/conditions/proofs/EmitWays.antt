@@ -12,7 +12,7 @@ use Rattle.lexical.specs.declared.token.Token.{Token}
 use Rattle.syntax.specs.Op
 use Rattle.syntax.specs.Code.{entry}
 use Rattle.syntax.specs.Parsed.{refusal}
-use Rattle.conditions.specs.Table.{TEST, TEXT, TRUE, fits}
+use Rattle.conditions.specs.Working.Numbered.{TEST, TEXT, TRUE, fits}
 use Rattle.conditions.specs.Working.Numbered.{operandOf, resultOf}
 use Rattle.conditions.specs.Word.{nextAt}
 use Rattle.conditions.specs.Working.Emit.{slotOf, above, put, settledTop, settled, Ran, ran, refused, finishAt, endedAt, valuedAt, closedAt}

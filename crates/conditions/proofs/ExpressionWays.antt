@@ -10,7 +10,6 @@ use Rattle.text.specs.Choice.{pick, split, clash}
 use Rattle.text.specs.Loop.{loop-next, loop-done}
 use Rattle.lexical.specs.Kind
 use Rattle.lexical.specs.declared.token.Token.{Token}
-use Rattle.conditions.specs.Table
 use Rattle.conditions.specs.Working.Numbered
 use Rattle.conditions.specs.Word.{nextAt}
 use Rattle.conditions.specs.Working.Emit.{Ran, ran, settledTop, settled, refused, finishAt, closedAt}
@@ -98,7 +97,7 @@ module _ (d : ℕ) (s m : List ℕ) (top level want row nest : ℕ) (t : Token) 
   pub expr-found : (x p u : ℕ) (n : Token) → r ≡ Found x p u n → (y : Ran) → y ≡ chainAt (d - 1) s b u level nest x p n → y ≡ exprAt d s m top level want row nest t
   expr-found x p u n e y ye = simp (expr-unfold s m top nest d nz, sym re, e) ye
 
-module _ (d : ℕ) (s m : List ℕ) (top want row nest : ℕ) (t : Token) (nz : d ≡ 0 → ⊥) (a : Bool) (ae : a ≡ Table.allows want (t .kind)) where
+module _ (d : ℕ) (s m : List ℕ) (top want row nest : ℕ) (t : Token) (nz : d ≡ 0 → ⊥) (a : Bool) (ae : a ≡ Numbered.allows want (t .kind)) where
   pub operand-not : a ≡ false → (r : Out) → r ≡ refused t → ran r m ≡ operandAt d s m top want row nest t
   operand-not h r e = simp (operand-unfold s m top nest d nz, sym ae, h, e)
 
@@ -129,7 +128,7 @@ module _ (d : ℕ) (s m : List ℕ) (top want nest : ℕ) (t : Token) (nz : d �
   pub bracketed-full : 16 ≤ nest → ran (Aside 7 (t .start)) m ≡ bracketedAt d s m top want nest t
   bracketed-full h = simp (bracketed-unfold s m top nest d nz, le-leb _ _ h)
 
-  module _ (h : nest < 16) (n : Token) (ne : n ≡ nextAt s (t .end)) (l : ℕ) (le : l ≡ Table.insideLevel want)
+  module _ (h : nest < 16) (n : Token) (ne : n ≡ nextAt s (t .end)) (l : ℕ) (le : l ≡ Numbered.insideLevel want)
       (r : Out) (b : List ℕ) (re : ran r b ≡ exprAt (d - 1) s m top l want 0 (nest + 1) n) where
     pub bracketed-aside : (x p : ℕ) → r ≡ Aside x p → ran (Aside x p) b ≡ bracketedAt d s m top want nest t
     bracketed-aside x p e = simp (bracketed-unfold s m top nest d nz, lt-leb _ _ h, sym ne, sym le, sym re, e)

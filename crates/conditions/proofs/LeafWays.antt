@@ -12,8 +12,8 @@ use Rattle.lexical.specs.Number.{LIMIT, numberAt}
 use Rattle.lexical.specs.Word.{spells, word-true, word-false}
 use Rattle.lexical.specs.declared.token.Token.{Token}
 use Rattle.syntax.specs.Op
-use Rattle.conditions.specs.Table.{ANY, TEXT, NUMBER, TRUE, FALSE}
-use Rattle.conditions.specs.Word.{nextAt, wordSort}
+use Rattle.conditions.specs.Working.Numbered.{ANY, TEXT, NUMBER, TRUE, FALSE, wordSort}
+use Rattle.conditions.specs.Word.{nextAt}
 use Rattle.conditions.specs.Working.Emit.{Ran, ran, above, put}
 use Rattle.conditions.specs.Working.Leaf.{literalRead, nameRead, digitsRead, floatRead, leafRead}
 use Rattle.conditions.specs.declared.emit.Out.{Out}

@@ -11,28 +11,28 @@ use Rattle.syntax.specs.Op
 use Rattle.conditions.specs.Table
 use Rattle.conditions.specs.Working.Numbered
 
-module _ (want k : ℕ) (o : k ≡ Kind.OPEN → ⊥) (n : k ≡ Kind.NOT → ⊥) (w : want ≡ Table.TEXT → ⊥) (a : Bool) (ae : a ≡ Table.beginsNumber k) where
-  pub allows-number : a ≡ true → true ≡ Table.allows want k
-  unfolding Table.allows
+module _ (want k : ℕ) (o : k ≡ Kind.OPEN → ⊥) (n : k ≡ Kind.NOT → ⊥) (w : want ≡ Numbered.TEXT → ⊥) (a : Bool) (ae : a ≡ Table.beginsNumber k) where
+  pub allows-number : a ≡ true → true ≡ Numbered.allows want k
+  unfolding Numbered.allows
   allows-number h = simp (ne-eqb _ _ o, ne-eqb _ _ n, ne-eqb _ _ w, sym ae, h)
 
   module _ (an : a ≡ false) where
-    pub allows-integer : want ≡ Table.INTEGER → false ≡ Table.allows want k
-    unfolding Table.allows
+    pub allows-integer : want ≡ Numbered.INTEGER → false ≡ Numbered.allows want k
+    unfolding Numbered.allows
     allows-integer h = simp (ne-eqb _ _ o, ne-eqb _ _ n, ne-eqb _ _ w, sym ae, an, eq-eqb _ _ h)
 
-    module _ (i : want ≡ Table.INTEGER → ⊥) (f : Bool) (fe : f ≡ Table.beginsFloat k) where
-      pub allows-float : f ≡ true → true ≡ Table.allows want k
-      unfolding Table.allows
+    module _ (i : want ≡ Numbered.INTEGER → ⊥) (f : Bool) (fe : f ≡ Table.beginsFloat k) where
+      pub allows-float : f ≡ true → true ≡ Numbered.allows want k
+      unfolding Numbered.allows
       allows-float h = simp (ne-eqb _ _ o, ne-eqb _ _ n, ne-eqb _ _ w, sym ae, an, ne-eqb _ _ i, sym fe, h)
 
       module _ (fn : f ≡ false) where
-        pub allows-not : want ≡ Table.NUMBER → false ≡ Table.allows want k
-        unfolding Table.allows
+        pub allows-not : want ≡ Numbered.NUMBER → false ≡ Numbered.allows want k
+        unfolding Numbered.allows
         allows-not h = simp (ne-eqb _ _ o, ne-eqb _ _ n, ne-eqb _ _ w, sym ae, an, ne-eqb _ _ i, sym fe, fn, eq-eqb _ _ h)
 
-        pub allows-string : (b : Bool) → (want ≡ Table.NUMBER → ⊥) → b ≡ Table.beginsString k → b ≡ Table.allows want k
-        unfolding Table.allows
+        pub allows-string : (b : Bool) → (want ≡ Numbered.NUMBER → ⊥) → b ≡ Table.beginsString k → b ≡ Numbered.allows want k
+        unfolding Numbered.allows
         allows-string b h be = simp (ne-eqb _ _ o, ne-eqb _ _ n, ne-eqb _ _ w, sym ae, an, ne-eqb _ _ i, sym fe, fn, ne-eqb _ _ h) be
 
 module _ (k : ℕ) (p : k ≡ Kind.POWER → ⊥) (t : k ≡ Kind.TIMES → ⊥) (d : k ≡ Kind.DIVIDE → ⊥) (r : k ≡ Kind.REMAINDER → ⊥) (u : k ≡ Kind.PLUS → ⊥)
@@ -45,31 +45,31 @@ module _ (k : ℕ) (p : k ≡ Kind.POWER → ⊥) (t : k ≡ Kind.TIMES → ⊥)
   unfolding Numbered.numberOperator
   number-compared h = simp (ne-eqb _ _ p, ne-eqb _ _ t, ne-eqb _ _ d, ne-eqb _ _ r, ne-eqb _ _ u, ne-eqb _ _ m, sym ce, ne-eqb _ _ h)
 
-module _ (sort k : ℕ) (n : sort ≡ Table.NUMBER → ⊥) (x : sort ≡ Table.TEXT → ⊥) (o : ℕ) (oe : o ≡ Numbered.testOperator k) where
+module _ (sort k : ℕ) (n : sort ≡ Numbered.NUMBER → ⊥) (x : sort ≡ Numbered.TEXT → ⊥) (o : ℕ) (oe : o ≡ Numbered.testOperator k) where
   pub operator-test : (o ≡ Numbered.NONE → ⊥) → o ≡ Numbered.operator sort k
   unfolding Numbered.operator
   operator-test h = simp (ne-eqb _ _ n, ne-eqb _ _ x, sym oe, ne-eqb _ _ h)
 
   module _ (z : o ≡ Numbered.NONE) where
-    pub operator-none : sort ≡ Table.TEST → Numbered.NONE ≡ Numbered.operator sort k
+    pub operator-none : sort ≡ Numbered.TEST → Numbered.NONE ≡ Numbered.operator sort k
     unfolding Numbered.operator
     operator-none h = simp (ne-eqb _ _ n, ne-eqb _ _ x, sym oe, eq-eqb _ _ z, eq-eqb _ _ h)
 
-    pub operator-word : (r : ℕ) → (sort ≡ Table.TEST → ⊥) → r ≡ Numbered.textOperator k → r ≡ Numbered.operator sort k
+    pub operator-word : (r : ℕ) → (sort ≡ Numbered.TEST → ⊥) → r ≡ Numbered.textOperator k → r ≡ Numbered.operator sort k
     unfolding Numbered.operator
     operator-word r h re = simp (ne-eqb _ _ n, ne-eqb _ _ x, sym oe, eq-eqb _ _ z, ne-eqb _ _ h) re
 
 module _ (op x : ℕ) (xe : x ≡ Numbered.operandOf op) where
-  pub right-test : x ≡ Table.TEST → Table.ANY ≡ Numbered.rightWant op
+  pub right-test : x ≡ Numbered.TEST → Numbered.ANY ≡ Numbered.rightWant op
   unfolding Numbered.rightWant
   right-test h = simp (sym xe, eq-eqb _ _ h)
 
-  module _ (n : x ≡ Table.TEST → ⊥) where
-    pub right-text : x ≡ Table.TEXT → Table.TEXT ≡ Numbered.rightWant op
+  module _ (n : x ≡ Numbered.TEST → ⊥) where
+    pub right-text : x ≡ Numbered.TEXT → Numbered.TEXT ≡ Numbered.rightWant op
     unfolding Numbered.rightWant
     right-text h = simp (sym xe, ne-eqb _ _ n, eq-eqb _ _ h)
 
-    pub right-number : (x ≡ Table.TEXT → ⊥) → Table.INTEGER ≡ Numbered.rightWant op
+    pub right-number : (x ≡ Numbered.TEXT → ⊥) → Numbered.INTEGER ≡ Numbered.rightWant op
     unfolding Numbered.rightWant
     right-number h = simp (sym xe, ne-eqb _ _ n, ne-eqb _ _ h)
 
@@ -101,16 +101,16 @@ module _ (op : ℕ) where
     not-opposite : eqb op Op.OPPOSITE ≡ false
     not-opposite = ne-eqb op Op.OPPOSITE (λ z. let no : ⊥ = omega (arith, h, z) in no)
 
-    pub operand-test : Op.AT-LEAST < op → Table.TEST ≡ Numbered.operandOf op
+    pub operand-test : Op.AT-LEAST < op → Numbered.TEST ≡ Numbered.operandOf op
     unfolding Numbered.operandOf
     operand-test l = simp (not-opposite, lt-ltb _ _ l)
 
     module _ (l : op ≤ Op.AT-LEAST) where
-      pub operand-compared : Op.MATCHES < op → Table.NUMBER ≡ Numbered.operandOf op
+      pub operand-compared : Op.MATCHES < op → Numbered.NUMBER ≡ Numbered.operandOf op
       unfolding Numbered.operandOf
       operand-compared m = simp (not-opposite, le-ltb _ _ l, lt-ltb _ _ m)
 
-      pub operand-matched : op ≤ Op.MATCHES → Table.TEXT ≡ Numbered.operandOf op
+      pub operand-matched : op ≤ Op.MATCHES → Numbered.TEXT ≡ Numbered.operandOf op
       unfolding Numbered.operandOf
       operand-matched m = simp (not-opposite, le-ltb _ _ l, le-ltb _ _ m, lt-ltb _ _ h)
 
@@ -134,7 +134,7 @@ module _ (op : ℕ) where
     unfolding Numbered.levelOf
     level-product l p j = simp (few Op.EITHER (omega arith), few Op.BOTH (omega arith), le-ltb _ _ h, ne-eqb _ _ p, ne-eqb _ _ j, lt-ltb op Op.PLUS (omega (arith, l)))
 
-    pub operand-sum : Op.JOIN < op → Table.NUMBER ≡ Numbered.operandOf op
+    pub operand-sum : Op.JOIN < op → Numbered.NUMBER ≡ Numbered.operandOf op
     unfolding Numbered.operandOf
     operand-sum l =
         simp (
@@ -146,12 +146,12 @@ module _ (op : ℕ) where
           lt-ltb _ _ l,
         )
 
-    pub operand-plain : op ≤ Op.JOIN → (op ≡ Op.NEGATE → ⊥) → (op ≡ Op.OPPOSITE → ⊥) → Table.TEXT ≡ Numbered.operandOf op
+    pub operand-plain : op ≤ Op.JOIN → (op ≡ Op.NEGATE → ⊥) → (op ≡ Op.OPPOSITE → ⊥) → Numbered.TEXT ≡ Numbered.operandOf op
     unfolding Numbered.operandOf
     operand-plain l n o =
         simp (ne-eqb _ _ o, ne-eqb _ _ n, le-ltb Op.AT-LEAST op (omega (arith, h)), le-ltb Op.MATCHES op (omega (arith, h)), le-ltb _ _ h, le-ltb _ _ l)
 
-    pub result-sum : Op.JOIN < op → Table.NUMBER ≡ Numbered.resultOf op
+    pub result-sum : Op.JOIN < op → Numbered.NUMBER ≡ Numbered.resultOf op
     unfolding Numbered.resultOf
     result-sum l =
         simp (

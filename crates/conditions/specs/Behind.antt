@@ -11,7 +11,8 @@ use Rattle.lexical.specs.declared.token.Token.{Token}
 use Rattle.syntax.specs.Expr.{Expr, Program, none, also, Clause, nested}
 use Rattle.syntax.specs.Parsed.{Parsed, ok, aside, andThen}
 use Rattle.syntax.specs.Stood.{Stood, stood-at}
-use Rattle.conditions.specs.Table.{ANY, TEST, TEXT, fits, stops}
+use Rattle.syntax.specs.Operator.{a-string, a-test}
+use Rattle.conditions.specs.Table.{PartSort, want-any, want-string, fits, stops}
 use Rattle.conditions.specs.Parsed.{Part, part, onPart}
 use Rattle.conditions.specs.Word.{nextAt}
 use Rattle.conditions.specs.Expression.{readExpression}
@@ -24,7 +25,7 @@ pub data Behind {A : Type 0} (s : List ℕ) : Parsed A → Type 0 where
   behind-ok : (a : A) (n : Token) → Stood s n → Behind s (ok a n)
 
 module _ (s : List ℕ) where
-  on-behind : {A : Type 0} (q : Parsed Part) (k : ℕ → Expr → Token → Parsed A) → ((x : ℕ) (e : Expr) (n : Token) → Behind s (k x e n)) → Behind s (onPart q k)
+  on-behind : {A : Type 0} (q : Parsed Part) (k : PartSort → Expr → Token → Parsed A) → ((x : PartSort) (e : Expr) (n : Token) → Behind s (k x e n)) → Behind s (onPart q k)
   on-behind (aside r p) k h = behind-aside r p
   on-behind (ok (part x e) n) k h = h x e n
 
@@ -37,9 +38,9 @@ module _ (s : List ℕ) where
   unfolding ending
   ended-behind q t = chosen (Behind s) (eqb (t .kind) Kind.SEMICOLON) _ _ (λ e. behind-ok q _ (stood-at s Kind.IN-FIELD (t .end))) (λ e. behind-aside _ _)
 
-  valued-behind : (e : Expr) (sort : ℕ) (f : Expr) (t : Token) → Behind s (valuing s e sort f t)
+  valued-behind : (e : Expr) (sort : PartSort) (f : Expr) (t : Token) → Behind s (valuing s e sort f t)
   unfolding valuing
-  valued-behind e sort f t = chosen (Behind s) (fits TEXT sort) _ _ (λ h. ended-behind _ t) (λ h. behind-aside _ _)
+  valued-behind e sort f t = chosen (Behind s) (fits a-string sort) _ _ (λ h. ended-behind _ t) (λ h. behind-aside _ _)
 
   nested-behind : (d nest : ℕ) (e : Expr) (t : Token) → Behind s (readNested d s nest e t)
   unfolding readNested
@@ -51,19 +52,19 @@ module _ (s : List ℕ) where
   unfolding readValue
   value-behind zero nest e t = behind-aside _ _
   value-behind (suc d) nest e t =
-      chosen (Behind s) (eqb (t .kind) Kind.OPEN-BRACE) _ _ (λ h. nested-behind d nest e t) (λ h. on-behind (readExpression d s 3 TEXT 0 nest t) (λ x f n. valuing s e x f n) (λ x f n. valued-behind e x f n))
+      chosen (Behind s) (eqb (t .kind) Kind.OPEN-BRACE) _ _ (λ h. nested-behind d nest e t) (λ h. on-behind (readExpression d s 3 want-string 0 nest t) (λ x f n. valuing s e x f n) (λ x f n. valued-behind e x f n))
 
-  tested-behind : (d nest sort : ℕ) (e : Expr) (t : Token) → Behind s (readTested d s nest sort e t)
+  tested-behind : (d nest : ℕ) (sort : PartSort) (e : Expr) (t : Token) → Behind s (readTested d s nest sort e t)
   unfolding readTested
   tested-behind zero nest sort e t = behind-aside _ _
   tested-behind (suc d) nest sort e t =
-      chosen (Behind s) (fits TEST sort) _ _
+      chosen (Behind s) (fits a-test sort) _ _
       (λ h. chosen (Behind s) (eqb (t .kind) Kind.ARROW) _ _ (λ k. value-behind d nest _ _) (λ k. ended-behind _ t)) (λ h. behind-aside _ _)
 
   clause-behind : (d nest : ℕ) (t : Token) → Behind s (readClause d s nest t)
   unfolding readClause
   clause-behind zero nest t = behind-aside _ _
-  clause-behind (suc d) nest t = on-behind (readExpression d s 0 ANY 0 nest t) (λ x e n. readTested d s nest x e n) (λ x e n. tested-behind d nest x e n)
+  clause-behind (suc d) nest t = on-behind (readExpression d s 0 want-any 0 nest t) (λ x e n. readTested d s nest x e n) (λ x e n. tested-behind d nest x e n)
 
   -- the clauses of a program, one after the other
   module _ (d nest : ℕ) where

@@ -29,8 +29,8 @@ use Rattle.conditions.specs.Expression.{readExpression}
 abbrev powers : List ℕ
 powers = 32 ∷ 45 ∷ 50 ∷ 94 ∷ 51 ∷ 94 ∷ 50 ∷ 61 ∷ 61 ∷ 52 ∷ 59 ∷ []
 
-powers-group : readExpression 20 powers 0 Table.ANY 0 0 (nextAt powers 1)
-    ≡ ok (part Table.TEST (binary (Operator.comparison Operator.integers Operator.equal) (binary Operator.power (binary Operator.power (unary Operator.negate (number 2)) (number 3)) (number 2)) (number 4))) (token Kind.SEMICOLON 10 11)
+powers-group : readExpression 20 powers 0 Table.want-any 0 0 (nextAt powers 1)
+    ≡ ok (part (Table.sorted Operator.a-test) (binary (Operator.comparison Operator.integers Operator.equal) (binary Operator.power (binary Operator.power (unary Operator.negate (number 2)) (number 3)) (number 2)) (number 4))) (token Kind.SEMICOLON 10 11)
 unfolding readExpression readLeaf readDigits settledTree applied loop turns tokenAt inLine visible tokenFrom numberToken floatEnd operatorToken operatorAt operatorKind equalPair pairOf markKind isOf widthOf classOf hasClass inRun past Number.numberAt Number.held Number.decimal numberAt value valueFrom inClass isDigit Table.allows Table.beginsString Table.beginsNumber Table.beginsFloat Table.prefixOperator Table.operandLevel Table.operandWant Table.fits Table.operator Table.numberOperator Table.textOperator Table.testOperator Table.comparison Table.binds Table.levelOf Table.rightLevel Table.rightWant
 powers-group = refl
 
@@ -38,8 +38,8 @@ powers-group = refl
 abbrev tests : List ℕ
 tests = 32 ∷ 33 ∷ 49 ∷ 61 ∷ 61 ∷ 50 ∷ 45 ∷ 51 ∷ 45 ∷ 52 ∷ 42 ∷ 53 ∷ 38 ∷ 38 ∷ 116 ∷ 114 ∷ 117 ∷ 101 ∷ 124 ∷ 124 ∷ 102 ∷ 97 ∷ 108 ∷ 115 ∷ 101 ∷ 59 ∷ []
 
-tests-group : readExpression 30 tests 0 Table.ANY 0 0 (nextAt tests 1)
-    ≡ ok (part Table.TEST (binary Operator.either
+tests-group : readExpression 30 tests 0 Table.want-any 0 0 (nextAt tests 1)
+    ≡ ok (part (Table.sorted Operator.a-test) (binary Operator.either
     (binary Operator.both (unary Operator.opposite (binary (Operator.comparison Operator.integers Operator.equal) (number 1) (binary Operator.minus (binary Operator.minus (number 2) (number 3)) (binary Operator.times (number 4) (number 5))))) (truth true))
     (truth false))) (token Kind.SEMICOLON 25 26)
 unfolding readExpression readLeaf readName readDigits wordSort spells stands lower settledTree applied loop turns tokenAt inLine visible tokenFrom numberToken floatEnd operatorToken operatorAt operatorKind equalPair pairOf markKind isOf widthOf classOf hasClass inRun past Number.numberAt Number.held Number.decimal numberAt value valueFrom inClass isDigit Table.allows Table.beginsString Table.beginsNumber Table.beginsFloat Table.prefixOperator Table.operandLevel Table.operandWant Table.fits Table.operator Table.numberOperator Table.textOperator Table.testOperator Table.comparison Table.binds Table.levelOf Table.rightLevel Table.rightWant

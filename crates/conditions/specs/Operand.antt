@@ -1,4 +1,5 @@
 -- Operands of one token, and what an operator makes of its operands. Assumes nothing.
+use mathlib.Core.Bool.{Bool}
 use mathlib.Core.List.{List}
 use Prim.Native.Nat.{ℕ}
 use lib.Dec.{eqb, leb, ltb}
@@ -8,10 +9,10 @@ use Rattle.lexical.specs.Kind
 use Rattle.lexical.specs.Literal.{decodedAt}
 use Rattle.lexical.specs.Number as Number
 use Rattle.lexical.specs.declared.token.Token.{Token}
-use Rattle.syntax.specs.Operator.{Sort}
+use Rattle.syntax.specs.Operator.{Sort, a-string, an-integer, a-test}
 use Rattle.syntax.specs.Expr.{Expr, literal, name, number, truth}
 use Rattle.syntax.specs.Code.{nameAt, numberAt}
-use Rattle.conditions.specs.Table.{TEXT, NUMBER, TRUE, sortOf, fits}
+use Rattle.conditions.specs.Table.{PartSort, sorted, word, Want, fits}
 use Rattle.conditions.specs.Word.{nextAt, wordSort}
 use Rattle.syntax.specs.Parsed.{Parsed, ok, aside, unexpected}
 use Rattle.conditions.specs.Parsed.{Part, part}
@@ -19,33 +20,38 @@ use Rattle.conditions.specs.Parsed.{Part, part}
 -- reason 7: "literal 2,048 decoded bytes"
 unfoldable pub readLiteral : List ℕ → Token → Parsed Part
 readLiteral s t =
-    pick (ltb 2048 (length (decodedAt s (t .start)))) (aside 7 (t .start)) (ok (part TEXT (literal (decodedAt s (t .start)))) (nextAt s (t .end)))
+    pick (ltb 2048 (length (decodedAt s (t .start)))) (aside 7 (t .start)) (ok (part (sorted a-string) (literal (decodedAt s (t .start)))) (nextAt s (t .end)))
 
 -- a name, or a bare word where a test may stand too
-unfoldable pub readName : List ℕ → ℕ → Token → Parsed Part
+unfoldable pub readName : List ℕ → Want → Token → Parsed Part
 readName s want t = ok (part (wordSort s want (t .start) (t .end)) (name (nameAt s (t .start)))) (nextAt s (t .end))
 
 -- reason 5: "integer literal above 2147483647"
 unfoldable pub readDigits : List ℕ → Token → Parsed Part
 readDigits s t =
     pick (leb Number.LIMIT (Number.numberAt s (t .start) (t .end))) (aside 5 (t .start))
-    (ok (part NUMBER (number (numberAt s (t .start)))) (nextAt s (t .end)))
+    (ok (part (sorted an-integer) (number (numberAt s (t .start)))) (nextAt s (t .end)))
 
 -- reason 8: ""&" as conversion, float literal"; "&" is a prefix operator too: reason 7 for the seventeenth in a row
 unfoldable pub readFloat : ℕ → Token → Parsed Part
 readFloat row t = pick (eqb (t .kind) Kind.AMPERSAND) (pick (leb 16 row) (aside 7 (t .start)) (aside 8 (t .start))) (aside 8 (t .start))
 
-unfoldable pub readLeaf : List ℕ → ℕ → ℕ → Token → Parsed Part
+unfoldable pub readLeaf : List ℕ → Want → ℕ → Token → Parsed Part
 readLeaf s want row t =
     pick (eqb (t .kind) Kind.LITERAL) (readLiteral s t)
     (pick (eqb (t .kind) Kind.NAME) (readName s want t)
     (pick (eqb (t .kind) Kind.DIGITS) (readDigits s t) (readFloat row t)))
 
 -- a bare word becomes the test or the string that is wanted
-unfoldable pub settledTree : ℕ → ℕ → Expr → Expr
-settledTree wanted sort e = pick (ltb sort TRUE) e (pick (eqb wanted TEXT) e (truth (eqb sort TRUE)))
+abbrev pub wordTree : Sort → Bool → Expr → Expr
+wordTree a-string b e = e
+wordTree an-integer b e = truth b
+wordTree a-test b e = truth b
+
+unfoldable pub settledTree : Sort → PartSort → Expr → Expr
+settledTree wanted (sorted x) e = e
+settledTree wanted (word b) e = wordTree wanted b e
 
 -- an operator takes its last operand, if that is of its sort
-unfoldable pub applied : (Expr → Expr) → Sort → Sort → ℕ → Expr → Token → Parsed Part
-applied f takes gives sort e t =
-    pick (fits (sortOf takes) sort) (ok (part (sortOf gives) (f (settledTree (sortOf takes) sort e))) t) (unexpected t)
+unfoldable pub applied : (Expr → Expr) → Sort → Sort → PartSort → Expr → Token → Parsed Part
+applied f takes gives sort e t = pick (fits takes sort) (ok (part (sorted gives) (f (settledTree takes sort e))) t) (unexpected t)

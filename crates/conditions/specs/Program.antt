@@ -8,7 +8,8 @@ use Rattle.text.specs.Loop.{Step, next, done, loop}
 use Rattle.lexical.specs.Kind
 use Rattle.lexical.specs.declared.token.Token.{Token}
 use Rattle.syntax.specs.Expr.{Expr, Program, none, also, Clause, plain, valued, nested}
-use Rattle.conditions.specs.Table.{ANY, TEST, TEXT, fits, stops}
+use Rattle.syntax.specs.Operator.{a-string, a-test}
+use Rattle.conditions.specs.Table.{PartSort, want-any, want-string, fits, stops}
 use Rattle.conditions.specs.Word.{nextAt}
 use Rattle.syntax.specs.Parsed.{Parsed, ok, aside, unexpected, andThen}
 use Rattle.conditions.specs.Parsed.{onPart}
@@ -20,23 +21,23 @@ unfoldable pub ending : List ℕ → Clause → Token → Parsed Clause
 ending s q t = pick (eqb (t .kind) Kind.SEMICOLON) (ok q (nextAt s (t .end))) (unexpected t)
 
 -- a clause's test must be a test, or a bare word
-abbrev pub clauseOf : ℕ → (ℕ → ℕ → Expr → Token → Parsed Clause) → List ℕ → ℕ → Token → Parsed Clause
-clauseOf d tested s nest t = onPart (readExpression d s 0 ANY 0 nest t) (λ sort e n. tested nest sort e n)
+abbrev pub clauseOf : ℕ → (ℕ → PartSort → Expr → Token → Parsed Clause) → List ℕ → ℕ → Token → Parsed Clause
+clauseOf d tested s nest t = onPart (readExpression d s 0 want-any 0 nest t) (λ sort e n. tested nest sort e n)
 
 abbrev pub testedWith : (ℕ → Expr → Token → Parsed Clause) → List ℕ → ℕ → Expr → Token → Parsed Clause
 testedWith value s nest e t = pick (eqb (t .kind) Kind.ARROW) (value nest e (nextAt s (t .end))) (ending s (plain e) t)
 
-abbrev pub testedOf : (ℕ → Expr → Token → Parsed Clause) → List ℕ → ℕ → ℕ → Expr → Token → Parsed Clause
-testedOf value s nest sort e t = pick (fits TEST sort) (testedWith value s nest (settledTree TEST sort e) t) (unexpected t)
+abbrev pub testedOf : (ℕ → Expr → Token → Parsed Clause) → List ℕ → ℕ → PartSort → Expr → Token → Parsed Clause
+testedOf value s nest sort e t = pick (fits a-test sort) (testedWith value s nest (settledTree a-test sort e) t) (unexpected t)
 
 -- a value is a string
-unfoldable pub valuing : List ℕ → Expr → ℕ → Expr → Token → Parsed Clause
-valuing s e sort f t = pick (fits TEXT sort) (ending s (valued e (settledTree TEXT sort f)) t) (unexpected t)
+unfoldable pub valuing : List ℕ → Expr → PartSort → Expr → Token → Parsed Clause
+valuing s e sort f t = pick (fits a-string sort) (ending s (valued e (settledTree a-string sort f)) t) (unexpected t)
 
 -- or a program in brackets
 abbrev pub valueOf : ℕ → (ℕ → Expr → Token → Parsed Clause) → List ℕ → ℕ → Expr → Token → Parsed Clause
 valueOf d block s nest e t =
-    pick (eqb (t .kind) Kind.OPEN-BRACE) (block nest e t) (onPart (readExpression d s 3 TEXT 0 nest t) (λ sort f n. valuing s e sort f n))
+    pick (eqb (t .kind) Kind.OPEN-BRACE) (block nest e t) (onPart (readExpression d s 3 want-string 0 nest t) (λ sort f n. valuing s e sort f n))
 
 -- reason 7: "16 brackets open (round and curly together)"
 abbrev pub nestedOf : (ℕ → Token → Parsed Program) → List ℕ → ℕ → Expr → Token → Parsed Clause
@@ -69,7 +70,7 @@ unfoldable mutual
   readClause zero s nest t = aside 0 (t .start)
   readClause (suc d) s nest t = clauseOf d (λ nest sort e t. readTested d s nest sort e t) s nest t
 
-  pub readTested : ℕ → List ℕ → ℕ → ℕ → Expr → Token → Parsed Clause
+  pub readTested : ℕ → List ℕ → ℕ → PartSort → Expr → Token → Parsed Clause
   readTested zero s nest sort e t = aside 0 (t .start)
   readTested (suc d) s nest sort e t = testedOf (λ nest e t. readValue d s nest e t) s nest sort e t
 

@@ -7,33 +7,24 @@ use Rattle.lexical.specs.Kind
 use Rattle.syntax.specs.Operator.{Unary, Binary, Side, Sort, a-string, an-integer, a-test, binaryTakes}
 use Rattle.syntax.specs.Operator as Operator
 
--- what is wanted: a test, a string or an integer
-abbrev pub ANY : ℕ
-ANY = 0
+-- what was read: something of a sort, or the bare word true or false, which may become a test or a string
+pub data PartSort : Type 0 where
+  sorted : Sort → PartSort
+  word : Bool → PartSort
 
--- wanted, and a sort of what was read: a string
-abbrev pub TEXT : ℕ
-TEXT = 1
+-- what is wanted where an operand stands: anything, a string, an integer or a float, an integer
+pub data Want : Type 0 where
+  want-any : Want
+  want-string : Want
+  want-number : Want
+  want-integer : Want
 
--- wanted: an integer or a float; a sort of what was read: an integer
-abbrev pub NUMBER : ℕ
-NUMBER = 2
-
--- wanted: an integer
-abbrev pub INTEGER : ℕ
-INTEGER = 3
-
--- sorts of what was read: a test
-abbrev pub TEST : ℕ
-TEST = 0
-
--- the bare word true, which may become a test or a string
-abbrev pub TRUE : ℕ
-TRUE = 3
-
--- the bare word false
-abbrev pub FALSE : ℕ
-FALSE = 4
+-- a test may stand only where anything may
+abbrev pub isAny : Want → Bool
+isAny want-any = true
+isAny want-string = false
+isAny want-number = false
+isAny want-integer = false
 
 -- "Strings: literals, names, "." and "$""
 unfoldable pub beginsString : ℕ → Bool
@@ -47,16 +38,16 @@ beginsNumber k = pick (eqb k Kind.DIGITS) true (pick (eqb k Kind.MINUS) true (eq
 unfoldable pub beginsFloat : ℕ → Bool
 beginsFloat k = pick (eqb k Kind.FLOAT) true (eqb k Kind.AMPERSAND)
 
+-- what begins with a token of kind k, besides brackets
+abbrev pub begins : Want → ℕ → Bool
+begins want-any k = pick (eqb k Kind.NOT) true (pick (beginsNumber k) true (pick (beginsFloat k) true (beginsString k)))
+begins want-string k = beginsString k
+begins want-number k = pick (beginsNumber k) true (beginsFloat k)
+begins want-integer k = beginsNumber k
+
 -- may a token of kind k stand where `want` is wanted?
-unfoldable pub allows : ℕ → ℕ → Bool
-allows want k =
-    pick (eqb k Kind.OPEN) true
-    (pick (eqb k Kind.NOT) (eqb want ANY)
-    (pick (eqb want TEXT) (beginsString k)
-    (pick (beginsNumber k) true
-    (pick (eqb want INTEGER) false
-    (pick (beginsFloat k) true
-    (pick (eqb want NUMBER) false (beginsString k)))))))
+unfoldable pub allows : Want → ℕ → Bool
+allows want k = pick (eqb k Kind.OPEN) true (begins want k)
 
 -- what a token writes behind an operand: no operator, or one
 pub data Infix : Type 0 where
@@ -106,10 +97,11 @@ unfoldable pub testOperator : ℕ → Infix → Infix
 testOperator k other = pick (eqb k Kind.AND) (between Operator.both) (pick (eqb k Kind.OR) (between Operator.either) other)
 
 -- "Both sides of a comparison have one type": the operator behind what was read; a bare word is a test or a string
-unfoldable pub operator : ℕ → ℕ → Infix
-operator sort k =
-    pick (eqb sort NUMBER) (numberOperator k)
-    (pick (eqb sort TEXT) (textOperator k) (testOperator k (pick (eqb sort TEST) no-infix (textOperator k))))
+unfoldable pub operator : PartSort → ℕ → Infix
+operator (sorted a-string) k = textOperator k
+operator (sorted an-integer) k = numberOperator k
+operator (sorted a-test) k = testOperator k no-infix
+operator (word b) k = testOperator k (textOperator k)
 
 -- the operator before an operand
 unfoldable pub prefixOperator : ℕ → Prefix
@@ -133,12 +125,6 @@ levelOf Operator.over = 4
 levelOf Operator.remainder = 4
 levelOf Operator.power = 5
 
--- the sort of what was read
-abbrev pub sortOf : Sort → ℕ
-sortOf a-test = TEST
-sortOf a-string = TEXT
-sortOf an-integer = NUMBER
-
 -- "!" takes a comparison; "@ and $ bind as unary -", which takes no operator between operands
 unfoldable pub operandLevel : Unary → ℕ
 operandLevel Operator.lookup = 6
@@ -146,21 +132,28 @@ operandLevel Operator.convert = 6
 operandLevel Operator.negate = 6
 operandLevel Operator.opposite = 2
 
+-- where anything may stand, "-" takes an integer or a float
+abbrev pub numeric : Want → Want
+numeric want-any = want-number
+numeric want-string = want-string
+numeric want-number = want-number
+numeric want-integer = want-integer
+
 -- what is wanted behind a prefix operator
-unfoldable pub operandWant : Unary → ℕ → ℕ
-operandWant Operator.lookup want = TEXT
-operandWant Operator.convert want = TEXT
-operandWant Operator.negate want = pick (eqb want ANY) NUMBER want
-operandWant Operator.opposite want = ANY
+unfoldable pub operandWant : Unary → Want → Want
+operandWant Operator.lookup want = want-string
+operandWant Operator.convert want = want-string
+operandWant Operator.negate want = numeric want
+operandWant Operator.opposite want = want-any
 
 -- what is wanted where an operand stands to the right
-abbrev pub wantOf : Sort → ℕ
-wantOf a-test = ANY
-wantOf a-string = TEXT
-wantOf an-integer = INTEGER
+abbrev pub wantOf : Sort → Want
+wantOf a-test = want-any
+wantOf a-string = want-string
+wantOf an-integer = want-integer
 
 -- what is wanted to the right of an operator
-unfoldable pub rightWant : Binary → ℕ
+unfoldable pub rightWant : Binary → Want
 rightWant op = wantOf (binaryTakes op)
 
 -- "left to right in a class": the right operand reaches to the next operator of the same level
@@ -173,12 +166,30 @@ binds level no-infix = false
 binds level (between op) = leb level (levelOf op)
 
 -- brackets hold a whole test, or a whole string or integer
-unfoldable pub insideLevel : ℕ → ℕ
-insideLevel want = pick (eqb want ANY) 0 3
+unfoldable pub insideLevel : Want → ℕ
+insideLevel want = pick (isAny want) 0 3
+
+abbrev pub sameSort : Sort → Sort → Bool
+sameSort a-string a-string = true
+sameSort a-string an-integer = false
+sameSort a-string a-test = false
+sameSort an-integer a-string = false
+sameSort an-integer an-integer = true
+sameSort an-integer a-test = false
+sameSort a-test a-string = false
+sameSort a-test an-integer = false
+sameSort a-test a-test = true
+
+-- what a bare word can become
+abbrev pub ofWord : Sort → Bool
+ofWord a-string = true
+ofWord an-integer = false
+ofWord a-test = true
 
 -- is what was read of this sort, or a bare word that can become it?
-unfoldable pub fits : ℕ → ℕ → Bool
-fits wanted sort = pick (eqb sort wanted) true (pick (ltb sort TRUE) false (pick (eqb wanted NUMBER) false true))
+unfoldable pub fits : Sort → PartSort → Bool
+fits wanted (sorted x) = sameSort wanted x
+fits wanted (word b) = ofWord wanted
 
 -- a program ends before "}" if it stands in brackets, else before a label and at the end
 unfoldable pub stops : ℕ → ℕ → Bool

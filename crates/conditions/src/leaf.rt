@@ -15,7 +15,7 @@ use lexical::word::is_false;
 use lexical::word::is_true;
 use syntax;
 ghost use mathlib.Core.Path.{_≡_};
-ghost use Rattle.conditions.specs.Word.{wordSort};
+ghost use Rattle.conditions.specs.Working.Numbered.{wordSort};
 ghost use Rattle.conditions.specs.Working.Emit.{ran};
 ghost use Rattle.conditions.specs.Working.Leaf.{literalRead, nameRead, digitsRead, floatRead, leafRead};
 

@@ -6,8 +6,8 @@ ghost use mathlib.Core.Bool.{true, false};
 ghost use Prim.Native.Nat.{_<_};
 ghost use Rattle.text.specs.Choice.{pick};
 ghost use Rattle.syntax.specs.Parsed.{refusal};
-ghost use Rattle.conditions.specs.Table.{beginsString, beginsNumber, beginsFloat, allows, insideLevel, fits, stops};
-ghost use Rattle.conditions.specs.Working.Numbered.{comparison, numberOperator, textOperator, testOperator, operator, prefixOperator, levelOf, operandOf, resultOf, operandLevel, operandWant, rightWant, rightLevel, binds};
+ghost use Rattle.conditions.specs.Table.{beginsString, beginsNumber, beginsFloat, stops};
+ghost use Rattle.conditions.specs.Working.Numbered.{allows, insideLevel, fits, comparison, numberOperator, textOperator, testOperator, operator, prefixOperator, levelOf, operandOf, resultOf, operandLevel, operandWant, rightWant, rightLevel, binds};
 
 pub const ANY: u8 = 0;
 

@@ -7,7 +7,6 @@ use Rattle.text.specs.Choice.{pick}
 use Rattle.text.specs.Loop.{Step, next, done, loop}
 use Rattle.lexical.specs.Kind
 use Rattle.lexical.specs.declared.token.Token.{Token}
-use Rattle.conditions.specs.Table
 use Rattle.conditions.specs.Working.Numbered
 use Rattle.conditions.specs.Word.{nextAt}
 use Rattle.conditions.specs.Working.Emit.{Ran, ran, onFound, settledTop, settled, refused, finishAt, closedAt}
@@ -24,7 +23,7 @@ exprBody operand chain m top level want row nest t = onFound (operand m top want
 
 abbrev pub operandBody : (List ℕ → ℕ → ℕ → ℕ → ℕ → ℕ → Token → Ran) → (List ℕ → ℕ → ℕ → ℕ → Token → Ran) → List ℕ → List ℕ → ℕ → ℕ → ℕ → ℕ → Token → Ran
 operandBody prefixed bracketed s m top want row nest t =
-    pick (Table.allows want (t .kind))
+    pick (Numbered.allows want (t .kind))
     (pick (eqb (Numbered.prefixOperator (t .kind)) Numbered.NONE)
     (pick (eqb (t .kind) Kind.OPEN) (bracketed m top want nest t) (leafRead s m top want row t))
     (prefixed m top (Numbered.prefixOperator (t .kind)) want row nest t))
@@ -38,7 +37,7 @@ prefixedBody expr s m top op want row nest t =
 abbrev pub bracketedBody : Expr → List ℕ → List ℕ → ℕ → ℕ → ℕ → Token → Ran
 bracketedBody expr s m top want nest t =
     pick (leb 16 nest) (ran (Aside 7 (t .start)) m)
-    (onFound (expr m top (Table.insideLevel want) want 0 (nest + 1) (nextAt s (t .end))) (λ x p u n b. ran (closedAt s x p u n) b))
+    (onFound (expr m top (Numbered.insideLevel want) want 0 (nest + 1) (nextAt s (t .end))) (λ x p u n b. ran (closedAt s x p u n) b))
 
 abbrev pub joinedBody : Expr → List ℕ → List ℕ → ℕ → ℕ → ℕ → ℕ → ℕ → ℕ → Ran
 joinedBody expr s m top op nest sort place at =

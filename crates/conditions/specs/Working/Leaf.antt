@@ -9,8 +9,8 @@ use Rattle.lexical.specs.Literal.{decodedAt}
 use Rattle.lexical.specs.Number.{LIMIT, numberAt}
 use Rattle.lexical.specs.declared.token.Token.{Token}
 use Rattle.syntax.specs.Op
-use Rattle.conditions.specs.Table.{TEXT, NUMBER}
-use Rattle.conditions.specs.Word.{nextAt, wordSort}
+use Rattle.conditions.specs.Word.{nextAt}
+use Rattle.conditions.specs.Working.Numbered.{TEXT, NUMBER, wordSort}
 use Rattle.conditions.specs.Working.Emit.{Ran, ran, above, put}
 use Rattle.conditions.specs.declared.emit.Out.{Out}
 use Rattle.conditions.specs.declared.emit.Out.the-variants.{Found, Aside}

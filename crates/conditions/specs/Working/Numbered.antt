@@ -1,12 +1,81 @@
--- What the code holds for operators: their numbers, and the tables by number. Assumes nothing.
+-- What the code holds for operators, sorts and wants: their numbers, and the tables by number. Assumes nothing.
 use mathlib.Core.Bool.{Bool, true, false}
+use mathlib.Core.List.{List}
 use Prim.Native.Nat.{ℕ, _+_}
 use lib.Dec.{eqb, ltb}
 use Rattle.text.specs.Choice.{pick}
 use Rattle.lexical.specs.Kind
 use Rattle.syntax.specs.Op
 use Rattle.syntax.specs.Operation.{unaryNumber, binaryNumber}
-use Rattle.conditions.specs.Table.{ANY, TEXT, NUMBER, INTEGER, TEST, Infix, no-infix, between, Prefix, no-prefix, before}
+use Rattle.lexical.specs.Word.{spells, word-true, word-false}
+use Rattle.syntax.specs.Operator.{a-string, an-integer, a-test}
+use Rattle.conditions.specs.Table.{PartSort, sorted, word, Want, want-any, want-string, want-number, want-integer, beginsString, beginsNumber, beginsFloat, Infix, no-infix, between, Prefix, no-prefix, before}
+
+-- wanted: anything
+abbrev pub ANY : ℕ
+ANY = 0
+
+-- wanted, and a sort: a string
+abbrev pub TEXT : ℕ
+TEXT = 1
+
+-- wanted: an integer or a float; a sort: an integer
+abbrev pub NUMBER : ℕ
+NUMBER = 2
+
+-- wanted: an integer
+abbrev pub INTEGER : ℕ
+INTEGER = 3
+
+-- sorts: a test
+abbrev pub TEST : ℕ
+TEST = 0
+
+-- the bare word true
+abbrev pub TRUE : ℕ
+TRUE = 3
+
+-- the bare word false
+abbrev pub FALSE : ℕ
+FALSE = 4
+
+-- the number that the code holds for what was read, and for what is wanted
+abbrev pub sortNumber : PartSort → ℕ
+sortNumber (sorted a-string) = TEXT
+sortNumber (sorted an-integer) = NUMBER
+sortNumber (sorted a-test) = TEST
+sortNumber (word true) = TRUE
+sortNumber (word false) = FALSE
+
+abbrev pub wantNumber : Want → ℕ
+wantNumber want-any = ANY
+wantNumber want-string = TEXT
+wantNumber want-number = NUMBER
+wantNumber want-integer = INTEGER
+
+-- may a token of kind k stand where `want` is wanted?
+unfoldable pub allows : ℕ → ℕ → Bool
+allows want k =
+    pick (eqb k Kind.OPEN) true
+    (pick (eqb k Kind.NOT) (eqb want ANY)
+    (pick (eqb want TEXT) (beginsString k)
+    (pick (beginsNumber k) true
+    (pick (eqb want INTEGER) false
+    (pick (beginsFloat k) true
+    (pick (eqb want NUMBER) false (beginsString k)))))))
+
+-- brackets hold a whole test, or a whole string or integer
+unfoldable pub insideLevel : ℕ → ℕ
+insideLevel want = pick (eqb want ANY) 0 3
+
+-- is what was read of this sort, or a bare word that can become it?
+unfoldable pub fits : ℕ → ℕ → Bool
+fits wanted sort = pick (eqb sort wanted) true (pick (ltb sort TRUE) false (pick (eqb wanted NUMBER) false true))
+
+-- ""true" and "false" may also be attribute names": where both may stand, the word is not settled yet
+unfoldable pub wordSort : List ℕ → ℕ → ℕ → ℕ → ℕ
+wordSort s want start end =
+    pick (eqb want ANY) (pick (spells s start end word-true) TRUE (pick (spells s start end word-false) FALSE TEXT)) TEXT
 
 -- no operator
 abbrev pub NONE : ℕ

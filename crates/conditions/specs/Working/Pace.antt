@@ -19,13 +19,16 @@ use Rattle.lexical.specs.LineLaws.{token-real, token-fault, token-end}
 use Rattle.lexical.specs.declared.token.Token.{Token}
 use Rattle.syntax.specs.Op
 use Rattle.syntax.specs.Parsed.{refusal}
-use Rattle.conditions.specs.Table
+use Rattle.syntax.specs.Operator.{Sort, a-string, an-integer, a-test}
+use Rattle.conditions.specs.Table.{PartSort, sorted, word, Want}
+use Rattle.conditions.specs.Working.Numbered.{sortNumber, wantNumber}
 use Rattle.conditions.specs.Working.Numbered
 use Rattle.conditions.specs.Word.{nextAt, wordSort}
 use Rattle.conditions.specs.Working.Emit.{Ran, ran, refused, onFound, above, put, settledTop, settled, finishAt}
 use Rattle.conditions.specs.Working.Leaf.{literalRead, nameRead, digitsRead, floatRead, leafRead, leafFound, nameAs}
 use Rattle.conditions.specs.Working.Same.{start-within}
-use Rattle.conditions.specs.Working.TieOperand.{result-plain}
+use Rattle.conditions.specs.Working.TieOperand.{Named, named-string, named-word, name-cases}
+use Rattle.conditions.specs.Working.TieTable.{word-number}
 use Rattle.conditions.specs.declared.emit.Out.{Out}
 use Rattle.conditions.specs.declared.emit.Out.the-variants.{Found, Aside}
 
@@ -53,29 +56,26 @@ next-after s at h =
     (λ f. token-fault s Kind.IN-FIELD at (eqb-false _ _ f) (ltb-false _ _ e) .0))
 
 -- a bare word is still to be written
-unfoldable pub debt : ℕ → ℕ
-debt x = pick (ltb x Table.TRUE) 0 1
-
-pub debt-most : (x : ℕ) → debt x ≤ 1
-unfolding debt
-debt-most x = chosen (λ (n : ℕ). n ≤ 1) (ltb x Table.TRUE) 0 1 (λ e. omega arith) (λ e. omega arith)
-
-pub debt-none : (x : ℕ) → x < Table.TRUE → debt x ≡ 0
-unfolding debt
-debt-none x h = simp (lt-ltb _ _ h)
+abbrev pub debt : PartSort → ℕ
+debt (sorted x) = 0
+debt (word b) = 1
 
 pub above-most : (m : List ℕ) (top : ℕ) → above m top ≤ top + 1
 unfolding above
 above-most m top = chosen (λ (n : ℕ). n ≤ top + 1) (leb (length m) top) top (top + 1) (λ e. omega arith) (λ e. omega arith)
 
-pub settled-most : (m : List ℕ) (top x : ℕ) → settledTop m top x ≤ top + debt x
-unfolding settledTop debt
-settled-most m top x = split (ltb x Table.TRUE) (λ e. rw e (omega arith)) (λ e. rw e (above-most m top))
+pub settled-most : (m : List ℕ) (top : ℕ) (x : PartSort) → settledTop m top (sortNumber x) ≤ top + debt x
+unfolding settledTop
+settled-most m top (sorted a-string) = omega arith
+settled-most m top (sorted an-integer) = omega arith
+settled-most m top (sorted a-test) = omega arith
+settled-most m top (word true) = above-most m top
+settled-most m top (word false) = above-most m top
 
 -- a fault of document 01, or what was found: behind `low`, and at most an entry a byte since at₀
 pub data Paced (s : List ℕ) (top₀ at₀ low : ℕ) : Ran → Type 0 where
   paced-aside : (r p : ℕ) (b : List ℕ) → (r ≡ 0 → ⊥) → Paced s top₀ at₀ low (ran (Aside r p) b)
-  paced-found : (x p u : ℕ) (n : Token) (b : List ℕ) → Sound s n → low < n .start → u + debt x + at₀ ≤ top₀ + n .start → Paced s top₀ at₀ low (ran (Found x p u n) b)
+  paced-found : (x : PartSort) (p u : ℕ) (n : Token) (b : List ℕ) → Sound s n → low < n .start → u + debt x + at₀ ≤ top₀ + n .start → Paced s top₀ at₀ low (ran (Found (sortNumber x) p u n) b)
 
 pub refusal-some : (k : ℕ) → refusal k ≡ 0 → ⊥
 unfolding refusal
@@ -95,51 +95,56 @@ module _ (s : List ℕ) (top₀ at₀ low : ℕ) where
   paced-refused t b = paced-aside _ _ b (refusal-some (t .kind))
 
   pub paced-on : (top₁ at₁ low₁ : ℕ) (r : Ran) (l : ℕ → ℕ → ℕ → Token → List ℕ → Ran)
-      → ((x p u : ℕ) (n : Token) (b : List ℕ) → Sound s n → low₁ < n .start → u + debt x + at₁ ≤ top₁ + n .start → Paced s top₀ at₀ low (l x p u n b))
+      → ((x : PartSort) (p u : ℕ) (n : Token) (b : List ℕ) → Sound s n → low₁ < n .start → u + debt x + at₁ ≤ top₁ + n .start → Paced s top₀ at₀ low (l (sortNumber x) p u n b))
       → Paced s top₁ at₁ low₁ r → Paced s top₀ at₀ low (onFound r l)
   paced-on top₁ at₁ low₁ _ l h (paced-aside r p b k) = paced-aside r p b k
   paced-on top₁ at₁ low₁ _ l h (paced-found x p u n b k i j) = h x p u n b k i j
 
   -- an operator takes a byte and is written in an entry
-  pub finish-paced : (op x p u : ℕ) (n : Token) (b : List ℕ) → Sound s n → low < n .start → u + debt x + 1 + at₀ ≤ top₀ + n .start → Paced s top₀ at₀ low (finishAt b u op x p n)
+  pub finish-paced : (op : ℕ) (gives : Sort) → Numbered.resultOf op ≡ sortNumber (sorted gives) → (x : PartSort) (p u : ℕ) (n : Token) (b : List ℕ) → Sound s n → low < n .start
+      → u + debt x + 1 + at₀ ≤ top₀ + n .start → Paced s top₀ at₀ low (finishAt b u op (sortNumber x) p n)
   unfolding finishAt
-  finish-paced op x p u n b k i j =
-      chosen (Paced s top₀ at₀ low) (Table.fits (Numbered.operandOf op) x) _ _
-      (λ e. paced-found (Numbered.resultOf op) 0 (above b₁ u₁) n (put b₁ u₁ op 0) k i
-      (omega (arith, j, above-most b₁ u₁, settled-most b u x, debt-none (Numbered.resultOf op) (result-plain op))))
+  finish-paced op gives result x p u n b k i j =
+      chosen (Paced s top₀ at₀ low) (Numbered.fits (Numbered.operandOf op) (sortNumber x)) _ _
+      (λ e. rw result (paced-found (sorted gives) 0 (above b₁ u₁) n (put b₁ u₁ op 0) k i
+      (omega (arith, j, above-most b₁ u₁, settled-most b u x))))
       (λ e. paced-refused n b)
     where
       b₁ : List ℕ
-      b₁ = settled b u (Numbered.operandOf op) x p
+      b₁ = settled b u (Numbered.operandOf op) (sortNumber x) p
 
       u₁ : ℕ
-      u₁ = settledTop b u x
+      u₁ = settledTop b u (sortNumber x)
 
 -- operands of one token
 module _ (s m : List ℕ) (top : ℕ) (t : Token) (wide : t .start < t .end) (inside : t .end ≤ length s) where
-  found-paced : (x op : ℕ) → x < Table.TRUE → Paced s top (t .start) (t .start) (leafFound s m top x op t)
-  found-paced x op h =
-      paced-found x 0 (above m top) (nextAt s (t .end)) (put m top op (t .start)) (next-sound s (t .end)) (omega (arith, wide, next-after s (t .end) inside))
-      (omega (arith, wide, next-after s (t .end) inside, above-most m top, debt-none x h))
+  found-paced : (x : Sort) (op : ℕ) → Paced s top (t .start) (t .start) (leafFound s m top (sortNumber (sorted x)) op t)
+  found-paced x op =
+      paced-found (sorted x) 0 (above m top) (nextAt s (t .end)) (put m top op (t .start)) (next-sound s (t .end)) (omega (arith, wide, next-after s (t .end) inside))
+      (omega (arith, wide, next-after s (t .end) inside, above-most m top))
 
   literal-paced : Paced s top (t .start) (t .start) (literalRead s m top t)
   unfolding literalRead
-  literal-paced = chosen (Paced s top (t .start) (t .start)) (ltb 2048 (length (decodedAt s (t .start)))) _ _ (λ e. paced-aside 7 (t .start) m seven) (λ e. found-paced Table.TEXT Op.LITERAL (omega arith))
+  literal-paced = chosen (Paced s top (t .start) (t .start)) (ltb 2048 (length (decodedAt s (t .start)))) _ _ (λ e. paced-aside 7 (t .start) m seven) (λ e. found-paced a-string Op.LITERAL)
 
   digits-paced : Paced s top (t .start) (t .start) (digitsRead s m top t)
   unfolding digitsRead
   digits-paced =
-      chosen (Paced s top (t .start) (t .start)) (leb Number.LIMIT (Number.numberAt s (t .start) (t .end))) _ _ (λ e. paced-aside 5 (t .start) m (λ z. omega (arith, z))) (λ e. found-paced Table.NUMBER Op.NUMBER (omega arith))
+      chosen (Paced s top (t .start) (t .start)) (leb Number.LIMIT (Number.numberAt s (t .start) (t .end))) _ _ (λ e. paced-aside 5 (t .start) m (λ z. omega (arith, z))) (λ e. found-paced an-integer Op.NUMBER)
 
-  name-as : (w : ℕ) → Paced s top (t .start) (t .start) (nameAs s m top t w)
-  name-as w =
-      chosen (Paced s top (t .start) (t .start)) (eqb w Table.TEXT) _ _ (λ e. found-paced Table.TEXT Op.NAME (omega arith))
-      (λ e. paced-found w (t .start) top (nextAt s (t .end)) m (next-sound s (t .end)) (omega (arith, wide, next-after s (t .end) inside))
-      (omega (arith, wide, next-after s (t .end) inside, debt-most w)))
+  bare-paced : (b : Bool) → Paced s top (t .start) (t .start) (ran (Found (sortNumber (word b)) (t .start) top (nextAt s (t .end))) m)
+  bare-paced b =
+      paced-found (word b) (t .start) top (nextAt s (t .end)) m (next-sound s (t .end)) (omega (arith, wide, next-after s (t .end) inside))
+      (omega (arith, wide, next-after s (t .end) inside))
 
-  name-paced : (want : ℕ) → Paced s top (t .start) (t .start) (nameRead s m top want t)
+  name-as : (w : PartSort) → Named w → Paced s top (t .start) (t .start) (nameAs s m top t (sortNumber w))
+  name-as _ named-string = found-paced a-string Op.NAME
+  name-as _ (named-word true) = bare-paced true
+  name-as _ (named-word false) = bare-paced false
+
+  name-paced : (want : Want) → Paced s top (t .start) (t .start) (nameRead s m top (wantNumber want) t)
   unfolding nameRead
-  name-paced want = name-as (wordSort s want (t .start) (t .end))
+  name-paced want = rw (word-number s want (t .start) (t .end)) (name-as (wordSort s want (t .start) (t .end)) (name-cases s want (t .start) (t .end)))
 
   float-paced : (row : ℕ) → Paced s top (t .start) (t .start) (ran (floatRead row t) m)
   unfolding floatRead
@@ -148,7 +153,7 @@ module _ (s m : List ℕ) (top : ℕ) (t : Token) (wide : t .start < t .end) (in
       (λ h. split (leb 16 row) (λ k. rw (h, k) (paced-aside 7 (t .start) m seven)) (λ k. rw (h, k) (paced-aside 8 (t .start) m eight)))
       (λ h. rw h (paced-aside 8 (t .start) m eight))
 
-  pub leaf-paced : (want row : ℕ) → Paced s top (t .start) (t .start) (leafRead s m top want row t)
+  pub leaf-paced : (want : Want) (row : ℕ) → Paced s top (t .start) (t .start) (leafRead s m top (wantNumber want) row t)
   unfolding leafRead
   leaf-paced want row =
       chosen (Paced s top (t .start) (t .start)) (eqb (t .kind) Kind.LITERAL) _ _ (λ e. literal-paced)

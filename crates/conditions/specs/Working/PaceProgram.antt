@@ -13,12 +13,15 @@ use Rattle.lexical.specs.Kind
 use Rattle.lexical.specs.Bounds.{chosen}
 use Rattle.lexical.specs.declared.token.Token.{Token}
 use Rattle.syntax.specs.Op
-use Rattle.conditions.specs.Table.{ANY, TEST, TEXT, fits, stops}
+use Rattle.syntax.specs.Operator.{a-string, a-test}
+use Rattle.conditions.specs.Table.{PartSort, sorted, want-any, want-string, stops}
+use Rattle.conditions.specs.Working.Numbered.{ANY, TEST, TEXT, fits, sortNumber}
 use Rattle.conditions.specs.Word.{nextAt}
 use Rattle.conditions.specs.Working.Emit.{Ran, ran, onFound, refused, above, put, settledTop, settled, endedAt, valuedAt}
 use Rattle.conditions.specs.Working.Expression.{exprAt}
 use Rattle.conditions.specs.Working.Program
-use Rattle.conditions.specs.Working.Pace.{Sound, within, real, next-sound, next-after, debt, debt-none, above-most, settled-most, refusal-some, Paced, paced-aside, paced-found, paced-refused, paced-on, seven, Goes, goes-on, ends, loop-holds}
+use Rattle.conditions.specs.Working.Pace.{Sound, within, real, next-sound, next-after, debt, above-most, settled-most, refusal-some, Paced, paced-aside, paced-found, paced-refused, paced-on, seven, Goes, goes-on, ends, loop-holds}
+use Rattle.conditions.specs.Working.Reach.{string-any}
 use Rattle.conditions.specs.Working.PaceExpression.{need, expression-paced}
 use Rattle.conditions.specs.declared.emit.Out.{Out}
 use Rattle.conditions.specs.declared.emit.Out.the-variants.{Found, Aside}
@@ -41,15 +44,15 @@ module _ (s : List ℕ) where
   ended-paced top₀ at₀ u op t b k i j =
       chosen (Paced s top₀ at₀ at₀) (eqb (t .kind) Kind.SEMICOLON) _ _
       (λ h. let w : (t .start < t .end) × (t .end ≤ length s) = real s t k (omega (arith, eqb-true (t .kind) Kind.SEMICOLON h)) in
-      paced-found TEST 0 (above b u) (nextAt s (t .end)) (put b u op 0) (next-sound s (t .end)) (omega (arith, i, w .0, next-after s (t .end) (w .1)))
-      (omega (arith, j, w .0, next-after s (t .end) (w .1), above-most b u, debt-none TEST (omega arith))))
+      paced-found (sorted a-test) 0 (above b u) (nextAt s (t .end)) (put b u op 0) (next-sound s (t .end)) (omega (arith, i, w .0, next-after s (t .end) (w .1)))
+      (omega (arith, j, w .0, next-after s (t .end) (w .1), above-most b u)))
       (λ h. paced-refused s top₀ at₀ at₀ t b)
 
-  valued-paced : (top₀ at₀ x p u : ℕ) (t : Token) (b : List ℕ) → Sound s t → at₀ ≤ t .start → u + debt x + at₀ ≤ top₀ + t .start → Paced s top₀ at₀ at₀ (valuedAt s b u x p t)
+  valued-paced : (top₀ at₀ : ℕ) (x : PartSort) (p u : ℕ) (t : Token) (b : List ℕ) → Sound s t → at₀ ≤ t .start → u + debt x + at₀ ≤ top₀ + t .start → Paced s top₀ at₀ at₀ (valuedAt s b u (sortNumber x) p t)
   unfolding valuedAt
   valued-paced top₀ at₀ x p u t b k i j =
-      chosen (Paced s top₀ at₀ at₀) (fits TEXT x) _ _
-      (λ h. ended-paced top₀ at₀ (settledTop b u x) Op.VALUED t (settled b u TEXT x p) k i (omega (arith, j, settled-most b u x)))
+      chosen (Paced s top₀ at₀ at₀) (fits TEXT (sortNumber x)) _ _
+      (λ h. ended-paced top₀ at₀ (settledTop b u (sortNumber x)) Op.VALUED t (settled b u TEXT (sortNumber x) p) k i (omega (arith, j, settled-most b u x)))
       (λ h. paced-refused s top₀ at₀ at₀ t b)
 
   blocked-on : (top₀ at₀ nest top₁ at₁ : ℕ) (r : Ran) (l : ℕ → ℕ → ℕ → Token → List ℕ → Ran)
@@ -101,18 +104,18 @@ module _ (s : List ℕ) where
     clause-paced (suc d) m top nest t k deep =
         paced-on s top (t .start) (t .start) top (t .start) (t .start) (exprAt d s m top 0 ANY 0 nest t) (λ x p u n b. Program.testedAt d s b u nest x p n)
         (λ x p u n b k i j. tested-paced d top (t .start) b u nest x p n k i j (omega (arith, deep)))
-        (expression-paced s d m top 0 ANY 0 nest t k (omega arith) (λ e. omega arith) (omega (arith, deep)))
+        (expression-paced s d m top 0 want-any 0 nest t k (omega arith) (λ e. omega arith) (omega (arith, deep)))
 
-    tested-paced : (d top₀ at₀ : ℕ) (m : List ℕ) (top nest sort place : ℕ) (t : Token) → Sound s t → at₀ < t .start → top + debt sort + at₀ ≤ top₀ + t .start → 4 + need 0 0 nest ≤ d
-        → Paced s top₀ at₀ at₀ (Program.testedAt d s m top nest sort place t)
+    tested-paced : (d top₀ at₀ : ℕ) (m : List ℕ) (top nest : ℕ) (sort : PartSort) (place : ℕ) (t : Token) → Sound s t → at₀ < t .start → top + debt sort + at₀ ≤ top₀ + t .start → 4 + need 0 0 nest ≤ d
+        → Paced s top₀ at₀ at₀ (Program.testedAt d s m top nest (sortNumber sort) place t)
     tested-paced zero top₀ at₀ m top nest sort place t k i j deep = absurd (let no : ⊥ = omega (arith, deep) in no)
     tested-paced (suc d) top₀ at₀ m top nest sort place t k i j deep =
-        chosen (Paced s top₀ at₀ at₀) (fits TEST sort) _ _
+        chosen (Paced s top₀ at₀ at₀) (fits TEST (sortNumber sort)) _ _
         (λ h. chosen (Paced s top₀ at₀ at₀) (eqb (t .kind) Kind.ARROW) _ _
         (λ e. let w : (t .start < t .end) × (t .end ≤ length s) = real s t k (omega (arith, eqb-true (t .kind) Kind.ARROW e)) in
-        value-paced d top₀ at₀ (settled m top TEST sort place) (settledTop m top sort) nest (nextAt s (t .end)) (next-sound s (t .end))
+        value-paced d top₀ at₀ (settled m top TEST (sortNumber sort) place) (settledTop m top (sortNumber sort)) nest (nextAt s (t .end)) (next-sound s (t .end))
         (omega (arith, i, w .0, next-after s (t .end) (w .1))) (omega (arith, j, settled-most m top sort, w .0, next-after s (t .end) (w .1))) (omega (arith, deep)))
-        (λ e. ended-paced top₀ at₀ (settledTop m top sort) Op.PLAIN t (settled m top TEST sort place) k (omega (arith, i)) (omega (arith, j, settled-most m top sort))))
+        (λ e. ended-paced top₀ at₀ (settledTop m top (sortNumber sort)) Op.PLAIN t (settled m top TEST (sortNumber sort) place) k (omega (arith, i)) (omega (arith, j, settled-most m top sort))))
         (λ h. paced-refused s top₀ at₀ at₀ t m)
 
     value-paced : (d top₀ at₀ : ℕ) (m : List ℕ) (top nest : ℕ) (t : Token) → Sound s t → at₀ < t .start → top + at₀ + 1 ≤ top₀ + t .start → 3 + need 0 0 nest ≤ d
@@ -124,7 +127,7 @@ module _ (s : List ℕ) where
         nested-paced d top₀ at₀ m top nest t (w .0) (w .1) i j (omega (arith, deep)))
         (λ e. paced-on s top₀ at₀ at₀ top (t .start) (t .start) (exprAt d s m top 3 TEXT 0 nest t) (λ x p u n b. valuedAt s b u x p n)
         (λ x p u n b k l f. valued-paced top₀ at₀ x p u n b k (omega (arith, i, l)) (omega (arith, j, f)))
-        (expression-paced s d m top 3 TEXT 0 nest t k (omega arith) (λ z. omega (arith, z)) (omega (arith, deep))))
+        (expression-paced s d m top 3 want-string 0 nest t k (omega arith) (λ z. string-any z) (omega (arith, deep))))
 
     nested-paced : (d top₀ at₀ : ℕ) (m : List ℕ) (top nest : ℕ) (t : Token) → t .start < t .end → t .end ≤ length s → at₀ < t .start → top + at₀ + 1 ≤ top₀ + t .start
         → 2 + need 0 0 nest ≤ d → Paced s top₀ at₀ at₀ (Program.nestedAt d s m top nest t)

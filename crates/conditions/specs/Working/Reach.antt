@@ -8,8 +8,8 @@ use borrow.Author.Tests.{leb-true, eqb-true, eqb-false}
 use Rattle.text.specs.Choice.{pick, split, clash}
 use Rattle.lexical.specs.Kind
 use Rattle.lexical.specs.Bounds.{chosen}
-use Rattle.syntax.specs.Operator.{Unary, Binary, Side, lookup, convert, negate, opposite, join, power, times, over, remainder, plus, minus, comparison, matches, both, either, strings, integers}
-use Rattle.conditions.specs.Table.{Infix, no-infix, between, Prefix, no-prefix, before}
+use Rattle.syntax.specs.Operator.{Unary, Binary, Side, a-string, an-integer, a-test, lookup, convert, negate, opposite, join, power, times, over, remainder, plus, minus, comparison, matches, both, either, strings, integers}
+use Rattle.conditions.specs.Table.{PartSort, sorted, word, Want, want-any, want-string, want-number, want-integer, isAny, Infix, no-infix, between, Prefix, no-prefix, before}
 use Rattle.conditions.specs.Table
 
 -- a token that may stand as an operand is no fault and not the end
@@ -33,25 +33,37 @@ unfolding Table.beginsFloat
 float-real k =
     chosen (Real k) (eqb k Kind.FLOAT) true _ (λ e h. omega (arith, eqb-true k Kind.FLOAT e)) (λ e h. omega (arith, eqb-true k Kind.AMPERSAND h))
 
-pub allowed-real : (want k : ℕ) → Table.allows want k ≡ true → Kind.BAD-LINE < k
+begins-real : (want : Want) (k : ℕ) → Real k (Table.begins want k)
+begins-real want-any k =
+    chosen (Real k) (eqb k Kind.NOT) true _ (λ f h. omega (arith, eqb-true k Kind.NOT f))
+    (λ f. chosen (Real k) (Table.beginsNumber k) true _ (λ i h. number-real k i)
+    (λ i. chosen (Real k) (Table.beginsFloat k) true _ (λ l h. float-real k l) (λ l. string-real k)))
+begins-real want-string k = string-real k
+begins-real want-number k = chosen (Real k) (Table.beginsNumber k) true _ (λ i h. number-real k i) (λ i. float-real k)
+begins-real want-integer k = number-real k
+
+pub allowed-real : (want : Want) (k : ℕ) → Table.allows want k ≡ true → Kind.BAD-LINE < k
 unfolding Table.allows
-allowed-real want k =
-    chosen (Real k) (eqb k Kind.OPEN) true _ (λ e h. omega (arith, eqb-true k Kind.OPEN e))
-    (λ e. chosen (Real k) (eqb k Kind.NOT) _ _ (λ f h. omega (arith, eqb-true k Kind.NOT f))
-    (λ f. chosen (Real k) (eqb want Table.TEXT) _ _ (λ g. string-real k)
-    (λ g. chosen (Real k) (Table.beginsNumber k) true _ (λ i h. number-real k i)
-    (λ i. chosen (Real k) (eqb want Table.INTEGER) false _ (λ j h. clash h refl)
-    (λ j. chosen (Real k) (Table.beginsFloat k) true _ (λ l h. float-real k l)
-    (λ l. chosen (Real k) (eqb want Table.NUMBER) false _ (λ n h. clash h refl) (λ n. string-real k)))))))
+allowed-real want k = chosen (Real k) (eqb k Kind.OPEN) true _ (λ e h. omega (arith, eqb-true k Kind.OPEN e)) (λ e. begins-real want k)
+
+pub is-any : (want : Want) → isAny want ≡ true → want ≡ want-any
+is-any want-any e = refl
+is-any want-string e = clash e refl
+is-any want-number e = clash e refl
+is-any want-integer e = clash e refl
+
+-- wants differ
+pub string-any : {A : Type 0} → want-string ≡ want-any → A
+string-any e = clash (ap isAny e) refl
 
 -- the widest operand that may stand: behind "!" where a test may stand
-unfoldable pub spread : ℕ → ℕ
-spread want = pick (eqb want Table.ANY) 68 0
+unfoldable pub spread : Want → ℕ
+spread want = pick (isAny want) 68 0
 
-pub spread-level : (want level : ℕ) → (want ≡ Table.ANY → level ≤ 2) → spread want ≤ (6 - level) * 17
+pub spread-level : (want : Want) (level : ℕ) → (want ≡ want-any → level ≤ 2) → spread want ≤ (6 - level) * 17
 unfolding spread
 spread-level want level h =
-    chosen (λ (n : ℕ). n ≤ (6 - level) * 17) (eqb want Table.ANY) 68 0 (λ e. omega (arith, h (eqb-true want Table.ANY e))) (λ e. omega arith)
+    chosen (λ (n : ℕ). n ≤ (6 - level) * 17) (isAny want) 68 0 (λ e. omega (arith, h (is-any want e))) (λ e. omega arith)
 
 pub operand-level-most : (op : Unary) → Table.operandLevel op ≤ 6
 unfolding Table.operandLevel
@@ -60,9 +72,11 @@ operand-level-most convert = omega arith
 operand-level-most negate = omega arith
 operand-level-most opposite = omega arith
 
-number-wanted : (want : ℕ) → pick (eqb want Table.ANY) Table.NUMBER want ≡ Table.ANY → 6 ≤ 2
-number-wanted want =
-    chosen (λ (w : ℕ). w ≡ Table.ANY → 6 ≤ 2) (eqb want Table.ANY) Table.NUMBER want (λ g h. omega (arith, h)) (λ g h. absurd (eqb-false want Table.ANY g h))
+number-wanted : (want : Want) → Table.numeric want ≡ want-any → 6 ≤ 2
+number-wanted want-any h = clash (ap isAny h) refl
+number-wanted want-string h = clash (ap isAny h) refl
+number-wanted want-number h = clash (ap isAny h) refl
+number-wanted want-integer h = clash (ap isAny h) refl
 
 operand-level-least : (op : Unary) → 2 ≤ Table.operandLevel op
 unfolding Table.operandLevel
@@ -71,19 +85,22 @@ operand-level-least convert = omega arith
 operand-level-least negate = omega arith
 operand-level-least opposite = omega arith
 
-pub operand-wanted : (op : Unary) (want : ℕ) → Table.operandWant op want ≡ Table.ANY → Table.operandLevel op ≤ 2
+pub operand-wanted : (op : Unary) (want : Want) → Table.operandWant op want ≡ want-any → Table.operandLevel op ≤ 2
 unfolding Table.operandWant Table.operandLevel
-operand-wanted lookup want h = omega (arith, h)
-operand-wanted convert want h = omega (arith, h)
+operand-wanted lookup want h = string-any h
+operand-wanted convert want h = string-any h
 operand-wanted negate want h = number-wanted want h
 operand-wanted opposite want h = omega arith
 
 -- "!" stands only where a test may
-not-wanted : (want k : ℕ) → k ≡ Kind.NOT → Table.allows want k ≡ true → want ≡ Table.ANY
-unfolding Table.allows
-not-wanted want k e h = eqb-true want Table.ANY (rw e at h)
+not-wanted : (want : Want) (k : ℕ) → k ≡ Kind.NOT → Table.allows want k ≡ true → isAny want ≡ true
+unfolding Table.allows Table.beginsString Table.beginsNumber Table.beginsFloat
+not-wanted want-any k e h = refl
+not-wanted want-string k e h = clash (rw e at h) refl
+not-wanted want-number k e h = clash (rw e at h) refl
+not-wanted want-integer k e h = clash (rw e at h) refl
 
-spread-any : (want : ℕ) → want ≡ Table.ANY → spread want ≡ 68
+spread-any : (want : Want) → isAny want ≡ true → spread want ≡ 68
 unfolding spread
 spread-any want e = rw e
 
@@ -99,17 +116,17 @@ other-level k n =
     (λ f. chosen (λ (i : Prefix). levelBehind i ≡ 6) (eqb k Kind.DOLLAR) (before lookup) no-prefix (λ g. refl) (λ g. refl))))
 
 -- an operator that may stand before an operand reaches no further than that operand may
-pub prefix-level : (want k : ℕ) (op : Unary) → Table.allows want k ≡ true → Table.prefixOperator k ≡ before op → (6 - Table.operandLevel op) * 17 ≤ spread want
+pub prefix-level : (want : Want) (k : ℕ) (op : Unary) → Table.allows want k ≡ true → Table.prefixOperator k ≡ before op → (6 - Table.operandLevel op) * 17 ≤ spread want
 prefix-level want k op h i =
     split (eqb k Kind.NOT)
     (λ e. let w : spread want ≡ 68 = spread-any want (not-wanted want k (eqb-true k Kind.NOT e) h) in omega (arith, w, operand-level-least op))
     (λ e. let q : levelBehind (Table.prefixOperator k) ≡ Table.operandLevel op = ap levelBehind i in omega (arith, q, other-level k e))
 
-pub inside-most : (want : ℕ) → Table.insideLevel want ≤ 6
+pub inside-most : (want : Want) → Table.insideLevel want ≤ 6
 unfolding Table.insideLevel
-inside-most want = chosen (λ (n : ℕ). n ≤ 6) (eqb want Table.ANY) 0 3 (λ e. omega arith) (λ e. omega arith)
+inside-most want = chosen (λ (n : ℕ). n ≤ 6) (isAny want) 0 3 (λ e. omega arith) (λ e. omega arith)
 
-pub inside-wanted : (want : ℕ) → want ≡ Table.ANY → Table.insideLevel want ≤ 2
+pub inside-wanted : (want : Want) → want ≡ want-any → Table.insideLevel want ≤ 2
 unfolding Table.insideLevel
 inside-wanted want h = rw h (omega arith)
 
@@ -128,18 +145,18 @@ level-most both = omega arith
 level-most either = omega arith
 
 -- a test to the right of an operator is read by "&&" or "||"
-pub right-wanted : (op : Binary) → Table.rightWant op ≡ Table.ANY → Table.rightLevel op ≤ 2
+pub right-wanted : (op : Binary) → Table.rightWant op ≡ want-any → Table.rightLevel op ≤ 2
 unfolding Table.rightWant Table.rightLevel Table.levelOf
-right-wanted join h = omega (arith, h)
-right-wanted power h = omega (arith, h)
-right-wanted times h = omega (arith, h)
-right-wanted over h = omega (arith, h)
-right-wanted remainder h = omega (arith, h)
-right-wanted plus h = omega (arith, h)
-right-wanted minus h = omega (arith, h)
-right-wanted (comparison strings r) h = omega (arith, h)
-right-wanted (comparison integers r) h = omega (arith, h)
-right-wanted matches h = omega (arith, h)
+right-wanted join h = string-any h
+right-wanted power h = clash (ap isAny h) refl
+right-wanted times h = clash (ap isAny h) refl
+right-wanted over h = clash (ap isAny h) refl
+right-wanted remainder h = clash (ap isAny h) refl
+right-wanted plus h = clash (ap isAny h) refl
+right-wanted minus h = clash (ap isAny h) refl
+right-wanted (comparison strings r) h = string-any h
+right-wanted (comparison integers r) h = clash (ap isAny h) refl
+right-wanted matches h = string-any h
 right-wanted both h = omega arith
 right-wanted either h = omega arith
 
@@ -182,11 +199,15 @@ module _ (level k : ℕ) where
       chosen Apart (eqb k Kind.DOT) _ _ (λ e n. omega (arith, eqb-true k Kind.DOT e))
       (λ e. chosen Apart (eqb k Kind.MATCHES) _ _ (λ e n. omega (arith, eqb-true k Kind.MATCHES e)) (λ e. comparison-token strings))
 
-  pub operator-token : (sort : ℕ) → Apart (Table.operator sort k)
-  unfolding Table.operator Table.testOperator
-  operator-token sort =
-      chosen Apart (eqb sort Table.NUMBER) _ _ (λ e. number-token)
-      (λ e. chosen Apart (eqb sort Table.TEXT) _ _ (λ f. text-token)
-      (λ f. chosen Apart (eqb k Kind.AND) _ _ (λ g n. omega (arith, eqb-true k Kind.AND g))
-      (λ g. chosen Apart (eqb k Kind.OR) _ _ (λ h n. omega (arith, eqb-true k Kind.OR h))
-      (λ h. chosen Apart (eqb sort Table.TEST) _ _ (λ i. none-token) (λ i. text-token)))))
+  test-token : (other : Infix) → Apart other → Apart (Table.testOperator k other)
+  unfolding Table.testOperator
+  test-token other o =
+      chosen Apart (eqb k Kind.AND) _ _ (λ g n. omega (arith, eqb-true k Kind.AND g))
+      (λ g. chosen Apart (eqb k Kind.OR) _ _ (λ h n. omega (arith, eqb-true k Kind.OR h)) (λ h. o))
+
+  pub operator-token : (sort : PartSort) → Apart (Table.operator sort k)
+  unfolding Table.operator
+  operator-token (sorted a-string) = text-token
+  operator-token (sorted an-integer) = number-token
+  operator-token (sorted a-test) = test-token no-infix none-token
+  operator-token (word b) = test-token (Table.textOperator k) text-token

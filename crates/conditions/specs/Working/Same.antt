@@ -17,7 +17,9 @@ use Rattle.lexical.specs.LineLaws.{token-real, token-fault, token-end}
 use Rattle.lexical.specs.declared.token.Token.{Token}
 use Rattle.syntax.specs.Expr.{Expr, name}
 use Rattle.syntax.specs.Code.{Codes, nameAt}
-use Rattle.conditions.specs.Table.{TRUE}
+use Rattle.syntax.specs.Operator.{Sort}
+use Rattle.conditions.specs.Table.{PartSort, sorted, word}
+use Rattle.conditions.specs.Working.Numbered.{sortNumber}
 use Rattle.conditions.specs.Word.{nextAt}
 use Rattle.syntax.specs.Parsed.{Parsed, ok, aside, unexpected, andThen}
 use Rattle.conditions.specs.Parsed.{Part, part, onPart}
@@ -36,14 +38,14 @@ start-within s at =
     (λ f. let p : (at ≤ nextAt s at .start) × (nextAt s at .start < length s) × (nextAt s at .end ≡ nextAt s at .start) = token-fault s Kind.IN-FIELD at (eqb-false _ _ f) (ltb-false _ _ e) in omega (arith, p .1)))
 
 -- a part is written, or it is a bare word that is not
-pub data PartCodes (s : List ℕ) (x p : ℕ) (e : Expr) (c : List ℕ) : Type 0 where
-  whole : x < TRUE → Codes s e c → PartCodes s x p e c
-  bare : TRUE ≤ x → e ≡ name (nameAt s p) → c ≡ [] → PartCodes s x p e c
+pub data PartCodes (s : List ℕ) (p : ℕ) (e : Expr) (c : List ℕ) : PartSort → Type 0 where
+  whole : (x : Sort) → Codes s e c → PartCodes s p e c (sorted x)
+  bare : (b : Bool) → e ≡ name (nameAt s p) → c ≡ [] → PartCodes s p e c (word b)
 
 pub data Same (s m : List ℕ) (top : ℕ) : Parsed Part → Ran → Type 0 where
   same-aside : (r p : ℕ) (b : List ℕ) → Keeps m top b → Same s m top (aside r p) (ran (Aside r p) b)
-  same-part : (x p u : ℕ) (e : Expr) (n : Token) (b : List ℕ) → p < 65536 → n .start ≤ length s → Grown m top b u (PartCodes s x p e)
-      → Same s m top (ok (part x e) n) (ran (Found x p u n) b)
+  same-part : (x : PartSort) (p u : ℕ) (e : Expr) (n : Token) (b : List ℕ) → p < 65536 → n .start ≤ length s → Grown m top b u (λ c. PartCodes s p e c x)
+      → Same s m top (ok (part x e) n) (ran (Found (sortNumber x) p u n) b)
 
 -- the same of a clause or a program
 pub data SameAs {A : Type 0} (Q : A → List ℕ → Type 0) (s m : List ℕ) (top : ℕ) : Parsed A → Ran → Type 0 where
@@ -64,8 +66,8 @@ both T true a b c d h k = h refl
 both T false a b c d h k = k refl
 
 module _ {A : Type 0} (T : Parsed A → Ran → Type 0) (s m : List ℕ) (top : ℕ) (asides : (r p : ℕ) (b : List ℕ) → Keeps m top b → T (aside r p) (ran (Aside r p) b)) where
-  pub same-on : (q : Parsed Part) (r : Ran) (k : ℕ → Expr → Token → Parsed A) (l : ℕ → ℕ → ℕ → Token → List ℕ → Ran)
-      → ((x p u : ℕ) (e : Expr) (n : Token) (b : List ℕ) → p < 65536 → n .start ≤ length s → Grown m top b u (PartCodes s x p e) → T (k x e n) (l x p u n b))
+  pub same-on : (q : Parsed Part) (r : Ran) (k : PartSort → Expr → Token → Parsed A) (l : ℕ → ℕ → ℕ → Token → List ℕ → Ran)
+      → ((x : PartSort) (p u : ℕ) (e : Expr) (n : Token) (b : List ℕ) → p < 65536 → n .start ≤ length s → Grown m top b u (λ c. PartCodes s p e c x) → T (k x e n) (l (sortNumber x) p u n b))
       → Same s m top q r → T (onPart q k) (onFound r l)
   same-on _ _ k l h (same-aside r p b i) = asides r p b i
   same-on _ _ k l h (same-part x p u e n b near within g) = h x p u e n b near within g

@@ -14,7 +14,10 @@ use Rattle.lexical.specs.declared.token.Token.{Token}
 use Rattle.syntax.specs.Op
 use Rattle.syntax.specs.Expr.{Expr, Program, none, also, Clause, plain, valued, nested}
 use Rattle.syntax.specs.Code.{entry, Codes, ProgramCodes, ClauseCodes, code-none, code-also, code-plain, code-valued, code-nested}
-use Rattle.conditions.specs.Table.{ANY, TEST, TEXT, fits, stops}
+use Rattle.syntax.specs.Operator.{a-string, a-test}
+use Rattle.conditions.specs.Table.{PartSort, want-any, want-string, fits, stops}
+use Rattle.conditions.specs.Working.Numbered.{ANY, TEST, TEXT, sortNumber}
+use Rattle.conditions.specs.Working.TieTable.{fits-number}
 use Rattle.conditions.specs.Word.{nextAt}
 use Rattle.syntax.specs.Parsed.{Parsed, ok, aside, unexpected}
 use Rattle.conditions.specs.Operand.{settledTree}
@@ -60,14 +63,14 @@ module _ (s : List ℕ) (short : length s < 65536) where
       (grown-none m₀ top₀ (λ c. c ≡ []) refl) g t
 
   valued-same : (m₀ : List ℕ) (top₀ : ℕ) (m : List ℕ) (top : ℕ) (e : Expr) → Grown m₀ top₀ m top (Codes s e)
-      → (x p u : ℕ) (f : Expr) (n : Token) (b : List ℕ) → p < 65536 → Grown m top b u (PartCodes s x p f)
-      → SameClause m₀ top₀ (Read.valuing s e x f n) (valuedAt s b u x p n)
+      → (x : PartSort) (p u : ℕ) (f : Expr) (n : Token) (b : List ℕ) → p < 65536 → Grown m top b u (λ c. PartCodes s p f c x)
+      → SameClause m₀ top₀ (Read.valuing s e x f n) (valuedAt s b u (sortNumber x) p n)
   unfolding Read.valuing valuedAt
   valued-same m₀ top₀ m top e g x p u f n b near h =
-      both (SameClause m₀ top₀) (fits TEXT x) _ _ _ _
-      (λ k. ended-same m₀ top₀ m top (settled b u TEXT x p) (settledTop b u x) (Codes s e) (Codes s (settledTree TEXT x f)) (valued e (settledTree TEXT x f)) Op.VALUED
-      (omega arith) (λ c d l q. code-valued l q) g (settle-grown s m top b u x p f near h TEXT) n)
-      (λ k. as-refused (ClauseCodes s) s m₀ top₀ n b (under g (kept h)))
+      rw (fits-number a-string x) (both (SameClause m₀ top₀) (fits a-string x) _ _ _ _
+      (λ k. ended-same m₀ top₀ m top (settled b u TEXT (sortNumber x) p) (settledTop b u (sortNumber x)) (Codes s e) (Codes s (settledTree a-string x f)) (valued e (settledTree a-string x f)) Op.VALUED
+      (omega arith) (λ c d l q. code-valued l q) g (settle-grown s m top b u p f near a-string x h) n)
+      (λ k. as-refused (ClauseCodes s) s m₀ top₀ n b (under g (kept h))))
 
   -- where a program stands
   data States (m₀ : List ℕ) (top₀ : ℕ) : Read.State → Write.State → Type 0 where
@@ -126,21 +129,21 @@ module _ (s : List ℕ) (short : length s < 65536) where
         → SameClause m top (Read.readClause d s nest t) (Write.clauseAt d s m top nest t)
     clause-same zero m top nest t within = as-aside 0 (t .start) m (keeps-self m top)
     clause-same (suc d) m top nest t within =
-        same-on (SameClause m top) s m top as-aside (readExpression d s 0 ANY 0 nest t) (exprAt d s m top 0 ANY 0 nest t)
+        same-on (SameClause m top) s m top as-aside (readExpression d s 0 want-any 0 nest t) (exprAt d s m top 0 ANY 0 nest t)
         (λ sort e n. Read.readTested d s nest sort e n) (λ x p u n b. Write.testedAt d s b u nest x p n)
         (λ x p u e n b near within g. tested-same d m top b u nest x p e n near g)
-        (expression-same s short d m top 0 ANY 0 nest t within)
+        (expression-same s short d m top 0 want-any 0 nest t within)
 
-    tested-same : (d : ℕ) (m₀ : List ℕ) (top₀ : ℕ) (m : List ℕ) (top nest sort place : ℕ) (e : Expr) (t : Token) → place < 65536 → Grown m₀ top₀ m top (PartCodes s sort place e)
-        → SameClause m₀ top₀ (Read.readTested d s nest sort e t) (Write.testedAt d s m top nest sort place t)
+    tested-same : (d : ℕ) (m₀ : List ℕ) (top₀ : ℕ) (m : List ℕ) (top nest : ℕ) (sort : PartSort) (place : ℕ) (e : Expr) (t : Token) → place < 65536 → Grown m₀ top₀ m top (λ c. PartCodes s place e c sort)
+        → SameClause m₀ top₀ (Read.readTested d s nest sort e t) (Write.testedAt d s m top nest (sortNumber sort) place t)
     tested-same zero m₀ top₀ m top nest sort place e t near g = as-aside 0 (t .start) m (kept g)
     tested-same (suc d) m₀ top₀ m top nest sort place e t near g =
-        both (SameClause m₀ top₀) (fits TEST sort) _ _ _ _
+        rw (fits-number a-test sort) (both (SameClause m₀ top₀) (fits a-test sort) _ _ _ _
         (λ h. both (SameClause m₀ top₀) (eqb (t .kind) Kind.ARROW) _ _ _ _
-        (λ k. value-same d m₀ top₀ (settled m top TEST sort place) (settledTop m top sort) nest (settledTree TEST sort e) (nextAt s (t .end)) (start-within s (t .end))
-        (settle-grown s m₀ top₀ m top sort place e near g TEST))
-        (λ k. plain-same m₀ top₀ (settled m top TEST sort place) (settledTop m top sort) (settledTree TEST sort e) t (settle-grown s m₀ top₀ m top sort place e near g TEST)))
-        (λ h. as-refused (ClauseCodes s) s m₀ top₀ t m (kept g))
+        (λ k. value-same d m₀ top₀ (settled m top TEST (sortNumber sort) place) (settledTop m top (sortNumber sort)) nest (settledTree a-test sort e) (nextAt s (t .end)) (start-within s (t .end))
+        (settle-grown s m₀ top₀ m top place e near a-test sort g))
+        (λ k. plain-same m₀ top₀ (settled m top TEST (sortNumber sort) place) (settledTop m top (sortNumber sort)) (settledTree a-test sort e) t (settle-grown s m₀ top₀ m top place e near a-test sort g)))
+        (λ h. as-refused (ClauseCodes s) s m₀ top₀ t m (kept g)))
 
     value-same : (d : ℕ) (m₀ : List ℕ) (top₀ : ℕ) (m : List ℕ) (top nest : ℕ) (e : Expr) (t : Token) → t .start ≤ length s → Grown m₀ top₀ m top (Codes s e)
         → SameClause m₀ top₀ (Read.readValue d s nest e t) (Write.valueAt d s m top nest t)
@@ -148,10 +151,10 @@ module _ (s : List ℕ) (short : length s < 65536) where
     value-same (suc d) m₀ top₀ m top nest e t within g =
         both (SameClause m₀ top₀) (eqb (t .kind) Kind.OPEN-BRACE) _ _ _ _
         (λ h. nested-same d m₀ top₀ m top nest e t g)
-        (λ h. same-on (SameClause m₀ top₀) s m top (λ r p b k. as-aside r p b (under g k)) (readExpression d s 3 TEXT 0 nest t) (exprAt d s m top 3 TEXT 0 nest t)
+        (λ h. same-on (SameClause m₀ top₀) s m top (λ r p b k. as-aside r p b (under g k)) (readExpression d s 3 want-string 0 nest t) (exprAt d s m top 3 TEXT 0 nest t)
         (λ sort f n. Read.valuing s e sort f n) (λ x p u n b. valuedAt s b u x p n)
         (λ x p u f n b near within h. valued-same m₀ top₀ m top e g x p u f n b near h)
-        (expression-same s short d m top 3 TEXT 0 nest t within))
+        (expression-same s short d m top 3 want-string 0 nest t within))
 
     nested-same : (d : ℕ) (m₀ : List ℕ) (top₀ : ℕ) (m : List ℕ) (top nest : ℕ) (e : Expr) (t : Token) → Grown m₀ top₀ m top (Codes s e)
         → SameClause m₀ top₀ (Read.readNested d s nest e t) (Write.nestedAt d s m top nest t)

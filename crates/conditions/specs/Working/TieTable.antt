@@ -1,20 +1,27 @@
 -- The tables by number say what the tables of the operators say. Assumes nothing.
-use mathlib.Core.Path.{_≡_, refl}
-use mathlib.Core.Bool.{true, false}
+use mathlib.Core.Path.{_≡_, refl, sym, ap, _∙_}
+use mathlib.Core.Bool.{Bool, true, false}
+use mathlib.Core.List.{List, [], _∷_}
 use Prim.Native.Nat.{ℕ, _+_}
 use native.Mathlib.Omega.{arith}
 use lib.Dec.{eqb, ltb, leb}
-use borrow.Author.Tests.{ltb-true, ltb-false, lt-leb, le-leb, ne-eqb}
+use lib.ListN.{getD}
+use borrow.Author.Tests.{eqb-true, ltb-true, ltb-false, lt-leb, le-leb, ne-eqb}
 use Rattle.text.specs.Choice.{pick, split, clash}
 use Rattle.lexical.specs.Kind
 use Rattle.syntax.specs.Operator.{Unary, Binary, Sort, a-string, an-integer, a-test, unaryTakes, unaryGives, binaryTakes, binaryGives, lookup, convert, negate, opposite, join, power, times, over, remainder, plus, minus, comparison, matches, both, either, strings, integers, equal, unequal, less, greater, at-most, at-least}
 use Rattle.syntax.specs.Operation.{unaryNumber, binaryNumber}
 use Rattle.syntax.specs.Theorems.Numbers.{unary-between, binary-between}
-use Rattle.conditions.specs.Table.{Infix, no-infix, between, Prefix, no-prefix, before, sortOf}
+use Rattle.conditions.specs.Table.{PartSort, sorted, word, Want, want-any, want-string, want-number, want-integer, Infix, no-infix, between, Prefix, no-prefix, before}
+use Rattle.lexical.specs.Word.{spells, word-true, word-false}
 use Rattle.conditions.specs.Table
-use Rattle.conditions.specs.Working.Numbered.{infixNumber, prefixNumber}
+use Rattle.conditions.specs.Word.{wordSort}
+use Rattle.conditions.specs.Working.Numbered.{infixNumber, prefixNumber, sortNumber, wantNumber}
 use Rattle.conditions.specs.Working.Numbered
 use Rattle.conditions.specs.Working.Same.{both as alike}
+
+abbrev SortIs : ℕ → PartSort → Type 0
+SortIs n x = n ≡ sortNumber x
 
 -- what a token writes
 abbrev Is : ℕ → Infix → Type 0
@@ -62,12 +69,76 @@ test-number : (k n : ℕ) (i : Infix) → Is n i → Is (pick (eqb (Numbered.tes
 unfolding Numbered.testOperator Table.testOperator
 test-number k n i h = split (eqb k Kind.AND) (λ e. rw e) (λ e. split (eqb k Kind.OR) (λ f. rw (e, f)) (λ f. rw (e, f) h))
 
-pub operator-number : (sort k : ℕ) → Is (Numbered.operator sort k) (Table.operator sort k)
+pub operator-number : (sort : PartSort) (k : ℕ) → Is (Numbered.operator (sortNumber sort) k) (Table.operator sort k)
 unfolding Numbered.operator Table.operator
-operator-number sort k =
-    alike Is (eqb sort Table.NUMBER) _ _ _ _ (λ e. number-number k)
-    (λ e. alike Is (eqb sort Table.TEXT) _ _ _ _ (λ f. text-number k)
-    (λ f. test-number k _ _ (alike Is (eqb sort Table.TEST) _ _ _ _ (λ g. refl) (λ g. text-number k))))
+operator-number (sorted a-string) k = text-number k
+operator-number (sorted an-integer) k = number-number k
+operator-number (sorted a-test) k = test-number k _ _ refl
+operator-number (word true) k = test-number k _ _ (text-number k)
+operator-number (word false) k = test-number k _ _ (text-number k)
+
+-- what may stand where, and what fits
+pick-same : (b : Bool) → pick b true false ≡ b
+pick-same true = refl
+pick-same false = refl
+
+-- "!" stands only where anything may
+not-first : (k : ℕ) (a b : Bool) → (k ≡ Kind.NOT → b ≡ false) → a ≡ b → pick (eqb k Kind.OPEN) true (pick (eqb k Kind.NOT) false a) ≡ pick (eqb k Kind.OPEN) true b
+not-first k a b h e = split (eqb k Kind.NOT) (λ f. rw (f, h (eqb-true k Kind.NOT f)) refl) (λ f. rw (f, e) refl)
+
+no-string : (k : ℕ) → k ≡ Kind.NOT → Table.beginsString k ≡ false
+unfolding Table.beginsString
+no-string k e = rw e refl
+
+no-integer : (k : ℕ) → k ≡ Kind.NOT → Table.beginsNumber k ≡ false
+unfolding Table.beginsNumber
+no-integer k e = rw e refl
+
+no-float : (k : ℕ) → k ≡ Kind.NOT → Table.beginsFloat k ≡ false
+unfolding Table.beginsFloat
+no-float k e = rw e refl
+
+pub allows-number : (want : Want) (k : ℕ) → Numbered.allows (wantNumber want) k ≡ Table.allows want k
+unfolding Numbered.allows Table.allows
+allows-number want-any k = refl
+allows-number want-string k = not-first k _ _ (no-string k) refl
+allows-number want-number k =
+    not-first k _ _ (λ e. rw (no-integer k e, no-float k e) refl) (ap (λ (b : Bool). pick (Table.beginsNumber k) true b) (pick-same (Table.beginsFloat k)))
+allows-number want-integer k = not-first k _ _ (no-integer k) (pick-same (Table.beginsNumber k))
+
+pub inside-number : (want : Want) → Numbered.insideLevel (wantNumber want) ≡ Table.insideLevel want
+unfolding Numbered.insideLevel Table.insideLevel
+inside-number want-any = refl
+inside-number want-string = refl
+inside-number want-number = refl
+inside-number want-integer = refl
+
+pub fits-number : (wanted : Sort) (sort : PartSort) → Numbered.fits (sortNumber (sorted wanted)) (sortNumber sort) ≡ Table.fits wanted sort
+unfolding Numbered.fits Table.fits
+fits-number a-string (sorted a-string) = refl
+fits-number a-string (sorted an-integer) = refl
+fits-number a-string (sorted a-test) = refl
+fits-number a-string (word true) = refl
+fits-number a-string (word false) = refl
+fits-number an-integer (sorted a-string) = refl
+fits-number an-integer (sorted an-integer) = refl
+fits-number an-integer (sorted a-test) = refl
+fits-number an-integer (word true) = refl
+fits-number an-integer (word false) = refl
+fits-number a-test (sorted a-string) = refl
+fits-number a-test (sorted an-integer) = refl
+fits-number a-test (sorted a-test) = refl
+fits-number a-test (word true) = refl
+fits-number a-test (word false) = refl
+
+-- a bare word where anything may stand
+pub word-number : (s : List ℕ) (want : Want) (start end : ℕ) → Numbered.wordSort s (wantNumber want) start end ≡ sortNumber (wordSort s want start end)
+unfolding Numbered.wordSort wordSort
+word-number s want-any start end =
+    alike SortIs (spells s start end word-true) _ _ _ _ (λ e. refl) (λ e. alike SortIs (spells s start end word-false) _ _ _ _ (λ f. refl) (λ f. refl))
+word-number s want-string start end = refl
+word-number s want-number start end = refl
+word-number s want-integer start end = refl
 
 abbrev Writes : ℕ → Prefix → Type 0
 Writes n i = n ≡ prefixNumber i
@@ -82,22 +153,28 @@ prefix-number k =
 
 -- what an operator takes and gives, and where it binds
 pub unary-row : (op : Unary) → (Numbered.operandLevel (unaryNumber op) ≡ Table.operandLevel op)
-    × (Numbered.operandOf (unaryNumber op) ≡ sortOf (unaryTakes op)) × (Numbered.resultOf (unaryNumber op) ≡ sortOf (unaryGives op))
+    × (Numbered.operandOf (unaryNumber op) ≡ sortNumber (sorted (unaryTakes op))) × (Numbered.resultOf (unaryNumber op) ≡ sortNumber (sorted (unaryGives op)))
 unfolding Numbered.operandLevel Numbered.operandOf Numbered.resultOf Table.operandLevel
 unary-row lookup = (refl, refl, refl)
 unary-row convert = (refl, refl, refl)
 unary-row negate = (refl, refl, refl)
 unary-row opposite = (refl, refl, refl)
 
-pub unary-want : (op : Unary) (want : ℕ) → Numbered.operandWant (unaryNumber op) want ≡ Table.operandWant op want
+negate-want : (want : Want) → pick (eqb (wantNumber want) Numbered.ANY) Numbered.NUMBER (wantNumber want) ≡ wantNumber (Table.numeric want)
+negate-want want-any = refl
+negate-want want-string = refl
+negate-want want-number = refl
+negate-want want-integer = refl
+
+pub unary-want : (op : Unary) (want : Want) → Numbered.operandWant (unaryNumber op) (wantNumber want) ≡ wantNumber (Table.operandWant op want)
 unfolding Numbered.operandWant Table.operandWant
 unary-want lookup want = refl
 unary-want convert want = refl
-unary-want negate want = refl
+unary-want negate want = negate-want want
 unary-want opposite want = refl
 
 pub binary-row : (op : Binary) → (Numbered.levelOf (binaryNumber op) ≡ Table.levelOf op)
-    × (Numbered.operandOf (binaryNumber op) ≡ sortOf (binaryTakes op)) × (Numbered.resultOf (binaryNumber op) ≡ sortOf (binaryGives op))
+    × (Numbered.operandOf (binaryNumber op) ≡ sortNumber (sorted (binaryTakes op))) × (Numbered.resultOf (binaryNumber op) ≡ sortNumber (sorted (binaryGives op)))
 unfolding Numbered.levelOf Numbered.operandOf Numbered.resultOf Table.levelOf
 binary-row join = (refl, refl, refl)
 binary-row power = (refl, refl, refl)
@@ -122,14 +199,14 @@ binary-row matches = (refl, refl, refl)
 binary-row both = (refl, refl, refl)
 binary-row either = (refl, refl, refl)
 
-pub want-number : (x : Sort) → Numbered.wantOf (sortOf x) ≡ Table.wantOf x
-want-number a-string = refl
-want-number an-integer = refl
-want-number a-test = refl
+wanted-number : (x : Sort) → Numbered.wantOf (sortNumber (sorted x)) ≡ wantNumber (Table.wantOf x)
+wanted-number a-string = refl
+wanted-number an-integer = refl
+wanted-number a-test = refl
 
-pub right-want : (op : Binary) → Numbered.rightWant (binaryNumber op) ≡ Table.rightWant op
+pub right-want : (op : Binary) → Numbered.rightWant (binaryNumber op) ≡ wantNumber (Table.rightWant op)
 unfolding Numbered.rightWant Table.rightWant
-right-want op = rw (binary-row op .1) (want-number (binaryTakes op))
+right-want op = rw (binary-row op .1) (wanted-number (binaryTakes op))
 
 pub right-level : (op : Binary) → Numbered.rightLevel (binaryNumber op) ≡ Table.rightLevel op
 unfolding Numbered.rightLevel Table.rightLevel
@@ -146,6 +223,32 @@ binds-number level (between op) =
   where
     level-is : (op : Binary) → Numbered.levelOf (binaryNumber op) ≡ Table.levelOf op
     level-is op = binary-row op .0
+
+-- sorts and wants differ in their numbers
+abbrev sorts : List PartSort
+sorts = sorted a-test ∷ sorted a-string ∷ sorted an-integer ∷ word true ∷ word false ∷ []
+
+sort-listed : (x : PartSort) → getD sorts (sortNumber x) (word true) ≡ x
+sort-listed (sorted a-string) = refl
+sort-listed (sorted an-integer) = refl
+sort-listed (sorted a-test) = refl
+sort-listed (word true) = refl
+sort-listed (word false) = refl
+
+pub sorts-differ : (x y : PartSort) → sortNumber x ≡ sortNumber y → x ≡ y
+sorts-differ x y e = sym (sort-listed x) ∙ ap (λ (n : ℕ). getD sorts n (word true)) e ∙ sort-listed y
+
+abbrev wants : List Want
+wants = want-any ∷ want-string ∷ want-number ∷ want-integer ∷ []
+
+want-listed : (x : Want) → getD wants (wantNumber x) want-any ≡ x
+want-listed want-any = refl
+want-listed want-string = refl
+want-listed want-number = refl
+want-listed want-integer = refl
+
+pub wants-differ : (x y : Want) → wantNumber x ≡ wantNumber y → x ≡ y
+wants-differ x y e = sym (want-listed x) ∙ ap (λ (n : ℕ). getD wants n want-any) e ∙ want-listed y
 
 -- what holds of two choices by what a token writes, and by its number
 module _ {A B : Type 0} (T : A → B → Type 0) where

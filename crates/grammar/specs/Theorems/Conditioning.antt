@@ -16,6 +16,8 @@ use Rattle.lexical.specs.declared.token.Token.{Token}
 use Rattle.syntax.specs.Expr.{Expr, Program, none, also, Clause, plain, valued, nested}
 use Rattle.syntax.specs.Parsed.{Parsed, ok, aside, refusal, unexpected, andThen}
 use Rattle.fields.specs.Parsed as F
+use Rattle.syntax.specs.Operator.{a-string, a-test}
+use Rattle.conditions.specs.Table.{PartSort, sorted, word, want-any, want-string}
 use Rattle.conditions.specs.Table
 use Rattle.conditions.specs.Word.{nextAt}
 use Rattle.conditions.specs.Parsed.{Part, onPart}
@@ -34,10 +36,10 @@ use Rattle.grammar.specs.Theorems.Shadow.{kind-mark, program-shadow}
 use Rattle.grammar.specs.Working.Marks.{mark, kinds-append, tokens-append, tokens-one}
 use Rattle.grammar.specs.Working.Automaton.{run}
 use Rattle.grammar.specs.Working.Looping.{Went, went-next, went-done, loop-went}
-use Rattle.grammar.specs.Working.Stations.{in-clause, value, Place, p-dead, p-begin, p-arrow, p-block, p-any, p-text, p-have, flat, station}
+use Rattle.grammar.specs.Working.Stations.{TEXT, in-clause, value, Place, p-dead, p-begin, p-arrow, p-block, p-any, p-text, p-have, flat, station}
 use Rattle.grammar.specs.Working.Stationed.{Behind, behind-arrow, behind-semicolon, held-end, value-ends, brace-opens, brace-closes, block-ends, conditions-dead, conditions-over}
-use Rattle.grammar.specs.Working.Joints.{Fits, fit-test, fit-true, fit-false, Unfit, TestFit, test-fits, test-unfit, test-fit, binds-less, kind-same, test-kind}
-use Rattle.grammar.specs.Working.Told.{Told, told-text, told-test, settle, Suits, suits-text, suits-sorted, Completes, completes, finish}
+use Rattle.grammar.specs.Working.Joints.{Fits, fit-test, fit-word, Unfit, TestFit, test-fits, test-unfit, test-fit, binds-less, kind-same, test-kind}
+use Rattle.grammar.specs.Working.Told.{Told, told-text, told-test, settle, Suits, suits-text, Completes, completes, finish}
 use Rattle.grammar.specs.Working.Onward.{Starts, start-any, start-text, after, asked-any, asked-text, any-test, strict-dead}
 use Rattle.grammar.specs.Working.Openings as O
 use Rattle.grammar.specs.Working.Reading.{Real, real-token, runs, runs-on, run-one, runs-last, Reading, got, halted, otherwise, expression-reads}
@@ -45,20 +47,18 @@ use Rattle.grammar.specs.Working.Known.{next-real}
 use Rattle.grammar.specs.Working.Yard.{one-program}
 
 -- the automaton where a clause begins and ends
-clause-wrong : (d sort k : ℕ) → Fits Table.TEST sort → Table.binds 0 (Table.operator sort k) ≡ false → eqb k Kind.ARROW ≡ false → eqb k Kind.SEMICOLON ≡ false
+clause-wrong : (d : ℕ) (sort : PartSort) (k : ℕ) → Fits a-test sort → Table.binds 0 (Table.operator sort k) ≡ false → eqb k Kind.ARROW ≡ false → eqb k Kind.SEMICOLON ≡ false
     → station (after (p-any (in-clause d)) sort) k ≡ p-dead
 unfolding station Table.operator
 clause-wrong d _ k fit-test b f g =
-    rw (binds-less 0 3 (Table.operator Table.TEST k) b (omega arith), binds-less 0 2 (Table.operator Table.TEST k) b (omega arith), b, f, g) refl
-clause-wrong d _ k fit-true b f g =
-    rw (binds-less 0 3 (Table.operator Table.TRUE k) b (omega arith), binds-less 0 2 (Table.operator Table.TRUE k) b (omega arith), b, f, g) refl
-clause-wrong d _ k fit-false b f g =
-    rw (binds-less 0 3 (Table.operator Table.TRUE k) b (omega arith), binds-less 0 2 (Table.operator Table.TRUE k) b (omega arith), b, f, g) refl
+    rw (binds-less 0 3 (Table.operator (sorted a-test) k) b (omega arith), binds-less 0 2 (Table.operator (sorted a-test) k) b (omega arith), b, f, g) refl
+clause-wrong d _ k (fit-word w) b f g =
+    rw (binds-less 0 3 (Table.operator (word true) k) b (omega arith), binds-less 0 2 (Table.operator (word true) k) b (omega arith), b, f, g) refl
 
-clause-right : (d sort k : ℕ) (p : Place) → Fits Table.TEST sort → Behind d k p → station (after (p-any (in-clause d)) sort) k ≡ p
+clause-right : (d : ℕ) (sort : PartSort) (k : ℕ) (p : Place) → Fits a-test sort → Behind d k p → station (after (p-any (in-clause d)) sort) k ≡ p
 clause-right d sort k p f b = any-test (in-clause d) k p (held-end d k p b) sort f
 
-value-wrong : (d k : ℕ) → Table.binds 3 (Table.operator Table.TEXT k) ≡ false → eqb k Kind.SEMICOLON ≡ false → station (p-have Table.TEXT (value d)) k ≡ p-dead
+value-wrong : (d k : ℕ) → Table.binds 3 (Table.operator (sorted a-string) k) ≡ false → eqb k Kind.SEMICOLON ≡ false → station (p-have TEXT (value d)) k ≡ p-dead
 unfolding station
 value-wrong d k b f = rw (b, f) refl
 
@@ -68,11 +68,11 @@ block-wrong d k f = rw f refl
 
 begin-same : (d k : ℕ) → Table.stops d k ≡ false → station (p-begin d) k ≡ station (p-any (in-clause d)) k
 unfolding station
-begin-same d k h = split (Table.allows Table.ANY (flat k)) (λ e. rw e refl) (λ e. rw (e, h) refl)
+begin-same d k h = split (Table.allows want-any (flat k)) (λ e. rw e refl) (λ e. rw (e, h) refl)
 
-arrow-same : (d k : ℕ) → eqb k Kind.OPEN-BRACE ≡ false → station (p-arrow d) k ≡ station (p-text Table.TEXT (value d)) k
+arrow-same : (d k : ℕ) → eqb k Kind.OPEN-BRACE ≡ false → station (p-arrow d) k ≡ station (p-text TEXT (value d)) k
 unfolding station
-arrow-same d k h = split (Table.allows Table.TEXT (flat k)) (λ e. rw e refl) (λ e. rw (e, h) refl)
+arrow-same d k h = split (Table.allows want-string (flat k)) (λ e. rw e refl) (λ e. rw (e, h) refl)
 
 stops-kind : (s : List ℕ) (u : Token) (d : ℕ) → Table.stops d (kindIn s u) ≡ Table.stops d (u .kind)
 unfolding Table.stops
@@ -138,20 +138,20 @@ module _ (s : List ℕ) where
       value-tree : (us : List Token) (f : Expr) → StrTree s whole us f → ProgramTree s (pre ++ us) (a-clause (valued e f))
       value-tree us f d = subst (λ (l : List Token). ProgramTree s l (a-clause (valued e f))) (sym (append-assoc ts (u ∷ []) us)) (valued-tree u ts us e f arrow tree d)
 
-      value-runs : (us : List Token) (n : Token) → eqb (v .kind) Kind.OPEN-BRACE ≡ false → Tokens s v us n → runs s (p-any (in-clause nest)) (pre ++ us) n ≡ runs s (p-text Table.TEXT (value nest)) us n
+      value-runs : (us : List Token) (n : Token) → eqb (v .kind) Kind.OPEN-BRACE ≡ false → Tokens s v us n → runs s (p-any (in-clause nest)) (pre ++ us) n ≡ runs s (p-text TEXT (value nest)) us n
       value-runs us n z p =
-          arrow-runs us n ∙ runs-head (p-arrow nest) (p-text Table.TEXT (value nest)) v n us p (arrow-same nest (kindIn s v) (test-kind s v Kind.OPEN-BRACE refl refl ∙ z))
+          arrow-runs us n ∙ runs-head (p-arrow nest) (p-text TEXT (value nest)) v n us p (arrow-same nest (kindIn s v) (test-kind s v Kind.OPEN-BRACE refl refl ∙ z))
 
-      value-reads : eqb (v .kind) Kind.OPEN-BRACE ≡ false → (rr : Parsed Part) → Reading s 3 3 3 Table.TEXT v rr → ClauseRead nest t (onPart rr (λ x f n. P.valuing s e x f n))
+      value-reads : eqb (v .kind) Kind.OPEN-BRACE ≡ false → (rr : Parsed Part) → Reading s 3 3 3 want-string v rr → ClauseRead nest t (onPart rr (λ x f n. P.valuing s e x f n))
       unfolding P.valuing Table.fits settledTree
       value-reads z _ (got us n _ _ p x suits-text (told-text _ _ f d) b g) =
-          ending-reads (pre ++ us) n (valued e f) (tokens-append s Kind.IN-FIELD t v n pre us arrow-path p) (value-tree us f d) (p-have Table.TEXT (value nest))
-          (value-runs us n z p ∙ g (p-text Table.TEXT (value nest)) (start-text (value nest))) (value-ends nest)
+          ending-reads (pre ++ us) n (valued e f) (tokens-append s Kind.IN-FIELD t v n pre us arrow-path p) (value-tree us f d) (p-have TEXT (value nest))
+          (value-runs us n z p ∙ g (p-text TEXT (value nest)) (start-text (value nest))) (value-ends nest)
           (λ y. value-wrong nest (kindIn s n) b (test-kind s n Kind.SEMICOLON refl refl ∙ y))
       value-reads z _ (halted us n p (completes rest _ (told-text _ _ f d)) g r h) =
           c-halted (pre ++ us) n (tokens-append s Kind.IN-FIELD t v n pre us arrow-path p) rest (valued e f)
           (subst (λ (l : List Token). ProgramTree s l (a-clause (valued e f))) (sym (append-assoc pre us rest)) (value-tree (us ++ rest) f d))
-          (value-runs us n z p ∙ g (p-text Table.TEXT (value nest)) (start-text (value nest))) r h
+          (value-runs us n z p ∙ g (p-text TEXT (value nest)) (start-text (value nest))) r h
       value-reads z _ (otherwise r p n) = c-otherwise r p n
 
       -- or a program in brackets
@@ -196,7 +196,7 @@ module _ (s : List ℕ) where
           (block-tree z (us ++ rest) (mark Kind.CLOSE-BRACE) p refl d)) (block-runs z us n ∙ g) r h
       nested-reads z _ (b-otherwise r p n) = c-otherwise r p n
 
-    told-whole : (ts : List Token) (e : Expr) → Told s Table.TEST 0 ts e → TestTree s whole ts e
+    told-whole : (ts : List Token) (e : Expr) → Told s (sorted a-test) 0 ts e → TestTree s whole ts e
     told-whole _ _ (told-test _ ts e d) = d
 
     -- a clause's test, and what its value makes of it
@@ -204,42 +204,42 @@ module _ (s : List ℕ) where
     Valued reader = (ts : List Token) (u : Token) (e : Expr) → Tokens s t ts u → TestTree s whole ts e → u .kind ≡ Kind.ARROW → runs s (p-any (in-clause nest)) ts u ≡ p-arrow nest
         → ClauseRead nest t (reader nest e (nextAt s (u .end)))
 
-    module _ (reader : ℕ → Expr → Token → Parsed Clause) (values : Valued reader) (ts : List Token) (u : Token) (sort : ℕ) (e : Expr) (path : Tokens s t ts u) (y : Suits Table.ANY sort)
+    module _ (reader : ℕ → Expr → Token → Parsed Clause) (values : Valued reader) (ts : List Token) (u : Token) (sort : PartSort) (e : Expr) (path : Tokens s t ts u) (y : Suits want-any sort)
         (d : Told s sort 0 ts e) (b : Table.binds 0 (Table.operator sort (kindIn s u)) ≡ false)
-        (g : (q : Place) → Starts 0 Table.ANY q → runs s q ts u ≡ station (after q sort) (kindIn s u)) where
+        (g : (q : Place) → Starts 0 want-any q → runs s q ts u ≡ station (after q sort) (kindIn s u)) where
       at-clause : runs s (p-any (in-clause nest)) ts u ≡ station (after (p-any (in-clause nest)) sort) (kindIn s u)
       at-clause = g (p-any (in-clause nest)) (start-any (in-clause nest))
 
-      tested-with : Fits Table.TEST sort → ClauseRead nest t (P.testedWith reader s nest (settledTree Table.TEST sort e) u)
+      tested-with : Fits a-test sort → ClauseRead nest t (P.testedWith reader s nest (settledTree a-test sort e) u)
       tested-with f =
           chosen (ClauseRead nest t) (eqb (u .kind) Kind.ARROW) _ _
-          (λ z. values ts u (settledTree Table.TEST sort e) path tree (eqb-true _ _ z)
+          (λ z. values ts u (settledTree a-test sort e) path tree (eqb-true _ _ z)
           (at-clause ∙ ap (λ (k : ℕ). station (after (p-any (in-clause nest)) sort) k) (kind-mark s u Kind.ARROW (eqb-true _ _ z) refl) ∙ clause-right nest sort Kind.ARROW (p-arrow nest) f behind-arrow))
-          (λ z. ending-reads ts u (plain (settledTree Table.TEST sort e)) path (plain-tree ts _ tree) (after (p-any (in-clause nest)) sort) at-clause
+          (λ z. ending-reads ts u (plain (settledTree a-test sort e)) path (plain-tree ts _ tree) (after (p-any (in-clause nest)) sort) at-clause
           (clause-right nest sort Kind.SEMICOLON (p-begin nest) f behind-semicolon)
           (λ x. clause-wrong nest sort (kindIn s u) f b (test-kind s u Kind.ARROW refl refl ∙ z) (test-kind s u Kind.SEMICOLON refl refl ∙ x)))
         where
-          tree : TestTree s whole ts (settledTree Table.TEST sort e)
-          tree = told-whole ts (settledTree Table.TEST sort e) (settle s Table.TEST sort 0 ts e (omega arith) f d)
+          tree : TestTree s whole ts (settledTree a-test sort e)
+          tree = told-whole ts (settledTree a-test sort e) (settle s a-test sort 0 ts e (omega arith) f d)
 
-      completed : Completes s Table.TEST 0 ts → Unfit sort → ClauseRead nest t (unexpected u)
+      completed : Completes s a-test 0 ts → Unfit sort → ClauseRead nest t (unexpected u)
       completed (completes rest f k) x =
           c-halted ts u path rest (plain f) (plain-tree (ts ++ rest) f (told-whole (ts ++ rest) f k))
           (at-clause ∙ strict-dead (in-clause nest) 0 (omega arith) sort (kindIn s u) x b) (refusal (u .kind)) refl
 
-      by-fit : (fit : Bool) → TestFit sort fit → ClauseRead nest t (pick fit (P.testedWith reader s nest (settledTree Table.TEST sort e) u) (unexpected u))
+      by-fit : (fit : Bool) → TestFit sort fit → ClauseRead nest t (pick fit (P.testedWith reader s nest (settledTree a-test sort e) u) (unexpected u))
       by-fit _ (test-fits f) = tested-with f
-      by-fit _ (test-unfit x) = completed (finish s Table.ANY sort 0 0 ts e (omega arith) (omega arith) y d) x
+      by-fit _ (test-unfit x) = completed (finish s want-any sort 0 0 ts e (omega arith) (omega arith) y d) x
 
       tested-body : ClauseRead nest t (P.testedOf reader s nest sort e u)
-      tested-body = by-fit (Table.fits Table.TEST sort) (test-fit sort (suits-sorted Table.ANY sort y))
+      tested-body = by-fit (Table.fits a-test sort) (test-fit sort)
 
     -- what is known behind a test
-    abbrev Tested : (ℕ → ℕ → Expr → Token → Parsed Clause) → Type 0
-    Tested tested = (ts : List Token) (u : Token) (sort : ℕ) (e : Expr) → Tokens s t ts u → Suits Table.ANY sort → Told s sort 0 ts e → Table.binds 0 (Table.operator sort (kindIn s u)) ≡ false
-        → ((q : Place) → Starts 0 Table.ANY q → runs s q ts u ≡ station (after q sort) (kindIn s u)) → ClauseRead nest t (tested nest sort e u)
+    abbrev Tested : (ℕ → PartSort → Expr → Token → Parsed Clause) → Type 0
+    Tested tested = (ts : List Token) (u : Token) (sort : PartSort) (e : Expr) → Tokens s t ts u → Suits want-any sort → Told s sort 0 ts e → Table.binds 0 (Table.operator sort (kindIn s u)) ≡ false
+        → ((q : Place) → Starts 0 want-any q → runs s q ts u ≡ station (after q sort) (kindIn s u)) → ClauseRead nest t (tested nest sort e u)
 
-    clause-body : (tested : ℕ → ℕ → Expr → Token → Parsed Clause) → Tested tested → (rr : Parsed Part) → Reading s 0 0 0 Table.ANY t rr → ClauseRead nest t (onPart rr (λ sort e n. tested nest sort e n))
+    clause-body : (tested : ℕ → PartSort → Expr → Token → Parsed Clause) → Tested tested → (rr : Parsed Part) → Reading s 0 0 0 want-any t rr → ClauseRead nest t (onPart rr (λ sort e n. tested nest sort e n))
     clause-body tested h _ (got ts u sort e p x y d b g) = h ts u sort e p y d b g
     clause-body tested h _ (halted ts u p (completes rest f d) g r z) =
         c-halted ts u p rest (plain f) (plain-tree (ts ++ rest) f (told-whole (ts ++ rest) f d)) (g (p-any (in-clause nest)) (start-any (in-clause nest))) r z
@@ -295,13 +295,13 @@ module _ (s : List ℕ) where
       late u p h ts path (real-token x n) d g =
           chosen (BlockRead nest t) (Table.stops nest (u .kind)) _ _ (λ z. b-got ts u p path z d g)
           (λ z. b-halted ts u path [] p (subst (λ (l : List Token). ProgramTree s l (a-program p)) (sym (append-nil ts)) d)
-          (runs-last s (p-begin nest) (p-begin nest) ts u g ∙ begin-same nest (kindIn s u) (stops-kind s u nest ∙ z) ∙ O.not-allowed s u Table.ANY (p-any (in-clause nest)) (start-any (in-clause nest)) n none-allowed)
+          (runs-last s (p-begin nest) (p-begin nest) ts u g ∙ begin-same nest (kindIn s u) (stops-kind s u nest ∙ z) ∙ O.not-allowed s u want-any (p-any (in-clause nest)) (start-any (in-clause nest)) n none-allowed)
           (refusal (u .kind)) refl)
         where
-          none-allowed : Table.allows Table.ANY (u .kind) ≡ false
+          none-allowed : Table.allows want-any (u .kind) ≡ false
           none-allowed =
-              split (Table.allows Table.ANY (u .kind))
-              (λ e. let k : (u .start < u .end) × (u .end ≤ length s) = real s u x (allowed-real Table.ANY (u .kind) e) in absurd (let bad : ⊥ = omega (arith, h, k .0, k .1) in bad)) (λ e. e)
+              split (Table.allows want-any (u .kind))
+              (λ e. let k : (u .start < u .end) × (u .end ≤ length s) = real s u x (allowed-real want-any (u .kind) e) in absurd (let bad : ⊥ = omega (arith, h, k .0, k .1) in bad)) (λ e. e)
 
       clauses-turn : (x : P.State) → Turn x (turn x)
       clauses-turn (u, p) =
@@ -322,11 +322,11 @@ module _ (s : List ℕ) where
     clause-reads : (d nest : ℕ) (t : Token) → Real s t → ClauseRead nest t (P.readClause d s nest t)
     clause-reads zero nest t x = c-otherwise 0 (t .start) nothing
     clause-reads (suc d) nest t x =
-        clause-body nest t (λ nest sort e t. P.readTested d s nest sort e t) (λ ts u sort e p y k b g. tested-reads d nest t ts u sort e p y k b g) (readExpression d s 0 Table.ANY 0 nest t)
-        (expression-reads s (next-real s) d 0 Table.ANY 0 nest t (asked-any (omega arith)) x)
+        clause-body nest t (λ nest sort e t. P.readTested d s nest sort e t) (λ ts u sort e p y k b g. tested-reads d nest t ts u sort e p y k b g) (readExpression d s 0 want-any 0 nest t)
+        (expression-reads s (next-real s) d 0 want-any 0 nest t (asked-any (omega arith)) x)
 
-    tested-reads : (d nest : ℕ) (t : Token) (ts : List Token) (u : Token) (sort : ℕ) (e : Expr) → Tokens s t ts u → Suits Table.ANY sort → Told s sort 0 ts e
-        → Table.binds 0 (Table.operator sort (kindIn s u)) ≡ false → ((q : Place) → Starts 0 Table.ANY q → runs s q ts u ≡ station (after q sort) (kindIn s u))
+    tested-reads : (d nest : ℕ) (t : Token) (ts : List Token) (u : Token) (sort : PartSort) (e : Expr) → Tokens s t ts u → Suits want-any sort → Told s sort 0 ts e
+        → Table.binds 0 (Table.operator sort (kindIn s u)) ≡ false → ((q : Place) → Starts 0 want-any q → runs s q ts u ≡ station (after q sort) (kindIn s u))
         → ClauseRead nest t (P.readTested d s nest sort e u)
     tested-reads zero nest t ts u sort e p y k b g = c-otherwise 0 (u .start) nothing
     tested-reads (suc d) nest t ts u sort e p y k b g =
@@ -337,8 +337,8 @@ module _ (s : List ℕ) where
     values-read zero nest t ts u e p tree z led = c-otherwise 0 (nextAt s (u .end) .start) nothing
     values-read (suc d) nest t ts u e p tree z led =
         chosen (ClauseRead nest t) (eqb (nextAt s (u .end) .kind) Kind.OPEN-BRACE) _ _ (λ h. blocks-read d nest t ts u e p tree z led (eqb-true _ _ h))
-        (λ h. value-reads nest t ts u e p tree z led h (readExpression d s 3 Table.TEXT 0 nest (nextAt s (u .end)))
-        (expression-reads s (next-real s) d 3 Table.TEXT 0 nest (nextAt s (u .end)) (asked-text (omega arith) (omega arith)) (next-real s (u .end))))
+        (λ h. value-reads nest t ts u e p tree z led h (readExpression d s 3 want-string 0 nest (nextAt s (u .end)))
+        (expression-reads s (next-real s) d 3 want-string 0 nest (nextAt s (u .end)) (asked-text (omega arith) (omega arith)) (next-real s (u .end))))
 
     blocks-read : (d nest : ℕ) (t : Token) (ts : List Token) (u : Token) (e : Expr) → Tokens s t ts u → TestTree s whole ts e → u .kind ≡ Kind.ARROW
         → runs s (p-any (in-clause nest)) ts u ≡ p-arrow nest → nextAt s (u .end) .kind ≡ Kind.OPEN-BRACE → ClauseRead nest t (P.readNested d s nest e (nextAt s (u .end)))

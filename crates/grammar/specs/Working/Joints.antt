@@ -11,67 +11,56 @@ use Rattle.lexical.specs.Kind
 use Rattle.lexical.specs.Bounds.{chosen}
 use Rattle.lexical.specs.Word.{word-true, word-false}
 use Rattle.lexical.specs.declared.token.Token.{Token}
-use Rattle.syntax.specs.Operator.{Binary, Side, Relation, binaryTakes, binaryGives}
+use Rattle.syntax.specs.Operator.{Binary, Side, Relation, Sort, a-string, an-integer, a-test, binaryTakes, binaryGives}
 use Rattle.syntax.specs.Operator as Operator
-use Rattle.conditions.specs.Table.{Infix, no-infix, between}
+use Rattle.conditions.specs.Table.{PartSort, sorted, word, Infix, no-infix, between}
 use Rattle.conditions.specs.Table
 use Rattle.conditions.specs.Working.Reach.{level-most, operator-token}
 use Rattle.grammar.specs.Conditions.{TRUTH}
 use Rattle.grammar.specs.Spelled.{spelled, kindIn}
 use Rattle.grammar.specs.Trees.{ProductOp, times-op, divide-op, remainder-op, SumOp, plus-op, minus-op, CompareOp, equal-op, unequal-op, less-op, greater-op, at-most-op, at-least-op}
 
--- the sorts of what was read
-pub data Sorted : ℕ → Type 0 where
-  is-test : Sorted Table.TEST
-  is-text : Sorted Table.TEXT
-  is-number : Sorted Table.NUMBER
-  is-true : Sorted Table.TRUE
-  is-false : Sorted Table.FALSE
-
 -- what was read is of the sort, or a bare word that can become it
-pub data Fits : ℕ → ℕ → Type 0 where
-  fit-test : Fits Table.TEST Table.TEST
-  fit-text : Fits Table.TEXT Table.TEXT
-  fit-number : Fits Table.NUMBER Table.NUMBER
-  fit-true : Fits Table.TEST Table.TRUE
-  fit-false : Fits Table.TEST Table.FALSE
-  fit-true-name : Fits Table.TEXT Table.TRUE
-  fit-false-name : Fits Table.TEXT Table.FALSE
+pub data Fits : Sort → PartSort → Type 0 where
+  fit-test : Fits a-test (sorted a-test)
+  fit-text : Fits a-string (sorted a-string)
+  fit-number : Fits an-integer (sorted an-integer)
+  fit-word : (b : Bool) → Fits a-test (word b)
+  fit-name : (b : Bool) → Fits a-string (word b)
 
 -- it is no test
-pub data Unfit : ℕ → Type 0 where
-  unfit-text : Unfit Table.TEXT
-  unfit-number : Unfit Table.NUMBER
+pub data Unfit : PartSort → Type 0 where
+  unfit-text : Unfit (sorted a-string)
+  unfit-number : Unfit (sorted an-integer)
 
-pub data TestFit (sort : ℕ) : Bool → Type 0 where
-  test-fits : Fits Table.TEST sort → TestFit sort true
+pub data TestFit (sort : PartSort) : Bool → Type 0 where
+  test-fits : Fits a-test sort → TestFit sort true
   test-unfit : Unfit sort → TestFit sort false
 
-pub test-fit : (sort : ℕ) → Sorted sort → TestFit sort (Table.fits Table.TEST sort)
+pub test-fit : (sort : PartSort) → TestFit sort (Table.fits a-test sort)
 unfolding Table.fits
-test-fit _ is-test = test-fits fit-test
-test-fit _ is-text = test-unfit unfit-text
-test-fit _ is-number = test-unfit unfit-number
-test-fit _ is-true = test-fits fit-true
-test-fit _ is-false = test-fits fit-false
+test-fit (sorted a-test) = test-fits fit-test
+test-fit (sorted a-string) = test-unfit unfit-text
+test-fit (sorted an-integer) = test-unfit unfit-number
+test-fit (word b) = test-fits (fit-word b)
 
 -- the mark k writes the operator op of level l, which takes two of sort o and gives one of sort r
-pub data Joint : ℕ → Binary → ℕ → ℕ → ℕ → Type 0 where
-  j-power : Joint Kind.POWER Operator.power 5 Table.NUMBER Table.NUMBER
-  j-product : (k : ℕ) (op : Binary) → ProductOp k op → Joint k op 4 Table.NUMBER Table.NUMBER
-  j-sum : (k : ℕ) (op : Binary) → SumOp k op → Joint k op 3 Table.NUMBER Table.NUMBER
-  j-join : Joint Kind.DOT Operator.join 3 Table.TEXT Table.TEXT
-  j-numbers : (k : ℕ) (x : Relation) → CompareOp k x → Joint k (Operator.comparison Operator.integers x) 2 Table.NUMBER Table.TEST
-  j-texts : (k : ℕ) (x : Relation) → CompareOp k x → Joint k (Operator.comparison Operator.strings x) 2 Table.TEXT Table.TEST
-  j-match : Joint Kind.MATCHES Operator.matches 2 Table.TEXT Table.TEST
-  j-and : Joint Kind.AND Operator.both 1 Table.TEST Table.TEST
-  j-or : Joint Kind.OR Operator.either 0 Table.TEST Table.TEST
+pub data Joint : ℕ → Binary → ℕ → Sort → Sort → Type 0 where
+  j-power : Joint Kind.POWER Operator.power 5 an-integer an-integer
+  j-product : (k : ℕ) (op : Binary) → ProductOp k op → Joint k op 4 an-integer an-integer
+  j-sum : (k : ℕ) (op : Binary) → SumOp k op → Joint k op 3 an-integer an-integer
+  j-join : Joint Kind.DOT Operator.join 3 a-string a-string
+  j-numbers : (k : ℕ) (x : Relation) → CompareOp k x → Joint k (Operator.comparison Operator.integers x) 2 an-integer a-test
+  j-texts : (k : ℕ) (x : Relation) → CompareOp k x → Joint k (Operator.comparison Operator.strings x) 2 a-string a-test
+  j-match : Joint Kind.MATCHES Operator.matches 2 a-string a-test
+  j-and : Joint Kind.AND Operator.both 1 a-test a-test
+  j-or : Joint Kind.OR Operator.either 0 a-test a-test
 
 -- what the tables say of it
-pub data Tabled (op : Binary) (l o r : ℕ) : Type 0 where
-  tabled : Table.levelOf op ≡ l → Table.sortOf (binaryTakes op) ≡ o → Table.sortOf (binaryGives op) ≡ r → Tabled op l o r
+pub data Tabled (op : Binary) (l : ℕ) (o r : Sort) : Type 0 where
+  tabled : Table.levelOf op ≡ l → binaryTakes op ≡ o → binaryGives op ≡ r → Tabled op l o r
 
-pub joint-tabled : (k : ℕ) (op : Binary) (l o r : ℕ) → Joint k op l o r → Tabled op l o r
+pub joint-tabled : (k : ℕ) (op : Binary) (l : ℕ) (o r : Sort) → Joint k op l o r → Tabled op l o r
 unfolding Table.levelOf
 joint-tabled _ _ _ _ _ j-power = tabled refl refl refl
 joint-tabled _ _ _ _ _ (j-product _ _ times-op) = tabled refl refl refl
@@ -94,7 +83,7 @@ compare-mark _ _ greater-op = refl
 compare-mark _ _ at-most-op = refl
 compare-mark _ _ at-least-op = refl
 
-pub joint-mark : (k : ℕ) (op : Binary) (l o r : ℕ) → Joint k op l o r → eqb k Kind.NAME ≡ false
+pub joint-mark : (k : ℕ) (op : Binary) (l : ℕ) (o r : Sort) → Joint k op l o r → eqb k Kind.NAME ≡ false
 joint-mark _ _ _ _ _ j-power = refl
 joint-mark _ _ _ _ _ (j-product _ _ times-op) = refl
 joint-mark _ _ _ _ _ (j-product _ _ divide-op) = refl
@@ -109,9 +98,9 @@ joint-mark _ _ _ _ _ j-and = refl
 joint-mark _ _ _ _ _ j-or = refl
 
 -- the operator that a kind writes behind a sort
-pub data Operated (sort k : ℕ) : Infix → Type 0 where
+pub data Operated (sort : PartSort) (k : ℕ) : Infix → Type 0 where
   no-operator : Operated sort k no-infix
-  joins : (op : Binary) (l o r : ℕ) → Joint k op l o r → Fits o sort → Operated sort k (between op)
+  joins : (op : Binary) (l : ℕ) (o r : Sort) → Joint k op l o r → Fits o sort → Operated sort k (between op)
 
 data Compared (side : Side) (k : ℕ) : Infix → Type 0 where
   not-compared : Compared side k no-infix
@@ -127,47 +116,46 @@ compares side k =
     (λ e. chosen (Compared side k) (eqb k Kind.AT-MOST) _ _ (λ e. rw (eqb-true k _ e) (compared _ at-most-op))
     (λ e. chosen (Compared side k) (eqb k Kind.AT-LEAST) _ _ (λ e. rw (eqb-true k _ e) (compared _ at-least-op)) (λ e. not-compared))))))
 
-number-compared : (k : ℕ) (i : Infix) → Compared Operator.integers k i → Operated Table.NUMBER k i
+number-compared : (k : ℕ) (i : Infix) → Compared Operator.integers k i → Operated (sorted an-integer) k i
 number-compared k _ not-compared = no-operator
-number-compared k _ (compared x c) = joins _ 2 Table.NUMBER Table.TEST (j-numbers k x c) fit-number
+number-compared k _ (compared x c) = joins _ 2 an-integer a-test (j-numbers k x c) fit-number
 
 abbrev N : ℕ → Infix → Type 0
-N = Operated Table.NUMBER
+N = Operated (sorted an-integer)
 
-number-operated : (k : ℕ) → Operated Table.NUMBER k (Table.numberOperator k)
+number-operated : (k : ℕ) → Operated (sorted an-integer) k (Table.numberOperator k)
 unfolding Table.numberOperator
 number-operated k =
-    chosen (N k) (eqb k Kind.POWER) _ _ (λ e. rw (eqb-true k _ e) (joins _ 5 Table.NUMBER Table.NUMBER j-power fit-number))
-    (λ e. chosen (N k) (eqb k Kind.TIMES) _ _ (λ e. rw (eqb-true k _ e) (joins _ 4 Table.NUMBER Table.NUMBER (j-product _ _ times-op) fit-number))
-    (λ e. chosen (N k) (eqb k Kind.DIVIDE) _ _ (λ e. rw (eqb-true k _ e) (joins _ 4 Table.NUMBER Table.NUMBER (j-product _ _ divide-op) fit-number))
-    (λ e. chosen (N k) (eqb k Kind.REMAINDER) _ _ (λ e. rw (eqb-true k _ e) (joins _ 4 Table.NUMBER Table.NUMBER (j-product _ _ remainder-op) fit-number))
-    (λ e. chosen (N k) (eqb k Kind.PLUS) _ _ (λ e. rw (eqb-true k _ e) (joins _ 3 Table.NUMBER Table.NUMBER (j-sum _ _ plus-op) fit-number))
-    (λ e. chosen (N k) (eqb k Kind.MINUS) _ _ (λ e. rw (eqb-true k _ e) (joins _ 3 Table.NUMBER Table.NUMBER (j-sum _ _ minus-op) fit-number))
+    chosen (N k) (eqb k Kind.POWER) _ _ (λ e. rw (eqb-true k _ e) (joins _ 5 an-integer an-integer j-power fit-number))
+    (λ e. chosen (N k) (eqb k Kind.TIMES) _ _ (λ e. rw (eqb-true k _ e) (joins _ 4 an-integer an-integer (j-product _ _ times-op) fit-number))
+    (λ e. chosen (N k) (eqb k Kind.DIVIDE) _ _ (λ e. rw (eqb-true k _ e) (joins _ 4 an-integer an-integer (j-product _ _ divide-op) fit-number))
+    (λ e. chosen (N k) (eqb k Kind.REMAINDER) _ _ (λ e. rw (eqb-true k _ e) (joins _ 4 an-integer an-integer (j-product _ _ remainder-op) fit-number))
+    (λ e. chosen (N k) (eqb k Kind.PLUS) _ _ (λ e. rw (eqb-true k _ e) (joins _ 3 an-integer an-integer (j-sum _ _ plus-op) fit-number))
+    (λ e. chosen (N k) (eqb k Kind.MINUS) _ _ (λ e. rw (eqb-true k _ e) (joins _ 3 an-integer an-integer (j-sum _ _ minus-op) fit-number))
     (λ e. number-compared k (Table.comparison Operator.integers k) (compares Operator.integers k)))))))
 
-text-compared : (sort k : ℕ) (i : Infix) → Fits Table.TEXT sort → Compared Operator.strings k i → Operated sort k i
+text-compared : (sort : PartSort) (k : ℕ) (i : Infix) → Fits a-string sort → Compared Operator.strings k i → Operated sort k i
 text-compared sort k _ f not-compared = no-operator
-text-compared sort k _ f (compared x c) = joins _ 2 Table.TEXT Table.TEST (j-texts k x c) f
+text-compared sort k _ f (compared x c) = joins _ 2 a-string a-test (j-texts k x c) f
 
-text-operated : (sort k : ℕ) → Fits Table.TEXT sort → Operated sort k (Table.textOperator k)
+text-operated : (sort : PartSort) (k : ℕ) → Fits a-string sort → Operated sort k (Table.textOperator k)
 unfolding Table.textOperator
 text-operated sort k f =
-    chosen (Operated sort k) (eqb k Kind.DOT) _ _ (λ e. rw (eqb-true k _ e) (joins _ 3 Table.TEXT Table.TEXT j-join f))
-    (λ e. chosen (Operated sort k) (eqb k Kind.MATCHES) _ _ (λ e. rw (eqb-true k _ e) (joins _ 2 Table.TEXT Table.TEST j-match f)) (λ e. text-compared sort k (Table.comparison Operator.strings k) f (compares Operator.strings k)))
+    chosen (Operated sort k) (eqb k Kind.DOT) _ _ (λ e. rw (eqb-true k _ e) (joins _ 3 a-string a-string j-join f))
+    (λ e. chosen (Operated sort k) (eqb k Kind.MATCHES) _ _ (λ e. rw (eqb-true k _ e) (joins _ 2 a-string a-test j-match f)) (λ e. text-compared sort k (Table.comparison Operator.strings k) f (compares Operator.strings k)))
 
-test-operated : (sort k : ℕ) (other : Infix) → Fits Table.TEST sort → Operated sort k other → Operated sort k (Table.testOperator k other)
+test-operated : (sort : PartSort) (k : ℕ) (other : Infix) → Fits a-test sort → Operated sort k other → Operated sort k (Table.testOperator k other)
 unfolding Table.testOperator
 test-operated sort k other f h =
-    split (eqb k Kind.AND) (λ e. rw (eqb-true k _ e) (joins _ 1 Table.TEST Table.TEST j-and f))
-    (λ e. split (eqb k Kind.OR) (λ g. rw (eqb-true k _ g) (joins _ 0 Table.TEST Table.TEST j-or f)) (λ g. rw (e, g) h))
+    split (eqb k Kind.AND) (λ e. rw (eqb-true k _ e) (joins _ 1 a-test a-test j-and f))
+    (λ e. split (eqb k Kind.OR) (λ g. rw (eqb-true k _ g) (joins _ 0 a-test a-test j-or f)) (λ g. rw (e, g) h))
 
-pub operated : (sort k : ℕ) → Sorted sort → Operated sort k (Table.operator sort k)
+pub operated : (sort : PartSort) (k : ℕ) → Operated sort k (Table.operator sort k)
 unfolding Table.operator
-operated _ k is-test = test-operated Table.TEST k no-infix fit-test no-operator
-operated _ k is-text = text-operated Table.TEXT k fit-text
-operated _ k is-number = number-operated k
-operated _ k is-true = test-operated Table.TRUE k (Table.textOperator k) fit-true (text-operated Table.TRUE k fit-true-name)
-operated _ k is-false = test-operated Table.FALSE k (Table.textOperator k) fit-false (text-operated Table.FALSE k fit-false-name)
+operated (sorted a-test) k = test-operated (sorted a-test) k no-infix fit-test no-operator
+operated (sorted a-string) k = text-operated (sorted a-string) k fit-text
+operated (sorted an-integer) k = number-operated k
+operated (word b) k = test-operated (word b) k (Table.textOperator k) (fit-word b) (text-operated (word b) k (fit-name b))
 
 -- an operator that a level does not take no tighter level takes
 pub binds-less : (level m : ℕ) (i : Infix) → Table.binds level i ≡ false → level ≤ m → Table.binds m i ≡ false
@@ -180,7 +168,7 @@ unfolding Table.binds
 binds-high m no-infix h = refl
 binds-high m (between op) h = lt-leb m (Table.levelOf op) (omega (arith, level-most op, h))
 
-pub binds-none : (level sort k : ℕ) → k ≤ Kind.BAD-LINE → Table.binds level (Table.operator sort k) ≡ false
+pub binds-none : (level : ℕ) (sort : PartSort) (k : ℕ) → k ≤ Kind.BAD-LINE → Table.binds level (Table.operator sort k) ≡ false
 binds-none level sort k h =
     split (Table.binds level (Table.operator sort k)) (λ e. absurd (let l : Kind.BAD-LINE < k = operator-token level k sort e in let bad : ⊥ = omega (arith, l, h) in bad)) (λ e. e)
 
@@ -195,9 +183,12 @@ module _ (s : List ℕ) (t : Token) where
       rw e (chosen (λ (k : ℕ). f k ≡ f (t .kind)) (pick (spelled s t word-true) true (spelled s t word-false)) TRUTH Kind.NAME (λ g. h ∙ n) (λ g. n)))
       (λ e. rw e)
 
-  pub operator-kind : (sort : ℕ) → Table.operator sort (kindIn s t) ≡ Table.operator sort (t .kind)
+  pub operator-kind : (sort : PartSort) → Table.operator sort (kindIn s t) ≡ Table.operator sort (t .kind)
   unfolding Table.operator Table.numberOperator Table.textOperator Table.testOperator Table.comparison
-  operator-kind sort = kind-same (λ (k : ℕ). Table.operator sort k) refl
+  operator-kind (sorted a-string) = kind-same (λ (k : ℕ). Table.operator (sorted a-string) k) refl
+  operator-kind (sorted an-integer) = kind-same (λ (k : ℕ). Table.operator (sorted an-integer) k) refl
+  operator-kind (sorted a-test) = kind-same (λ (k : ℕ). Table.operator (sorted a-test) k) refl
+  operator-kind (word b) = kind-same (λ (k : ℕ). Table.operator (word b) k) refl
 
   pub test-kind : (k : ℕ) → eqb TRUTH k ≡ false → eqb Kind.NAME k ≡ false → eqb (kindIn s t) k ≡ eqb (t .kind) k
   test-kind k a b = kind-same (λ (x : ℕ). eqb x k) (a ∙ sym b)

@@ -8,24 +8,24 @@ use borrow.Author.Tests.{eqb-true, leb-false}
 use Rattle.text.specs.Choice.{pick, split, clash}
 use Rattle.lexical.specs.Kind
 use Rattle.lexical.specs.Bounds.{chosen}
-use Rattle.syntax.specs.Operator.{Binary}
+use Rattle.syntax.specs.Operator.{Binary, Sort, a-string, an-integer, a-test}
+use Rattle.conditions.specs.Table.{PartSort, sorted, word, Want, want-any, want-string, want-number, want-integer}
 use Rattle.conditions.specs.Table
-use Rattle.conditions.specs.Working.Numbered as Numbered
 use Rattle.grammar.specs.Theorems.Shadow.{product-shadow, sum-shadow, compare-shadow}
-use Rattle.grammar.specs.Working.Stations.{Spot, in-clause, in-bracket, Frame, tests, right, Place, p-dead, p-over, p-begin, p-arrow, p-block, p-any, p-text, p-number, p-have, strict, station, endAt}
+use Rattle.grammar.specs.Working.Stations.{Had, had, TEXT, NUMBER, TEST, TRUE, Wanted, EITHER, INTEGER, Spot, in-clause, in-bracket, Frame, tests, right, Place, p-dead, p-over, p-begin, p-arrow, p-block, p-any, p-text, p-number, p-have, strict, station, endAt}
 use Rattle.grammar.specs.Working.Stationed.{Words, w-text, w-word, Held, h-test, h-word, Junction, junction-and, junction-or, strict-strict, power-number, product-number, sum-number, dot-text, words-dot, number-compare, words-compare, words-match, held-junction}
-use Rattle.grammar.specs.Working.Joints.{is-test, is-text, is-number, Fits, fit-test, fit-text, fit-number, fit-true, fit-false, fit-true-name, fit-false-name, Unfit, unfit-text, unfit-number, Joint, j-power, j-product, j-sum, j-join, j-numbers, j-texts, j-match, j-and, j-or, Tabled, tabled, joint-tabled, TestFit, test-fits, test-unfit, test-fit, Operated, no-operator, joins, operated, binds-less}
+use Rattle.grammar.specs.Working.Joints.{Fits, fit-test, fit-text, fit-number, fit-word, fit-name, Unfit, unfit-text, unfit-number, Joint, j-power, j-product, j-sum, j-join, j-numbers, j-texts, j-match, j-and, j-or, Tabled, tabled, joint-tabled, TestFit, test-fits, test-unfit, test-fit, Operated, no-operator, joins, operated, binds-less}
 use Rattle.grammar.specs.Working.Told.{goal, Suits, suits-any, suits-text, suits-number, suits-integer}
 
 -- the places where a reader of a level begins; one operand may stand for a string of any sort
-pub data Starts (level : ℕ) : ℕ → Place → Type 0 where
-  start-any : (S : Spot) → Starts level Table.ANY (p-any S)
-  start-text : (F : Frame) → Starts level Table.TEXT (p-text Table.TEXT F)
-  start-operand : (r : ℕ) (F : Frame) → 5 < level → Starts level Table.TEXT (p-text r F)
-  start-number : (F : Frame) → Starts level Table.NUMBER (p-number Table.NUMBER F)
-  start-integer : (F : Frame) → Starts level Table.INTEGER (p-number Table.INTEGER F)
+pub data Starts (level : ℕ) : Want → Place → Type 0 where
+  start-any : (S : Spot) → Starts level want-any (p-any S)
+  start-text : (F : Frame) → Starts level want-string (p-text TEXT F)
+  start-operand : (r : Had) (F : Frame) → 5 < level → Starts level want-string (p-text r F)
+  start-number : (F : Frame) → Starts level want-number (p-number EITHER F)
+  start-integer : (F : Frame) → Starts level want-integer (p-number INTEGER F)
 
-pub starts-up : (level m want : ℕ) (q : Place) → level ≤ m → Starts level want q → Starts m want q
+pub starts-up : (level m : ℕ) (want : Want) (q : Place) → level ≤ m → Starts level want q → Starts m want q
 starts-up level m _ _ h (start-any S) = start-any S
 starts-up level m _ _ h (start-text F) = start-text F
 starts-up level m _ _ h (start-operand r F i) = start-operand r F (omega (arith, h, i))
@@ -33,42 +33,46 @@ starts-up level m _ _ h (start-number F) = start-number F
 starts-up level m _ _ h (start-integer F) = start-integer F
 
 -- where what was read from there leads
-abbrev pub after : Place → ℕ → Place
+abbrev pub afterAny : Spot → PartSort → Place
+afterAny S (sorted a-string) = p-have TEXT (tests S)
+afterAny S (sorted an-integer) = p-have NUMBER (tests S)
+afterAny S (sorted a-test) = p-have TEST (tests (strict S))
+afterAny S (word b) = p-have TRUE (tests S)
+
+abbrev pub after : Place → PartSort → Place
 after p-dead sort = p-dead
 after p-over sort = p-dead
 after (p-begin d) sort = p-dead
 after (p-arrow d) sort = p-dead
 after (p-block d) sort = p-dead
-after (p-any S) sort = pick (eqb sort Table.TEST) (p-have Table.TEST (tests (strict S))) (pick (ltb sort Table.TRUE) (p-have sort (tests S)) (p-have Table.TRUE (tests S)))
+after (p-any S) sort = afterAny S sort
 after (p-text r F) sort = p-have r F
-after (p-number w F) sort = p-have Table.NUMBER F
+after (p-number w F) sort = p-have NUMBER F
 after (p-have sort′ F) sort = p-dead
 
 -- at what levels a reader is asked for what
-pub data Asked (level : ℕ) : ℕ → Type 0 where
-  asked-any : level ≤ 2 → Asked level Table.ANY
-  asked-text : 2 < level → level ≤ 6 → Asked level Table.TEXT
-  asked-number : 2 < level → level ≤ 6 → Asked level Table.NUMBER
-  asked-integer : 2 < level → level ≤ 6 → Asked level Table.INTEGER
+pub data Asked (level : ℕ) : Want → Type 0 where
+  asked-any : level ≤ 2 → Asked level want-any
+  asked-text : 2 < level → level ≤ 6 → Asked level want-string
+  asked-number : 2 < level → level ≤ 6 → Asked level want-number
+  asked-integer : 2 < level → level ≤ 6 → Asked level want-integer
 
 -- behind a string or a test at a place of tests
-any-text : (S : Spot) (k : ℕ) (p : Place) → ((sort : ℕ) (F : Frame) → Words S sort F → station (p-have sort F) k ≡ p) → (sort : ℕ) → Fits Table.TEXT sort → station (after (p-any S) sort) k ≡ p
-any-text S k p h _ fit-text = h Table.TEXT (tests S) w-text
-any-text S k p h _ fit-true-name = h Table.TRUE (tests S) w-word
-any-text S k p h _ fit-false-name = h Table.TRUE (tests S) w-word
+any-text : (S : Spot) (k : ℕ) (p : Place) → ((sort : Had) (F : Frame) → Words S sort F → station (p-have sort F) k ≡ p) → (sort : PartSort) → Fits a-string sort → station (after (p-any S) sort) k ≡ p
+any-text S k p h _ fit-text = h TEXT (tests S) w-text
+any-text S k p h _ (fit-name b) = h TRUE (tests S) w-word
 
-pub any-test : (S : Spot) (k : ℕ) (p : Place) → ((sort : ℕ) (F : Frame) → Held S sort F → station (p-have sort F) k ≡ p) → (sort : ℕ) → Fits Table.TEST sort → station (after (p-any S) sort) k ≡ p
-any-test S k p h _ fit-test = h Table.TEST (tests (strict S)) h-test
-any-test S k p h _ fit-true = h Table.TRUE (tests S) h-word
-any-test S k p h _ fit-false = h Table.TRUE (tests S) h-word
+pub any-test : (S : Spot) (k : ℕ) (p : Place) → ((sort : Had) (F : Frame) → Held S sort F → station (p-have sort F) k ≡ p) → (sort : PartSort) → Fits a-test sort → station (after (p-any S) sort) k ≡ p
+any-test S k p h _ fit-test = h TEST (tests (strict S)) h-test
+any-test S k p h _ (fit-word b) = h TRUE (tests S) h-word
 
 -- the levels of the operators behind a test, and behind what is none
-test-low : (k : ℕ) → Table.binds 2 (Table.operator Table.TEST k) ≡ false
+test-low : (k : ℕ) → Table.binds 2 (Table.operator (sorted a-test) k) ≡ false
 unfolding Table.operator Table.testOperator Table.binds Table.levelOf
 test-low k = split (eqb k Kind.AND) (λ e. rw e) (λ e. split (eqb k Kind.OR) (λ f. rw (e, f)) (λ f. rw (e, f)))
 
-test-none : (k : ℕ) → Table.binds 3 (Table.operator Table.TEST k) ≡ false
-test-none k = binds-less 2 3 (Table.operator Table.TEST k) (test-low k) (omega arith)
+test-none : (k : ℕ) → Table.binds 3 (Table.operator (sorted a-test) k) ≡ false
+test-none k = binds-less 2 3 (Table.operator (sorted a-test) k) (test-low k) (omega arith)
 
 level-two : (op : Binary) → 2 ≤ Table.levelOf op → Table.binds 2 (Table.between op) ≡ false → Table.binds 0 (Table.between op) ≡ false
 unfolding Table.binds
@@ -78,10 +82,10 @@ none-low : Table.binds 0 Table.no-infix ≡ false
 unfolding Table.binds
 none-low = refl
 
-tabled-level : (op : Binary) (l o r : ℕ) → Tabled op l o r → Table.levelOf op ≡ l
+tabled-level : (op : Binary) (l : ℕ) (o r : Sort) → Tabled op l o r → Table.levelOf op ≡ l
 tabled-level op l o r (tabled a b c) = a
 
-pub unfit-low : (sort k : ℕ) (i : Table.Infix) → Unfit sort → Operated sort k i → Table.binds 2 i ≡ false → Table.binds 0 i ≡ false
+pub unfit-low : (sort : PartSort) (k : ℕ) (i : Table.Infix) → Unfit sort → Operated sort k i → Table.binds 2 i ≡ false → Table.binds 0 i ≡ false
 unfit-low sort k _ u no-operator b = none-low
 unfit-low _ k _ unfit-text (joins op l o r j-join fit-text) b = level-two op (omega (arith, tabled-level op l o r (joint-tabled k op l o r j-join))) b
 unfit-low _ k _ unfit-text (joins op l o r (j-texts _ x c) fit-text) b = level-two op (omega (arith, tabled-level op l o r (joint-tabled k op l o r (j-texts k x c)))) b
@@ -92,141 +96,142 @@ unfit-low _ k _ unfit-number (joins op l o r (j-sum _ _ c) fit-number) b = level
 unfit-low _ k _ unfit-number (joins op l o r (j-numbers _ x c) fit-number) b = level-two op (omega (arith, tabled-level op l o r (joint-tabled k op l o r (j-numbers k x c)))) b
 
 -- a bare word that no operator of strings follows is a test
-word-operator : (k : ℕ) → Table.binds 2 (Table.operator Table.TRUE k) ≡ false → Table.binds 0 (Table.operator Table.TRUE k) ≡ Table.binds 0 (Table.operator Table.TEST k)
+word-operator : (k : ℕ) → Table.binds 2 (Table.operator (word true) k) ≡ false → Table.binds 0 (Table.operator (word true) k) ≡ Table.binds 0 (Table.operator (sorted a-test) k)
 unfolding Table.operator Table.testOperator
 word-operator k b =
     split (eqb k Kind.AND) (λ e. rw e)
     (λ e. split (eqb k Kind.OR) (λ f. rw (e, f))
     (λ f.
-    let o : Operated Table.TEXT k (Table.textOperator k) = operated Table.TEXT k is-text in
-    let z : Table.binds 0 (Table.textOperator k) ≡ false = unfit-low Table.TEXT k (Table.textOperator k) unfit-text o (rw (e, f) at b) in
+    let o : Operated (sorted a-string) k (Table.textOperator k) = operated (sorted a-string) k in
+    let z : Table.binds 0 (Table.textOperator k) ≡ false = unfit-low (sorted a-string) k (Table.textOperator k) unfit-text o (rw (e, f) at b) in
     rw (e, f) (z ∙ sym (none-low))))
 
 -- the right side of a comparison, where its operators end, is a test
-right-text : (S : Spot) (k : ℕ) → Table.binds 3 (Table.operator Table.TEXT k) ≡ false → station (p-have Table.TEXT (right S)) k ≡ station (p-have Table.TEST (tests S)) k
+right-text : (S : Spot) (k : ℕ) → Table.binds 3 (Table.operator (sorted a-string) k) ≡ false → station (p-have TEXT (right S)) k ≡ station (p-have TEST (tests S)) k
 unfolding station
 right-text S k b = rw (b, test-none k, test-low k)
 
-right-number : (S : Spot) (k : ℕ) → Table.binds 3 (Table.operator Table.NUMBER k) ≡ false → station (p-have Table.NUMBER (right S)) k ≡ station (p-have Table.TEST (tests S)) k
+right-number : (S : Spot) (k : ℕ) → Table.binds 3 (Table.operator (sorted an-integer) k) ≡ false → station (p-have NUMBER (right S)) k ≡ station (p-have TEST (tests S)) k
 unfolding station
 right-number S k b = rw (b, test-none k, test-low k)
 
-word-ends : (S : Spot) (k : ℕ) → endAt Table.TRUE (strict S) k ≡ endAt Table.TEST (strict S) k
+word-ends : (S : Spot) (k : ℕ) → endAt TRUE (strict S) k ≡ endAt TEST (strict S) k
 word-ends (in-clause d) k = refl
 word-ends (in-bracket b S) k = refl
 
-word-strict : (S : Spot) (k : ℕ) → Table.binds 2 (Table.operator Table.TRUE k) ≡ false → station (p-have Table.TRUE (tests (strict S))) k ≡ station (p-have Table.TEST (tests (strict S))) k
+word-strict : (S : Spot) (k : ℕ) → Table.binds 2 (Table.operator (word true) k) ≡ false → station (p-have TRUE (tests (strict S))) k ≡ station (p-have TEST (tests (strict S))) k
 unfolding station
 word-strict S k b =
-    rw (binds-less 2 3 (Table.operator Table.TRUE k) b (omega arith), b, word-operator k b, test-none k, test-low k, word-ends S k)
+    rw (binds-less 2 3 (Table.operator (word true) k) b (omega arith), b, word-operator k b, test-none k, test-low k, word-ends S k)
 
-pub strict-test : (S : Spot) (m : ℕ) → m ≤ 2 → (sort k : ℕ) → Fits Table.TEST sort → Table.binds m (Table.operator sort k) ≡ false
-    → station (after (p-any (strict S)) sort) k ≡ station (after (p-any S) Table.TEST) k
+pub word-same : (b : Bool) (k : ℕ) → Table.operator (word b) k ≡ Table.operator (word true) k
 unfolding Table.operator
-strict-test S m h _ k fit-test b = ap (λ (x : Spot). station (p-have Table.TEST (tests x)) k) (strict-strict S)
-strict-test S m h _ k fit-true b = word-strict S k (binds-less m 2 (Table.operator Table.TRUE k) b h)
-strict-test S m h _ k fit-false b = word-strict S k (binds-less m 2 (Table.operator Table.TRUE k) b h)
+word-same b k = refl
 
-unfit-ends : (S : Spot) (sort k : ℕ) → Unfit sort → endAt sort (strict S) k ≡ p-dead
+pub strict-test : (S : Spot) (m : ℕ) → m ≤ 2 → (sort : PartSort) (k : ℕ) → Fits a-test sort → Table.binds m (Table.operator sort k) ≡ false
+    → station (after (p-any (strict S)) sort) k ≡ station (after (p-any S) (sorted a-test)) k
+strict-test S m h _ k fit-test b = ap (λ (x : Spot). station (p-have TEST (tests x)) k) (strict-strict S)
+strict-test S m h _ k (fit-word c) b = word-strict S k (binds-less m 2 (Table.operator (word true) k) (ap (Table.binds m) (sym (word-same c k)) ∙ b) h)
+
+unfit-ends : (S : Spot) (sort : PartSort) (k : ℕ) → Unfit sort → endAt (had sort) (strict S) k ≡ p-dead
 unfit-ends (in-clause d) _ k unfit-text = refl
 unfit-ends (in-clause d) _ k unfit-number = refl
 unfit-ends (in-bracket b S) _ k unfit-text = chosen (λ (q : Place). q ≡ p-dead) (eqb k Kind.CLOSE) p-dead p-dead (λ e. refl) (λ e. refl)
 unfit-ends (in-bracket b S) _ k unfit-number = chosen (λ (q : Place). q ≡ p-dead) (eqb k Kind.CLOSE) p-dead p-dead (λ e. refl) (λ e. refl)
 
 -- where only a test may stand, a string or a number that no operator follows leads nowhere
-pub strict-dead : (S : Spot) (m : ℕ) → m ≤ 2 → (sort k : ℕ) → Unfit sort → Table.binds m (Table.operator sort k) ≡ false → station (after (p-any (strict S)) sort) k ≡ p-dead
+pub strict-dead : (S : Spot) (m : ℕ) → m ≤ 2 → (sort : PartSort) (k : ℕ) → Unfit sort → Table.binds m (Table.operator sort k) ≡ false → station (after (p-any (strict S)) sort) k ≡ p-dead
 unfolding station
 strict-dead S m h _ k unfit-text b =
-    let c : Table.binds 2 (Table.operator Table.TEXT k) ≡ false = binds-less m 2 (Table.operator Table.TEXT k) b h in
-    rw (binds-less 2 3 (Table.operator Table.TEXT k) c (omega arith), c, unfit-low Table.TEXT k (Table.operator Table.TEXT k) unfit-text (operated Table.TEXT k is-text) c, unfit-ends S Table.TEXT k unfit-text)
+    let c : Table.binds 2 (Table.operator (sorted a-string) k) ≡ false = binds-less m 2 (Table.operator (sorted a-string) k) b h in
+    rw (binds-less 2 3 (Table.operator (sorted a-string) k) c (omega arith), c, unfit-low (sorted a-string) k (Table.operator (sorted a-string) k) unfit-text (operated (sorted a-string) k) c, unfit-ends S (sorted a-string) k unfit-text)
 strict-dead S m h _ k unfit-number b =
-    let c : Table.binds 2 (Table.operator Table.NUMBER k) ≡ false = binds-less m 2 (Table.operator Table.NUMBER k) b h in
-    rw (binds-less 2 3 (Table.operator Table.NUMBER k) c (omega arith), c, unfit-low Table.NUMBER k (Table.operator Table.NUMBER k) unfit-number (operated Table.NUMBER k is-number) c, unfit-ends S Table.NUMBER k unfit-number)
+    let c : Table.binds 2 (Table.operator (sorted an-integer) k) ≡ false = binds-less m 2 (Table.operator (sorted an-integer) k) b h in
+    rw (binds-less 2 3 (Table.operator (sorted an-integer) k) c (omega arith), c, unfit-low (sorted an-integer) k (Table.operator (sorted an-integer) k) unfit-number (operated (sorted an-integer) k) c, unfit-ends S (sorted an-integer) k unfit-number)
 
 -- p, behind a mark, is where an operand is wanted; behind that what the mark makes is read
-pub data Onward (q : Place) (level want o r : ℕ) (p : Place) : Type 0 where
+pub data Onward (q : Place) (level : ℕ) (want : Want) (o r : Sort) (p : Place) : Type 0 where
   onward : (q′ : Place) → p ≡ q′ → Starts level want q′
-      → ((sort k : ℕ) → Fits o sort → Table.binds level (Table.operator sort k) ≡ false → station (after q′ sort) k ≡ station (after q r) k)
-      → ((sort k : ℕ) → o ≡ Table.TEST → Unfit sort → Table.binds level (Table.operator sort k) ≡ false → station (after q′ sort) k ≡ p-dead)
+      → ((sort : PartSort) (k : ℕ) → Fits o sort → Table.binds level (Table.operator sort k) ≡ false → station (after q′ sort) k ≡ station (after q (sorted r)) k)
+      → ((sort : PartSort) (k : ℕ) → o ≡ a-test → Unfit sort → Table.binds level (Table.operator sort k) ≡ false → station (after q′ sort) k ≡ p-dead)
       → Onward q level want o r p
 
 -- of a string or a number, nothing but that is read
-pub typed : (q : Place) (level want o r : ℕ) (p q′ : Place) → p ≡ q′ → Starts level want q′ → (o ≡ Table.TEST → ⊥)
-    → ((sort k : ℕ) → Fits o sort → Table.binds level (Table.operator sort k) ≡ false → station (after q′ sort) k ≡ station (after q r) k) → Onward q level want o r p
+pub typed : (q : Place) (level : ℕ) (want : Want) (o r : Sort) (p q′ : Place) → p ≡ q′ → Starts level want q′ → (o ≡ a-test → ⊥)
+    → ((sort : PartSort) (k : ℕ) → Fits o sort → Table.binds level (Table.operator sort k) ≡ false → station (after q′ sort) k ≡ station (after q (sorted r)) k) → Onward q level want o r p
 typed q level want o r p q′ e st apart h = onward q′ e st h (λ sort k z u b. absurd (apart z))
 
-text-fit : (sort k level : ℕ) → Fits Table.TEXT sort → Table.binds level (Table.operator sort k) ≡ false → Table.binds level (Table.operator Table.TEXT k) ≡ false
+text-fit : (sort : PartSort) (k level : ℕ) → Fits a-string sort → Table.binds level (Table.operator sort k) ≡ false → Table.binds level (Table.operator (sorted a-string) k) ≡ false
 unfolding Table.operator Table.testOperator Table.textOperator Table.comparison Table.binds
 text-fit _ k level fit-text b = b
-text-fit _ k level fit-true-name b = split (eqb k Kind.AND) (λ e. rw (eqb-true k _ e) refl) (λ e. split (eqb k Kind.OR) (λ f. rw (eqb-true k _ f) refl) (λ f. rw (e, f) at b))
-text-fit _ k level fit-false-name b = split (eqb k Kind.AND) (λ e. rw (eqb-true k _ e) refl) (λ e. split (eqb k Kind.OR) (λ f. rw (eqb-true k _ f) refl) (λ f. rw (e, f) at b))
+text-fit _ k level (fit-name c) b = split (eqb k Kind.AND) (λ e. rw (eqb-true k _ e) refl) (λ e. split (eqb k Kind.OR) (λ f. rw (eqb-true k _ f) refl) (λ f. rw (e, f) at b))
 
-number-fit : (sort k level : ℕ) → Fits Table.NUMBER sort → Table.binds level (Table.operator sort k) ≡ false → Table.binds level (Table.operator Table.NUMBER k) ≡ false
+number-fit : (sort : PartSort) (k level : ℕ) → Fits an-integer sort → Table.binds level (Table.operator sort k) ≡ false → Table.binds level (Table.operator (sorted an-integer) k) ≡ false
 number-fit _ k level fit-number b = b
 
-pub number-test : Table.NUMBER ≡ Table.TEST → ⊥
-number-test z = omega (arith, z)
+pub number-test : an-integer ≡ a-test → ⊥
+number-test z = let v : _≡_ {A = ℕ} 0 1 = cc in omega (arith, v)
 
-pub text-test : Table.TEXT ≡ Table.TEST → ⊥
-text-test z = omega (arith, z)
+pub text-test : a-string ≡ a-test → ⊥
+text-test z = let v : _≡_ {A = ℕ} 0 1 = cc in omega (arith, v)
 
 -- an operator between integers
-arithmetic : (q : Place) (F : Frame) (level k : ℕ) → after q Table.NUMBER ≡ p-have Table.NUMBER F → station (p-have Table.NUMBER F) k ≡ p-number Table.INTEGER F
-    → Onward q level Table.INTEGER Table.NUMBER Table.NUMBER (station (after q Table.NUMBER) k)
+arithmetic : (q : Place) (F : Frame) (level k : ℕ) → after q (sorted an-integer) ≡ p-have NUMBER F → station (p-have NUMBER F) k ≡ p-number INTEGER F
+    → Onward q level want-integer an-integer an-integer (station (after q (sorted an-integer)) k)
 arithmetic q F level k e f =
-    typed q level Table.INTEGER Table.NUMBER Table.NUMBER (station (after q Table.NUMBER) k) (p-number Table.INTEGER F) (ap (λ (p : Place). station p k) e ∙ f) (start-integer F) number-test
+    typed q level want-integer an-integer an-integer (station (after q (sorted an-integer)) k) (p-number INTEGER F) (ap (λ (p : Place). station p k) e ∙ f) (start-integer F) number-test
     (λ sort j h b. ap (λ (p : Place). station p j) (sym e))
 
-junction : (S : Spot) (m k : ℕ) → m ≤ 2 → Junction k → (sort : ℕ) → Fits Table.TEST sort → Onward (p-any S) m Table.ANY Table.TEST Table.TEST (station (after (p-any S) sort) k)
+junction : (S : Spot) (m k : ℕ) → m ≤ 2 → Junction k → (sort : PartSort) → Fits a-test sort → Onward (p-any S) m want-any a-test a-test (station (after (p-any S) sort) k)
 junction S m k h j sort f =
     onward (p-any (strict S)) (any-test S k (p-any (strict S)) (held-junction S k j) sort f) (start-any (strict S)) (strict-test S m h) (λ sort k z u b. strict-dead S m h sort k u b)
 
 -- where an operator leads behind what was read
-pub joint-onward : (level want sort k : ℕ) (op : Binary) (l o r : ℕ) (q : Place) → Asked level want → Starts level want q → Suits want sort → Joint k op l o r → Fits o sort → level ≤ l
-    → Onward q (l + 1) (Numbered.wantOf o) o r (station (after q sort) k)
+pub joint-onward : (level : ℕ) (want : Want) (sort : PartSort) (k : ℕ) (op : Binary) (l : ℕ) (o r : Sort) (q : Place) → Asked level want → Starts level want q → Suits want sort → Joint k op l o r → Fits o sort → level ≤ l
+    → Onward q (l + 1) (Table.wantOf o) o r (station (after q sort) k)
 joint-onward level _ _ _ _ _ _ _ _ a (start-any S) u j-power fit-number h = arithmetic (p-any S) (tests S) 6 Kind.POWER refl (power-number (tests S))
 joint-onward level _ _ _ _ _ _ _ _ a (start-any S) u (j-product k op c) fit-number h = arithmetic (p-any S) (tests S) 5 k refl (product-number (tests S) k (product-shadow k op c .0))
 joint-onward level _ _ _ _ _ _ _ _ a (start-any S) u (j-sum k op c) fit-number h = arithmetic (p-any S) (tests S) 4 k refl (sum-number (tests S) k (sum-shadow k op c .0))
 joint-onward level _ sort _ _ _ _ _ _ a (start-any S) u j-join f h =
-    typed (p-any S) 4 Table.TEXT Table.TEXT Table.TEXT _ (p-text Table.TEXT (tests S)) (any-text S Kind.DOT _ (words-dot S) sort f) (start-text (tests S)) text-test (λ x j g b. refl)
+    typed (p-any S) 4 want-string a-string a-string _ (p-text TEXT (tests S)) (any-text S Kind.DOT _ (words-dot S) sort f) (start-text (tests S)) text-test (λ x j g b. refl)
 joint-onward level _ _ _ _ _ _ _ _ a (start-any S) u (j-numbers k y c) fit-number h =
-    typed (p-any S) 3 Table.INTEGER Table.NUMBER Table.TEST _ (p-number Table.INTEGER (right (strict S))) (number-compare S k (compare-shadow k y c .0)) (start-integer (right (strict S))) number-test
+    typed (p-any S) 3 want-integer an-integer a-test _ (p-number INTEGER (right (strict S))) (number-compare S k (compare-shadow k y c .0)) (start-integer (right (strict S))) number-test
     (λ x j g b. right-number (strict S) j (number-fit x j 3 g b))
 joint-onward level _ sort _ _ _ _ _ _ a (start-any S) u (j-texts k y c) f h =
-    typed (p-any S) 3 Table.TEXT Table.TEXT Table.TEST _ (p-text Table.TEXT (right (strict S))) (any-text S k _ (words-compare S k (compare-shadow k y c .0)) sort f) (start-text (right (strict S))) text-test
+    typed (p-any S) 3 want-string a-string a-test _ (p-text TEXT (right (strict S))) (any-text S k _ (words-compare S k (compare-shadow k y c .0)) sort f) (start-text (right (strict S))) text-test
     (λ x j g b. right-text (strict S) j (text-fit x j 3 g b))
 joint-onward level _ sort _ _ _ _ _ _ a (start-any S) u j-match f h =
-    typed (p-any S) 3 Table.TEXT Table.TEXT Table.TEST _ (p-text Table.TEXT (right (strict S))) (any-text S Kind.MATCHES _ (words-match S) sort f) (start-text (right (strict S))) text-test
+    typed (p-any S) 3 want-string a-string a-test _ (p-text TEXT (right (strict S))) (any-text S Kind.MATCHES _ (words-match S) sort f) (start-text (right (strict S))) text-test
     (λ x j g b. right-text (strict S) j (text-fit x j 3 g b))
 joint-onward level _ sort _ _ _ _ _ _ a (start-any S) u j-and f h = junction S 2 Kind.AND (omega arith) junction-and sort f
 joint-onward level _ sort _ _ _ _ _ _ a (start-any S) u j-or f h = junction S 1 Kind.OR (omega arith) junction-or sort f
 joint-onward level _ _ _ _ _ _ _ _ a (start-text F) suits-text j-join fit-text h =
-    typed (p-text Table.TEXT F) 4 Table.TEXT Table.TEXT Table.TEXT _ (p-text Table.TEXT F) (dot-text F) (start-text F) text-test (λ x j g b. refl)
+    typed (p-text TEXT F) 4 want-string a-string a-string _ (p-text TEXT F) (dot-text F) (start-text F) text-test (λ x j g b. refl)
 joint-onward level _ _ _ _ _ _ _ _ (asked-text i g) (start-text F) suits-text (j-texts k y c) fit-text h = absurd (let bad : ⊥ = omega (arith, i, h) in bad)
 joint-onward level _ _ _ _ _ _ _ _ (asked-text i g) (start-text F) suits-text j-match fit-text h = absurd (let bad : ⊥ = omega (arith, i, h) in bad)
 joint-onward level _ _ _ _ _ _ _ _ a (start-operand x F i) suits-text j-join fit-text h = absurd (let bad : ⊥ = omega (arith, i, h) in bad)
 joint-onward level _ _ _ _ _ _ _ _ a (start-operand x F i) suits-text (j-texts k y c) fit-text h = absurd (let bad : ⊥ = omega (arith, i, h) in bad)
 joint-onward level _ _ _ _ _ _ _ _ a (start-operand x F i) suits-text j-match fit-text h = absurd (let bad : ⊥ = omega (arith, i, h) in bad)
-joint-onward level _ _ _ _ _ _ _ _ a (start-number F) suits-number j-power fit-number h = arithmetic (p-number Table.NUMBER F) F 6 Kind.POWER refl (power-number F)
-joint-onward level _ _ _ _ _ _ _ _ a (start-number F) suits-number (j-product k op c) fit-number h = arithmetic (p-number Table.NUMBER F) F 5 k refl (product-number F k (product-shadow k op c .0))
-joint-onward level _ _ _ _ _ _ _ _ a (start-number F) suits-number (j-sum k op c) fit-number h = arithmetic (p-number Table.NUMBER F) F 4 k refl (sum-number F k (sum-shadow k op c .0))
+joint-onward level _ _ _ _ _ _ _ _ a (start-number F) suits-number j-power fit-number h = arithmetic (p-number EITHER F) F 6 Kind.POWER refl (power-number F)
+joint-onward level _ _ _ _ _ _ _ _ a (start-number F) suits-number (j-product k op c) fit-number h = arithmetic (p-number EITHER F) F 5 k refl (product-number F k (product-shadow k op c .0))
+joint-onward level _ _ _ _ _ _ _ _ a (start-number F) suits-number (j-sum k op c) fit-number h = arithmetic (p-number EITHER F) F 4 k refl (sum-number F k (sum-shadow k op c .0))
 joint-onward level _ _ _ _ _ _ _ _ (asked-number i g) (start-number F) suits-number (j-numbers k y c) fit-number h = absurd (let bad : ⊥ = omega (arith, i, h) in bad)
-joint-onward level _ _ _ _ _ _ _ _ a (start-integer F) suits-integer j-power fit-number h = arithmetic (p-number Table.INTEGER F) F 6 Kind.POWER refl (power-number F)
-joint-onward level _ _ _ _ _ _ _ _ a (start-integer F) suits-integer (j-product k op c) fit-number h = arithmetic (p-number Table.INTEGER F) F 5 k refl (product-number F k (product-shadow k op c .0))
-joint-onward level _ _ _ _ _ _ _ _ a (start-integer F) suits-integer (j-sum k op c) fit-number h = arithmetic (p-number Table.INTEGER F) F 4 k refl (sum-number F k (sum-shadow k op c .0))
+joint-onward level _ _ _ _ _ _ _ _ a (start-integer F) suits-integer j-power fit-number h = arithmetic (p-number INTEGER F) F 6 Kind.POWER refl (power-number F)
+joint-onward level _ _ _ _ _ _ _ _ a (start-integer F) suits-integer (j-product k op c) fit-number h = arithmetic (p-number INTEGER F) F 5 k refl (product-number F k (product-shadow k op c .0))
+joint-onward level _ _ _ _ _ _ _ _ a (start-integer F) suits-integer (j-sum k op c) fit-number h = arithmetic (p-number INTEGER F) F 4 k refl (sum-number F k (sum-shadow k op c .0))
 joint-onward level _ _ _ _ _ _ _ _ (asked-integer i g) (start-integer F) suits-integer (j-numbers k y c) fit-number h = absurd (let bad : ⊥ = omega (arith, i, h) in bad)
 
 -- and what is read then suits what was wanted
-pub joint-suits : (level want sort k : ℕ) (op : Binary) (l o r : ℕ) → Asked level want → Suits want sort → Joint k op l o r → Fits o sort → level ≤ l → Suits want r
-joint-suits level _ _ _ _ _ _ _ a (suits-any sort x) j-power f h = suits-any _ is-number
-joint-suits level _ _ _ _ _ _ _ a (suits-any sort x) (j-product k op c) f h = suits-any _ is-number
-joint-suits level _ _ _ _ _ _ _ a (suits-any sort x) (j-sum k op c) f h = suits-any _ is-number
-joint-suits level _ _ _ _ _ _ _ a (suits-any sort x) j-join f h = suits-any _ is-text
-joint-suits level _ _ _ _ _ _ _ a (suits-any sort x) (j-numbers k y c) f h = suits-any _ is-test
-joint-suits level _ _ _ _ _ _ _ a (suits-any sort x) (j-texts k y c) f h = suits-any _ is-test
-joint-suits level _ _ _ _ _ _ _ a (suits-any sort x) j-match f h = suits-any _ is-test
-joint-suits level _ _ _ _ _ _ _ a (suits-any sort x) j-and f h = suits-any _ is-test
-joint-suits level _ _ _ _ _ _ _ a (suits-any sort x) j-or f h = suits-any _ is-test
+pub joint-suits : (level : ℕ) (want : Want) (sort : PartSort) (k : ℕ) (op : Binary) (l : ℕ) (o r : Sort) → Asked level want → Suits want sort → Joint k op l o r → Fits o sort → level ≤ l → Suits want (sorted r)
+joint-suits level _ _ _ _ _ _ _ a (suits-any sort) j-power f h = suits-any _
+joint-suits level _ _ _ _ _ _ _ a (suits-any sort) (j-product k op c) f h = suits-any _
+joint-suits level _ _ _ _ _ _ _ a (suits-any sort) (j-sum k op c) f h = suits-any _
+joint-suits level _ _ _ _ _ _ _ a (suits-any sort) j-join f h = suits-any _
+joint-suits level _ _ _ _ _ _ _ a (suits-any sort) (j-numbers k y c) f h = suits-any _
+joint-suits level _ _ _ _ _ _ _ a (suits-any sort) (j-texts k y c) f h = suits-any _
+joint-suits level _ _ _ _ _ _ _ a (suits-any sort) j-match f h = suits-any _
+joint-suits level _ _ _ _ _ _ _ a (suits-any sort) j-and f h = suits-any _
+joint-suits level _ _ _ _ _ _ _ a (suits-any sort) j-or f h = suits-any _
 joint-suits level _ _ _ _ _ _ _ a suits-text j-join fit-text h = suits-text
 joint-suits level _ _ _ _ _ _ _ (asked-text i g) suits-text (j-texts k y c) fit-text h = absurd (let bad : ⊥ = omega (arith, i, h) in bad)
 joint-suits level _ _ _ _ _ _ _ (asked-text i g) suits-text j-match fit-text h = absurd (let bad : ⊥ = omega (arith, i, h) in bad)
@@ -239,14 +244,14 @@ joint-suits level _ _ _ _ _ _ _ a suits-integer (j-product k op c) f h = suits-i
 joint-suits level _ _ _ _ _ _ _ a suits-integer (j-sum k op c) f h = suits-integer
 joint-suits level _ _ _ _ _ _ _ (asked-integer i g) suits-integer (j-numbers k y c) fit-number h = absurd (let bad : ⊥ = omega (arith, i, h) in bad)
 
-test-ends : (m sort k : ℕ) → Fits Table.TEST sort → Table.binds m (Table.operator sort k) ≡ false → Table.binds m (Table.operator Table.TEST k) ≡ false
+test-ends : (m : ℕ) (sort : PartSort) (k : ℕ) → Fits a-test sort → Table.binds m (Table.operator sort k) ≡ false → Table.binds m (Table.operator (sorted a-test) k) ≡ false
 unfolding Table.operator Table.testOperator Table.binds
 test-ends m _ k fit-test b = b
-test-ends m _ k fit-true b = split (eqb k Kind.AND) (λ e. rw e (rw e at b)) (λ e. split (eqb k Kind.OR) (λ f. rw (e, f) (rw (e, f) at b)) (λ f. rw (e, f) refl))
-test-ends m _ k fit-false b = split (eqb k Kind.AND) (λ e. rw e (rw e at b)) (λ e. split (eqb k Kind.OR) (λ f. rw (e, f) (rw (e, f) at b)) (λ f. rw (e, f) refl))
+test-ends m _ k (fit-word c) b = split (eqb k Kind.AND) (λ e. rw e (rw e at b)) (λ e. split (eqb k Kind.OR) (λ f. rw (e, f) (rw (e, f) at b)) (λ f. rw (e, f) refl))
 
 -- what follows the right operand and is no operator there is none behind the whole
-pub joint-ends : (k : ℕ) (op : Binary) (l o r : ℕ) → Joint k op l o r → (sort j : ℕ) → Fits o sort → Table.binds (l + 1) (Table.operator sort j) ≡ false → Table.binds (l + 1) (Table.operator r j) ≡ false
+pub joint-ends : (k : ℕ) (op : Binary) (l : ℕ) (o r : Sort) → Joint k op l o r → (sort : PartSort) (j : ℕ) → Fits o sort → Table.binds (l + 1) (Table.operator sort j) ≡ false
+    → Table.binds (l + 1) (Table.operator (sorted r) j) ≡ false
 joint-ends _ _ _ _ _ j-power sort j f b = number-fit sort j 6 f b
 joint-ends _ _ _ _ _ (j-product k op c) sort j f b = number-fit sort j 5 f b
 joint-ends _ _ _ _ _ (j-sum k op c) sort j f b = number-fit sort j 4 f b
@@ -257,7 +262,7 @@ joint-ends _ _ _ _ _ j-match sort j f b = test-none j
 joint-ends _ _ _ _ _ j-and sort j f b = test-low j
 joint-ends _ _ _ _ _ j-or sort j f b = test-ends 1 sort j f b
 
-pub joint-asked : (k : ℕ) (op : Binary) (l o r : ℕ) → Joint k op l o r → Asked (l + 1) (Numbered.wantOf o)
+pub joint-asked : (k : ℕ) (op : Binary) (l : ℕ) (o r : Sort) → Joint k op l o r → Asked (l + 1) (Table.wantOf o)
 joint-asked _ _ _ _ _ j-power = asked-integer (omega arith) (omega arith)
 joint-asked _ _ _ _ _ (j-product k op c) = asked-integer (omega arith) (omega arith)
 joint-asked _ _ _ _ _ (j-sum k op c) = asked-integer (omega arith) (omega arith)
@@ -268,7 +273,7 @@ joint-asked _ _ _ _ _ j-match = asked-text (omega arith) (omega arith)
 joint-asked _ _ _ _ _ j-and = asked-any (omega arith)
 joint-asked _ _ _ _ _ j-or = asked-any (omega arith)
 
-pub joint-goal : (k : ℕ) (op : Binary) (l o r : ℕ) → Joint k op l o r → goal (Numbered.wantOf o) ≡ o
+pub joint-goal : (k : ℕ) (op : Binary) (l : ℕ) (o r : Sort) → Joint k op l o r → goal (Table.wantOf o) ≡ o
 joint-goal _ _ _ _ _ j-power = refl
 joint-goal _ _ _ _ _ (j-product k op c) = refl
 joint-goal _ _ _ _ _ (j-sum k op c) = refl
@@ -280,17 +285,17 @@ joint-goal _ _ _ _ _ j-and = refl
 joint-goal _ _ _ _ _ j-or = refl
 
 -- what was read where it was wanted fits, or is no test where one was wanted
-pub data RightFit (o sort : ℕ) : Bool → Type 0 where
+pub data RightFit (o : Sort) (sort : PartSort) : Bool → Type 0 where
   right-fits : Fits o sort → RightFit o sort true
-  right-unfit : o ≡ Table.TEST → Unfit sort → RightFit o sort false
+  right-unfit : o ≡ a-test → Unfit sort → RightFit o sort false
 
-from-test : (sort : ℕ) (b : Bool) → TestFit sort b → RightFit Table.TEST sort b
+from-test : (sort : PartSort) (b : Bool) → TestFit sort b → RightFit a-test sort b
 from-test sort _ (test-fits f) = right-fits f
 from-test sort _ (test-unfit u) = right-unfit refl u
 
-pub right-fit : (want sort : ℕ) → Suits want sort → RightFit (goal want) sort (Table.fits (goal want) sort)
+pub right-fit : (want : Want) (sort : PartSort) → Suits want sort → RightFit (goal want) sort (Table.fits (goal want) sort)
 unfolding Table.fits
-right-fit _ _ (suits-any sort x) = from-test sort (Table.fits Table.TEST sort) (test-fit sort x)
+right-fit _ _ (suits-any sort) = from-test sort (Table.fits a-test sort) (test-fit sort)
 right-fit _ _ suits-text = right-fits fit-text
 right-fit _ _ suits-number = right-fits fit-number
 right-fit _ _ suits-integer = right-fits fit-number

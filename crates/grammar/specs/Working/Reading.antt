@@ -14,10 +14,11 @@ use Rattle.lexical.specs.Bounds.{chosen}
 use Rattle.lexical.specs.Literal.{decodedAt}
 use Rattle.lexical.specs.Number as Number
 use Rattle.lexical.specs.declared.token.Token.{Token}
-use Rattle.syntax.specs.Operator.{Unary, Binary, Sort, unaryTakes, unaryGives, binaryTakes, binaryGives}
+use Rattle.syntax.specs.Operator.{Unary, Binary, Sort, a-string, an-integer, a-test, unaryTakes, unaryGives, binaryTakes, binaryGives}
 use Rattle.syntax.specs.Code.{nameAt}
 use Rattle.syntax.specs.Expr.{Expr, name, unary, binary}
 use Rattle.syntax.specs.Parsed.{Parsed, ok, aside, refusal, unexpected}
+use Rattle.conditions.specs.Table.{PartSort, sorted, word, Want, want-any, want-string, want-number, want-integer, isAny}
 use Rattle.conditions.specs.Table
 use Rattle.conditions.specs.Word.{nextAt, wordSort}
 use Rattle.conditions.specs.Parsed.{Part, part, onPart}
@@ -26,8 +27,6 @@ use Rattle.conditions.specs.Expression as E
 use Rattle.conditions.specs.Working.Pace.{Sound, real}
 use Rattle.conditions.specs.Working.Cases.{infix-cases}
 use Rattle.conditions.specs.Working.Reach.{binds-level}
-use Rattle.conditions.specs.Working.TieTable.{want-number}
-use Rattle.conditions.specs.Working.Numbered as Numbered
 use Rattle.grammar.specs.Conditions.{TRUTH}
 use Rattle.grammar.specs.Spelled.{kindIn, kindsIn, Tokens}
 use Rattle.grammar.specs.Viable.{at-once, and-on}
@@ -38,7 +37,7 @@ use Rattle.grammar.specs.Working.Automaton.{run, run-append}
 use Rattle.grammar.specs.Working.Looping.{Went, went-next, went-done, loop-went}
 use Rattle.grammar.specs.Working.Stations.{Place, p-dead, station}
 use Rattle.grammar.specs.Working.Joints.{Fits, Unfit, Joint, Tabled, tabled, joint-tabled, joint-mark, Operated, joins, operated, binds-high, binds-none, operator-kind, test-kind}
-use Rattle.grammar.specs.Working.Told.{Told, told-text, told-number, told-true, told-false, lower, settle, joined, enclosed, goal, Suits, suits-sorted, Completes, completes, completes-lower, finish}
+use Rattle.grammar.specs.Working.Told.{Told, told-text, told-number, told-word, lower, settle, joined, enclosed, goal, Suits, Completes, completes, completes-lower, finish, something}
 use Rattle.grammar.specs.Working.Onward.{Starts, starts-up, after, Asked, Onward, onward, joint-onward, joint-suits, joint-ends, joint-asked, joint-goal, RightFit, right-fits, right-unfit, right-fit}
 use Rattle.grammar.specs.Working.Openings as O
 
@@ -70,8 +69,8 @@ module _ (s : List ℕ) where
 
   -- Of a reader that starts at t, where `want` is wanted: what it read is of level l, and b takes no operator behind it; or it stopped at a token
   -- before which what is wanted can still come, and which leads nowhere; or it gave another reason.
-  pub data Reading (l b level want : ℕ) (t : Token) : Parsed Part → Type 0 where
-    got : (ts : List Token) (u : Token) (sort : ℕ) (e : Expr) → Tokens s t ts u → Real s u → Suits want sort → Told s sort l ts e
+  pub data Reading (l b level : ℕ) (want : Want) (t : Token) : Parsed Part → Type 0 where
+    got : (ts : List Token) (u : Token) (sort : PartSort) (e : Expr) → Tokens s t ts u → Real s u → Suits want sort → Told s sort l ts e
         → Table.binds b (Table.operator sort (kindIn s u)) ≡ false → ((q : Place) → Starts level want q → runs q ts u ≡ station (after q sort) (kindIn s u))
         → Reading l b level want t (ok (part sort e) u)
     halted : (ts : List Token) (u : Token) → Tokens s t ts u → Completes s (goal want) level ts → ((q : Place) → Starts level want q → runs q ts u ≡ p-dead)
@@ -79,36 +78,36 @@ module _ (s : List ℕ) where
     otherwise : (r p : ℕ) → (r ≡ 2 → ⊥) → Reading l b level want t (aside r p)
 
   -- what completes more completes less
-  completes-more : (w level : ℕ) (ts rest : List Token) → Completes s w level (ts ++ rest) → Completes s w level ts
-  completes-more w level ts rest (completes more e d) = completes (rest ++ more) e (subst (λ (l : List Token). Told s w level l e) (append-assoc ts rest more) d)
+  completes-more : (w : Sort) (level : ℕ) (ts rest : List Token) → Completes s w level (ts ++ rest) → Completes s w level ts
+  completes-more w level ts rest (completes more e d) = completes (rest ++ more) e (subst (λ (l : List Token). Told s (sorted w) level l e) (append-assoc ts rest more) d)
 
   -- an operand behind tokens, and the operator that takes it
-  module _ (t : Token) (pre : List Token) (v : Token) (path : Tokens s t pre v) (l level want lv wn r : ℕ) (x₀ y₀ : Sort) (build : Expr → Expr)
-      (takes : Table.sortOf x₀ ≡ goal wn) (gives : Table.sortOf y₀ ≡ r) (high : level ≤ 7) (low : level ≤ l) (deep : lv ≤ 7) (suits : Suits want r)
-      (grows : (us : List Token) (f : Expr) → Told s (goal wn) lv us f → Told s r l (pre ++ us) (build f))
+  module _ (t : Token) (pre : List Token) (v : Token) (path : Tokens s t pre v) (l level : ℕ) (want : Want) (lv : ℕ) (wn : Want) (r x₀ y₀ : Sort) (build : Expr → Expr)
+      (takes : x₀ ≡ goal wn) (gives : y₀ ≡ r) (high : level ≤ 7) (low : level ≤ l) (deep : lv ≤ 7) (suits : Suits want (sorted r))
+      (grows : (us : List Token) (f : Expr) → Told s (sorted (goal wn)) lv us f → Told s (sorted r) l (pre ++ us) (build f))
       (leads : (q : Place) → Starts level want q → Onward q lv wn (goal wn) r (run station q (kindsIn s pre)))
-      (ends : (sort k : ℕ) → Fits (goal wn) sort → Table.binds lv (Table.operator sort k) ≡ false → Table.binds (l + 1) (Table.operator r k) ≡ false) where
+      (ends : (sort : PartSort) (k : ℕ) → Fits (goal wn) sort → Table.binds lv (Table.operator sort k) ≡ false → Table.binds (l + 1) (Table.operator (sorted r) k) ≡ false) where
     grown-completes : (us : List Token) → Completes s (goal wn) lv us → Completes s (goal want) level (pre ++ us)
     grown-completes us (completes rest f d) =
         completes-more (goal want) level (pre ++ us) rest
-        (subst (Completes s (goal want) level) (sym (append-assoc pre us rest)) (finish s want r level l (pre ++ (us ++ rest)) (build f) high low suits (grows (us ++ rest) f d)))
+        (subst (Completes s (goal want) level) (sym (append-assoc pre us rest)) (finish s want (sorted r) level l (pre ++ (us ++ rest)) (build f) high low suits (grows (us ++ rest) f d)))
 
-    leads-fit : (q : Place) (us : List Token) (u : Token) (sort : ℕ) (p : Place) → Onward q lv wn (goal wn) r p → ((x : Place) → Starts lv wn x → runs x us u ≡ station (after x sort) (kindIn s u))
-        → Fits (goal wn) sort → Table.binds lv (Table.operator sort (kindIn s u)) ≡ false → runs p us u ≡ station (after q r) (kindIn s u)
+    leads-fit : (q : Place) (us : List Token) (u : Token) (sort : PartSort) (p : Place) → Onward q lv wn (goal wn) r p → ((x : Place) → Starts lv wn x → runs x us u ≡ station (after x sort) (kindIn s u))
+        → Fits (goal wn) sort → Table.binds lv (Table.operator sort (kindIn s u)) ≡ false → runs p us u ≡ station (after q (sorted r)) (kindIn s u)
     leads-fit q us u sort p (onward q′ e st h n) g f b = ap (λ (x : Place). runs x us u) e ∙ g q′ st ∙ h sort (kindIn s u) f b
 
-    leads-unfit : (q : Place) (us : List Token) (u : Token) (sort : ℕ) (p : Place) → Onward q lv wn (goal wn) r p → ((x : Place) → Starts lv wn x → runs x us u ≡ station (after x sort) (kindIn s u))
-        → goal wn ≡ Table.TEST → Unfit sort → Table.binds lv (Table.operator sort (kindIn s u)) ≡ false → runs p us u ≡ p-dead
+    leads-unfit : (q : Place) (us : List Token) (u : Token) (sort : PartSort) (p : Place) → Onward q lv wn (goal wn) r p → ((x : Place) → Starts lv wn x → runs x us u ≡ station (after x sort) (kindIn s u))
+        → goal wn ≡ a-test → Unfit sort → Table.binds lv (Table.operator sort (kindIn s u)) ≡ false → runs p us u ≡ p-dead
     leads-unfit q us u sort p (onward q′ e st h n) g z f b = ap (λ (x : Place). runs x us u) e ∙ g q′ st ∙ n sort (kindIn s u) z f b
 
     leads-dead : (q : Place) (us : List Token) (u : Token) (p : Place) → Onward q lv wn (goal wn) r p → ((x : Place) → Starts lv wn x → runs x us u ≡ p-dead) → runs p us u ≡ p-dead
     leads-dead q us u p (onward q′ e st h n) g = ap (λ (x : Place). runs x us u) e ∙ g q′ st
 
-    grown : (us : List Token) (u : Token) (sort : ℕ) (f : Expr) → Tokens s v us u → Real s u → Suits wn sort → Told s sort lv us f → Table.binds lv (Table.operator sort (kindIn s u)) ≡ false
+    grown : (us : List Token) (u : Token) (sort : PartSort) (f : Expr) → Tokens s v us u → Real s u → Suits wn sort → Told s sort lv us f → Table.binds lv (Table.operator sort (kindIn s u)) ≡ false
         → ((q : Place) → Starts lv wn q → runs q us u ≡ station (after q sort) (kindIn s u)) → (b : Bool) → RightFit (goal wn) sort b
-        → Reading l (l + 1) level want t (pick b (ok (part r (build (settledTree (goal wn) sort f))) u) (unexpected u))
+        → Reading l (l + 1) level want t (pick b (ok (part (sorted r) (build (settledTree (goal wn) sort f))) u) (unexpected u))
     grown us u sort f p x y d b g _ (right-fits i) =
-        got (pre ++ us) u r (build (settledTree (goal wn) sort f)) (tokens-append s Kind.IN-FIELD t v u pre us path p) x suits (grows us (settledTree (goal wn) sort f) (settle s (goal wn) sort lv us f deep i d))
+        got (pre ++ us) u (sorted r) (build (settledTree (goal wn) sort f)) (tokens-append s Kind.IN-FIELD t v u pre us path p) x suits (grows us (settledTree (goal wn) sort f) (settle s (goal wn) sort lv us f deep i d))
         (ends sort (kindIn s u) i b) (λ q st. runs-on q pre us u ∙ leads-fit q us u sort (run station q (kindsIn s pre)) (leads q st) g i b)
     grown us u sort f p x y d b g _ (right-unfit z i) =
         halted (pre ++ us) u (tokens-append s Kind.IN-FIELD t v u pre us path p) (grown-completes us (finish s wn sort lv lv us f deep (omega arith) y d))
@@ -134,37 +133,37 @@ module _ (s : List ℕ) where
   abbrev seven : _≡_ {A = ℕ} 7 2 → ⊥
   seven z = let bad : ⊥ = omega (arith, z) in bad
 
-  module _ (reals : (at : ℕ) → Real s (nextAt s at)) (want : ℕ) (w : O.Wanting want) (t : Token) where
+  module _ (reals : (at : ℕ) → Real s (nextAt s at)) (want : Want) (t : Token) where
     -- an operand of one token
-    leaf : (sort : ℕ) (e : Expr) → Suits want sort → Told s sort 7 (t ∷ []) e → ((q : Place) → Starts 7 want q → station q (kindIn s t) ≡ after q sort)
+    leaf : (sort : PartSort) (e : Expr) → Suits want sort → Told s sort 7 (t ∷ []) e → ((q : Place) → Starts 7 want q → station q (kindIn s t) ≡ after q sort)
         → Reading 7 8 7 want t (ok (part sort e) (nextAt s (t .end)))
     leaf sort e y d g =
         got (t ∷ []) (nextAt s (t .end)) sort e (and-on t (nextAt s (t .end)) [] (at-once (nextAt s (t .end)))) (reals (t .end)) y d
         (binds-high 8 (Table.operator sort (kindIn s (nextAt s (t .end)))) (omega arith)) (λ q st. ap (λ (x : Place). station x (kindIn s (nextAt s (t .end)))) (g q st))
 
-    mark-at : (sort k : ℕ) → t .kind ≡ k → eqb k Kind.NAME ≡ false → ((q : Place) → Starts 7 want q → station q k ≡ after q sort) → (q : Place) → Starts 7 want q → station q (kindIn s t) ≡ after q sort
+    mark-at : (sort : PartSort) (k : ℕ) → t .kind ≡ k → eqb k Kind.NAME ≡ false → ((q : Place) → Starts 7 want q → station q k ≡ after q sort) → (q : Place) → Starts 7 want q → station q (kindIn s t) ≡ after q sort
     mark-at sort k z n g q st = ap (λ (x : ℕ). station q x) (kind-mark s t k z n) ∙ g q st
 
     literal-reads : Table.allows want Kind.LITERAL ≡ true → t .kind ≡ Kind.LITERAL → Reading 7 8 7 want t (readLiteral s t)
     unfolding readLiteral
     literal-reads h z =
         chosen (Reading 7 8 7 want t) (ltb 2048 (length (decodedAt s (t .start)))) _ _ (λ e. otherwise 7 (t .start) seven)
-        (λ e. leaf Table.TEXT _ (O.literal-suits want w h) (told-text 7 _ _ (literal-tree t z)) (mark-at Table.TEXT Kind.LITERAL z refl (λ q st. O.literal-leaf want q st h)))
+        (λ e. leaf (sorted a-string) _ (O.literal-suits want h) (told-text 7 _ _ (literal-tree t z)) (mark-at (sorted a-string) Kind.LITERAL z refl (λ q st. O.literal-leaf want q st h)))
 
     digits-reads : Table.allows want Kind.DIGITS ≡ true → t .kind ≡ Kind.DIGITS → Reading 7 8 7 want t (readDigits s t)
     unfolding readDigits
     digits-reads h z =
         chosen (Reading 7 8 7 want t) (leb Number.LIMIT (Number.numberAt s (t .start) (t .end))) _ _ (λ e. otherwise 5 (t .start) (λ y. let bad : ⊥ = omega (arith, y) in bad))
-        (λ e. leaf Table.NUMBER _ (O.digits-suits want w h) (told-number 7 _ _ (number-tree t z)) (mark-at Table.NUMBER Kind.DIGITS z refl (λ q st. O.digits-leaf want q st h)))
+        (λ e. leaf (sorted an-integer) _ (O.digits-suits want h) (told-number 7 _ _ (number-tree t z)) (mark-at (sorted an-integer) Kind.DIGITS z refl (λ q st. O.digits-leaf want q st h)))
 
-    name-sorts : (sort : ℕ) → t .kind ≡ Kind.NAME → O.Worded s want t sort → Reading 7 8 7 want t (ok (part sort (name (nameAt s (t .start)))) (nextAt s (t .end)))
-    name-sorts _ z (O.plain-word g y) = leaf Table.TEXT _ y (told-text 7 _ _ (name-tree t z)) g
-    name-sorts _ z (O.true-word x g y) = leaf Table.TRUE _ y (told-true 7 _ _ (name-tree t z) (true-tree t z x)) g
-    name-sorts _ z (O.false-word x g y) = leaf Table.FALSE _ y (told-false 7 _ _ (name-tree t z) (false-tree t z x)) g
+    name-sorts : (sort : PartSort) → t .kind ≡ Kind.NAME → O.Worded s want t sort → Reading 7 8 7 want t (ok (part sort (name (nameAt s (t .start)))) (nextAt s (t .end)))
+    name-sorts _ z (O.plain-word g y) = leaf (sorted a-string) _ y (told-text 7 _ _ (name-tree t z)) g
+    name-sorts _ z (O.true-word x g y) = leaf (word true) _ y (told-word true 7 _ _ (name-tree t z) (true-tree t z x)) g
+    name-sorts _ z (O.false-word x g y) = leaf (word false) _ y (told-word false 7 _ _ (name-tree t z) (false-tree t z x)) g
 
     name-reads : Table.allows want Kind.NAME ≡ true → t .kind ≡ Kind.NAME → Reading 7 8 7 want t (readName s want t)
     unfolding readName
-    name-reads h z = name-sorts (wordSort s want (t .start) (t .end)) z (O.worded s t want w h z)
+    name-reads h z = name-sorts (wordSort s want (t .start) (t .end)) z (O.worded s t want h z)
 
     float-reads : (row : ℕ) → Reading 7 8 7 want t (readFloat row t)
     unfolding readFloat
@@ -193,18 +192,18 @@ module _ (s : List ℕ) where
     enclosed-completes : t .kind ≡ Kind.OPEN → (us : List Token) → Completes s (goal want) level us → Completes s (goal want) 7 (t ∷ us)
     enclosed-completes z us (completes rest f d) =
         completes (rest ++ mark Kind.CLOSE ∷ []) f
-        (subst (λ (l : List Token). Told s (goal want) 7 (t ∷ l) f) (append-assoc us rest (mark Kind.CLOSE ∷ []))
-        (enclosed s (goal want) t (mark Kind.CLOSE) (us ++ rest) f z refl (lower s (goal want) 0 level (us ++ rest) f (omega arith) d)))
+        (subst (λ (l : List Token). Told s (sorted (goal want)) 7 (t ∷ l) f) (append-assoc us rest (mark Kind.CLOSE ∷ []))
+        (enclosed s (sorted (goal want)) t (mark Kind.CLOSE) (us ++ rest) f z refl (lower s (sorted (goal want)) 0 level (us ++ rest) f (omega arith) d)))
 
     opened-dead : (q : Place) (us : List Token) (u : Token) → t .kind ≡ Kind.OPEN → O.Enclosed q want → ((x : Place) → Starts level want x → runs x us u ≡ p-dead) → runs q (t ∷ us) u ≡ p-dead
     opened-dead q us u z (O.enclosed q′ e st c n) g = runs-first q q′ t us u Kind.OPEN (kind-mark s t Kind.OPEN z refl) e ∙ g q′ st
 
-    opened-wrong : (q : Place) (us : List Token) (u : Token) (sort : ℕ) → t .kind ≡ Kind.OPEN → O.Enclosed q want → ((x : Place) → Starts level want x → runs x us u ≡ station (after x sort) (kindIn s u))
+    opened-wrong : (q : Place) (us : List Token) (u : Token) (sort : PartSort) → t .kind ≡ Kind.OPEN → O.Enclosed q want → ((x : Place) → Starts level want x → runs x us u ≡ station (after x sort) (kindIn s u))
         → Suits want sort → Table.binds level (Table.operator sort (kindIn s u)) ≡ false → eqb (u .kind) Kind.CLOSE ≡ false → runs q (t ∷ us) u ≡ p-dead
     opened-wrong q us u sort z (O.enclosed q′ e st c n) g y b f =
         runs-first q q′ t us u Kind.OPEN (kind-mark s t Kind.OPEN z refl) e ∙ g q′ st ∙ n sort (kindIn s u) y b (test-kind s u Kind.CLOSE refl refl ∙ f)
 
-    opened-right : (q : Place) (us : List Token) (u : Token) (sort : ℕ) → t .kind ≡ Kind.OPEN → O.Enclosed q want → ((x : Place) → Starts level want x → runs x us u ≡ station (after x sort) (kindIn s u))
+    opened-right : (q : Place) (us : List Token) (u : Token) (sort : PartSort) → t .kind ≡ Kind.OPEN → O.Enclosed q want → ((x : Place) → Starts level want x → runs x us u ≡ station (after x sort) (kindIn s u))
         → Suits want sort → u .kind ≡ Kind.CLOSE → run station q (kindsIn s (t ∷ us ++ u ∷ [])) ≡ after q sort
     opened-right q us u sort z (O.enclosed q′ e st c n) g y f =
         run-first q q′ t (us ++ u ∷ []) Kind.OPEN (kind-mark s t Kind.OPEN z refl) e ∙ run-one q′ us u ∙ g q′ st
@@ -212,7 +211,7 @@ module _ (s : List ℕ) where
 
     inside-most : level ≤ 7
     unfolding Table.insideLevel
-    inside-most = chosen (λ (n : ℕ). n ≤ 7) (eqb want Table.ANY) 0 3 (λ e. omega arith) (λ e. omega arith)
+    inside-most = chosen (λ (n : ℕ). n ≤ 7) (isAny want) 0 3 (λ e. omega arith) (λ e. omega arith)
 
     bracket-reads : t .kind ≡ Kind.OPEN → (rr : Parsed Part) → Reading level level level want first rr → Reading 7 8 7 want t (onPart rr (λ sort e n. E.closing s sort e n))
     bracket-reads z _ (got us u sort e p x y d b g) =
@@ -226,26 +225,26 @@ module _ (s : List ℕ) where
     bracket-reads z _ (otherwise r p n) = otherwise r p n
 
     -- a prefix operator
-    prefix-reads : (op : Unary) (lv wn o r : ℕ) → O.Before (t .kind) op want lv wn o r → (rr : Parsed Part) → Reading (Table.operandLevel op) (Table.operandLevel op) (Table.operandLevel op) (Table.operandWant op want) first rr
+    prefix-reads : (op : Unary) (lv : ℕ) (wn : Want) (o r : Sort) → O.Before (t .kind) op want lv wn o r → (rr : Parsed Part) → Reading (Table.operandLevel op) (Table.operandLevel op) (Table.operandLevel op) (Table.operandWant op want) first rr
         → Reading 7 8 7 want t (onPart rr (λ sort e n. applied (unary op) (unaryTakes op) (unaryGives op) sort e n))
     prefix-reads op lv wn o r b rr h = on-table (O.before-table (t .kind) op want lv wn o r b)
       where
         on-table : O.BeforeTabled (t .kind) op want lv wn o r → Reading 7 8 7 want t (onPart rr (λ sort e n. applied (unary op) (unaryTakes op) (unaryGives op) sort e n))
         on-table (O.before-tabled el ew eo er eg em) =
             extend t (t ∷ []) first (and-on t first [] (at-once first)) 7 7 want lv wn r (unaryTakes op) (unaryGives op) (unary op) (eo ∙ sym eg) er (omega arith) (omega arith) (O.before-most (t .kind) op want lv wn o r b)
-            (O.before-suits (t .kind) op want lv wn o r b) (λ us f d. O.before-told s (t .kind) op want lv wn o r t us f b refl (subst (λ (x : ℕ). Told s x lv us f) eg d))
-            (λ q st. subst (λ (x : ℕ). Onward q lv wn x r (station q (kindIn s t))) (sym eg)
+            (O.before-suits (t .kind) op want lv wn o r b) (λ us f d. O.before-told s (t .kind) op want lv wn o r t us f b refl (subst (λ (x : Sort). Told s (sorted x) lv us f) eg d))
+            (λ q st. subst (λ (x : Sort). Onward q lv wn x r (station q (kindIn s t))) (sym eg)
             (subst (λ (x : ℕ). Onward q lv wn o r (station q x)) (sym (kind-other s t em)) (O.before-onward (t .kind) op want lv wn o r q b st)))
-            (λ sort k f g. binds-high 8 (Table.operator r k) (omega arith)) rr
-            (subst (λ (x : ℕ). Reading x x x wn first rr) el (subst (λ (x : ℕ). Reading (Table.operandLevel op) (Table.operandLevel op) (Table.operandLevel op) x first rr) ew h))
+            (λ sort k f g. binds-high 8 (Table.operator (sorted r) k) (omega arith)) rr
+            (subst (λ (x : ℕ). Reading x x x wn first rr) el (subst (λ (x : Want). Reading (Table.operandLevel op) (Table.operandLevel op) (Table.operandLevel op) x first rr) ew h))
 
     -- an operand
-    operand-body : Real s t → (prefixed : Unary → ℕ → ℕ → ℕ → Token → Parsed Part) (bracketed : ℕ → ℕ → Token → Parsed Part) (row nest : ℕ)
-        → ((op : Unary) (lv wn o r : ℕ) → O.Before (t .kind) op want lv wn o r → Reading 7 8 7 want t (prefixed op want row nest t))
+    operand-body : Real s t → (prefixed : Unary → Want → ℕ → ℕ → Token → Parsed Part) (bracketed : Want → ℕ → Token → Parsed Part) (row nest : ℕ)
+        → ((op : Unary) (lv : ℕ) (wn : Want) (o r : Sort) → O.Before (t .kind) op want lv wn o r → Reading 7 8 7 want t (prefixed op want row nest t))
         → (t .kind ≡ Kind.OPEN → Reading 7 8 7 want t (bracketed want nest t)) → Reading 7 8 7 want t (E.operandOf prefixed bracketed s want row nest t)
     operand-body (real-token x n) prefixed bracketed row nest onPrefix onBracket =
-        chosen (Reading 7 8 7 want t) (Table.allows want (t .kind)) _ _ (λ h. allowed h (Table.prefixOperator (t .kind)) (O.prefixing want (t .kind) w h))
-        (λ h. halted [] t (at-once t) (O.wanting-something s want w) (λ q st. O.not-allowed s t want q st n h) (refusal (t .kind)) refl)
+        chosen (Reading 7 8 7 want t) (Table.allows want (t .kind)) _ _ (λ h. allowed h (Table.prefixOperator (t .kind)) (O.prefixing want (t .kind) h))
+        (λ h. halted [] t (at-once t) (something s want) (λ q st. O.not-allowed s t want q st n h) (refusal (t .kind)) refl)
       where
         allowed : Table.allows want (t .kind) ≡ true → (i : Table.Prefix) → O.Prefixing want (t .kind) i
             → Reading 7 8 7 want t (Table.onPrefix i (pick (eqb (t .kind) Kind.OPEN) (bracketed want nest t) (readLeaf s want row t)) (λ op. prefixed op want row nest t))
@@ -253,13 +252,13 @@ module _ (s : List ℕ) where
         allowed h _ (O.prefixes op lv wn o r b) = onPrefix op lv wn o r b
 
   -- what the reader makes of a right operand
-  pub data JoinedAs (u : Token) (sort : ℕ) (e : Expr) (op : Binary) : Parsed Part → Type 0 where
+  pub data JoinedAs (u : Token) (sort : PartSort) (e : Expr) (op : Binary) : Parsed Part → Type 0 where
     joined-none : (p : ℕ) → JoinedAs u sort e op (aside 0 p)
     joined-some : (rr : Parsed Part) → Reading (Table.rightLevel op) (Table.rightLevel op) (Table.rightLevel op) (Table.rightWant op) (nextAt s (u .end)) rr
-        → JoinedAs u sort e op (onPart rr (λ x f n. applied (binary op (settledTree (Table.sortOf (binaryTakes op)) sort e)) (binaryTakes op) (binaryGives op) x f n))
+        → JoinedAs u sort e op (onPart rr (λ x f n. applied (binary op (settledTree (binaryTakes op) sort e)) (binaryTakes op) (binaryGives op) x f n))
 
   -- operators from left to right
-  module _ (reals : (at : ℕ) → Real s (nextAt s at)) (level want : ℕ) (a : Asked level want) (t : Token) where
+  module _ (reals : (at : ℕ) → Real s (nextAt s at)) (level : ℕ) (want : Want) (a : Asked level want) (t : Token) where
     abbrev Done : Parsed Part → Type 0
     Done r = Reading level level level want t r
 
@@ -268,33 +267,33 @@ module _ (s : List ℕ) where
     Stands x r = (l : ℕ) (ts : List Token) → level ≤ l → Tokens s t ts (x .0) → Real s (x .0) → Suits want (x .1) → Told s (x .1) l ts (x .2)
         → Table.binds (l + 1) (Table.operator (x .1) (kindIn s (x .0))) ≡ false → ((q : Place) → Starts level want q → runs q ts (x .0) ≡ station (after q (x .1)) (kindIn s (x .0))) → Done r
 
-    stopped : (u : Token) (sort : ℕ) (e : Expr) → Table.binds level (Table.operator sort (u .kind)) ≡ false → Stands (u, sort, e) (ok (part sort e) u)
+    stopped : (u : Token) (sort : PartSort) (e : Expr) → Table.binds level (Table.operator sort (u .kind)) ≡ false → Stands (u, sort, e) (ok (part sort e) u)
     stopped u sort e h l ts low p x y d b g =
         got ts u sort e p x y (lower s sort level l ts e low d) (ap (Table.binds level) (operator-kind s u sort) ∙ h) g
 
     -- behind the last token there is no operator
-    late : (u : Token) (sort : ℕ) → length s ≤ u .start → Real s u → Table.binds level (Table.operator sort (u .kind)) ≡ false
+    late : (u : Token) (sort : PartSort) → length s ≤ u .start → Real s u → Table.binds level (Table.operator sort (u .kind)) ≡ false
     late u sort h (real-token x n) =
         split (ltb Kind.BAD-LINE (u .kind))
         (λ e. absurd (let k : (u .start < u .end) × (u .end ≤ length s) = real s u x (ltb-true Kind.BAD-LINE (u .kind) e) in let bad : ⊥ = omega (arith, h, k .0, k .1) in bad))
         (λ e. binds-none level sort (u .kind) (ltb-false Kind.BAD-LINE (u .kind) e))
 
     -- an operator that the level takes, and its right operand
-    operator-joined : (u : Token) (sort : ℕ) (e : Expr) (op : Binary) (lo o r : ℕ) → Joint (u .kind) op lo o r → Fits o sort → Table.binds level (Table.between op) ≡ true
+    operator-joined : (u : Token) (sort : PartSort) (e : Expr) (op : Binary) (lo : ℕ) (o r : Sort) → Joint (u .kind) op lo o r → Fits o sort → Table.binds level (Table.between op) ≡ true
         → (rr : Parsed Part) → Reading (Table.rightLevel op) (Table.rightLevel op) (Table.rightLevel op) (Table.rightWant op) (nextAt s (u .end)) rr
         → (l : ℕ) (ts : List Token) → level ≤ l → Tokens s t ts u → Real s u → Suits want sort → Told s sort l ts e → Table.binds (l + 1) (Table.between op) ≡ false
         → ((q : Place) → Starts level want q → runs q ts u ≡ station (after q sort) (kindIn s u))
-        → (m : ℕ) × ((level ≤ m) × Reading m (m + 1) level want t (onPart rr (λ x f n. applied (binary op (settledTree (Table.sortOf (binaryTakes op)) sort e)) (binaryTakes op) (binaryGives op) x f n)))
+        → (m : ℕ) × ((level ≤ m) × Reading m (m + 1) level want t (onPart rr (λ x f n. applied (binary op (settledTree (binaryTakes op) sort e)) (binaryTakes op) (binaryGives op) x f n)))
     unfolding Table.rightLevel Table.rightWant
     operator-joined u sort e op lo o r j fit h rr inner l ts low p x y d b g = on-table (joint-tabled (u .kind) op lo o r j)
       where
-        on-table : Tabled op lo o r → (m : ℕ) × ((level ≤ m) × Reading m (m + 1) level want t (onPart rr (λ x f n. applied (binary op (settledTree (Table.sortOf (binaryTakes op)) sort e)) (binaryTakes op) (binaryGives op) x f n)))
+        on-table : Tabled op lo o r → (m : ℕ) × ((level ≤ m) × Reading m (m + 1) level want t (onPart rr (λ x f n. applied (binary op (settledTree (binaryTakes op) sort e)) (binaryTakes op) (binaryGives op) x f n)))
         on-table (tabled el eo er) = (
           lo,
           (
             level-low,
-            extend t (ts ++ u ∷ []) (nextAt s (u .end)) (tokens-one s Kind.IN-FIELD t u ts p) lo level want (lo + 1) (Numbered.wantOf o) r (binaryTakes op) (binaryGives op) (binary op (settledTree (Table.sortOf (binaryTakes op)) sort e))
-                (eo ∙ sym (joint-goal (u .kind) op lo o r j)) er (O.asked-most level want a) level-low (O.asked-most (lo + 1) (Numbered.wantOf o) (joint-asked (u .kind) op lo o r j))
+            extend t (ts ++ u ∷ []) (nextAt s (u .end)) (tokens-one s Kind.IN-FIELD t u ts p) lo level want (lo + 1) (Table.wantOf o) r (binaryTakes op) (binaryGives op) (binary op (settledTree (binaryTakes op) sort e))
+                (eo ∙ sym (joint-goal (u .kind) op lo o r j)) er (O.asked-most level want a) level-low (O.asked-most (lo + 1) (Table.wantOf o) (joint-asked (u .kind) op lo o r j))
                 (joint-suits level want sort (u .kind) op lo o r a y j fit level-low) grows leads ends rr inner-at,
           ),
         )
@@ -305,37 +304,37 @@ module _ (s : List ℕ) where
             lo-low : lo ≤ l
             lo-low = operator-low l op lo el b
 
-            left : Told s o lo ts (settledTree o sort e)
-            left = settle s o sort lo ts e (O.asked-low (lo + 1) (Numbered.wantOf o) lo (joint-asked (u .kind) op lo o r j) (omega arith)) fit (lower s sort lo l ts e lo-low d)
+            left : Told s (sorted o) lo ts (settledTree o sort e)
+            left = settle s o sort lo ts e (O.asked-low (lo + 1) (Table.wantOf o) lo (joint-asked (u .kind) op lo o r j) (omega arith)) fit (lower s sort lo l ts e lo-low d)
 
-            grows : (us : List Token) (f : Expr) → Told s (goal (Numbered.wantOf o)) (lo + 1) us f → Told s r lo ((ts ++ u ∷ []) ++ us) (binary op (settledTree (Table.sortOf (binaryTakes op)) sort e) f)
+            grows : (us : List Token) (f : Expr) → Told s (sorted (goal (Table.wantOf o))) (lo + 1) us f → Told s (sorted r) lo ((ts ++ u ∷ []) ++ us) (binary op (settledTree (binaryTakes op) sort e) f)
             grows us f k =
-                subst (λ (z : List Token). Told s r lo z (binary op (settledTree (Table.sortOf (binaryTakes op)) sort e) f)) (sym (append-assoc ts (u ∷ []) us))
-                (rw eo (joined s (u .kind) op lo o r u ts us (settledTree o sort e) f j refl left (subst (λ (z : ℕ). Told s z (lo + 1) us f) (joint-goal (u .kind) op lo o r j) k)))
+                subst (λ (z : List Token). Told s (sorted r) lo z (binary op (settledTree (binaryTakes op) sort e) f)) (sym (append-assoc ts (u ∷ []) us))
+                (rw eo (joined s (u .kind) op lo o r u ts us (settledTree o sort e) f j refl left (subst (λ (z : Sort). Told s (sorted z) (lo + 1) us f) (joint-goal (u .kind) op lo o r j) k)))
 
-            leads : (q : Place) → Starts level want q → Onward q (lo + 1) (Numbered.wantOf o) (goal (Numbered.wantOf o)) r (run station q (kindsIn s (ts ++ u ∷ [])))
+            leads : (q : Place) → Starts level want q → Onward q (lo + 1) (Table.wantOf o) (goal (Table.wantOf o)) r (run station q (kindsIn s (ts ++ u ∷ [])))
             leads q st =
-                subst (λ (z : ℕ). Onward q (lo + 1) (Numbered.wantOf o) z r (run station q (kindsIn s (ts ++ u ∷ [])))) (sym (joint-goal (u .kind) op lo o r j))
-                (subst (Onward q (lo + 1) (Numbered.wantOf o) o r) (sym (run-one q ts u ∙ g q st ∙ ap (λ (z : ℕ). station (after q sort) z) (kind-other s u (joint-mark (u .kind) op lo o r j))))
+                subst (λ (z : Sort). Onward q (lo + 1) (Table.wantOf o) z r (run station q (kindsIn s (ts ++ u ∷ [])))) (sym (joint-goal (u .kind) op lo o r j))
+                (subst (Onward q (lo + 1) (Table.wantOf o) o r) (sym (run-one q ts u ∙ g q st ∙ ap (λ (z : ℕ). station (after q sort) z) (kind-other s u (joint-mark (u .kind) op lo o r j))))
                 (joint-onward level want sort (u .kind) op lo o r q a st y j fit level-low))
 
-            ends : (x k : ℕ) → Fits (goal (Numbered.wantOf o)) x → Table.binds (lo + 1) (Table.operator x k) ≡ false → Table.binds (lo + 1) (Table.operator r k) ≡ false
-            ends x k f = joint-ends (u .kind) op lo o r j x k (subst (λ (z : ℕ). Fits z x) (joint-goal (u .kind) op lo o r j) f)
+            ends : (x : PartSort) (k : ℕ) → Fits (goal (Table.wantOf o)) x → Table.binds (lo + 1) (Table.operator x k) ≡ false → Table.binds (lo + 1) (Table.operator (sorted r) k) ≡ false
+            ends x k f = joint-ends (u .kind) op lo o r j x k (subst (λ (z : Sort). Fits z x) (joint-goal (u .kind) op lo o r j) f)
 
-            inner-at : Reading (lo + 1) (lo + 1) (lo + 1) (Numbered.wantOf o) (nextAt s (u .end)) rr
+            inner-at : Reading (lo + 1) (lo + 1) (lo + 1) (Table.wantOf o) (nextAt s (u .end)) rr
             inner-at =
                 let k : Reading (lo + 1) (lo + 1) (lo + 1) (Table.wantOf (binaryTakes op)) (nextAt s (u .end)) rr = subst (λ (z : ℕ). Reading (z + 1) (z + 1) (z + 1) (Table.wantOf (binaryTakes op)) (nextAt s (u .end)) rr) el inner in
-                subst (λ (z : ℕ). Reading (lo + 1) (lo + 1) (lo + 1) z (nextAt s (u .end)) rr) (sym (want-number (binaryTakes op)) ∙ ap Numbered.wantOf eo) k
+                subst (λ (z : Want). Reading (lo + 1) (lo + 1) (lo + 1) z (nextAt s (u .end)) rr) (ap (λ (z : Sort). Table.wantOf z) eo) k
 
-    module _ (u : Token) (sort : ℕ) (e : Expr) (l : ℕ) (ts : List Token) (low : level ≤ l) (p : Tokens s t ts u) (x : Real s u) (y : Suits want sort) (d : Told s sort l ts e)
+    module _ (u : Token) (sort : PartSort) (e : Expr) (l : ℕ) (ts : List Token) (low : level ≤ l) (p : Tokens s t ts u) (x : Real s u) (y : Suits want sort) (d : Told s sort l ts e)
         (g : (q : Place) → Starts level want q → runs q ts u ≡ station (after q sort) (kindIn s u)) where
-      joined-as : (op : Binary) (lo o r : ℕ) → Joint (u .kind) op lo o r → Fits o sort → Table.binds level (Table.between op) ≡ true → Table.binds (l + 1) (Table.between op) ≡ false → (rr : Parsed Part) → JoinedAs u sort e op rr
+      joined-as : (op : Binary) (lo : ℕ) (o r : Sort) → Joint (u .kind) op lo o r → Fits o sort → Table.binds level (Table.between op) ≡ true → Table.binds (l + 1) (Table.between op) ≡ false → (rr : Parsed Part) → JoinedAs u sort e op rr
           → (m : ℕ) × ((level ≤ m) × Reading m (m + 1) level want t rr)
       joined-as op lo o r j fit h b _ (joined-none at) = (level, (omega arith, otherwise 0 at (λ n. let bad : ⊥ = omega (arith, n) in bad)))
       joined-as op lo o r j fit h b _ (joined-some rr inner) = operator-joined u sort e op lo o r j fit h rr inner l ts low p x y d b g
 
       by-operator : (op : Binary) → Operated sort (u .kind) (Table.between op) → Table.binds level (Table.between op) ≡ true → Table.binds (l + 1) (Table.between op) ≡ false → (rr : Parsed Part)
-          → ((lo o r : ℕ) → Joint (u .kind) op lo o r → JoinedAs u sort e op rr) → (m : ℕ) × ((level ≤ m) × Reading m (m + 1) level want t rr)
+          → ((lo : ℕ) (o r : Sort) → Joint (u .kind) op lo o r → JoinedAs u sort e op rr) → (m : ℕ) × ((level ≤ m) × Reading m (m + 1) level want t rr)
       by-operator op (joins _ lo o r j fit) h b rr k = joined-as op lo o r j fit h b rr (k lo o r j)
 
     module _ (μ : E.State → ℕ) (out : E.State → Parsed Part) (f : E.State → Step E.State (Parsed Part)) where
@@ -343,7 +342,7 @@ module _ (s : List ℕ) where
       Turn x st = Went μ out f Stands x st
 
       -- what a right operand makes: the loop goes on with it, or it is a fault
-      on-joined : (u : Token) (sort : ℕ) (e : Expr) (rr : Parsed Part)
+      on-joined : (u : Token) (sort : PartSort) (e : Expr) (rr : Parsed Part)
           → ((l : ℕ) (ts : List Token) → level ≤ l → Tokens s t ts u → Real s u → Suits want sort → Told s sort l ts e → Table.binds (l + 1) (Table.operator sort (kindIn s u)) ≡ false
           → ((q : Place) → Starts level want q → runs q ts u ≡ station (after q sort) (kindIn s u)) → (m : ℕ) × ((level ≤ m) × Reading m (m + 1) level want t rr))
           → Turn (u, sort, e) (E.onJoined u rr)
@@ -366,7 +365,7 @@ module _ (s : List ℕ) where
           from-ok : (r : Parsed Part) → Stands (v, sort′, e′) r → (m : ℕ) × ((level ≤ m) × Reading m (m + 1) level want t (ok (part sort′ e′) v)) → Done r
           from-ok r k (m, (low, i)) = from-reading m r low k i
 
-    module _ (nest : ℕ) (join : Binary → ℕ → ℕ → Expr → ℕ → Parsed Part) where
+    module _ (nest : ℕ) (join : Binary → ℕ → PartSort → Expr → ℕ → Parsed Part) where
       abbrev μ : E.State → ℕ
       μ x = length s - x .0 .start
 
@@ -376,7 +375,7 @@ module _ (s : List ℕ) where
       abbrev turn : E.State → Step E.State (Parsed Part)
       turn = E.chainTurn join s level nest
 
-      module _ (joining : (u : Token) (sort : ℕ) (e : Expr) (op : Binary) (lo o r : ℕ) → Joint (u .kind) op lo o r → JoinedAs u sort e op (join op nest sort e (u .end))) where
+      module _ (joining : (u : Token) (sort : PartSort) (e : Expr) (op : Binary) (lo : ℕ) (o r : Sort) → Joint (u .kind) op lo o r → JoinedAs u sort e op (join op nest sort e (u .end))) where
         chain-turn : (x : E.State) → Went μ out turn Stands x (turn x)
         chain-turn (u, sort, e) =
             chosen (Went μ out turn Stands (u, sort, e)) (leb (length s) (u .start)) _ _
@@ -385,16 +384,16 @@ module _ (s : List ℕ) where
             (λ h. infix-cases (Went μ out turn Stands (u, sort, e)) (Table.operator sort (u .kind)) _ _
             (λ n. went-done (ok (part sort e) u) (λ l ts low p x y d b g. stopped u sort e (unbound level (Table.operator sort (u .kind)) n) l ts low p x y d b g))
             (λ op n. on-joined μ out turn u sort e (join op nest sort e (u .end))
-            (λ l ts low p x y d b g. by-operator u sort e l ts low p x y d g op (subst (Operated sort (u .kind)) n (operated sort (u .kind) (suits-sorted want sort y))) (subst (λ (i : Table.Infix). Table.binds level i ≡ true) n h)
+            (λ l ts low p x y d b g. by-operator u sort e l ts low p x y d g op (subst (Operated sort (u .kind)) n (operated sort (u .kind))) (subst (λ (i : Table.Infix). Table.binds level i ≡ true) n h)
             (subst (λ (i : Table.Infix). Table.binds (l + 1) i ≡ false) n (ap (Table.binds (l + 1)) (sym (operator-kind s u sort)) ∙ b)) (join op nest sort e (u .end))
             (λ lo o r j. joining u sort e op lo o r j))))
             (λ h. went-done (ok (part sort e) u) (λ l ts low p x y d b g. stopped u sort e h l ts low p x y d b g)))
 
-        chain-body : (u : Token) (sort : ℕ) (e : Expr) → Stands (u, sort, e) (E.chainOf join s level nest sort e u)
+        chain-body : (u : Token) (sort : PartSort) (e : Expr) → Stands (u, sort, e) (E.chainOf join s level nest sort e u)
         chain-body u sort e = loop-went μ out turn Stands (λ x l ts low p r y d b g. otherwise 0 (x .0 .start) (λ k. let bad : ⊥ = omega (arith, k) in bad)) chain-turn (u, sort, e)
 
     -- an operand and what follows it
-    expression-body : (chain : ℕ → ℕ → ℕ → Expr → Token → Parsed Part) (nest : ℕ) → ((u : Token) (sort : ℕ) (e : Expr) → Stands (u, sort, e) (chain level nest sort e u))
+    expression-body : (chain : ℕ → ℕ → PartSort → Expr → Token → Parsed Part) (nest : ℕ) → ((u : Token) (sort : PartSort) (e : Expr) → Stands (u, sort, e) (chain level nest sort e u))
         → (rr : Parsed Part) → Reading 7 8 7 want t rr → Done (onPart rr (λ sort e n. chain level nest sort e n))
     expression-body chain nest h _ (got ts u sort e p x y d b g) =
         h u sort e 7 ts (O.asked-most level want a) p x y d b (λ q st. g q (starts-up level 7 want q (O.asked-most level want a) st))
@@ -403,14 +402,14 @@ module _ (s : List ℕ) where
     expression-body chain nest h _ (otherwise r p n) = otherwise r p n
 
   module _ (reals : (at : ℕ) → Real s (nextAt s at)) where
-    right-asked : (k : ℕ) (op : Binary) (lo o r : ℕ) → Joint k op lo o r → Asked (Table.rightLevel op) (Table.rightWant op)
+    right-asked : (k : ℕ) (op : Binary) (lo : ℕ) (o r : Sort) → Joint k op lo o r → Asked (Table.rightLevel op) (Table.rightWant op)
     unfolding Table.rightLevel Table.rightWant
     right-asked k op lo o r j = on-table (joint-tabled k op lo o r j)
       where
         on-table : Tabled op lo o r → Asked (Table.levelOf op + 1) (Table.wantOf (binaryTakes op))
-        on-table (tabled el eo er) = rw (el, sym (want-number (binaryTakes op)), eo) (joint-asked k op lo o r j)
+        on-table (tabled el eo er) = rw (el, eo) (joint-asked k op lo o r j)
 
-    prefix-asked : (k : ℕ) (op : Unary) (want lv wn o r : ℕ) → O.Before k op want lv wn o r → Asked (Table.operandLevel op) (Table.operandWant op want)
+    prefix-asked : (k : ℕ) (op : Unary) (want : Want) (lv : ℕ) (wn : Want) (o r : Sort) → O.Before k op want lv wn o r → Asked (Table.operandLevel op) (Table.operandWant op want)
     prefix-asked k op want lv wn o r b = on-table (O.before-table k op want lv wn o r b)
       where
         on-table : O.BeforeTabled k op want lv wn o r → Asked (Table.operandLevel op) (Table.operandWant op want)
@@ -419,38 +418,38 @@ module _ (s : List ℕ) where
     mutual
       unfolding E.readExpression
 
-      pub expression-reads : (d level want row nest : ℕ) (t : Token) → Asked level want → Real s t → Reading level level level want t (E.readExpression d s level want row nest t)
+      pub expression-reads : (d level : ℕ) (want : Want) (row nest : ℕ) (t : Token) → Asked level want → Real s t → Reading level level level want t (E.readExpression d s level want row nest t)
       expression-reads zero level want row nest t a x = otherwise 0 (t .start) (λ k. let bad : ⊥ = omega (arith, k) in bad)
       expression-reads (suc d) level want row nest t a x =
           expression-body reals level want a t (λ level nest sort e t. E.readChain d s level nest sort e t) nest (λ u sort e. chain-reads d level want nest t a u sort e)
-          (E.readOperand d s want row nest t) (operand-reads d want row nest t (O.asked-wanting level want a) x)
+          (E.readOperand d s want row nest t) (operand-reads d want row nest t x)
 
-      operand-reads : (d want row nest : ℕ) (t : Token) → O.Wanting want → Real s t → Reading 7 8 7 want t (E.readOperand d s want row nest t)
-      operand-reads zero want row nest t w x = otherwise 0 (t .start) (λ k. let bad : ⊥ = omega (arith, k) in bad)
-      operand-reads (suc d) want row nest t w x =
-          operand-body reals want w t x (λ op want row nest t. E.readPrefixed d s op want row nest t) (λ want nest t. E.readBracketed d s want nest t) row nest
-          (λ op lv wn o r b. prefixed-reads d op want row nest t lv wn o r w b) (λ z. bracketed-reads d want nest t w z)
+      operand-reads : (d : ℕ) (want : Want) (row nest : ℕ) (t : Token) → Real s t → Reading 7 8 7 want t (E.readOperand d s want row nest t)
+      operand-reads zero want row nest t x = otherwise 0 (t .start) (λ k. let bad : ⊥ = omega (arith, k) in bad)
+      operand-reads (suc d) want row nest t x =
+          operand-body reals want t x (λ op want row nest t. E.readPrefixed d s op want row nest t) (λ want nest t. E.readBracketed d s want nest t) row nest
+          (λ op lv wn o r b. prefixed-reads d op want row nest t lv wn o r b) (λ z. bracketed-reads d want nest t z)
 
-      prefixed-reads : (d : ℕ) (op : Unary) (want row nest : ℕ) (t : Token) (lv wn o r : ℕ) → O.Wanting want → O.Before (t .kind) op want lv wn o r → Reading 7 8 7 want t (E.readPrefixed d s op want row nest t)
-      prefixed-reads zero op want row nest t lv wn o r w b = otherwise 0 (t .start) (λ k. let bad : ⊥ = omega (arith, k) in bad)
-      prefixed-reads (suc d) op want row nest t lv wn o r w b =
+      prefixed-reads : (d : ℕ) (op : Unary) (want : Want) (row nest : ℕ) (t : Token) (lv : ℕ) (wn : Want) (o r : Sort) → O.Before (t .kind) op want lv wn o r → Reading 7 8 7 want t (E.readPrefixed d s op want row nest t)
+      prefixed-reads zero op want row nest t lv wn o r b = otherwise 0 (t .start) (λ k. let bad : ⊥ = omega (arith, k) in bad)
+      prefixed-reads (suc d) op want row nest t lv wn o r b =
           chosen (Reading 7 8 7 want t) (leb 16 row) _ _ (λ h. otherwise 7 (t .start) seven)
-          (λ h. prefix-reads reals want w t op lv wn o r b (E.readExpression d s (Table.operandLevel op) (Table.operandWant op want) (row + 1) nest (nextAt s (t .end)))
+          (λ h. prefix-reads reals want t op lv wn o r b (E.readExpression d s (Table.operandLevel op) (Table.operandWant op want) (row + 1) nest (nextAt s (t .end)))
           (expression-reads d (Table.operandLevel op) (Table.operandWant op want) (row + 1) nest (nextAt s (t .end)) (prefix-asked (t .kind) op want lv wn o r b) (reals (t .end))))
 
-      bracketed-reads : (d want nest : ℕ) (t : Token) → O.Wanting want → t .kind ≡ Kind.OPEN → Reading 7 8 7 want t (E.readBracketed d s want nest t)
-      bracketed-reads zero want nest t w z = otherwise 0 (t .start) (λ k. let bad : ⊥ = omega (arith, k) in bad)
-      bracketed-reads (suc d) want nest t w z =
+      bracketed-reads : (d : ℕ) (want : Want) (nest : ℕ) (t : Token) → t .kind ≡ Kind.OPEN → Reading 7 8 7 want t (E.readBracketed d s want nest t)
+      bracketed-reads zero want nest t z = otherwise 0 (t .start) (λ k. let bad : ⊥ = omega (arith, k) in bad)
+      bracketed-reads (suc d) want nest t z =
           chosen (Reading 7 8 7 want t) (leb 16 nest) _ _ (λ h. otherwise 7 (t .start) seven)
-          (λ h. bracket-reads reals want w t z (E.readExpression d s (Table.insideLevel want) want 0 (nest + 1) (nextAt s (t .end)))
-          (expression-reads d (Table.insideLevel want) want 0 (nest + 1) (nextAt s (t .end)) (O.inside-asked want w) (reals (t .end))))
+          (λ h. bracket-reads reals want t z (E.readExpression d s (Table.insideLevel want) want 0 (nest + 1) (nextAt s (t .end)))
+          (expression-reads d (Table.insideLevel want) want 0 (nest + 1) (nextAt s (t .end)) (O.inside-asked want) (reals (t .end))))
 
-      chain-reads : (d level want nest : ℕ) (t : Token) (a : Asked level want) (u : Token) (sort : ℕ) (e : Expr) → Stands reals level want a t (u, sort, e) (E.readChain d s level nest sort e u)
+      chain-reads : (d level : ℕ) (want : Want) (nest : ℕ) (t : Token) (a : Asked level want) (u : Token) (sort : PartSort) (e : Expr) → Stands reals level want a t (u, sort, e) (E.readChain d s level nest sort e u)
       chain-reads zero level want nest t a u sort e = λ l ts low p x y k b g. otherwise 0 (u .start) (λ k. let bad : ⊥ = omega (arith, k) in bad)
       chain-reads (suc d) level want nest t a u sort e =
           chain-body reals level want a t nest (λ op nest sort e at. E.readJoined d s op nest sort e at) (λ u sort e op lo o r j. joined-reads d level want nest t a u sort e op lo o r j) u sort e
 
-      joined-reads : (d level want nest : ℕ) (t : Token) (a : Asked level want) (u : Token) (sort : ℕ) (e : Expr) (op : Binary) (lo o r : ℕ) → Joint (u .kind) op lo o r
+      joined-reads : (d level : ℕ) (want : Want) (nest : ℕ) (t : Token) (a : Asked level want) (u : Token) (sort : PartSort) (e : Expr) (op : Binary) (lo : ℕ) (o r : Sort) → Joint (u .kind) op lo o r
           → JoinedAs u sort e op (E.readJoined d s op nest sort e (u .end))
       joined-reads zero level want nest t a u sort e op lo o r j = joined-none (u .end)
       joined-reads (suc d) level want nest t a u sort e op lo o r j =

@@ -8,12 +8,13 @@ use borrow.Author.Tests.{ne-eqb}
 use mathlib.Core.Logic.{_⊎_, inl, inr}
 use Rattle.text.specs.Choice.{split}
 use Rattle.lexical.specs.Kind
+use Rattle.conditions.specs.Table.{want-any, want-string}
 use Rattle.conditions.specs.Table
 use Rattle.grammar.specs.Fields.{Ends, end-of-text, next-version, next-constants, next-authorizer, next-licensees, next-conditions, next-comment, next-signature, field}
 use Rattle.grammar.specs.Conditions.{Class, operand, power, product, conjunction, whole, TRUTH, Name, any-name, truth-name, Str, str-literal, str-name, str-lookup, str-bracket, str-one, str-join, Product, times, divide, remainder, Sum, plus, minus, Int, int-literal, int-minus, int-convert, int-bracket, int-one, int-power, int-up, int-product, int-term, int-sum, FloatTimes, float-times, float-divide, Float, float-literal, float-minus, float-convert, float-bracket, float-one, float-power, float-up, float-product, float-term, float-sum, Order, less, greater, at-most, at-least, Compare, order, equal, unequal, Comparison, of-integers, of-floats, of-strings, matching, Tests, test-truth, test-comparison, test-not, test-bracket, test-one, test-and, test-ands, test-or, Clauses, no-clause, clause, tested, valued, nested, Conditions}
 use Rattle.grammar.specs.Viable.{Viable}
 use Rattle.grammar.specs.Working.Automaton.{run, run-append, run-dead, not-viable, not-longer}
-use Rattle.grammar.specs.Working.Stations.{FLOATING, FLOATS, Spot, in-clause, in-bracket, Frame, tests, right, value, texts, numbers, Place, p-dead, p-over, p-begin, p-arrow, p-block, p-any, p-text, p-number, p-have, strict, flat, station}
+use Rattle.grammar.specs.Working.Stations.{Had, TEXT, NUMBER, TEST, TRUE, FLOATING, EITHER, INTEGER, FLOATS, Spot, in-clause, in-bracket, Frame, tests, right, value, texts, numbers, Place, p-dead, p-over, p-begin, p-arrow, p-block, p-any, p-text, p-number, p-have, strict, flat, station}
 
 pub station-dead : (k : ℕ) → station p-dead k ≡ p-dead
 unfolding station
@@ -28,102 +29,102 @@ pub first-part : (q r : Place) (ks : List ℕ) (k : ℕ) → station q k ≡ r �
 first-part q r ks k f = ap (λ (x : Place). run station x ks) f
 
 -- strings where a string is wanted
-pub name-text : (r : ℕ) (F : Frame) (k : ℕ) → Name k → station (p-text r F) k ≡ p-have r F
+pub name-text : (r : Had) (F : Frame) (k : ℕ) → Name k → station (p-text r F) k ≡ p-have r F
 unfolding station Table.allows Table.beginsString
 name-text r F _ any-name = refl
 name-text r F _ truth-name = refl
 
-pub literal-text : (r : ℕ) (F : Frame) → station (p-text r F) Kind.LITERAL ≡ p-have r F
+pub literal-text : (r : Had) (F : Frame) → station (p-text r F) Kind.LITERAL ≡ p-have r F
 unfolding station Table.allows Table.beginsString
 literal-text r F = refl
 
-pub lookup-text : (r : ℕ) (F : Frame) → station (p-text r F) Kind.DOLLAR ≡ p-text r F
+pub lookup-text : (r : Had) (F : Frame) → station (p-text r F) Kind.DOLLAR ≡ p-text r F
 unfolding station Table.allows Table.beginsString
 lookup-text r F = refl
 
-pub open-text : (r : ℕ) (F : Frame) → station (p-text r F) Kind.OPEN ≡ p-text Table.TEXT (texts r F)
+pub open-text : (r : Had) (F : Frame) → station (p-text r F) Kind.OPEN ≡ p-text TEXT (texts r F)
 unfolding station Table.allows
 open-text r F = refl
 
-pub close-text : (r : ℕ) (F : Frame) → station (p-have Table.TEXT (texts r F)) Kind.CLOSE ≡ p-have r F
+pub close-text : (r : Had) (F : Frame) → station (p-have TEXT (texts r F)) Kind.CLOSE ≡ p-have r F
 unfolding station Table.operator Table.textOperator Table.comparison Table.binds
 close-text r F = refl
 
-pub dot-text : (F : Frame) → station (p-have Table.TEXT F) Kind.DOT ≡ p-text Table.TEXT F
+pub dot-text : (F : Frame) → station (p-have TEXT F) Kind.DOT ≡ p-text TEXT F
 unfolding station Table.operator Table.textOperator Table.comparison Table.binds Table.levelOf
 dot-text F = refl
 
 -- the sort of what a class of strings is: in a class above, any
-pub data Shown (F : Frame) (r : ℕ) : Class → Type 0 where
+pub data Shown (F : Frame) (r : Had) : Class → Type 0 where
   any-sort : Shown F r operand
-  as-text : r ≡ Table.TEXT → Shown F r whole
+  as-text : r ≡ TEXT → Shown F r whole
 
-pub text-run : (c : Class) (ks : List ℕ) → Str c ks → (r : ℕ) (F : Frame) → Shown F r c → run station (p-text r F) ks ≡ p-have r F
+pub text-run : (c : Class) (ks : List ℕ) → Str c ks → (r : Had) (F : Frame) → Shown F r c → run station (p-text r F) ks ≡ p-have r F
 text-run _ _ str-literal r F h = literal-text r F
 text-run _ _ (str-name k n) r F h = name-text r F k n
 text-run _ _ (str-lookup ks s) r F h = first-part (p-text r F) (p-text r F) ks Kind.DOLLAR (lookup-text r F) ∙ text-run operand ks s r F any-sort
 text-run _ _ (str-bracket ks s) r F h =
-    first-part (p-text r F) (p-text Table.TEXT (texts r F)) (ks ++ Kind.CLOSE ∷ []) Kind.OPEN (open-text r F)
-    ∙ through-part (p-text Table.TEXT (texts r F)) (p-have Table.TEXT (texts r F)) (p-have r F) ks [] Kind.CLOSE (text-run whole ks s Table.TEXT (texts r F) (as-text refl)) (close-text r F)
+    first-part (p-text r F) (p-text TEXT (texts r F)) (ks ++ Kind.CLOSE ∷ []) Kind.OPEN (open-text r F)
+    ∙ through-part (p-text TEXT (texts r F)) (p-have TEXT (texts r F)) (p-have r F) ks [] Kind.CLOSE (text-run whole ks s TEXT (texts r F) (as-text refl)) (close-text r F)
 text-run _ _ (str-one ks s) r F h = text-run operand ks s r F any-sort
 text-run _ _ (str-join ks ls s u) r F (as-text e) =
-    subst (λ (x : ℕ). run station (p-text x F) (ks ++ Kind.DOT ∷ ls) ≡ p-have x F) (sym e)
-    (through-part (p-text Table.TEXT F) (p-have Table.TEXT F) (p-text Table.TEXT F) ks ls Kind.DOT (text-run whole ks s Table.TEXT F (as-text refl)) (dot-text F)
-    ∙ text-run operand ls u Table.TEXT F any-sort)
+    subst (λ (x : Had). run station (p-text x F) (ks ++ Kind.DOT ∷ ls) ≡ p-have x F) (sym e)
+    (through-part (p-text TEXT F) (p-have TEXT F) (p-text TEXT F) ks ls Kind.DOT (text-run whole ks s TEXT F (as-text refl)) (dot-text F)
+    ∙ text-run operand ls u TEXT F any-sort)
 
 -- numbers: where one is wanted, and what stands around it
-pub data Wants : ℕ → Place → Frame → Type 0 where
-  integer-wanted : (F : Frame) → Wants Table.NUMBER (p-number Table.INTEGER F) F
+pub data Wants : Had → Place → Frame → Type 0 where
+  integer-wanted : (F : Frame) → Wants NUMBER (p-number INTEGER F) F
   float-wanted : (F : Frame) → Wants FLOATING (p-number FLOATS F) F
-  first-integer : (F : Frame) → Wants Table.NUMBER (p-number Table.NUMBER F) F
-  first-float : (F : Frame) → Wants FLOATING (p-number Table.NUMBER F) F
-  any-integer : (S : Spot) → Wants Table.NUMBER (p-any S) (tests S)
+  first-integer : (F : Frame) → Wants NUMBER (p-number EITHER F) F
+  first-float : (F : Frame) → Wants FLOATING (p-number EITHER F) F
+  any-integer : (S : Spot) → Wants NUMBER (p-any S) (tests S)
   any-float : (S : Spot) → Wants FLOATING (p-any S) (tests S)
 
 -- behind a mark before or around an operand a number is wanted again
-pub data Again (sort : ℕ) (q : Place) (F : Frame) (k : ℕ) : Type 0 where
+pub data Again (sort : Had) (q : Place) (F : Frame) (k : ℕ) : Type 0 where
   again : (r : Place) → station q k ≡ r → Wants sort r F → Again sort q F k
 
-pub data Inside (sort : ℕ) (q : Place) (F : Frame) : Type 0 where
+pub data Inside (sort : Had) (q : Place) (F : Frame) : Type 0 where
   inside : (r : Place) (G : Frame) → station q Kind.OPEN ≡ r → Wants sort r G → station (p-have sort G) Kind.CLOSE ≡ p-have sort F → Inside sort q F
 
-minus-again : (sort : ℕ) (q : Place) (F : Frame) → Wants sort q F → Again sort q F Kind.MINUS
+minus-again : (sort : Had) (q : Place) (F : Frame) → Wants sort q F → Again sort q F Kind.MINUS
 unfolding station Table.allows Table.beginsNumber Table.beginsString
-minus-again _ _ F (integer-wanted _) = again (p-number Table.INTEGER F) refl (integer-wanted F)
+minus-again _ _ F (integer-wanted _) = again (p-number INTEGER F) refl (integer-wanted F)
 minus-again _ _ F (float-wanted _) = again (p-number FLOATS F) refl (float-wanted F)
-minus-again _ _ F (first-integer _) = again (p-number Table.NUMBER F) refl (first-integer F)
-minus-again _ _ F (first-float _) = again (p-number Table.NUMBER F) refl (first-float F)
-minus-again _ _ _ (any-integer S) = again (p-number Table.NUMBER (tests S)) refl (first-integer (tests S))
-minus-again _ _ _ (any-float S) = again (p-number Table.NUMBER (tests S)) refl (first-float (tests S))
+minus-again _ _ F (first-integer _) = again (p-number EITHER F) refl (first-integer F)
+minus-again _ _ F (first-float _) = again (p-number EITHER F) refl (first-float F)
+minus-again _ _ _ (any-integer S) = again (p-number EITHER (tests S)) refl (first-integer (tests S))
+minus-again _ _ _ (any-float S) = again (p-number EITHER (tests S)) refl (first-float (tests S))
 
-open-inside : (sort : ℕ) (q : Place) (F : Frame) → Wants sort q F → Inside sort q F
+open-inside : (sort : Had) (q : Place) (F : Frame) → Wants sort q F → Inside sort q F
 unfolding station Table.allows Table.operator Table.numberOperator Table.comparison Table.binds
-open-inside _ _ F (integer-wanted _) = inside (p-number Table.INTEGER (numbers F)) (numbers F) refl (integer-wanted (numbers F)) refl
+open-inside _ _ F (integer-wanted _) = inside (p-number INTEGER (numbers F)) (numbers F) refl (integer-wanted (numbers F)) refl
 open-inside _ _ F (float-wanted _) = inside (p-number FLOATS (numbers F)) (numbers F) refl (float-wanted (numbers F)) refl
-open-inside _ _ F (first-integer _) = inside (p-number Table.NUMBER (numbers F)) (numbers F) refl (first-integer (numbers F)) refl
-open-inside _ _ F (first-float _) = inside (p-number Table.NUMBER (numbers F)) (numbers F) refl (first-float (numbers F)) refl
+open-inside _ _ F (first-integer _) = inside (p-number EITHER (numbers F)) (numbers F) refl (first-integer (numbers F)) refl
+open-inside _ _ F (first-float _) = inside (p-number EITHER (numbers F)) (numbers F) refl (first-float (numbers F)) refl
 open-inside _ _ _ (any-integer S) = inside (p-any (in-bracket true S)) (tests (in-bracket true S)) refl (any-integer (in-bracket true S)) refl
 open-inside _ _ _ (any-float S) = inside (p-any (in-bracket true S)) (tests (in-bracket true S)) refl (any-float (in-bracket true S)) refl
 
 -- a number in brackets, one behind "-", one behind a conversion, and two with an operator between them
-in-brackets : (sort : ℕ) (q : Place) (F : Frame) (ks : List ℕ) → Inside sort q F → ((r : Place) (G : Frame) → Wants sort r G → run station r ks ≡ p-have sort G)
+in-brackets : (sort : Had) (q : Place) (F : Frame) (ks : List ℕ) → Inside sort q F → ((r : Place) (G : Frame) → Wants sort r G → run station r ks ≡ p-have sort G)
     → run station q (Kind.OPEN ∷ ks ++ Kind.CLOSE ∷ []) ≡ p-have sort F
 in-brackets sort q F ks (inside r G e w c) h =
     first-part q r (ks ++ Kind.CLOSE ∷ []) Kind.OPEN e ∙ through-part r (p-have sort G) (p-have sort F) ks [] Kind.CLOSE (h r G w) c
 
-behind-mark : (sort : ℕ) (q : Place) (F : Frame) (ks : List ℕ) (k : ℕ) → Again sort q F k → ((r : Place) → Wants sort r F → run station r ks ≡ p-have sort F) → run station q (k ∷ ks) ≡ p-have sort F
+behind-mark : (sort : Had) (q : Place) (F : Frame) (ks : List ℕ) (k : ℕ) → Again sort q F k → ((r : Place) → Wants sort r F → run station r ks ≡ p-have sort F) → run station q (k ∷ ks) ≡ p-have sort F
 behind-mark sort q F ks k (again r e w) h = first-part q r ks k e ∙ h r w
 
 two : (q p r : Place) (ks ls : List ℕ) (k : ℕ) → run station q ks ≡ p → station p k ≡ r → run station r ls ≡ p → run station q (ks ++ k ∷ ls) ≡ p
 two q p r ks ls k e f g = through-part q p r ks ls k e f ∙ g
 
-pub digits-have : (q : Place) (F : Frame) → Wants Table.NUMBER q F → station q Kind.DIGITS ≡ p-have Table.NUMBER F
+pub digits-have : (q : Place) (F : Frame) → Wants NUMBER q F → station q Kind.DIGITS ≡ p-have NUMBER F
 unfolding station Table.allows Table.beginsNumber Table.beginsString
 digits-have _ F (integer-wanted _) = refl
 digits-have _ F (first-integer _) = refl
 digits-have _ _ (any-integer S) = refl
 
-pub at-text : (q : Place) (F : Frame) → Wants Table.NUMBER q F → station q Kind.AT ≡ p-text Table.NUMBER F
+pub at-text : (q : Place) (F : Frame) → Wants NUMBER q F → station q Kind.AT ≡ p-text NUMBER F
 unfolding station Table.allows Table.beginsNumber Table.beginsString
 at-text _ F (integer-wanted _) = refl
 at-text _ F (first-integer _) = refl
@@ -142,17 +143,17 @@ ampersand-text _ F (first-float _) = refl
 ampersand-text _ _ (any-float S) = refl
 
 -- an operator behind a number
-pub power-number : (F : Frame) → station (p-have Table.NUMBER F) Kind.POWER ≡ p-number Table.INTEGER F
+pub power-number : (F : Frame) → station (p-have NUMBER F) Kind.POWER ≡ p-number INTEGER F
 unfolding station Table.operator Table.numberOperator Table.binds Table.levelOf
 power-number F = refl
 
-pub product-number : (F : Frame) (o : ℕ) → Product o → station (p-have Table.NUMBER F) o ≡ p-number Table.INTEGER F
+pub product-number : (F : Frame) (o : ℕ) → Product o → station (p-have NUMBER F) o ≡ p-number INTEGER F
 unfolding station Table.operator Table.numberOperator Table.binds Table.levelOf
 product-number F _ times = refl
 product-number F _ divide = refl
 product-number F _ remainder = refl
 
-pub sum-number : (F : Frame) (o : ℕ) → Sum o → station (p-have Table.NUMBER F) o ≡ p-number Table.INTEGER F
+pub sum-number : (F : Frame) (o : ℕ) → Sum o → station (p-have NUMBER F) o ≡ p-number INTEGER F
 unfolding station Table.operator Table.numberOperator Table.binds Table.levelOf
 sum-number F _ plus = refl
 sum-number F _ minus = refl
@@ -171,20 +172,20 @@ unfolding station Table.operator Table.numberOperator Table.binds Table.levelOf
 sum-float F _ plus = refl
 sum-float F _ minus = refl
 
-pub int-run : (c : Class) (ks : List ℕ) → Int c ks → (q : Place) (F : Frame) → Wants Table.NUMBER q F → run station q ks ≡ p-have Table.NUMBER F
+pub int-run : (c : Class) (ks : List ℕ) → Int c ks → (q : Place) (F : Frame) → Wants NUMBER q F → run station q ks ≡ p-have NUMBER F
 int-run _ _ int-literal q F w = digits-have q F w
-int-run _ _ (int-minus ks i) q F w = behind-mark Table.NUMBER q F ks Kind.MINUS (minus-again Table.NUMBER q F w) (λ r v. int-run operand ks i r F v)
-int-run _ _ (int-convert ks s) q F w = first-part q (p-text Table.NUMBER F) ks Kind.AT (at-text q F w) ∙ text-run operand ks s Table.NUMBER F any-sort
-int-run _ _ (int-bracket ks i) q F w = in-brackets Table.NUMBER q F ks (open-inside Table.NUMBER q F w) (λ r G v. int-run whole ks i r G v)
+int-run _ _ (int-minus ks i) q F w = behind-mark NUMBER q F ks Kind.MINUS (minus-again NUMBER q F w) (λ r v. int-run operand ks i r F v)
+int-run _ _ (int-convert ks s) q F w = first-part q (p-text NUMBER F) ks Kind.AT (at-text q F w) ∙ text-run operand ks s NUMBER F any-sort
+int-run _ _ (int-bracket ks i) q F w = in-brackets NUMBER q F ks (open-inside NUMBER q F w) (λ r G v. int-run whole ks i r G v)
 int-run _ _ (int-one ks i) q F w = int-run operand ks i q F w
 int-run _ _ (int-power ks ls i j) q F w =
-    two q (p-have Table.NUMBER F) (p-number Table.INTEGER F) ks ls Kind.POWER (int-run power ks i q F w) (power-number F) (int-run operand ls j (p-number Table.INTEGER F) F (integer-wanted F))
+    two q (p-have NUMBER F) (p-number INTEGER F) ks ls Kind.POWER (int-run power ks i q F w) (power-number F) (int-run operand ls j (p-number INTEGER F) F (integer-wanted F))
 int-run _ _ (int-up ks i) q F w = int-run power ks i q F w
 int-run _ _ (int-product o ks ls p i j) q F w =
-    two q (p-have Table.NUMBER F) (p-number Table.INTEGER F) ks ls o (int-run product ks i q F w) (product-number F o p) (int-run power ls j (p-number Table.INTEGER F) F (integer-wanted F))
+    two q (p-have NUMBER F) (p-number INTEGER F) ks ls o (int-run product ks i q F w) (product-number F o p) (int-run power ls j (p-number INTEGER F) F (integer-wanted F))
 int-run _ _ (int-term ks i) q F w = int-run product ks i q F w
 int-run _ _ (int-sum o ks ls p i j) q F w =
-    two q (p-have Table.NUMBER F) (p-number Table.INTEGER F) ks ls o (int-run whole ks i q F w) (sum-number F o p) (int-run product ls j (p-number Table.INTEGER F) F (integer-wanted F))
+    two q (p-have NUMBER F) (p-number INTEGER F) ks ls o (int-run whole ks i q F w) (sum-number F o p) (int-run product ls j (p-number INTEGER F) F (integer-wanted F))
 
 pub float-run : (c : Class) (ks : List ℕ) → Float c ks → (q : Place) (F : Frame) → Wants FLOATING q F → run station q ks ≡ p-have FLOATING F
 float-run _ _ float-literal q F w = float-have q F w
@@ -202,24 +203,24 @@ float-run _ _ (float-sum o ks ls p i j) q F w =
     two q (p-have FLOATING F) (p-number FLOATS F) ks ls o (float-run whole ks i q F w) (sum-float F o p) (float-run product ls j (p-number FLOATS F) F (float-wanted F))
 
 -- what was gone through, and of which sort in which frame it is
-pub data Gone (P : ℕ → Frame → Type 0) (q : Place) (ks : List ℕ) : Type 0 where
-  gone : (sort : ℕ) (F : Frame) → P sort F → run station q ks ≡ p-have sort F → Gone P q ks
+pub data Gone (P : Had → Frame → Type 0) (q : Place) (ks : List ℕ) : Type 0 where
+  gone : (sort : Had) (F : Frame) → P sort F → run station q ks ≡ p-have sort F → Gone P q ks
 
 -- strings where a test may stand
-pub data Words (S : Spot) : ℕ → Frame → Type 0 where
-  w-text : Words S Table.TEXT (tests S)
-  w-word : Words S Table.TRUE (tests S)
+pub data Words (S : Spot) : Had → Frame → Type 0 where
+  w-text : Words S TEXT (tests S)
+  w-word : Words S TRUE (tests S)
 
 name-any : (S : Spot) (k : ℕ) → Name k → Gone (Words S) (p-any S) (k ∷ [])
 unfolding station Table.allows Table.beginsString Table.beginsNumber Table.beginsFloat
-name-any S _ any-name = gone Table.TEXT (tests S) w-text refl
-name-any S _ truth-name = gone Table.TRUE (tests S) w-word refl
+name-any S _ any-name = gone TEXT (tests S) w-text refl
+name-any S _ truth-name = gone TRUE (tests S) w-word refl
 
-pub literal-any : (S : Spot) → station (p-any S) Kind.LITERAL ≡ p-have Table.TEXT (tests S)
+pub literal-any : (S : Spot) → station (p-any S) Kind.LITERAL ≡ p-have TEXT (tests S)
 unfolding station Table.allows Table.beginsString Table.beginsNumber Table.beginsFloat
 literal-any S = refl
 
-pub lookup-any : (S : Spot) → station (p-any S) Kind.DOLLAR ≡ p-text Table.TEXT (tests S)
+pub lookup-any : (S : Spot) → station (p-any S) Kind.DOLLAR ≡ p-text TEXT (tests S)
 unfolding station Table.allows Table.beginsString Table.beginsNumber Table.beginsFloat
 lookup-any S = refl
 
@@ -233,44 +234,44 @@ not-any S = refl
 
 words-close : (S : Spot) (q : Place) (ks : List ℕ) → Gone (Words (in-bracket true S)) q ks → Gone (Words S) q (ks ++ Kind.CLOSE ∷ [])
 unfolding station Table.operator Table.textOperator Table.testOperator Table.comparison Table.binds
-words-close S q ks (gone _ _ w-text e) = gone Table.TEXT (tests S) w-text (through-part q _ _ ks [] Kind.CLOSE e refl)
-words-close S q ks (gone _ _ w-word e) = gone Table.TRUE (tests S) w-word (through-part q _ _ ks [] Kind.CLOSE e refl)
+words-close S q ks (gone _ _ w-text e) = gone TEXT (tests S) w-text (through-part q _ _ ks [] Kind.CLOSE e refl)
+words-close S q ks (gone _ _ w-word e) = gone TRUE (tests S) w-word (through-part q _ _ ks [] Kind.CLOSE e refl)
 
-pub words-dot : (S : Spot) (sort : ℕ) (F : Frame) → Words S sort F → station (p-have sort F) Kind.DOT ≡ p-text Table.TEXT (tests S)
+pub words-dot : (S : Spot) (sort : Had) (F : Frame) → Words S sort F → station (p-have sort F) Kind.DOT ≡ p-text TEXT (tests S)
 unfolding station Table.operator Table.textOperator Table.testOperator Table.comparison Table.binds Table.levelOf
 words-dot S _ _ w-text = refl
 words-dot S _ _ w-word = refl
 
-words-on : (S : Spot) (q r : Place) (ks ls : List ℕ) (k : ℕ) → ((sort : ℕ) (F : Frame) → Words S sort F → station (p-have sort F) k ≡ r) → Gone (Words S) q ks
+words-on : (S : Spot) (q r : Place) (ks ls : List ℕ) (k : ℕ) → ((sort : Had) (F : Frame) → Words S sort F → station (p-have sort F) k ≡ r) → Gone (Words S) q ks
     → run station q (ks ++ k ∷ ls) ≡ run station r ls
 words-on S q r ks ls k h (gone sort F w e) = through-part q (p-have sort F) r ks ls k e (h sort F w)
 
-in-front : (P : ℕ → Frame → Type 0) (q r : Place) (ks : List ℕ) (k : ℕ) → station q k ≡ r → Gone P r ks → Gone P q (k ∷ ks)
+in-front : (P : Had → Frame → Type 0) (q r : Place) (ks : List ℕ) (k : ℕ) → station q k ≡ r → Gone P r ks → Gone P q (k ∷ ks)
 in-front P q r ks k f (gone sort F w e) = gone sort F w (first-part q r ks k f ∙ e)
 
 string-any : (c : Class) (ks : List ℕ) → Str c ks → (S : Spot) → Gone (Words S) (p-any S) ks
-string-any _ _ str-literal S = gone Table.TEXT (tests S) w-text (literal-any S)
+string-any _ _ str-literal S = gone TEXT (tests S) w-text (literal-any S)
 string-any _ _ (str-name k n) S = name-any S k n
 string-any _ _ (str-lookup ks s) S =
-    gone Table.TEXT (tests S) w-text (first-part (p-any S) (p-text Table.TEXT (tests S)) ks Kind.DOLLAR (lookup-any S) ∙ text-run operand ks s Table.TEXT (tests S) any-sort)
+    gone TEXT (tests S) w-text (first-part (p-any S) (p-text TEXT (tests S)) ks Kind.DOLLAR (lookup-any S) ∙ text-run operand ks s TEXT (tests S) any-sort)
 string-any _ _ (str-bracket ks s) S =
     in-front (Words S) (p-any S) (p-any (in-bracket true S)) (ks ++ Kind.CLOSE ∷ []) Kind.OPEN (open-any S)
     (words-close S (p-any (in-bracket true S)) ks (string-any whole ks s (in-bracket true S)))
 string-any _ _ (str-one ks s) S = string-any operand ks s S
 string-any _ _ (str-join ks ls s u) S =
-    gone Table.TEXT (tests S) w-text
-    (words-on S (p-any S) (p-text Table.TEXT (tests S)) ks ls Kind.DOT (words-dot S) (string-any whole ks s S) ∙ text-run operand ls u Table.TEXT (tests S) any-sort)
+    gone TEXT (tests S) w-text
+    (words-on S (p-any S) (p-text TEXT (tests S)) ks ls Kind.DOT (words-dot S) (string-any whole ks s S) ∙ text-run operand ls u TEXT (tests S) any-sort)
 
 -- tests: a test, the right side of a comparison, or a bare word
-pub data Held (S : Spot) : ℕ → Frame → Type 0 where
-  h-test : Held S Table.TEST (tests (strict S))
-  h-text : Held S Table.TEXT (right (strict S))
-  h-number : Held S Table.NUMBER (right (strict S))
+pub data Held (S : Spot) : Had → Frame → Type 0 where
+  h-test : Held S TEST (tests (strict S))
+  h-text : Held S TEXT (right (strict S))
+  h-number : Held S NUMBER (right (strict S))
   h-float : Held S FLOATING (right (strict S))
-  h-word : Held S Table.TRUE (tests S)
-  h-strict : Held S Table.TRUE (tests (strict S))
+  h-word : Held S TRUE (tests S)
+  h-strict : Held S TRUE (tests (strict S))
 
-pub words-compare : (S : Spot) (o : ℕ) → Compare o → (sort : ℕ) (F : Frame) → Words S sort F → station (p-have sort F) o ≡ p-text Table.TEXT (right (strict S))
+pub words-compare : (S : Spot) (o : ℕ) → Compare o → (sort : Had) (F : Frame) → Words S sort F → station (p-have sort F) o ≡ p-text TEXT (right (strict S))
 unfolding station Table.operator Table.textOperator Table.testOperator Table.comparison Table.binds Table.levelOf
 words-compare S _ (order _ less) _ _ w-text = refl
 words-compare S _ (order _ less) _ _ w-word = refl
@@ -285,12 +286,12 @@ words-compare S _ equal _ _ w-word = refl
 words-compare S _ unequal _ _ w-text = refl
 words-compare S _ unequal _ _ w-word = refl
 
-pub words-match : (S : Spot) (sort : ℕ) (F : Frame) → Words S sort F → station (p-have sort F) Kind.MATCHES ≡ p-text Table.TEXT (right (strict S))
+pub words-match : (S : Spot) (sort : Had) (F : Frame) → Words S sort F → station (p-have sort F) Kind.MATCHES ≡ p-text TEXT (right (strict S))
 unfolding station Table.operator Table.textOperator Table.testOperator Table.comparison Table.binds Table.levelOf
 words-match S _ _ w-text = refl
 words-match S _ _ w-word = refl
 
-pub number-compare : (S : Spot) (o : ℕ) → Compare o → station (p-have Table.NUMBER (tests S)) o ≡ p-number Table.INTEGER (right (strict S))
+pub number-compare : (S : Spot) (o : ℕ) → Compare o → station (p-have NUMBER (tests S)) o ≡ p-number INTEGER (right (strict S))
 unfolding station Table.operator Table.numberOperator Table.comparison Table.binds Table.levelOf
 number-compare S _ (order _ less) = refl
 number-compare S _ (order _ greater) = refl
@@ -308,21 +309,21 @@ float-compare S _ at-least = refl
 
 comparison-run : (ks : List ℕ) → Comparison ks → (S : Spot) → Gone (Held S) (p-any S) ks
 comparison-run _ (of-integers o ks ls c i j) S =
-    gone Table.NUMBER (right (strict S)) h-number
-    (through-part (p-any S) (p-have Table.NUMBER (tests S)) (p-number Table.INTEGER (right (strict S))) ks ls o (int-run whole ks i (p-any S) (tests S) (any-integer S)) (number-compare S o c)
-    ∙ int-run whole ls j (p-number Table.INTEGER (right (strict S))) (right (strict S)) (integer-wanted (right (strict S))))
+    gone NUMBER (right (strict S)) h-number
+    (through-part (p-any S) (p-have NUMBER (tests S)) (p-number INTEGER (right (strict S))) ks ls o (int-run whole ks i (p-any S) (tests S) (any-integer S)) (number-compare S o c)
+    ∙ int-run whole ls j (p-number INTEGER (right (strict S))) (right (strict S)) (integer-wanted (right (strict S))))
 comparison-run _ (of-floats o ks ls c i j) S =
     gone FLOATING (right (strict S)) h-float
     (through-part (p-any S) (p-have FLOATING (tests S)) (p-number FLOATS (right (strict S))) ks ls o (float-run whole ks i (p-any S) (tests S) (any-float S)) (float-compare S o c)
     ∙ float-run whole ls j (p-number FLOATS (right (strict S))) (right (strict S)) (float-wanted (right (strict S))))
 comparison-run _ (of-strings o ks ls c i j) S =
-    gone Table.TEXT (right (strict S)) h-text
-    (words-on S (p-any S) (p-text Table.TEXT (right (strict S))) ks ls o (words-compare S o c) (string-any whole ks i S) ∙ text-run whole ls j Table.TEXT (right (strict S)) (as-text refl))
+    gone TEXT (right (strict S)) h-text
+    (words-on S (p-any S) (p-text TEXT (right (strict S))) ks ls o (words-compare S o c) (string-any whole ks i S) ∙ text-run whole ls j TEXT (right (strict S)) (as-text refl))
 comparison-run _ (matching ks ls i j) S =
-    gone Table.TEXT (right (strict S)) h-text
-    (words-on S (p-any S) (p-text Table.TEXT (right (strict S))) ks ls Kind.MATCHES (words-match S) (string-any whole ks i S) ∙ text-run whole ls j Table.TEXT (right (strict S)) (as-text refl))
+    gone TEXT (right (strict S)) h-text
+    (words-on S (p-any S) (p-text TEXT (right (strict S))) ks ls Kind.MATCHES (words-match S) (string-any whole ks i S) ∙ text-run whole ls j TEXT (right (strict S)) (as-text refl))
 
-pub truth-any : (S : Spot) → station (p-any S) TRUTH ≡ p-have Table.TRUE (tests S)
+pub truth-any : (S : Spot) → station (p-any S) TRUTH ≡ p-have TRUE (tests S)
 unfolding station Table.allows Table.beginsString Table.beginsNumber Table.beginsFloat
 truth-any S = refl
 
@@ -331,7 +332,7 @@ strict-strict (in-clause d) = refl
 strict-strict (in-bracket b S) = refl
 
 -- a test where nothing else may stand is a test
-loosen : (S : Spot) (sort : ℕ) (F : Frame) → Held (strict S) sort F → Held S sort F
+loosen : (S : Spot) (sort : Had) (F : Frame) → Held (strict S) sort F → Held S sort F
 loosen (in-clause d) sort F h = h
 loosen (in-bracket b S) _ _ h-test = h-test
 loosen (in-bracket b S) _ _ h-text = h-text
@@ -348,7 +349,7 @@ pub data Junction : ℕ → Type 0 where
   junction-and : Junction Kind.AND
   junction-or : Junction Kind.OR
 
-pub held-junction : (S : Spot) (k : ℕ) → Junction k → (sort : ℕ) (F : Frame) → Held S sort F → station (p-have sort F) k ≡ p-any (strict S)
+pub held-junction : (S : Spot) (k : ℕ) → Junction k → (sort : Had) (F : Frame) → Held S sort F → station (p-have sort F) k ≡ p-any (strict S)
 unfolding station Table.operator Table.numberOperator Table.textOperator Table.testOperator Table.comparison Table.binds Table.levelOf
 held-junction S _ junction-and _ _ h-test = ap p-any (strict-strict S)
 held-junction S _ junction-and _ _ h-text = ap p-any (strict-strict S)
@@ -366,12 +367,12 @@ held-junction S _ junction-or _ _ h-strict = ap p-any (strict-strict S)
 -- a closing bracket
 held-close : (S : Spot) (q : Place) (ks : List ℕ) → Gone (Held (in-bracket true S)) q ks → Gone (Held S) q (ks ++ Kind.CLOSE ∷ [])
 unfolding station Table.operator Table.numberOperator Table.textOperator Table.testOperator Table.comparison Table.binds Table.levelOf
-held-close S q ks (gone _ _ h-test e) = gone Table.TEST (tests (strict S)) h-test (through-part q _ _ ks [] Kind.CLOSE e refl)
-held-close S q ks (gone _ _ h-text e) = gone Table.TEST (tests (strict S)) h-test (through-part q _ _ ks [] Kind.CLOSE e refl)
-held-close S q ks (gone _ _ h-number e) = gone Table.TEST (tests (strict S)) h-test (through-part q _ _ ks [] Kind.CLOSE e refl)
-held-close S q ks (gone _ _ h-float e) = gone Table.TEST (tests (strict S)) h-test (through-part q _ _ ks [] Kind.CLOSE e refl)
-held-close S q ks (gone _ _ h-word e) = gone Table.TRUE (tests S) h-word (through-part q _ _ ks [] Kind.CLOSE e refl)
-held-close S q ks (gone _ _ h-strict e) = gone Table.TEST (tests (strict S)) h-test (through-part q _ _ ks [] Kind.CLOSE e refl)
+held-close S q ks (gone _ _ h-test e) = gone TEST (tests (strict S)) h-test (through-part q _ _ ks [] Kind.CLOSE e refl)
+held-close S q ks (gone _ _ h-text e) = gone TEST (tests (strict S)) h-test (through-part q _ _ ks [] Kind.CLOSE e refl)
+held-close S q ks (gone _ _ h-number e) = gone TEST (tests (strict S)) h-test (through-part q _ _ ks [] Kind.CLOSE e refl)
+held-close S q ks (gone _ _ h-float e) = gone TEST (tests (strict S)) h-test (through-part q _ _ ks [] Kind.CLOSE e refl)
+held-close S q ks (gone _ _ h-word e) = gone TRUE (tests S) h-word (through-part q _ _ ks [] Kind.CLOSE e refl)
+held-close S q ks (gone _ _ h-strict e) = gone TEST (tests (strict S)) h-test (through-part q _ _ ks [] Kind.CLOSE e refl)
 
 -- two tests with "&&" or "||" between them
 two-tests : (S : Spot) (q : Place) (ks ls : List ℕ) (k : ℕ) → Junction k → Gone (Held S) q ks → Gone (Held (strict S)) (p-any (strict S)) ls → Gone (Held S) q (ks ++ k ∷ ls)
@@ -379,7 +380,7 @@ two-tests S q ks ls k j (gone sort F h e) (gone sort′ G g f) =
     gone sort′ G (loosen S sort′ G g) (through-part q (p-have sort F) (p-any (strict S)) ks ls k e (held-junction S k j sort F h) ∙ f)
 
 test-run : (c : Class) (ks : List ℕ) → Tests c ks → (S : Spot) → Gone (Held S) (p-any S) ks
-test-run _ _ test-truth S = gone Table.TRUE (tests S) h-word (truth-any S)
+test-run _ _ test-truth S = gone TRUE (tests S) h-word (truth-any S)
 test-run _ _ (test-comparison ks c) S = comparison-run ks c S
 test-run _ _ (test-not ks u) S = loosened S (p-any S) (Kind.NOT ∷ ks) (in-front (Held (strict S)) (p-any S) (p-any (strict S)) ks Kind.NOT (not-any S) (test-run operand ks u (strict S)))
 test-run _ _ (test-bracket ks u) S =
@@ -394,7 +395,7 @@ pub data Behind (d : ℕ) : ℕ → Place → Type 0 where
   behind-arrow : Behind d Kind.ARROW (p-arrow d)
   behind-semicolon : Behind d Kind.SEMICOLON (p-begin d)
 
-pub held-end : (d k : ℕ) (p : Place) → Behind d k p → (sort : ℕ) (F : Frame) → Held (in-clause d) sort F → station (p-have sort F) k ≡ p
+pub held-end : (d k : ℕ) (p : Place) → Behind d k p → (sort : Had) (F : Frame) → Held (in-clause d) sort F → station (p-have sort F) k ≡ p
 unfolding station Table.operator Table.numberOperator Table.textOperator Table.testOperator Table.comparison Table.binds Table.levelOf
 held-end d _ _ behind-arrow _ _ h-test = refl
 held-end d _ _ behind-arrow _ _ h-text = refl
@@ -410,38 +411,38 @@ held-end d _ _ behind-semicolon _ _ h-word = refl
 held-end d _ _ behind-semicolon _ _ h-strict = refl
 
 -- a test where a clause may begin, and a value behind "->"
-not-dead : (sort : ℕ) (F : Frame) → p-have sort F ≡ p-dead → ⊥
+not-dead : (sort : Had) (F : Frame) → p-have sort F ≡ p-dead → ⊥
 not-dead sort F z = let v : _≡_ {A = ℕ} 0 1 = cc in omega (arith, v)
 
 module _ (q q′ : Place) (agree : (k : ℕ) → (station q′ k ≡ station q k) ⊎ (station q k ≡ p-dead)) where
-  resume-first : (k : ℕ) (ks : List ℕ) (sort : ℕ) (F : Frame) → (station q′ k ≡ station q k) ⊎ (station q k ≡ p-dead) → run station q (k ∷ ks) ≡ p-have sort F → run station q′ (k ∷ ks) ≡ p-have sort F
+  resume-first : (k : ℕ) (ks : List ℕ) (sort : Had) (F : Frame) → (station q′ k ≡ station q k) ⊎ (station q k ≡ p-dead) → run station q (k ∷ ks) ≡ p-have sort F → run station q′ (k ∷ ks) ≡ p-have sort F
   resume-first k ks sort F (inl e) h = ap (λ (x : Place). run station x ks) e ∙ h
   resume-first k ks sort F (inr e) h =
       absurd (not-dead sort F (sym h ∙ ap (λ (x : Place). run station x ks) e ∙ run-dead station p-dead station-dead ks))
 
-  pub resume : ((sort : ℕ) (F : Frame) → q ≡ p-have sort F → ⊥) → (ks : List ℕ) (sort : ℕ) (F : Frame) → run station q ks ≡ p-have sort F → run station q′ ks ≡ p-have sort F
+  pub resume : ((sort : Had) (F : Frame) → q ≡ p-have sort F → ⊥) → (ks : List ℕ) (sort : Had) (F : Frame) → run station q ks ≡ p-have sort F → run station q′ ks ≡ p-have sort F
   resume apart [] sort F h = absurd (apart sort F h)
   resume apart (k ∷ ks) sort F h = resume-first k ks sort F (agree k) h
 
 pub begin-agrees : (d k : ℕ) → (station (p-begin d) k ≡ station (p-any (in-clause d)) k) ⊎ (station (p-any (in-clause d)) k ≡ p-dead)
 unfolding station
-begin-agrees d k = split (Table.allows Table.ANY (flat k)) (λ e. inl (rw e refl)) (λ e. inr (rw e refl))
+begin-agrees d k = split (Table.allows want-any (flat k)) (λ e. inl (rw e refl)) (λ e. inr (rw e refl))
 
-pub arrow-agrees : (d k : ℕ) → (station (p-arrow d) k ≡ station (p-text Table.TEXT (value d)) k) ⊎ (station (p-text Table.TEXT (value d)) k ≡ p-dead)
+pub arrow-agrees : (d k : ℕ) → (station (p-arrow d) k ≡ station (p-text TEXT (value d)) k) ⊎ (station (p-text TEXT (value d)) k ≡ p-dead)
 unfolding station
-arrow-agrees d k = split (Table.allows Table.TEXT (flat k)) (λ e. inl (rw e refl)) (λ e. inr (rw e refl))
+arrow-agrees d k = split (Table.allows want-string (flat k)) (λ e. inl (rw e refl)) (λ e. inr (rw e refl))
 
-pub begin-run : (d : ℕ) (ks : List ℕ) (sort : ℕ) (F : Frame) → run station (p-any (in-clause d)) ks ≡ p-have sort F → run station (p-begin d) ks ≡ p-have sort F
+pub begin-run : (d : ℕ) (ks : List ℕ) (sort : Had) (F : Frame) → run station (p-any (in-clause d)) ks ≡ p-have sort F → run station (p-begin d) ks ≡ p-have sort F
 begin-run d = resume (p-any (in-clause d)) (p-begin d) (begin-agrees d) (λ sort F z. let v : _≡_ {A = ℕ} 0 1 = cc in omega (arith, v))
 
-arrow-run : (d : ℕ) (ks : List ℕ) (sort : ℕ) (F : Frame) → run station (p-text Table.TEXT (value d)) ks ≡ p-have sort F → run station (p-arrow d) ks ≡ p-have sort F
-arrow-run d = resume (p-text Table.TEXT (value d)) (p-arrow d) (arrow-agrees d) (λ sort F z. let v : _≡_ {A = ℕ} 0 1 = cc in omega (arith, v))
+arrow-run : (d : ℕ) (ks : List ℕ) (sort : Had) (F : Frame) → run station (p-text TEXT (value d)) ks ≡ p-have sort F → run station (p-arrow d) ks ≡ p-have sort F
+arrow-run d = resume (p-text TEXT (value d)) (p-arrow d) (arrow-agrees d) (λ sort F z. let v : _≡_ {A = ℕ} 0 1 = cc in omega (arith, v))
 
 -- a test of a clause and the mark behind it
 clause-test : (d k : ℕ) (p : Place) (ks ls : List ℕ) → Behind d k p → Gone (Held (in-clause d)) (p-any (in-clause d)) ks → run station (p-begin d) (ks ++ k ∷ ls) ≡ run station p ls
 clause-test d k p ks ls b (gone sort F h e) = through-part (p-begin d) (p-have sort F) p ks ls k (begin-run d ks sort F e) (held-end d k p b sort F h)
 
-pub value-ends : (d : ℕ) → station (p-have Table.TEXT (value d)) Kind.SEMICOLON ≡ p-begin d
+pub value-ends : (d : ℕ) → station (p-have TEXT (value d)) Kind.SEMICOLON ≡ p-begin d
 unfolding station Table.operator Table.textOperator Table.comparison Table.binds
 value-ends d = refl
 
@@ -472,7 +473,7 @@ clauses-run _ _ (tested ks u) d = λ ls. clause-test d Kind.SEMICOLON (p-begin d
 clauses-run _ _ (valued ks ms u v) d =
     λ ls. ap (run station (p-begin d)) (append-assoc ks (Kind.ARROW ∷ ms) (Kind.SEMICOLON ∷ ls))
     ∙ clause-test d Kind.ARROW (p-arrow d) ks (ms ++ Kind.SEMICOLON ∷ ls) behind-arrow (test-run whole ks u (in-clause d))
-    ∙ through-part (p-arrow d) (p-have Table.TEXT (value d)) (p-begin d) ms ls Kind.SEMICOLON (arrow-run d ms Table.TEXT (value d) (text-run whole ms v Table.TEXT (value d) (as-text refl))) (value-ends d)
+    ∙ through-part (p-arrow d) (p-have TEXT (value d)) (p-begin d) ms ls Kind.SEMICOLON (arrow-run d ms TEXT (value d) (text-run whole ms v TEXT (value d) (as-text refl))) (value-ends d)
 clauses-run _ _ (nested ks ms u p) d =
     λ ls. ap (run station (p-begin d)) (append-assoc ks (Kind.ARROW ∷ Kind.OPEN-BRACE ∷ (ms ++ Kind.CLOSE-BRACE ∷ [])) (Kind.SEMICOLON ∷ ls))
     ∙ clause-test d Kind.ARROW (p-arrow d) ks (Kind.OPEN-BRACE ∷ ((ms ++ Kind.CLOSE-BRACE ∷ []) ++ Kind.SEMICOLON ∷ ls)) behind-arrow (test-run whole ks u (in-clause d))

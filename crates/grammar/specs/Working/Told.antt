@@ -1,22 +1,20 @@
 -- What a reader has read, by its sort and its level: trees, and how they grow. Assumes nothing.
 use mathlib.Core.Path.{_≡_, refl, sym, subst}
-use mathlib.Core.Bool.{true, false}
+use mathlib.Core.Bool.{Bool}
 use mathlib.Core.List.{List, [], _∷_, _++_, append-nil}
 use Prim.Native.Nat.{ℕ, zero, suc, _+_, _≤_}
 use native.Mathlib.Omega.{arith}
 use native.Mathlib.Decide.{le-ind}
-use lib.Dec.{eqb}
-use Rattle.text.specs.Choice.{pick}
 use Rattle.lexical.specs.Kind
 use Rattle.lexical.specs.declared.token.Token.{Token}
-use Rattle.syntax.specs.Operator.{Binary}
+use Rattle.syntax.specs.Operator.{Binary, Sort, a-string, an-integer, a-test}
 use Rattle.syntax.specs.Expr.{Expr, truth, binary}
-use Rattle.conditions.specs.Table
+use Rattle.conditions.specs.Table.{PartSort, sorted, word, Want, want-any, want-string, want-number, want-integer}
 use Rattle.conditions.specs.Operand.{settledTree}
 use Rattle.grammar.specs.Conditions.{Class, operand, power, product, conjunction, whole}
 use Rattle.grammar.specs.Trees.{StrTree, literal-tree, text-bracket, text-one, join-tree, IntTree, number-tree, number-bracket, number-one, power-tree, number-up, product-tree, number-term, sum-tree, ProductOp, SumOp, CompareOp, equal-op, TestTree, compare-numbers, compare-texts, match-tree, test-bracket-tree, test-once, and-tree, test-up, or-tree}
 use Rattle.grammar.specs.Working.Marks.{mark}
-use Rattle.grammar.specs.Working.Joints.{Sorted, is-test, is-text, is-number, is-true, is-false, Fits, fit-test, fit-text, fit-number, fit-true, fit-false, fit-true-name, fit-false-name, Joint, j-power, j-product, j-sum, j-join, j-numbers, j-texts, j-match, j-and, j-or}
+use Rattle.grammar.specs.Working.Joints.{Fits, fit-test, fit-text, fit-number, fit-word, fit-name, Joint, j-power, j-product, j-sum, j-join, j-numbers, j-texts, j-match, j-and, j-or}
 
 -- the classes of the levels
 abbrev pub textClass : ℕ → Class
@@ -41,30 +39,26 @@ testClass (suc zero) = conjunction
 testClass (suc (suc n)) = operand
 
 -- what is wanted, and the sorts that suit it
-pub data Suits : ℕ → ℕ → Type 0 where
-  suits-any : (sort : ℕ) → Sorted sort → Suits Table.ANY sort
-  suits-text : Suits Table.TEXT Table.TEXT
-  suits-number : Suits Table.NUMBER Table.NUMBER
-  suits-integer : Suits Table.INTEGER Table.NUMBER
-
-pub suits-sorted : (want sort : ℕ) → Suits want sort → Sorted sort
-suits-sorted _ _ (suits-any sort x) = x
-suits-sorted _ _ suits-text = is-text
-suits-sorted _ _ suits-number = is-number
-suits-sorted _ _ suits-integer = is-number
+pub data Suits : Want → PartSort → Type 0 where
+  suits-any : (sort : PartSort) → Suits want-any sort
+  suits-text : Suits want-string (sorted a-string)
+  suits-number : Suits want-number (sorted an-integer)
+  suits-integer : Suits want-integer (sorted an-integer)
 
 -- the sort that is wanted
-abbrev pub goal : ℕ → ℕ
-goal want = pick (eqb want Table.ANY) Table.TEST (pick (eqb want Table.TEXT) Table.TEXT Table.NUMBER)
+abbrev pub goal : Want → Sort
+goal want-any = a-test
+goal want-string = a-string
+goal want-number = an-integer
+goal want-integer = an-integer
 
 module _ (s : List ℕ) where
   -- the tokens are of the sort and the level, and say the tree; a bare word says a name until it is settled
-  pub data Told : ℕ → ℕ → List Token → Expr → Type 0 where
-    told-text : (l : ℕ) (ts : List Token) (e : Expr) → StrTree s (textClass l) ts e → Told Table.TEXT l ts e
-    told-number : (l : ℕ) (ts : List Token) (e : Expr) → IntTree s (numberClass l) ts e → Told Table.NUMBER l ts e
-    told-test : (l : ℕ) (ts : List Token) (e : Expr) → TestTree s (testClass l) ts e → Told Table.TEST l ts e
-    told-true : (l : ℕ) (ts : List Token) (e : Expr) → StrTree s operand ts e → TestTree s operand ts (truth true) → Told Table.TRUE l ts e
-    told-false : (l : ℕ) (ts : List Token) (e : Expr) → StrTree s operand ts e → TestTree s operand ts (truth false) → Told Table.FALSE l ts e
+  pub data Told : PartSort → ℕ → List Token → Expr → Type 0 where
+    told-text : (l : ℕ) (ts : List Token) (e : Expr) → StrTree s (textClass l) ts e → Told (sorted a-string) l ts e
+    told-number : (l : ℕ) (ts : List Token) (e : Expr) → IntTree s (numberClass l) ts e → Told (sorted an-integer) l ts e
+    told-test : (l : ℕ) (ts : List Token) (e : Expr) → TestTree s (testClass l) ts e → Told (sorted a-test) l ts e
+    told-word : (b : Bool) (l : ℕ) (ts : List Token) (e : Expr) → StrTree s operand ts e → TestTree s operand ts (truth b) → Told (word b) l ts e
 
   text-down : (l : ℕ) (ts : List Token) (e : Expr) → StrTree s (textClass (suc l)) ts e → StrTree s (textClass l) ts e
   text-down zero ts e d = d
@@ -87,38 +81,35 @@ module _ (s : List ℕ) where
   test-down (suc zero) ts e d = test-once ts e d
   test-down (suc (suc n)) ts e d = d
 
-  down : (sort l : ℕ) (ts : List Token) (e : Expr) → (m : ℕ) → m ≡ suc l → Told sort m ts e → Told sort l ts e
+  down : (sort : PartSort) (l : ℕ) (ts : List Token) (e : Expr) → (m : ℕ) → m ≡ suc l → Told sort m ts e → Told sort l ts e
   down _ l _ _ _ z (told-text m ts e d) = told-text l ts e (text-down l ts e (subst (λ (x : ℕ). StrTree s (textClass x) ts e) z d))
   down _ l _ _ _ z (told-number m ts e d) = told-number l ts e (number-down l ts e (subst (λ (x : ℕ). IntTree s (numberClass x) ts e) z d))
   down _ l _ _ _ z (told-test m ts e d) = told-test l ts e (test-down l ts e (subst (λ (x : ℕ). TestTree s (testClass x) ts e) z d))
-  down _ l _ _ _ z (told-true m ts e d g) = told-true l ts e d g
-  down _ l _ _ _ z (told-false m ts e d g) = told-false l ts e d g
+  down _ l _ _ _ z (told-word b m ts e d g) = told-word b l ts e d g
 
   -- a level takes what a tighter one takes
-  pub lower : (sort m l : ℕ) (ts : List Token) (e : Expr) → m ≤ l → Told sort l ts e → Told sort m ts e
+  pub lower : (sort : PartSort) (m l : ℕ) (ts : List Token) (e : Expr) → m ≤ l → Told sort l ts e → Told sort m ts e
   lower sort m l ts e h = le-ind (λ (x : ℕ). Told sort x ts e → Told sort m ts e) (λ d. d) (λ x k g d. g (down sort x ts e (suc x) refl d)) l h
 
   -- an operand at any level
-  text-operand : (l : ℕ) (ts : List Token) (e : Expr) → l ≤ 7 → StrTree s operand ts e → Told Table.TEXT l ts e
-  text-operand l ts e h d = lower Table.TEXT l 7 ts e h (told-text 7 ts e d)
+  text-operand : (l : ℕ) (ts : List Token) (e : Expr) → l ≤ 7 → StrTree s operand ts e → Told (sorted a-string) l ts e
+  text-operand l ts e h d = lower (sorted a-string) l 7 ts e h (told-text 7 ts e d)
 
-  pub test-operand : (l : ℕ) (ts : List Token) (e : Expr) → l ≤ 7 → TestTree s operand ts e → Told Table.TEST l ts e
-  test-operand l ts e h d = lower Table.TEST l 7 ts e h (told-test 7 ts e d)
+  pub test-operand : (l : ℕ) (ts : List Token) (e : Expr) → l ≤ 7 → TestTree s operand ts e → Told (sorted a-test) l ts e
+  test-operand l ts e h d = lower (sorted a-test) l 7 ts e h (told-test 7 ts e d)
 
   -- a bare word becomes what is wanted
-  pub settle : (o sort l : ℕ) (ts : List Token) (e : Expr) → l ≤ 7 → Fits o sort → Told sort l ts e → Told o l ts (settledTree o sort e)
+  pub settle : (o : Sort) (sort : PartSort) (l : ℕ) (ts : List Token) (e : Expr) → l ≤ 7 → Fits o sort → Told sort l ts e → Told (sorted o) l ts (settledTree o sort e)
   unfolding settledTree
   settle _ _ l ts e h fit-test d = d
   settle _ _ l ts e h fit-text d = d
   settle _ _ l ts e h fit-number d = d
-  settle _ _ l _ _ h fit-true (told-true _ ts e d g) = test-operand l ts (truth true) h g
-  settle _ _ l _ _ h fit-false (told-false _ ts e d g) = test-operand l ts (truth false) h g
-  settle _ _ l _ _ h fit-true-name (told-true _ ts e d g) = text-operand l ts e h d
-  settle _ _ l _ _ h fit-false-name (told-false _ ts e d g) = text-operand l ts e h d
+  settle _ _ l _ _ h (fit-word _) (told-word b _ ts e d g) = test-operand l ts (truth b) h g
+  settle _ _ l _ _ h (fit-name _) (told-word b _ ts e d g) = text-operand l ts e h d
 
   -- two operands and the operator between them
-  pub joined : (k : ℕ) (op : Binary) (l o r : ℕ) (t : Token) (ts us : List Token) (e f : Expr) → Joint k op l o r → t .kind ≡ k → Told o l ts e → Told o (l + 1) us f
-      → Told r l (ts ++ t ∷ us) (binary op e f)
+  pub joined : (k : ℕ) (op : Binary) (l : ℕ) (o r : Sort) (t : Token) (ts us : List Token) (e f : Expr) → Joint k op l o r → t .kind ≡ k → Told (sorted o) l ts e → Told (sorted o) (l + 1) us f
+      → Told (sorted r) l (ts ++ t ∷ us) (binary op e f)
   joined _ _ _ _ _ t _ _ _ _ j-power z (told-number _ ts e d) (told-number _ us f g) = told-number 5 _ _ (power-tree t ts us e f z d g)
   joined _ _ _ _ _ t _ _ _ _ (j-product k op c) z (told-number _ ts e d) (told-number _ us f g) =
       told-number 4 _ _ (product-tree t ts us e f op (subst (λ (x : ℕ). ProductOp x op) (sym z) c) d g)
@@ -134,54 +125,50 @@ module _ (s : List ℕ) where
   joined _ _ _ _ _ t _ _ _ _ j-or z (told-test _ ts e d) (told-test _ us f g) = told-test 0 _ _ (or-tree t ts us e f z d g)
 
   -- brackets
-  pub enclosed : (sort : ℕ) (t u : Token) (ts : List Token) (e : Expr) → t .kind ≡ Kind.OPEN → u .kind ≡ Kind.CLOSE → Told sort 0 ts e → Told sort 7 (t ∷ ts ++ u ∷ []) e
+  pub enclosed : (sort : PartSort) (t u : Token) (ts : List Token) (e : Expr) → t .kind ≡ Kind.OPEN → u .kind ≡ Kind.CLOSE → Told sort 0 ts e → Told sort 7 (t ∷ ts ++ u ∷ []) e
   enclosed _ t u _ _ y z (told-text _ ts e d) = told-text 7 _ e (text-bracket t u ts e y z d)
   enclosed _ t u _ _ y z (told-number _ ts e d) = told-number 7 _ e (number-bracket t u ts e y z d)
   enclosed _ t u _ _ y z (told-test _ ts e d) = told-test 7 _ e (test-bracket-tree t u ts e y z d)
-  enclosed _ t u _ _ y z (told-true _ ts e d g) = told-true 7 _ e (text-bracket t u ts e y z (text-one ts e d)) (test-bracket-tree t u ts (truth true) y z (test-up ts (truth true) (test-once ts (truth true) g)))
-  enclosed _ t u _ _ y z (told-false _ ts e d g) = told-false 7 _ e (text-bracket t u ts e y z (text-one ts e d)) (test-bracket-tree t u ts (truth false) y z (test-up ts (truth false) (test-once ts (truth false) g)))
+  enclosed _ t u _ _ y z (told-word b _ ts e d g) =
+      told-word b 7 _ e (text-bracket t u ts e y z (text-one ts e d)) (test-bracket-tree t u ts (truth b) y z (test-up ts (truth b) (test-once ts (truth b) g)))
 
   -- tokens that can be completed to what is wanted
-  pub data Completes (w level : ℕ) (ts : List Token) : Type 0 where
-    completes : (rest : List Token) (e : Expr) → Told w level (ts ++ rest) e → Completes w level ts
+  pub data Completes (w : Sort) (level : ℕ) (ts : List Token) : Type 0 where
+    completes : (rest : List Token) (e : Expr) → Told (sorted w) level (ts ++ rest) e → Completes w level ts
 
-  pub completes-lower : (w m level : ℕ) (ts : List Token) → m ≤ level → Completes w level ts → Completes w m ts
-  completes-lower w m level ts h (completes rest e d) = completes rest e (lower w m level (ts ++ rest) e h d)
+  pub completes-lower : (w : Sort) (m level : ℕ) (ts : List Token) → m ≤ level → Completes w level ts → Completes w m ts
+  completes-lower w m level ts h (completes rest e d) = completes rest e (lower (sorted w) m level (ts ++ rest) e h d)
 
 module _ (s : List ℕ) where
   -- a comparison with something
-  text-test : (ts : List Token) (e : Expr) → Told s Table.TEXT 0 ts e → Completes s Table.TEST 7 ts
+  text-test : (ts : List Token) (e : Expr) → Told s (sorted a-string) 0 ts e → Completes s a-test 7 ts
   text-test _ _ (told-text _ ts e d) =
       completes (mark Kind.EQUAL ∷ mark Kind.LITERAL ∷ []) _ (told-test 7 _ _ (compare-texts (mark Kind.EQUAL) ts (mark Kind.LITERAL ∷ []) e _ _ equal-op d (text-one _ _ (literal-tree (mark Kind.LITERAL) refl))))
 
-  number-test : (ts : List Token) (e : Expr) → Told s Table.NUMBER 0 ts e → Completes s Table.TEST 7 ts
+  number-test : (ts : List Token) (e : Expr) → Told s (sorted an-integer) 0 ts e → Completes s a-test 7 ts
   number-test _ _ (told-number _ ts e d) =
       completes (mark Kind.EQUAL ∷ mark Kind.DIGITS ∷ []) _
       (told-test 7 _ _ (compare-numbers (mark Kind.EQUAL) ts (mark Kind.DIGITS ∷ []) e _ _ equal-op d (number-term _ _ (number-up _ _ (number-one _ _ (number-tree (mark Kind.DIGITS) refl))))))
 
-  as-it-is : (w level : ℕ) (ts : List Token) (e : Expr) → Told s w level ts e → Completes s w level ts
-  as-it-is w level ts e d = completes [] e (subst (λ (l : List Token). Told s w level l e) (sym (append-nil ts)) d)
+  as-it-is : (w : Sort) (level : ℕ) (ts : List Token) (e : Expr) → Told s (sorted w) level ts e → Completes s w level ts
+  as-it-is w level ts e d = completes [] e (subst (λ (l : List Token). Told s (sorted w) level l e) (sym (append-nil ts)) d)
 
   -- what was read can be completed to what is wanted
-  pub finish : (want sort level l : ℕ) (ts : List Token) (e : Expr) → level ≤ 7 → level ≤ l → Suits want sort → Told s sort l ts e → Completes s (goal want) level ts
-  finish _ _ level l ts e h i (suits-any _ is-test) d = as-it-is Table.TEST level ts e (lower s Table.TEST level l ts e i d)
-  finish _ _ level l ts e h i (suits-any _ is-text) d = completes-lower s Table.TEST level 7 ts h (text-test ts e (lower s Table.TEXT 0 l ts e (omega arith) d))
-  finish _ _ level l ts e h i (suits-any _ is-number) d = completes-lower s Table.TEST level 7 ts h (number-test ts e (lower s Table.NUMBER 0 l ts e (omega arith) d))
-  finish _ _ level l _ _ h i (suits-any _ is-true) (told-true _ ts e d g) = as-it-is Table.TEST level ts (truth true) (test-operand s level ts (truth true) h g)
-  finish _ _ level l _ _ h i (suits-any _ is-false) (told-false _ ts e d g) = as-it-is Table.TEST level ts (truth false) (test-operand s level ts (truth false) h g)
-  finish _ _ level l ts e h i suits-text d = as-it-is Table.TEXT level ts e (lower s Table.TEXT level l ts e i d)
-  finish _ _ level l ts e h i suits-number d = as-it-is Table.NUMBER level ts e (lower s Table.NUMBER level l ts e i d)
-  finish _ _ level l ts e h i suits-integer d = as-it-is Table.NUMBER level ts e (lower s Table.NUMBER level l ts e i d)
+  pub finish : (want : Want) (sort : PartSort) (level l : ℕ) (ts : List Token) (e : Expr) → level ≤ 7 → level ≤ l → Suits want sort → Told s sort l ts e → Completes s (goal want) level ts
+  finish _ _ level l ts e h i (suits-any (sorted a-test)) d = as-it-is a-test level ts e (lower s (sorted a-test) level l ts e i d)
+  finish _ _ level l ts e h i (suits-any (sorted a-string)) d = completes-lower s a-test level 7 ts h (text-test ts e (lower s (sorted a-string) 0 l ts e (omega arith) d))
+  finish _ _ level l ts e h i (suits-any (sorted an-integer)) d = completes-lower s a-test level 7 ts h (number-test ts e (lower s (sorted an-integer) 0 l ts e (omega arith) d))
+  finish _ _ level l _ _ h i (suits-any (word _)) (told-word b _ ts e d g) = as-it-is a-test level ts (truth b) (test-operand s level ts (truth b) h g)
+  finish _ _ level l ts e h i suits-text d = as-it-is a-string level ts e (lower s (sorted a-string) level l ts e i d)
+  finish _ _ level l ts e h i suits-number d = as-it-is an-integer level ts e (lower s (sorted an-integer) level l ts e i d)
+  finish _ _ level l ts e h i suits-integer d = as-it-is an-integer level ts e (lower s (sorted an-integer) level l ts e i d)
 
   -- something of what is wanted
-  pub something : (want sort : ℕ) → Suits want sort → Completes s (goal want) 7 []
-  something _ _ (suits-any _ x) = anything
-    where
-      anything : Completes s Table.TEST 7 []
-      anything =
-          completes (mark Kind.LITERAL ∷ mark Kind.EQUAL ∷ mark Kind.LITERAL ∷ []) _
-          (told-test 7 _ _ (compare-texts (mark Kind.EQUAL) (mark Kind.LITERAL ∷ []) (mark Kind.LITERAL ∷ []) _ _ _ equal-op
-          (text-one _ _ (literal-tree (mark Kind.LITERAL) refl)) (text-one _ _ (literal-tree (mark Kind.LITERAL) refl))))
-  something _ _ suits-text = completes (mark Kind.LITERAL ∷ []) _ (told-text 7 _ _ (literal-tree (mark Kind.LITERAL) refl))
-  something _ _ suits-number = completes (mark Kind.DIGITS ∷ []) _ (told-number 7 _ _ (number-tree (mark Kind.DIGITS) refl))
-  something _ _ suits-integer = completes (mark Kind.DIGITS ∷ []) _ (told-number 7 _ _ (number-tree (mark Kind.DIGITS) refl))
+  pub something : (want : Want) → Completes s (goal want) 7 []
+  something want-any =
+      completes (mark Kind.LITERAL ∷ mark Kind.EQUAL ∷ mark Kind.LITERAL ∷ []) _
+      (told-test 7 _ _ (compare-texts (mark Kind.EQUAL) (mark Kind.LITERAL ∷ []) (mark Kind.LITERAL ∷ []) _ _ _ equal-op
+      (text-one _ _ (literal-tree (mark Kind.LITERAL) refl)) (text-one _ _ (literal-tree (mark Kind.LITERAL) refl))))
+  something want-string = completes (mark Kind.LITERAL ∷ []) _ (told-text 7 _ _ (literal-tree (mark Kind.LITERAL) refl))
+  something want-number = completes (mark Kind.DIGITS ∷ []) _ (told-number 7 _ _ (number-tree (mark Kind.DIGITS) refl))
+  something want-integer = completes (mark Kind.DIGITS ∷ []) _ (told-number 7 _ _ (number-tree (mark Kind.DIGITS) refl))

@@ -11,10 +11,11 @@ use Rattle.lexical.specs.Bounds.{chosen}
 use Rattle.lexical.specs.Literal.{decodedAt}
 use Rattle.lexical.specs.Word.{spells, word-true, word-false}
 use Rattle.lexical.specs.declared.token.Token.{Token}
-use Rattle.syntax.specs.Operator.{Unary, Binary, Relation, Sort, unaryTakes, unaryGives, binaryTakes, binaryGives}
+use Rattle.syntax.specs.Operator.{Unary, Binary, Relation, Sort, a-string, an-integer, a-test, unaryTakes, unaryGives, binaryTakes, binaryGives}
 use Rattle.syntax.specs.Operator as Operator
 use Rattle.syntax.specs.Code.{nameAt, numberAt}
 use Rattle.syntax.specs.Expr.{Expr, literal, name, number, truth, unary, binary, Program, none, also, Clause, plain, valued, nested}
+use Rattle.conditions.specs.Table.{PartSort, sorted, word, want-any}
 use Rattle.conditions.specs.Table
 use Rattle.conditions.specs.Word.{wordSort}
 use Rattle.conditions.specs.Operand.{settledTree}
@@ -29,7 +30,7 @@ use Rattle.grammar.specs.Working.Pending.{Entry, pending, opening, reduc
 
 -- a sort and a tree
 abbrev Value : Type 0
-Value = ℕ × Expr
+Value = PartSort × Expr
 
 abbrev Waiting : Type 0
 Waiting = List (Entry Value)
@@ -68,13 +69,13 @@ levelOf k =
 
 -- an operand as an operator takes it
 abbrev taken : Sort → Value → Expr
-taken x v = settledTree (Table.sortOf x) (v .0) (v .1)
+taken x v = settledTree x (v .0) (v .1)
 
 abbrev prefixed : Unary → Value → Value
-prefixed op v = (Table.sortOf (unaryGives op), unary op (taken (unaryTakes op) v))
+prefixed op v = (sorted (unaryGives op), unary op (taken (unaryTakes op) v))
 
 abbrev joined : Binary → Value → Value → Value
-joined op v w = (Table.sortOf (binaryGives op), binary op (taken (binaryTakes op) v) (taken (binaryTakes op) w))
+joined op v w = (sorted (binaryGives op), binary op (taken (binaryTakes op) v) (taken (binaryTakes op) w))
 
 abbrev closedIn : Context → Value × Waiting → Yard
 closedIn C (v, []) = y-lost
@@ -82,12 +83,12 @@ closedIn C (v, opening ∷ P) = y-have C v P
 closedIn C (v, pending m f ∷ P) = y-lost
 
 abbrev arrowed : Context → Value × Waiting → Yard
-arrowed (context role-test p B) x = y-want (context (role-value (settledTree Table.TEST (x .0 .0) (x .0 .1))) p B) []
+arrowed (context role-test p B) x = y-want (context (role-value (settledTree a-test (x .0 .0) (x .0 .1))) p B) []
 arrowed (context (role-value e) p B) x = y-lost
 
 abbrev ended : Context → Value × Waiting → Yard
-ended (context role-test p B) x = y-want (context role-test (also p (plain (settledTree Table.TEST (x .0 .0) (x .0 .1)))) B) []
-ended (context (role-value e) p B) x = y-want (context role-test (also p (valued e (settledTree Table.TEXT (x .0 .0) (x .0 .1)))) B) []
+ended (context role-test p B) x = y-want (context role-test (also p (plain (settledTree a-test (x .0 .0) (x .0 .1)))) B) []
+ended (context (role-value e) p B) x = y-want (context role-test (also p (valued e (settledTree a-string (x .0 .0) (x .0 .1)))) B) []
 
 abbrev openBlock : Context → Yard
 openBlock (context role-test p B) = y-lost
@@ -111,9 +112,9 @@ module _ (s : List ℕ) where
   unfoldable yard : Yard → Token → Yard
   yard (y-want C P) t =
       pick (eqb (t .kind) Kind.OPEN) (y-want C (opening ∷ P))
-      (pick (eqb (t .kind) Kind.LITERAL) (y-have C (Table.TEXT, literal (decodedAt s (t .start))) P)
-      (pick (eqb (t .kind) Kind.NAME) (y-have C (wordSort s Table.ANY (t .start) (t .end), name (nameAt s (t .start))) P)
-      (pick (eqb (t .kind) Kind.DIGITS) (y-have C (Table.NUMBER, number (numberAt s (t .start))) P)
+      (pick (eqb (t .kind) Kind.LITERAL) (y-have C (sorted a-string, literal (decodedAt s (t .start))) P)
+      (pick (eqb (t .kind) Kind.NAME) (y-have C (wordSort s want-any (t .start) (t .end), name (nameAt s (t .start))) P)
+      (pick (eqb (t .kind) Kind.DIGITS) (y-have C (sorted an-integer, number (numberAt s (t .start))) P)
       (pick (eqb (t .kind) Kind.OPEN-BRACE) (openBlock C)
       (pick (eqb (t .kind) Kind.CLOSE-BRACE) (closeBlock C)
       (before C P (t .kind)))))))
@@ -129,16 +130,16 @@ module _ (s : List ℕ) where
   runs q ts = run yard q ts
 
   -- a value that says a tree of a sort: itself, or a bare word
-  data Means : ℕ → Expr → Value → Type 0 where
-    means-test : (e : Expr) → Means Table.TEST e (Table.TEST, e)
-    means-text : (e : Expr) → Means Table.TEXT e (Table.TEXT, e)
-    means-number : (e : Expr) → Means Table.NUMBER e (Table.NUMBER, e)
-    means-true-name : (e : Expr) → Means Table.TEXT e (Table.TRUE, e)
-    means-false-name : (e : Expr) → Means Table.TEXT e (Table.FALSE, e)
-    means-true : (e : Expr) → Means Table.TEST (truth true) (Table.TRUE, e)
-    means-false : (e : Expr) → Means Table.TEST (truth false) (Table.FALSE, e)
+  data Means : Sort → Expr → Value → Type 0 where
+    means-test : (e : Expr) → Means a-test e (sorted a-test, e)
+    means-text : (e : Expr) → Means a-string e (sorted a-string, e)
+    means-number : (e : Expr) → Means an-integer e (sorted an-integer, e)
+    means-true-name : (e : Expr) → Means a-string e (word true, e)
+    means-false-name : (e : Expr) → Means a-string e (word false, e)
+    means-true : (e : Expr) → Means a-test (truth true) (word true, e)
+    means-false : (e : Expr) → Means a-test (truth false) (word false, e)
 
-  means-settled : (o : ℕ) (e : Expr) (v : Value) → Means o e v → settledTree o (v .0) (v .1) ≡ e
+  means-settled : (o : Sort) (e : Expr) (v : Value) → Means o e v → settledTree o (v .0) (v .1) ≡ e
   unfolding settledTree
   means-settled _ _ _ (means-test e) = refl
   means-settled _ _ _ (means-text e) = refl
@@ -149,21 +150,21 @@ module _ (s : List ℕ) where
   means-settled _ _ _ (means-false e) = refl
 
   -- where tokens of a sort that say e lead from P on, up to what operators of level l and tighter make of it
-  data Sim (l : ℕ) (C : Context) (o : ℕ) (e : Expr) (P : Waiting) : Yard → Type 0 where
+  data Sim (l : ℕ) (C : Context) (o : Sort) (e : Expr) (P : Waiting) : Yard → Type 0 where
     sim : (v₁ : Value) (P₁ : Waiting) (v : Value) → Means o e v → reduce l v₁ P₁ ≡ reduce l v P → Sim l C o e P (y-have C v₁ P₁)
 
-  sim-down : (l m : ℕ) (C : Context) (o : ℕ) (e : Expr) (P : Waiting) (q : Yard) → l ≤ m → Sim m C o e P q → Sim l C o e P q
+  sim-down : (l m : ℕ) (C : Context) (o : Sort) (e : Expr) (P : Waiting) (q : Yard) → l ≤ m → Sim m C o e P q → Sim l C o e P q
   sim-down l m C o e P _ h (sim v₁ P₁ v x g) = sim v₁ P₁ v x (reduce-same l m v₁ v P₁ P h g)
 
-  sim-at : (l : ℕ) (C : Context) (o : ℕ) (e : Expr) (P : Waiting) (q r : Yard) → q ≡ r → Sim l C o e P r → Sim l C o e P q
+  sim-at : (l : ℕ) (C : Context) (o : Sort) (e : Expr) (P : Waiting) (q r : Yard) → q ≡ r → Sim l C o e P r → Sim l C o e P q
   sim-at l C o e P q r z x = subst (Sim l C o e P) (sym z) x
 
   -- the marks
-  data Acting (k : ℕ) (op : Binary) (l o r : ℕ) : Type 0 where
+  data Acting (k : ℕ) (op : Binary) (l : ℕ) (o r : Sort) : Type 0 where
     operator-is : eqb k Kind.CLOSE ≡ false → eqb k Kind.ARROW ≡ false → eqb k Kind.SEMICOLON ≡ false → levelOf k ≡ l
         → ((e : Expr) (v : Value) → Means o e v → Table.operator (v .0) k ≡ Table.between op) → Acting k op l o r
 
-  compare-text : (k : ℕ) (x : Relation) → CompareOp k x → (e : Expr) (v : Value) → Means Table.TEXT e v → Table.operator (v .0) k ≡ Table.between (Operator.comparison Operator.strings x)
+  compare-text : (k : ℕ) (x : Relation) → CompareOp k x → (e : Expr) (v : Value) → Means a-string e v → Table.operator (v .0) k ≡ Table.between (Operator.comparison Operator.strings x)
   unfolding Table.operator Table.textOperator Table.testOperator Table.comparison
   compare-text _ _ equal-op _ _ (means-text e) = refl
   compare-text _ _ equal-op _ _ (means-true-name e) = refl
@@ -184,20 +185,20 @@ module _ (s : List ℕ) where
   compare-text _ _ at-least-op _ _ (means-true-name e) = refl
   compare-text _ _ at-least-op _ _ (means-false-name e) = refl
 
-  from-number : (k : ℕ) (op : Binary) → Table.operator Table.NUMBER k ≡ Table.between op → (e : Expr) (v : Value) → Means Table.NUMBER e v → Table.operator (v .0) k ≡ Table.between op
+  from-number : (k : ℕ) (op : Binary) → Table.operator (sorted an-integer) k ≡ Table.between op → (e : Expr) (v : Value) → Means an-integer e v → Table.operator (v .0) k ≡ Table.between op
   from-number k op h _ _ (means-number e) = h
 
-  from-test : (k : ℕ) (op : Binary) → Table.operator Table.TEST k ≡ Table.between op → Table.operator Table.TRUE k ≡ Table.between op → Table.operator Table.FALSE k ≡ Table.between op → (e : Expr) (v : Value) → Means Table.TEST e v → Table.operator (v .0) k ≡ Table.between op
+  from-test : (k : ℕ) (op : Binary) → Table.operator (sorted a-test) k ≡ Table.between op → Table.operator (word true) k ≡ Table.between op → Table.operator (word false) k ≡ Table.between op → (e : Expr) (v : Value) → Means a-test e v → Table.operator (v .0) k ≡ Table.between op
   from-test k op a b c _ _ (means-test e) = a
   from-test k op a b c _ _ (means-true e) = b
   from-test k op a b c _ _ (means-false e) = c
 
-  from-text : (k : ℕ) (op : Binary) → Table.operator Table.TEXT k ≡ Table.between op → Table.operator Table.TRUE k ≡ Table.between op → Table.operator Table.FALSE k ≡ Table.between op → (e : Expr) (v : Value) → Means Table.TEXT e v → Table.operator (v .0) k ≡ Table.between op
+  from-text : (k : ℕ) (op : Binary) → Table.operator (sorted a-string) k ≡ Table.between op → Table.operator (word true) k ≡ Table.between op → Table.operator (word false) k ≡ Table.between op → (e : Expr) (v : Value) → Means a-string e v → Table.operator (v .0) k ≡ Table.between op
   from-text k op a b c _ _ (means-text e) = a
   from-text k op a b c _ _ (means-true-name e) = b
   from-text k op a b c _ _ (means-false-name e) = c
 
-  numbers-compared : (k : ℕ) (x : Relation) → CompareOp k x → Acting k (Operator.comparison Operator.integers x) 2 Table.NUMBER Table.TEST
+  numbers-compared : (k : ℕ) (x : Relation) → CompareOp k x → Acting k (Operator.comparison Operator.integers x) 2 an-integer a-test
   unfolding Table.operator Table.numberOperator Table.comparison levelOf
   numbers-compared _ _ equal-op = operator-is refl refl refl refl (from-number Kind.EQUAL (Operator.comparison Operator.integers Operator.equal) refl)
   numbers-compared _ _ unequal-op = operator-is refl refl refl refl (from-number Kind.UNEQUAL (Operator.comparison Operator.integers Operator.unequal) refl)
@@ -206,10 +207,10 @@ module _ (s : List ℕ) where
   numbers-compared _ _ at-most-op = operator-is refl refl refl refl (from-number Kind.AT-MOST (Operator.comparison Operator.integers Operator.at-most) refl)
   numbers-compared _ _ at-least-op = operator-is refl refl refl refl (from-number Kind.AT-LEAST (Operator.comparison Operator.integers Operator.at-least) refl)
 
-  texts-compared : (k : ℕ) (x : Relation) → CompareOp k x → Acting k (Operator.comparison Operator.integers x) 2 Table.NUMBER Table.TEST → Acting k (Operator.comparison Operator.strings x) 2 Table.TEXT Table.TEST
+  texts-compared : (k : ℕ) (x : Relation) → CompareOp k x → Acting k (Operator.comparison Operator.integers x) 2 an-integer a-test → Acting k (Operator.comparison Operator.strings x) 2 a-string a-test
   texts-compared k x c (operator-is a b z l h) = operator-is a b z l (compare-text k x c)
 
-  joint-operator : (k : ℕ) (op : Binary) (l o r : ℕ) → Joint k op l o r → Acting k op l o r
+  joint-operator : (k : ℕ) (op : Binary) (l : ℕ) (o r : Sort) → Joint k op l o r → Acting k op l o r
   unfolding Table.operator Table.numberOperator Table.textOperator Table.testOperator Table.comparison levelOf
   joint-operator _ _ _ _ _ j-power = operator-is refl refl refl refl (from-number Kind.POWER Operator.power refl)
   joint-operator _ _ _ _ _ (j-product _ _ times-op) = operator-is refl refl refl refl (from-number Kind.TIMES Operator.times refl)
@@ -230,7 +231,7 @@ module _ (s : List ℕ) where
   have-operator C v₁ P₁ t a b c = rw (a, b, c) refl
 
   -- two operands and the operator between them
-  two : (k : ℕ) (op : Binary) (l o r : ℕ) (C : Context) (P : Waiting) (e f : Expr) (t : Token) (us : List Token) (m : ℕ) (q : Yard) → Joint k op l o r → Means r (binary op e f) (r, binary op e f) → t .kind ≡ k
+  two : (k : ℕ) (op : Binary) (l : ℕ) (o r : Sort) (C : Context) (P : Waiting) (e f : Expr) (t : Token) (us : List Token) (m : ℕ) (q : Yard) → Joint k op l o r → Means r (binary op e f) (sorted r, binary op e f) → t .kind ≡ k
       → Stops l P → l ≤ m → Sim l C o e P q → ((Q : Waiting) → Stops (l + 1) Q → Sim m C o f Q (runs (y-want C Q) us)) → Sim l C r (binary op e f) P (runs q (t ∷ us))
   two k op l o r C P e f t us m _ j w z st h (sim v₁ P₁ v x g) right = on-operator (joint-operator k op l o r j) (joint-tabled k op l o r j)
     where
@@ -250,26 +251,26 @@ module _ (s : List ℕ) where
               ∙ ap (λ (y : Value × Waiting). Table.onInfix (Table.operator (y .0 .0) k) y-lost (λ op. y-want C (pending l (joined op (y .0)) ∷ y .1))) (g ∙ stops-is l v P st)
               ∙ ap (λ (y : Table.Infix). Table.onInfix y y-lost (λ op. y-want C (pending l (joined op v) ∷ P))) (acts e v x)
 
-          made : (w : Value) → Means o f w → joined op v w ≡ (r, binary op e f)
-          made w y = rw (eo, er) (ap (λ (a : Expr). (r, binary op a (settledTree o (w .0) (w .1)))) (means-settled o e v x) ∙ ap (λ (a : Expr). (r, binary op e a)) (means-settled o f w y))
+          made : (w : Value) → Means o f w → joined op v w ≡ (sorted r, binary op e f)
+          made w y = rw (eo, er) (ap (λ (a : Expr). (sorted r, binary op a (settledTree o (w .0) (w .1)))) (means-settled o e v x) ∙ ap (λ (a : Expr). (sorted r, binary op e a)) (means-settled o f w y))
 
           reduced : (q : Yard) → Sim m C o f Q q → Sim l C r (binary op e f) P q
-          reduced _ (sim w₁ Q₁ u y i) = sim w₁ Q₁ (r, binary op e f) w (reduce-same l m w₁ u Q₁ Q h i ∙ reduce-own l (joined op v) u P ∙ ap (λ (a : Value). reduce l a P) (made u y))
+          reduced _ (sim w₁ Q₁ u y i) = sim w₁ Q₁ (sorted r, binary op e f) w (reduce-same l m w₁ u Q₁ Q h i ∙ reduce-own l (joined op v) u P ∙ ap (λ (a : Value). reduce l a P) (made u y))
 
   module _ (C : Context) (P : Waiting) (t : Token) where
     want-open : t .kind ≡ Kind.OPEN → yard (y-want C P) t ≡ y-want C (opening ∷ P)
     unfolding yard
     want-open z = rw (at-kind t Kind.OPEN Kind.OPEN true z refl) refl
 
-    want-literal : t .kind ≡ Kind.LITERAL → yard (y-want C P) t ≡ y-have C (Table.TEXT, literal (decodedAt s (t .start))) P
+    want-literal : t .kind ≡ Kind.LITERAL → yard (y-want C P) t ≡ y-have C (sorted a-string, literal (decodedAt s (t .start))) P
     unfolding yard
     want-literal z = rw (at-kind t Kind.LITERAL Kind.OPEN false z refl, at-kind t Kind.LITERAL Kind.LITERAL true z refl) refl
 
-    want-name : t .kind ≡ Kind.NAME → yard (y-want C P) t ≡ y-have C (wordSort s Table.ANY (t .start) (t .end), name (nameAt s (t .start))) P
+    want-name : t .kind ≡ Kind.NAME → yard (y-want C P) t ≡ y-have C (wordSort s want-any (t .start) (t .end), name (nameAt s (t .start))) P
     unfolding yard
     want-name z = rw (at-kind t Kind.NAME Kind.OPEN false z refl, at-kind t Kind.NAME Kind.LITERAL false z refl, at-kind t Kind.NAME Kind.NAME true z refl) refl
 
-    want-digits : t .kind ≡ Kind.DIGITS → yard (y-want C P) t ≡ y-have C (Table.NUMBER, number (numberAt s (t .start))) P
+    want-digits : t .kind ≡ Kind.DIGITS → yard (y-want C P) t ≡ y-have C (sorted an-integer, number (numberAt s (t .start))) P
     unfolding yard
     want-digits z =
         rw (at-kind t Kind.DIGITS Kind.OPEN false z refl, at-kind t Kind.DIGITS Kind.LITERAL false z refl, at-kind t Kind.DIGITS Kind.NAME false z refl, at-kind t Kind.DIGITS Kind.DIGITS true z refl) refl
@@ -285,13 +286,13 @@ module _ (s : List ℕ) where
           (ap (λ (x : ℕ). pick (eqb x Kind.OPEN-BRACE) (openBlock C) (pick (eqb x Kind.CLOSE-BRACE) (closeBlock C) (before C P x))) z)
 
   -- a prefix operator of level m
-  module _ (C : Context) (P : Waiting) (t : Token) (us : List Token) (m : ℕ) (op : Unary) (o r : ℕ) (f : Expr) (takes : Table.sortOf (unaryTakes op) ≡ o) (gives : Table.sortOf (unaryGives op) ≡ r)
-      (w : Means r (unary op f) (r, unary op f)) (led : yard (y-want C P) t ≡ y-want C (pending m (prefixed op) ∷ P)) where
-    made : (v : Value) → Means o f v → prefixed op v ≡ (r, unary op f)
-    made v y = rw (takes, gives) (ap (λ (a : Expr). (r, unary op a)) (means-settled o f v y))
+  module _ (C : Context) (P : Waiting) (t : Token) (us : List Token) (m : ℕ) (op : Unary) (o r : Sort) (f : Expr) (takes : unaryTakes op ≡ o) (gives : unaryGives op ≡ r)
+      (w : Means r (unary op f) (sorted r, unary op f)) (led : yard (y-want C P) t ≡ y-want C (pending m (prefixed op) ∷ P)) where
+    made : (v : Value) → Means o f v → prefixed op v ≡ (sorted r, unary op f)
+    made v y = rw (takes, gives) (ap (λ (a : Expr). (sorted r, unary op a)) (means-settled o f v y))
 
     behind : (q : Yard) → Sim m C o f (pending m (prefixed op) ∷ P) q → Sim m C r (unary op f) P q
-    behind _ (sim w₁ Q₁ v y i) = sim w₁ Q₁ (r, unary op f) w (i ∙ reduce-own m (prefixed op) v P ∙ ap (λ (a : Value). reduce m a P) (made v y))
+    behind _ (sim w₁ Q₁ v y i) = sim w₁ Q₁ (sorted r, unary op f) w (i ∙ reduce-own m (prefixed op) v P ∙ ap (λ (a : Value). reduce m a P) (made v y))
 
     one : Sim m C o f (pending m (prefixed op) ∷ P) (runs (y-want C (pending m (prefixed op) ∷ P)) us) → Sim m C r (unary op f) P (runs (y-want C P) (t ∷ us))
     one h = sim-at m C r (unary op f) P (runs (y-want C P) (t ∷ us)) (runs (y-want C (pending m (prefixed op) ∷ P)) us) (ap (λ (y : Yard). runs y us) led) (behind (runs (y-want C (pending m (prefixed op) ∷ P)) us) h)
@@ -301,23 +302,23 @@ module _ (s : List ℕ) where
   unfolding yard
   have-close C v₁ P₁ u z = rw (at-kind u Kind.CLOSE Kind.CLOSE true z refl) refl
 
-  closes : (l o : ℕ) (C : Context) (P : Waiting) (e : Expr) (u : Token) (q : Yard) → u .kind ≡ Kind.CLOSE → Sim l C o e (opening ∷ P) q → Sim 6 C o e P (yard q u)
+  closes : (l : ℕ) (o : Sort) (C : Context) (P : Waiting) (e : Expr) (u : Token) (q : Yard) → u .kind ≡ Kind.CLOSE → Sim l C o e (opening ∷ P) q → Sim 6 C o e P (yard q u)
   closes l o C P e u _ z (sim v₁ P₁ v x g) =
       sim-at 6 C o e P (yard (y-have C v₁ P₁) u) (y-have C v P) (have-close C v₁ P₁ u z ∙ ap (closedIn C) (reduce-same 0 l v₁ v P₁ (opening ∷ P) (omega arith) g)) (sim v P v x refl)
 
-  bracketed : (l o : ℕ) (C : Context) (P : Waiting) (e : Expr) (t u : Token) (ts : List Token) → t .kind ≡ Kind.OPEN → u .kind ≡ Kind.CLOSE
+  bracketed : (l : ℕ) (o : Sort) (C : Context) (P : Waiting) (e : Expr) (t u : Token) (ts : List Token) → t .kind ≡ Kind.OPEN → u .kind ≡ Kind.CLOSE
       → Sim l C o e (opening ∷ P) (runs (y-want C (opening ∷ P)) ts) → Sim 6 C o e P (runs (y-want C P) (t ∷ ts ++ u ∷ []))
   bracketed l o C P e t u ts y z h =
       sim-at 6 C o e P (runs (y-want C P) (t ∷ ts ++ u ∷ [])) (yard (runs (y-want C (opening ∷ P)) ts) u)
       (ap (λ (x : Yard). runs x (ts ++ u ∷ [])) (want-open C P t y) ∙ run-append yard (y-want C (opening ∷ P)) ts (u ∷ [])) (closes l o C P e u (runs (y-want C (opening ∷ P)) ts) z h)
 
-  name-means : (t : Token) (e : Expr) → Means Table.TEXT e (wordSort s Table.ANY (t .start) (t .end), e)
+  name-means : (t : Token) (e : Expr) → Means a-string e (wordSort s want-any (t .start) (t .end), e)
   unfolding wordSort
   name-means t e =
-      chosen (λ (x : ℕ). Means Table.TEXT e (x, e)) (spelled s t word-true) _ _ (λ h. means-true-name e)
-      (λ h. chosen (λ (x : ℕ). Means Table.TEXT e (x, e)) (spelled s t word-false) _ _ (λ i. means-false-name e) (λ i. means-text e))
+      chosen (λ (x : PartSort). Means a-string e (x, e)) (spelled s t word-true) _ _ (λ h. means-true-name e)
+      (λ h. chosen (λ (x : PartSort). Means a-string e (x, e)) (spelled s t word-false) _ _ (λ i. means-false-name e) (λ i. means-text e))
 
-  true-means : (t : Token) (e : Expr) → spelled s t word-true ≡ true → Means Table.TEST (truth true) (wordSort s Table.ANY (t .start) (t .end), e)
+  true-means : (t : Token) (e : Expr) → spelled s t word-true ≡ true → Means a-test (truth true) (wordSort s want-any (t .start) (t .end), e)
   unfolding wordSort
   true-means t e h = rw h (means-true e)
 
@@ -329,7 +330,7 @@ module _ (s : List ℕ) where
       (λ e. split (eqb (t .end - t .start) 5) (λ f. let n : eqb (t .end - t .start) 4 ≡ false = ne-eqb (t .end - t .start) 4 (λ z. let bad : ⊥ = omega (arith, z, eqb-true (t .end - t .start) 5 f) in bad) in rw (e, n) refl)
       (λ f. clash h (rw (e, f) refl)))
 
-  false-means : (t : Token) (e : Expr) → spelled s t word-false ≡ true → Means Table.TEST (truth false) (wordSort s Table.ANY (t .start) (t .end), e)
+  false-means : (t : Token) (e : Expr) → spelled s t word-false ≡ true → Means a-test (truth false) (wordSort s want-any (t .start) (t .end), e)
   unfolding wordSort
   false-means t e h = rw (apart t h, h) (means-false e)
 
@@ -345,20 +346,20 @@ module _ (s : List ℕ) where
     text-any : TextRoom P operand
     text-room : Stops 3 P → TextRoom P whole
 
-  leaf : (C : Context) (o : ℕ) (e : Expr) (P : Waiting) (t : Token) (v : Value) → yard (y-want C P) t ≡ y-have C v P → Means o e v → Sim 6 C o e P (runs (y-want C P) (t ∷ []))
+  leaf : (C : Context) (o : Sort) (e : Expr) (P : Waiting) (t : Token) (v : Value) → yard (y-want C P) t ≡ y-have C v P → Means o e v → Sim 6 C o e P (runs (y-want C P) (t ∷ []))
   leaf C o e P t v z x = sim-at 6 C o e P (yard (y-want C P) t) (y-have C v P) z (sim v P v x refl)
 
-  str-sim : (c : Class) (ts : List Token) (e : Expr) → StrTree s c ts e → (C : Context) (P : Waiting) → TextRoom P c → Sim (textLevel c) C Table.TEXT e P (runs (y-want C P) ts)
+  str-sim : (c : Class) (ts : List Token) (e : Expr) → StrTree s c ts e → (C : Context) (P : Waiting) → TextRoom P c → Sim (textLevel c) C a-string e P (runs (y-want C P) ts)
   unfolding Table.prefixOperator
-  str-sim _ _ _ (literal-tree t z) C P h = leaf C Table.TEXT _ P t _ (want-literal C P t z) (means-text _)
-  str-sim _ _ _ (name-tree t z) C P h = leaf C Table.TEXT _ P t _ (want-name C P t z) (name-means t _)
+  str-sim _ _ _ (literal-tree t z) C P h = leaf C a-string _ P t _ (want-literal C P t z) (means-text _)
+  str-sim _ _ _ (name-tree t z) C P h = leaf C a-string _ P t _ (want-name C P t z) (name-means t _)
   str-sim _ _ _ (lookup-tree t ts e z d) C P h =
-      one C P t ts 6 Operator.lookup Table.TEXT Table.TEXT e refl refl (means-text _) (want-mark C P t Kind.DOLLAR z refl refl refl refl) (str-sim operand ts e d C (pending 6 (prefixed Operator.lookup) ∷ P) text-any)
-  str-sim _ _ _ (text-bracket t u ts e y z d) C P h = bracketed 3 Table.TEXT C P e t u ts y z (str-sim whole ts e d C (opening ∷ P) (text-room (stops-open P)))
-  str-sim _ _ _ (text-one ts e d) C P h = sim-down 3 6 C Table.TEXT e P (runs (y-want C P) ts) (omega arith) (str-sim operand ts e d C P text-any)
+      one C P t ts 6 Operator.lookup a-string a-string e refl refl (means-text _) (want-mark C P t Kind.DOLLAR z refl refl refl refl) (str-sim operand ts e d C (pending 6 (prefixed Operator.lookup) ∷ P) text-any)
+  str-sim _ _ _ (text-bracket t u ts e y z d) C P h = bracketed 3 a-string C P e t u ts y z (str-sim whole ts e d C (opening ∷ P) (text-room (stops-open P)))
+  str-sim _ _ _ (text-one ts e d) C P h = sim-down 3 6 C a-string e P (runs (y-want C P) ts) (omega arith) (str-sim operand ts e d C P text-any)
   str-sim _ _ _ (join-tree t ts us e f z d g) C P (text-room st) =
-      sim-at 3 C Table.TEXT _ P _ _ (run-append yard (y-want C P) ts (t ∷ us))
-      (two Kind.DOT Operator.join 3 Table.TEXT Table.TEXT C P e f t us 6 (runs (y-want C P) ts) j-join (means-text _) z st (omega arith) (str-sim whole ts e d C P (text-room st))
+      sim-at 3 C a-string _ P _ _ (run-append yard (y-want C P) ts (t ∷ us))
+      (two Kind.DOT Operator.join 3 a-string a-string C P e f t us 6 (runs (y-want C P) ts) j-join (means-text _) z st (omega arith) (str-sim whole ts e d C P (text-room st))
       (λ Q sq. str-sim operand us f g C Q text-any))
 
   -- integers
@@ -375,30 +376,30 @@ module _ (s : List ℕ) where
     product-room : Stops 4 P → NumberRoom P product
     sum-room : Stops 3 P → NumberRoom P whole
 
-  int-sim : (c : Class) (ts : List Token) (e : Expr) → IntTree s c ts e → (C : Context) (P : Waiting) → NumberRoom P c → Sim (numberLevel c) C Table.NUMBER e P (runs (y-want C P) ts)
+  int-sim : (c : Class) (ts : List Token) (e : Expr) → IntTree s c ts e → (C : Context) (P : Waiting) → NumberRoom P c → Sim (numberLevel c) C an-integer e P (runs (y-want C P) ts)
   unfolding Table.prefixOperator
-  int-sim _ _ _ (number-tree t z) C P h = leaf C Table.NUMBER _ P t _ (want-digits C P t z) (means-number _)
+  int-sim _ _ _ (number-tree t z) C P h = leaf C an-integer _ P t _ (want-digits C P t z) (means-number _)
   int-sim _ _ _ (negate-tree t ts e z d) C P h =
-      one C P t ts 6 Operator.negate Table.NUMBER Table.NUMBER e refl refl (means-number _) (want-mark C P t Kind.MINUS z refl refl refl refl) (int-sim operand ts e d C (pending 6 (prefixed Operator.negate) ∷ P) number-any)
+      one C P t ts 6 Operator.negate an-integer an-integer e refl refl (means-number _) (want-mark C P t Kind.MINUS z refl refl refl refl) (int-sim operand ts e d C (pending 6 (prefixed Operator.negate) ∷ P) number-any)
   int-sim _ _ _ (convert-tree t ts e z d) C P h =
-      one C P t ts 6 Operator.convert Table.TEXT Table.NUMBER e refl refl (means-number _) (want-mark C P t Kind.AT z refl refl refl refl) (str-sim operand ts e d C (pending 6 (prefixed Operator.convert) ∷ P) text-any)
-  int-sim _ _ _ (number-bracket t u ts e y z d) C P h = bracketed 3 Table.NUMBER C P e t u ts y z (int-sim whole ts e d C (opening ∷ P) (sum-room (stops-open P)))
-  int-sim _ _ _ (number-one ts e d) C P h = sim-down 5 6 C Table.NUMBER e P (runs (y-want C P) ts) (omega arith) (int-sim operand ts e d C P number-any)
+      one C P t ts 6 Operator.convert a-string an-integer e refl refl (means-number _) (want-mark C P t Kind.AT z refl refl refl refl) (str-sim operand ts e d C (pending 6 (prefixed Operator.convert) ∷ P) text-any)
+  int-sim _ _ _ (number-bracket t u ts e y z d) C P h = bracketed 3 an-integer C P e t u ts y z (int-sim whole ts e d C (opening ∷ P) (sum-room (stops-open P)))
+  int-sim _ _ _ (number-one ts e d) C P h = sim-down 5 6 C an-integer e P (runs (y-want C P) ts) (omega arith) (int-sim operand ts e d C P number-any)
   int-sim _ _ _ (power-tree t ts us e f z d g) C P (power-room st) =
-      sim-at 5 C Table.NUMBER _ P _ _ (run-append yard (y-want C P) ts (t ∷ us))
-      (two Kind.POWER Operator.power 5 Table.NUMBER Table.NUMBER C P e f t us 6 (runs (y-want C P) ts) j-power (means-number _) z st (omega arith) (int-sim power ts e d C P (power-room st))
+      sim-at 5 C an-integer _ P _ _ (run-append yard (y-want C P) ts (t ∷ us))
+      (two Kind.POWER Operator.power 5 an-integer an-integer C P e f t us 6 (runs (y-want C P) ts) j-power (means-number _) z st (omega arith) (int-sim power ts e d C P (power-room st))
       (λ Q sq. int-sim operand us f g C Q number-any))
   int-sim _ _ _ (number-up ts e d) C P (product-room st) =
-      sim-down 4 5 C Table.NUMBER e P (runs (y-want C P) ts) (omega arith) (int-sim power ts e d C P (power-room (stops-up 4 5 P (omega arith) st)))
+      sim-down 4 5 C an-integer e P (runs (y-want C P) ts) (omega arith) (int-sim power ts e d C P (power-room (stops-up 4 5 P (omega arith) st)))
   int-sim _ _ _ (product-tree t ts us e f o k d g) C P (product-room st) =
-      sim-at 4 C Table.NUMBER _ P _ _ (run-append yard (y-want C P) ts (t ∷ us))
-      (two (t .kind) o 4 Table.NUMBER Table.NUMBER C P e f t us 5 (runs (y-want C P) ts) (j-product (t .kind) o k) (means-number _) refl st (omega arith) (int-sim product ts e d C P (product-room st))
+      sim-at 4 C an-integer _ P _ _ (run-append yard (y-want C P) ts (t ∷ us))
+      (two (t .kind) o 4 an-integer an-integer C P e f t us 5 (runs (y-want C P) ts) (j-product (t .kind) o k) (means-number _) refl st (omega arith) (int-sim product ts e d C P (product-room st))
       (λ Q sq. int-sim power us f g C Q (power-room sq)))
   int-sim _ _ _ (number-term ts e d) C P (sum-room st) =
-      sim-down 3 4 C Table.NUMBER e P (runs (y-want C P) ts) (omega arith) (int-sim product ts e d C P (product-room (stops-up 3 4 P (omega arith) st)))
+      sim-down 3 4 C an-integer e P (runs (y-want C P) ts) (omega arith) (int-sim product ts e d C P (product-room (stops-up 3 4 P (omega arith) st)))
   int-sim _ _ _ (sum-tree t ts us e f o k d g) C P (sum-room st) =
-      sim-at 3 C Table.NUMBER _ P _ _ (run-append yard (y-want C P) ts (t ∷ us))
-      (two (t .kind) o 3 Table.NUMBER Table.NUMBER C P e f t us 4 (runs (y-want C P) ts) (j-sum (t .kind) o k) (means-number _) refl st (omega arith) (int-sim whole ts e d C P (sum-room st))
+      sim-at 3 C an-integer _ P _ _ (run-append yard (y-want C P) ts (t ∷ us))
+      (two (t .kind) o 3 an-integer an-integer C P e f t us 4 (runs (y-want C P) ts) (j-sum (t .kind) o k) (means-number _) refl st (omega arith) (int-sim whole ts e d C P (sum-room st))
       (λ Q sq. int-sim product us f g C Q (product-room sq)))
 
   -- tests: "!" waits at the level of "&&"
@@ -414,69 +415,69 @@ module _ (s : List ℕ) where
     and-room : Stops 1 P → TestRoom P conjunction
     or-room : Stops 0 P → TestRoom P whole
 
-  test-sim : (c : Class) (ts : List Token) (e : Expr) → TestTree s c ts e → (C : Context) (P : Waiting) → TestRoom P c → Sim (testLevel c) C Table.TEST e P (runs (y-want C P) ts)
+  test-sim : (c : Class) (ts : List Token) (e : Expr) → TestTree s c ts e → (C : Context) (P : Waiting) → TestRoom P c → Sim (testLevel c) C a-test e P (runs (y-want C P) ts)
   unfolding Table.prefixOperator
-  test-sim _ _ _ (true-tree t z w) C P h = sim-down 1 6 C Table.TEST _ P _ (omega arith) (leaf C Table.TEST _ P t _ (want-name C P t z) (true-means t _ w))
-  test-sim _ _ _ (false-tree t z w) C P h = sim-down 1 6 C Table.TEST _ P _ (omega arith) (leaf C Table.TEST _ P t _ (want-name C P t z) (false-means t _ w))
+  test-sim _ _ _ (true-tree t z w) C P h = sim-down 1 6 C a-test _ P _ (omega arith) (leaf C a-test _ P t _ (want-name C P t z) (true-means t _ w))
+  test-sim _ _ _ (false-tree t z w) C P h = sim-down 1 6 C a-test _ P _ (omega arith) (leaf C a-test _ P t _ (want-name C P t z) (false-means t _ w))
   test-sim _ _ _ (compare-numbers t ts us e f o k d g) C P (test-room st) =
-      sim-at 1 C Table.TEST _ P _ _ (run-append yard (y-want C P) ts (t ∷ us))
-      (sim-down 1 2 C Table.TEST _ P _ (omega arith)
-      (two (t .kind) (Operator.comparison Operator.integers o) 2 Table.NUMBER Table.TEST C P e f t us 3 (runs (y-want C P) ts) (j-numbers (t .kind) o k) (means-test _) refl st (omega arith)
-      (sim-down 2 3 C Table.NUMBER e P _ (omega arith) (int-sim whole ts e d C P (sum-room (stops-up 2 3 P (omega arith) st)))) (λ Q sq. int-sim whole us f g C Q (sum-room sq))))
+      sim-at 1 C a-test _ P _ _ (run-append yard (y-want C P) ts (t ∷ us))
+      (sim-down 1 2 C a-test _ P _ (omega arith)
+      (two (t .kind) (Operator.comparison Operator.integers o) 2 an-integer a-test C P e f t us 3 (runs (y-want C P) ts) (j-numbers (t .kind) o k) (means-test _) refl st (omega arith)
+      (sim-down 2 3 C an-integer e P _ (omega arith) (int-sim whole ts e d C P (sum-room (stops-up 2 3 P (omega arith) st)))) (λ Q sq. int-sim whole us f g C Q (sum-room sq))))
   test-sim _ _ _ (compare-texts t ts us e f o k d g) C P (test-room st) =
-      sim-at 1 C Table.TEST _ P _ _ (run-append yard (y-want C P) ts (t ∷ us))
-      (sim-down 1 2 C Table.TEST _ P _ (omega arith)
-      (two (t .kind) (Operator.comparison Operator.strings o) 2 Table.TEXT Table.TEST C P e f t us 3 (runs (y-want C P) ts) (j-texts (t .kind) o k) (means-test _) refl st (omega arith)
-      (sim-down 2 3 C Table.TEXT e P _ (omega arith) (str-sim whole ts e d C P (text-room (stops-up 2 3 P (omega arith) st)))) (λ Q sq. str-sim whole us f g C Q (text-room sq))))
+      sim-at 1 C a-test _ P _ _ (run-append yard (y-want C P) ts (t ∷ us))
+      (sim-down 1 2 C a-test _ P _ (omega arith)
+      (two (t .kind) (Operator.comparison Operator.strings o) 2 a-string a-test C P e f t us 3 (runs (y-want C P) ts) (j-texts (t .kind) o k) (means-test _) refl st (omega arith)
+      (sim-down 2 3 C a-string e P _ (omega arith) (str-sim whole ts e d C P (text-room (stops-up 2 3 P (omega arith) st)))) (λ Q sq. str-sim whole us f g C Q (text-room sq))))
   test-sim _ _ _ (match-tree t ts us e f k d g) C P (test-room st) =
-      sim-at 1 C Table.TEST _ P _ _ (run-append yard (y-want C P) ts (t ∷ us))
-      (sim-down 1 2 C Table.TEST _ P _ (omega arith)
-      (two Kind.MATCHES Operator.matches 2 Table.TEXT Table.TEST C P e f t us 3 (runs (y-want C P) ts) j-match (means-test _) k st (omega arith)
-      (sim-down 2 3 C Table.TEXT e P _ (omega arith) (str-sim whole ts e d C P (text-room (stops-up 2 3 P (omega arith) st)))) (λ Q sq. str-sim whole us f g C Q (text-room sq))))
+      sim-at 1 C a-test _ P _ _ (run-append yard (y-want C P) ts (t ∷ us))
+      (sim-down 1 2 C a-test _ P _ (omega arith)
+      (two Kind.MATCHES Operator.matches 2 a-string a-test C P e f t us 3 (runs (y-want C P) ts) j-match (means-test _) k st (omega arith)
+      (sim-down 2 3 C a-string e P _ (omega arith) (str-sim whole ts e d C P (text-room (stops-up 2 3 P (omega arith) st)))) (λ Q sq. str-sim whole us f g C Q (text-room sq))))
   test-sim _ _ _ (not-tree t ts e z d) C P h =
-      one C P t ts 1 Operator.opposite Table.TEST Table.TEST e refl refl (means-test _) (want-mark C P t Kind.NOT z refl refl refl refl)
+      one C P t ts 1 Operator.opposite a-test a-test e refl refl (means-test _) (want-mark C P t Kind.NOT z refl refl refl refl)
       (test-sim operand ts e d C (pending 1 (prefixed Operator.opposite) ∷ P) (test-room (stops-low 1 (prefixed Operator.opposite) P (omega arith))))
   test-sim _ _ _ (test-bracket-tree t u ts e y z d) C P h =
-      sim-down 1 6 C Table.TEST e P _ (omega arith) (bracketed 0 Table.TEST C P e t u ts y z (test-sim whole ts e d C (opening ∷ P) (or-room (stops-open P))))
+      sim-down 1 6 C a-test e P _ (omega arith) (bracketed 0 a-test C P e t u ts y z (test-sim whole ts e d C (opening ∷ P) (or-room (stops-open P))))
   test-sim _ _ _ (test-once ts e d) C P (and-room st) = test-sim operand ts e d C P (test-room (stops-up 1 2 P (omega arith) st))
   test-sim _ _ _ (and-tree t ts us e f z d g) C P (and-room st) =
-      sim-at 1 C Table.TEST _ P _ _ (run-append yard (y-want C P) ts (t ∷ us))
-      (two Kind.AND Operator.both 1 Table.TEST Table.TEST C P e f t us 1 (runs (y-want C P) ts) j-and (means-test _) z st (omega arith) (test-sim conjunction ts e d C P (and-room st))
+      sim-at 1 C a-test _ P _ _ (run-append yard (y-want C P) ts (t ∷ us))
+      (two Kind.AND Operator.both 1 a-test a-test C P e f t us 1 (runs (y-want C P) ts) j-and (means-test _) z st (omega arith) (test-sim conjunction ts e d C P (and-room st))
       (λ Q sq. test-sim operand us f g C Q (test-room sq)))
   test-sim _ _ _ (test-up ts e d) C P (or-room st) =
-      sim-down 0 1 C Table.TEST e P (runs (y-want C P) ts) (omega arith) (test-sim conjunction ts e d C P (and-room (stops-up 0 1 P (omega arith) st)))
+      sim-down 0 1 C a-test e P (runs (y-want C P) ts) (omega arith) (test-sim conjunction ts e d C P (and-room (stops-up 0 1 P (omega arith) st)))
   test-sim _ _ _ (or-tree t ts us e f z d g) C P (or-room st) =
-      sim-at 0 C Table.TEST _ P _ _ (run-append yard (y-want C P) ts (t ∷ us))
-      (two Kind.OR Operator.either 0 Table.TEST Table.TEST C P e f t us 1 (runs (y-want C P) ts) j-or (means-test _) z st (omega arith) (test-sim whole ts e d C P (or-room st))
+      sim-at 0 C a-test _ P _ _ (run-append yard (y-want C P) ts (t ∷ us))
+      (two Kind.OR Operator.either 0 a-test a-test C P e f t us 1 (runs (y-want C P) ts) j-or (means-test _) z st (omega arith) (test-sim whole ts e d C P (or-room st))
       (λ Q sq. test-sim conjunction us f g C Q (and-room sq)))
 
   -- clauses
-  have-arrow : (p : Program) (B : Blocks) (e : Expr) (t : Token) (q : Yard) → t .kind ≡ Kind.ARROW → Sim 0 (context role-test p B) Table.TEST e [] q → yard q t ≡ y-want (context (role-value e) p B) []
+  have-arrow : (p : Program) (B : Blocks) (e : Expr) (t : Token) (q : Yard) → t .kind ≡ Kind.ARROW → Sim 0 (context role-test p B) a-test e [] q → yard q t ≡ y-want (context (role-value e) p B) []
   unfolding yard
   have-arrow p B e t _ z (sim v₁ P₁ v x g) =
       rw (at-kind t Kind.ARROW Kind.CLOSE false z refl, at-kind t Kind.ARROW Kind.ARROW true z refl)
-      (ap (arrowed (context role-test p B)) g ∙ ap (λ (a : Expr). y-want (context (role-value a) p B) []) (means-settled Table.TEST e v x))
+      (ap (arrowed (context role-test p B)) g ∙ ap (λ (a : Expr). y-want (context (role-value a) p B) []) (means-settled a-test e v x))
 
-  have-plain : (p : Program) (B : Blocks) (e : Expr) (t : Token) (q : Yard) → t .kind ≡ Kind.SEMICOLON → Sim 0 (context role-test p B) Table.TEST e [] q
+  have-plain : (p : Program) (B : Blocks) (e : Expr) (t : Token) (q : Yard) → t .kind ≡ Kind.SEMICOLON → Sim 0 (context role-test p B) a-test e [] q
       → yard q t ≡ y-want (context role-test (also p (plain e)) B) []
   unfolding yard
   have-plain p B e t _ z (sim v₁ P₁ v x g) =
       rw (at-kind t Kind.SEMICOLON Kind.CLOSE false z refl, at-kind t Kind.SEMICOLON Kind.ARROW false z refl, at-kind t Kind.SEMICOLON Kind.SEMICOLON true z refl)
-      (ap (ended (context role-test p B)) g ∙ ap (λ (a : Expr). y-want (context role-test (also p (plain a)) B) []) (means-settled Table.TEST e v x))
+      (ap (ended (context role-test p B)) g ∙ ap (λ (a : Expr). y-want (context role-test (also p (plain a)) B) []) (means-settled a-test e v x))
 
-  have-valued : (p : Program) (B : Blocks) (e f : Expr) (t : Token) (q : Yard) → t .kind ≡ Kind.SEMICOLON → Sim 3 (context (role-value e) p B) Table.TEXT f [] q
+  have-valued : (p : Program) (B : Blocks) (e f : Expr) (t : Token) (q : Yard) → t .kind ≡ Kind.SEMICOLON → Sim 3 (context (role-value e) p B) a-string f [] q
       → yard q t ≡ y-want (context role-test (also p (valued e f)) B) []
   unfolding yard
   have-valued p B e f t _ z (sim v₁ P₁ v x g) =
       rw (at-kind t Kind.SEMICOLON Kind.CLOSE false z refl, at-kind t Kind.SEMICOLON Kind.ARROW false z refl, at-kind t Kind.SEMICOLON Kind.SEMICOLON true z refl)
-      (ap (ended (context (role-value e) p B)) (reduce-same 0 3 v₁ v P₁ [] (omega arith) g) ∙ ap (λ (a : Expr). y-want (context role-test (also p (valued e a)) B) []) (means-settled Table.TEXT f v x))
+      (ap (ended (context (role-value e) p B)) (reduce-same 0 3 v₁ v P₁ [] (omega arith) g) ∙ ap (λ (a : Expr). y-want (context role-test (also p (valued e a)) B) []) (means-settled a-string f v x))
 
   closed-ends : (C : Context) (c : Clause) (t : Token) → yard (y-closed C c) t ≡ clauseEnded C c
   unfolding yard
   closed-ends C c t = refl
 
   -- a test and the mark behind it
-  tested : (p : Program) (B : Blocks) (ts us : List Token) (e : Expr) (t : Token) (r : Yard) → TestTree s whole ts e → ((q : Yard) → Sim 0 (context role-test p B) Table.TEST e [] q → yard q t ≡ r)
+  tested : (p : Program) (B : Blocks) (ts us : List Token) (e : Expr) (t : Token) (r : Yard) → TestTree s whole ts e → ((q : Yard) → Sim 0 (context role-test p B) a-test e [] q → yard q t ≡ r)
       → runs (y-want (context role-test p B) []) (ts ++ t ∷ us) ≡ runs r us
   tested p B ts us e t r d h =
       run-append yard (y-want (context role-test p B) []) ts (t ∷ us)

@@ -14,22 +14,23 @@ use Rattle.lexical.specs.Bounds.{chosen}
 use Rattle.lexical.specs.Literal.{decodedAt}
 use Rattle.lexical.specs.Number as Number
 use Rattle.lexical.specs.declared.token.Token.{Token}
-use Rattle.syntax.specs.Operator.{Unary, Binary, unaryTakes, unaryGives, binaryTakes, binaryGives}
+use Rattle.syntax.specs.Operator.{Unary, Binary, Sort, a-string, an-integer, a-test, unaryTakes, unaryGives, binaryTakes, binaryGives}
 use Rattle.syntax.specs.Expr.{Expr, name, truth, unary, binary}
 use Rattle.syntax.specs.Code.{nameAt}
 use Rattle.syntax.specs.Parsed.{Parsed, ok, aside, andThen}
 use Rattle.machine.specs.Need.{need, span, room}
 use Rattle.machine.specs.Theorems.Bounds.{need-some, span-most}
+use Rattle.conditions.specs.Table.{PartSort, sorted, word, Want, want-any, isAny}
 use Rattle.conditions.specs.Table
 use Rattle.conditions.specs.Word.{nextAt, wordSort}
 use Rattle.conditions.specs.Parsed.{Part, part, onPart}
 use Rattle.conditions.specs.Operand.{readLiteral, readName, readDigits, readFloat, readLeaf, settledTree, applied}
 use Rattle.conditions.specs.Expression.{State, onJoined, chainTurn, closing, readExpression, readOperand, readPrefixed, readBracketed, readChain, readJoined}
 use Rattle.conditions.specs.Working.Keeping.{Kept, kept-next, kept-done, loop-keeps}
-use Rattle.conditions.specs.Working.TieOperand.{name-cases}
+use Rattle.conditions.specs.Working.TieOperand.{Named, named-string, named-word, name-cases}
 use Rattle.conditions.specs.Working.Cases.{infix-cases, prefix-cases}
-use Rattle.conditions.specs.Working.Reach.{spread, prefix-level, operand-level-most, operand-wanted, inside-most, inside-wanted, level-most, binds-level, right-wanted}
-use Rattle.judge.specs.Working.Steep.{lift, Plain, steep, unary-plain, binary-plain}
+use Rattle.conditions.specs.Working.Reach.{is-any, spread, prefix-level, operand-level-most, operand-wanted, inside-most, inside-wanted, level-most, binds-level, right-wanted}
+use Rattle.judge.specs.Working.Steep.{lift, Plain, string-plain, word-plain, bytes-plain, steep, unary-plain, binary-plain}
 
 -- a fault, or what was read, of which P holds
 pub data Holds {A : Type 0} (P : A → Type 0) : Parsed A → Type 0 where
@@ -41,10 +42,10 @@ holds-is P a n (holds-ok _ _ h) = h
 
 -- a part that needs n operands and r bytes at most
 pub data Fits (n r : ℕ) : Part → Type 0 where
-  fit : (x : ℕ) (e : Expr) → need e ≤ n → room e ≤ r → Plain x e → Fits n r (part x e)
+  fit : (x : PartSort) (e : Expr) → need e ≤ n → room e ≤ r → Plain x e → Fits n r (part x e)
 
-pub on-holds : {A : Type 0} (n r : ℕ) (Q : A → Type 0) (q : Parsed Part) (k : ℕ → Expr → Token → Parsed A)
-    → ((x : ℕ) (e : Expr) (t : Token) → need e ≤ n → room e ≤ r → Plain x e → Holds Q (k x e t)) → Holds (Fits n r) q → Holds Q (onPart q k)
+pub on-holds : {A : Type 0} (n r : ℕ) (Q : A → Type 0) (q : Parsed Part) (k : PartSort → Expr → Token → Parsed A)
+    → ((x : PartSort) (e : Expr) (t : Token) → need e ≤ n → room e ≤ r → Plain x e → Holds Q (k x e t)) → Holds (Fits n r) q → Holds Q (onPart q k)
 on-holds n r Q _ k h (holds-aside a p) = holds-aside a p
 on-holds n r Q _ k h (holds-ok _ t (fit x e i j p)) = h x e t i j p
 
@@ -91,67 +92,69 @@ wide-least : (nest level : ℕ) → nest ≤ 16 → 4096 ≤ wide level nest
 wide-least nest level h = wide-some (17 - nest) (lift level) (omega (arith, h))
 
 -- the loosest expression that may stand as an operand: behind "!" where a test may stand
-unfoldable pub inner : ℕ → ℕ
-inner want = pick (eqb want Table.ANY) 2 6
+unfoldable pub inner : Want → ℕ
+inner want = pick (isAny want) 2 6
 
-inner-level : (want level : ℕ) → level ≤ 6 → (want ≡ Table.ANY → level ≤ 2) → level ≤ inner want
+inner-level : (want : Want) (level : ℕ) → level ≤ 6 → (want ≡ want-any → level ≤ 2) → level ≤ inner want
 unfolding inner
-inner-level want level h k = chosen (λ (n : ℕ). level ≤ n) (eqb want Table.ANY) 2 6 (λ e. k (eqb-true want Table.ANY e)) (λ e. h)
+inner-level want level h k = chosen (λ (n : ℕ). level ≤ n) (isAny want) 2 6 (λ e. k (is-any want e)) (λ e. h)
 
-inner-under : (want l : ℕ) → (6 - l) * 17 ≤ spread want → inner want ≤ l
+inner-under : (want : Want) (l : ℕ) → (6 - l) * 17 ≤ spread want → inner want ≤ l
 unfolding spread inner
-inner-under want l = split (eqb want Table.ANY) (λ e. rw e (λ i. omega (arith, i))) (λ e. rw e (λ i. omega (arith, i)))
+inner-under want l = split (isAny want) (λ e. rw e (λ i. omega (arith, i))) (λ e. rw e (λ i. omega (arith, i)))
 
-inner-prefix : (want k : ℕ) (op : Unary) → Table.allows want k ≡ true → Table.prefixOperator k ≡ Table.before op → inner want ≤ Table.operandLevel op
+inner-prefix : (want : Want) (k : ℕ) (op : Unary) → Table.allows want k ≡ true → Table.prefixOperator k ≡ Table.before op → inner want ≤ Table.operandLevel op
 inner-prefix want k op h e = inner-under want (Table.operandLevel op) (prefix-level want k op h e)
 
 -- brackets hold less than what stands around them may
-inside-deep : (want nest : ℕ) → nest < 16 → deep (Table.insideLevel want) (nest + 1) ≤ deep (inner want) nest
+inside-deep : (want : Want) (nest : ℕ) → nest < 16 → deep (Table.insideLevel want) (nest + 1) ≤ deep (inner want) nest
 unfolding inner Table.insideLevel
-inside-deep want nest h = split (eqb want Table.ANY) (λ e. rw e (omega (arith, h))) (λ e. rw e (omega (arith, h)))
+inside-deep want nest h = split (isAny want) (λ e. rw e (omega (arith, h))) (λ e. rw e (omega (arith, h)))
 
-inside-wide : (want nest : ℕ) → nest < 16 → wide (Table.insideLevel want) (nest + 1) ≤ wide (inner want) nest
+inside-wide : (want : Want) (nest : ℕ) → nest < 16 → wide (Table.insideLevel want) (nest + 1) ≤ wide (inner want) nest
 unfolding inner Table.insideLevel
-inside-wide want nest h = split (eqb want Table.ANY) (λ e. rw e (omega (arith, h))) (λ e. rw e (omega (arith, h)))
+inside-wide want nest h = split (isAny want) (λ e. rw e (omega (arith, h))) (λ e. rw e (omega (arith, h)))
 
 -- a settled part needs no more
-pub settled-need : (wanted x : ℕ) (e : Expr) (n : ℕ) → need e ≤ n → need (settledTree wanted x e) ≤ n
+pub settled-need : (wanted : Sort) (x : PartSort) (e : Expr) (n : ℕ) → need e ≤ n → need (settledTree wanted x e) ≤ n
 unfolding settledTree need
-settled-need wanted x e n h =
-    chosen (λ (f : Expr). need f ≤ n) (ltb x Table.TRUE) e _ (λ i. h)
-    (λ i. chosen (λ (f : Expr). need f ≤ n) (eqb wanted Table.TEXT) e (truth (eqb x Table.TRUE)) (λ j. h) (λ j. omega (arith, h, need-some e)))
+settled-need wanted (sorted x) e n h = h
+settled-need a-string (word b) e n h = h
+settled-need an-integer (word b) e n h = omega (arith, h, need-some e)
+settled-need a-test (word b) e n h = omega (arith, h, need-some e)
 
-pub settled-room : (wanted x : ℕ) (e : Expr) (r : ℕ) → room e ≤ r → room (settledTree wanted x e) ≤ r
+pub settled-room : (wanted : Sort) (x : PartSort) (e : Expr) (r : ℕ) → room e ≤ r → room (settledTree wanted x e) ≤ r
 unfolding settledTree room
-settled-room wanted x e r h =
-    chosen (λ (f : Expr). room f ≤ r) (ltb x Table.TRUE) e _ (λ i. h)
-    (λ i. chosen (λ (f : Expr). room f ≤ r) (eqb wanted Table.TEXT) e (truth (eqb x Table.TRUE)) (λ j. h) (λ j. omega arith))
+settled-room wanted (sorted x) e r h = h
+settled-room a-string (word b) e r h = h
+settled-room an-integer (word b) e r h = omega arith
+settled-room a-test (word b) e r h = omega arith
 
 -- operators
 module _ (n r : ℕ) where
-  unary-fits : (op : Unary) (x : ℕ) (e : Expr) (t : Token) → need e ≤ n → room e ≤ r → 4096 ≤ r
+  unary-fits : (op : Unary) (x : PartSort) (e : Expr) (t : Token) → need e ≤ n → room e ≤ r → 4096 ≤ r
       → Holds (Fits n r) (applied (unary op) (unaryTakes op) (unaryGives op) x e t)
   unfolding applied need room
   unary-fits op x e t h k least =
       chosen (Holds (Fits n r)) (Table.fits takes x) _ _
-      (λ i. holds-ok _ t (fit (Table.sortOf (unaryGives op)) (unary op (settledTree takes x e)) (settled-need takes x e n h)
+      (λ i. holds-ok _ t (fit (sorted (unaryGives op)) (unary op (settledTree takes x e)) (settled-need takes x e n h)
       (omega (arith, settled-room takes x e r k, span-most (unaryGives op), least)) (unary-plain op (settledTree takes x e))))
       (λ i. holds-aside _ _)
     where
-      takes : ℕ
-      takes = Table.sortOf (unaryTakes op)
+      takes : Sort
+      takes = unaryTakes op
 
-  binary-fits : (op : Binary) (l : Expr) (x : ℕ) (e : Expr) (t : Token) (m w : ℕ) → need l ≤ n → room l ≤ r → need e ≤ m → room e ≤ w → 1 + m ≤ n → span l + w ≤ r
+  binary-fits : (op : Binary) (l : Expr) (x : PartSort) (e : Expr) (t : Token) (m w : ℕ) → need l ≤ n → room l ≤ r → need e ≤ m → room e ≤ w → 1 + m ≤ n → span l + w ≤ r
       → Holds (Fits n r) (applied (binary op l) (binaryTakes op) (binaryGives op) x e t)
   unfolding applied need room
   binary-fits op l x e t m w h k i j a b =
       chosen (Holds (Fits n r)) (Table.fits takes x) _ _
-      (λ g. holds-ok _ t (fit (Table.sortOf (binaryGives op)) (binary op l (settledTree takes x e)) (omega (arith, h, a, settled-need takes x e m i))
+      (λ g. holds-ok _ t (fit (sorted (binaryGives op)) (binary op l (settledTree takes x e)) (omega (arith, h, a, settled-need takes x e m i))
       (omega (arith, k, b, settled-room takes x e w j)) (binary-plain op l (settledTree takes x e))))
       (λ g. holds-aside _ _)
     where
-      takes : ℕ
-      takes = Table.sortOf (binaryTakes op)
+      takes : Sort
+      takes = binaryTakes op
 
 module _ (s : List ℕ) where
   -- operands of one token
@@ -160,26 +163,30 @@ module _ (s : List ℕ) where
     unfolding readLiteral need room
     literal-fits =
         chosen (Holds (Fits n r)) (ltb 2048 (length (decodedAt s (t .start)))) _ _ (λ h. holds-aside _ _)
-        (λ h. holds-ok _ _ (fit Table.TEXT _ some least (λ i j. absurd (j refl))))
+        (λ h. holds-ok _ _ (fit (sorted a-string) _ some least (string-plain _)))
 
-    name-fits : (want : ℕ) → Holds (Fits n r) (readName s want t)
+    name-plain : (x : PartSort) (e : Expr) → Named x → Plain x e
+    name-plain _ e named-string = string-plain e
+    name-plain _ e (named-word b) = word-plain b e
+
+    name-fits : (want : Want) → Holds (Fits n r) (readName s want t)
     unfolding readName need room
     name-fits want =
         holds-ok _ _ (fit (wordSort s want (t .start) (t .end)) (name (nameAt s (t .start))) some least
-        (λ i j. absurd (let no : ⊥ = omega (arith, i, name-cases s want (t .start) (t .end) j) in no)))
+        (name-plain (wordSort s want (t .start) (t .end)) _ (name-cases s want (t .start) (t .end))))
 
     digits-fit : Holds (Fits n r) (readDigits s t)
     unfolding readDigits need room span
     digits-fit =
         chosen (Holds (Fits n r)) (leb Number.LIMIT (Number.numberAt s (t .start) (t .end))) _ _ (λ h. holds-aside _ _)
-        (λ h. holds-ok _ _ (fit Table.NUMBER _ some (omega arith) (λ i j. refl)))
+        (λ h. holds-ok _ _ (fit (sorted an-integer) _ some (omega arith) (bytes-plain an-integer _ refl)))
 
     float-fits : (row : ℕ) → Holds (Fits n r) (readFloat row t)
     unfolding readFloat
     float-fits row =
         chosen (Holds (Fits n r)) (eqb (t .kind) Kind.AMPERSAND) _ _ (λ h. chosen (Holds (Fits n r)) (leb 16 row) _ _ (λ k. holds-aside _ _) (λ k. holds-aside _ _)) (λ h. holds-aside _ _)
 
-    leaf-fits : (want row : ℕ) → Holds (Fits n r) (readLeaf s want row t)
+    leaf-fits : (want : Want) (row : ℕ) → Holds (Fits n r) (readLeaf s want row t)
     unfolding readLeaf
     leaf-fits want row =
         chosen (Holds (Fits n r)) (eqb (t .kind) Kind.LITERAL) _ _ (λ h. literal-fits)
@@ -191,13 +198,13 @@ module _ (s : List ℕ) where
 
   -- what an expression is at a depth
   abbrev Expressions : ℕ → Type 0
-  Expressions d = (level want row nest : ℕ) (t : Token) → nest ≤ 16 → level ≤ 6 → (want ≡ Table.ANY → level ≤ 2) → At level nest (readExpression d s level want row nest t)
+  Expressions d = (level : ℕ) (want : Want) (row nest : ℕ) (t : Token) → nest ≤ 16 → level ≤ 6 → (want ≡ want-any → level ≤ 2) → At level nest (readExpression d s level want row nest t)
 
-  closing-fits : (n r x : ℕ) (e : Expr) (t : Token) → need e ≤ n → room e ≤ r → Plain x e → Holds (Fits n r) (closing s x e t)
+  closing-fits : (n r : ℕ) (x : PartSort) (e : Expr) (t : Token) → need e ≤ n → room e ≤ r → Plain x e → Holds (Fits n r) (closing s x e t)
   closing-fits n r x e t i j p = chosen (Holds (Fits n r)) (eqb (t .kind) Kind.CLOSE) _ _ (λ h. holds-ok _ _ (fit x e i j p)) (λ h. holds-aside _ _)
 
   module _ (d : ℕ) (expression : Expressions d) where
-    prefixed-fits : (op : Unary) (want row nest : ℕ) (t : Token) → nest ≤ 16 → inner want ≤ Table.operandLevel op → At (inner want) nest (readPrefixed (suc d) s op want row nest t)
+    prefixed-fits : (op : Unary) (want : Want) (row nest : ℕ) (t : Token) → nest ≤ 16 → inner want ≤ Table.operandLevel op → At (inner want) nest (readPrefixed (suc d) s op want row nest t)
     unfolding readPrefixed
     prefixed-fits op want row nest t few h =
         chosen (At (inner want) nest) (leb 16 row) _ _ (λ k. holds-aside _ _)
@@ -207,7 +214,7 @@ module _ (s : List ℕ) where
         (omega (arith, j, wide-more nest (inner want) (Table.operandLevel op) h)) (wide-least nest (inner want) few))
         (expression (Table.operandLevel op) (Table.operandWant op want) (row + 1) nest (nextAt s (t .end)) few (operand-level-most op) (operand-wanted op want)))
 
-    bracketed-fits : (want nest : ℕ) (t : Token) → At (inner want) nest (readBracketed (suc d) s want nest t)
+    bracketed-fits : (want : Want) (nest : ℕ) (t : Token) → At (inner want) nest (readBracketed (suc d) s want nest t)
     unfolding readBracketed
     bracketed-fits want nest t =
         chosen (At (inner want) nest) (leb 16 nest) _ _ (λ k. holds-aside _ _)
@@ -217,7 +224,7 @@ module _ (s : List ℕ) where
         (λ x e n i j p. closing-fits (deep (inner want) nest) (wide (inner want) nest) x e n (omega (arith, i, inside-deep want nest few)) (omega (arith, j, inside-wide want nest few)) p)
         (expression (Table.insideLevel want) want 0 (nest + 1) (nextAt s (t .end)) (omega (arith, few)) (inside-most want) (inside-wanted want)))
 
-    joined-fits : (level nest sort k : ℕ) (e : Expr) (at : ℕ) (op : Binary) → Table.operator sort k ≡ Table.between op → level ≤ Table.levelOf op → nest ≤ 16
+    joined-fits : (level nest : ℕ) (sort : PartSort) (k : ℕ) (e : Expr) (at : ℕ) (op : Binary) → Table.operator sort k ≡ Table.between op → level ≤ Table.levelOf op → nest ≤ 16
         → need e ≤ deep level nest → room e ≤ wide level nest → Plain sort e → At level nest (readJoined (suc d) s op nest sort e at)
     unfolding readJoined Table.rightLevel
     joined-fits level nest sort k e at op o l few i j p =
@@ -229,8 +236,8 @@ module _ (s : List ℕ) where
         (wide-step (span (settledTree takes sort e)) (17 - nest) (lift (Table.levelOf op + 1)) (lift (Table.levelOf op)) (lift level) (steep sort k e p op o) (lift-more level (Table.levelOf op) l)))
         (expression (Table.rightLevel op) (Table.rightWant op) 0 nest (nextAt s at) few (omega (arith, level-most op)) (right-wanted op))
       where
-        takes : ℕ
-        takes = Table.sortOf (binaryTakes op)
+        takes : Sort
+        takes = binaryTakes op
 
   -- where a chain stands
   module _ (level nest : ℕ) (few : nest ≤ 16) where
@@ -245,12 +252,12 @@ module _ (s : List ℕ) where
     on-joined t _ (holds-ok _ n (fit x e i j p)) =
         chosen Turned (leb (n .start) (t .start)) _ _ (λ h. kept-done (aside 0 (t .start)) (holds-aside 0 (t .start))) (λ h. kept-next (n, x, e) (fit x e i j p))
 
-    module _ (d : ℕ) (joined : (sort k : ℕ) (e : Expr) (at : ℕ) (op : Binary) → Table.operator sort k ≡ Table.between op → level ≤ Table.levelOf op
+    module _ (d : ℕ) (joined : (sort : PartSort) (k : ℕ) (e : Expr) (at : ℕ) (op : Binary) → Table.operator sort k ≡ Table.between op → level ≤ Table.levelOf op
         → need e ≤ deep level nest → room e ≤ wide level nest → Plain sort e → At level nest (readJoined d s op nest sort e at)) where
       abbrev turn : State → Step State (Parsed Part)
       turn = chainTurn (λ op nest sort e at. readJoined d s op nest sort e at) s level nest
 
-      turn-at : (t : Token) (sort : ℕ) (e : Expr) → need e ≤ deep level nest → room e ≤ wide level nest → Plain sort e → Turned (turn (t, sort, e))
+      turn-at : (t : Token) (sort : PartSort) (e : Expr) → need e ≤ deep level nest → room e ≤ wide level nest → Plain sort e → Turned (turn (t, sort, e))
       turn-at t sort e i j p =
           chosen Turned (leb (length s) (t .start)) _ _ (λ h. kept-done _ (holds-ok _ t (fit sort e i j p)))
           (λ h. chosen Turned (Table.binds level (Table.operator sort (t .kind))) _ _
@@ -261,14 +268,14 @@ module _ (s : List ℕ) where
       turn-fits : (x : State) → Stands x → Turned (turn x)
       turn-fits (t, sort, e) (fit _ _ i j p) = turn-at t sort e i j p
 
-      chain-fits : (sort : ℕ) (e : Expr) (t : Token) → need e ≤ deep level nest → room e ≤ wide level nest → Plain sort e → At level nest (readChain (suc d) s level nest sort e t)
+      chain-fits : (sort : PartSort) (e : Expr) (t : Token) → need e ≤ deep level nest → room e ≤ wide level nest → Plain sort e → At level nest (readChain (suc d) s level nest sort e t)
       unfolding readChain
       chain-fits sort e t i j p =
           loop-keeps (λ x. length s - x .0 .start) (λ x. aside 0 (x .0 .start)) turn Stands (At level nest) (λ x. holds-aside _ _) turn-fits (t, sort, e) (fit sort e i j p)
 
-  operand-fits : (d : ℕ) → ((op : Unary) (want row nest : ℕ) (t : Token) → nest ≤ 16 → inner want ≤ Table.operandLevel op → At (inner want) nest (readPrefixed d s op want row nest t))
-      → ((want nest : ℕ) (t : Token) → At (inner want) nest (readBracketed d s want nest t))
-      → (want row nest : ℕ) (t : Token) → nest ≤ 16 → At (inner want) nest (readOperand (suc d) s want row nest t)
+  operand-fits : (d : ℕ) → ((op : Unary) (want : Want) (row nest : ℕ) (t : Token) → nest ≤ 16 → inner want ≤ Table.operandLevel op → At (inner want) nest (readPrefixed d s op want row nest t))
+      → ((want : Want) (nest : ℕ) (t : Token) → At (inner want) nest (readBracketed d s want nest t))
+      → (want : Want) (row nest : ℕ) (t : Token) → nest ≤ 16 → At (inner want) nest (readOperand (suc d) s want row nest t)
   unfolding readOperand
   operand-fits d prefixed bracketed want row nest t few =
       chosen (At (inner want) nest) (Table.allows want (t .kind)) _ _
@@ -282,7 +289,7 @@ module _ (s : List ℕ) where
   mutual
     unfolding readExpression
 
-    pub expression-fits : (d level want row nest : ℕ) (t : Token) → nest ≤ 16 → level ≤ 6 → (want ≡ Table.ANY → level ≤ 2) → At level nest (readExpression d s level want row nest t)
+    pub expression-fits : (d level : ℕ) (want : Want) (row nest : ℕ) (t : Token) → nest ≤ 16 → level ≤ 6 → (want ≡ want-any → level ≤ 2) → At level nest (readExpression d s level want row nest t)
     expression-fits zero level want row nest t few h w = holds-aside _ _
     expression-fits (suc d) level want row nest t few h w =
         on-holds (deep level nest) (wide level nest) (Fits (deep level nest) (wide level nest)) (readOperand d s want row nest t) (λ sort e n. readChain d s level nest sort e n)
@@ -290,23 +297,23 @@ module _ (s : List ℕ) where
         (fit-more (deep (inner want) nest) (wide (inner want) nest) (deep level nest) (wide level nest) (deep-more nest level (inner want) (inner-level want level h w)) (wide-more nest level (inner want) (inner-level want level h w))
         (readOperand d s want row nest t) (operand-at d want row nest t few))
 
-    operand-at : (d want row nest : ℕ) (t : Token) → nest ≤ 16 → At (inner want) nest (readOperand d s want row nest t)
+    operand-at : (d : ℕ) (want : Want) (row nest : ℕ) (t : Token) → nest ≤ 16 → At (inner want) nest (readOperand d s want row nest t)
     operand-at zero want row nest t few = holds-aside _ _
     operand-at (suc d) want row nest t few = operand-fits d (λ op want row nest t few h. prefixed-at d op want row nest t few h) (λ want nest t. bracketed-at d want nest t) want row nest t few
 
-    prefixed-at : (d : ℕ) (op : Unary) (want row nest : ℕ) (t : Token) → nest ≤ 16 → inner want ≤ Table.operandLevel op → At (inner want) nest (readPrefixed d s op want row nest t)
+    prefixed-at : (d : ℕ) (op : Unary) (want : Want) (row nest : ℕ) (t : Token) → nest ≤ 16 → inner want ≤ Table.operandLevel op → At (inner want) nest (readPrefixed d s op want row nest t)
     prefixed-at zero op want row nest t few h = holds-aside _ _
     prefixed-at (suc d) op want row nest t few h = prefixed-fits d (λ level want row nest t few h w. expression-fits d level want row nest t few h w) op want row nest t few h
 
-    bracketed-at : (d want nest : ℕ) (t : Token) → At (inner want) nest (readBracketed d s want nest t)
+    bracketed-at : (d : ℕ) (want : Want) (nest : ℕ) (t : Token) → At (inner want) nest (readBracketed d s want nest t)
     bracketed-at zero want nest t = holds-aside _ _
     bracketed-at (suc d) want nest t = bracketed-fits d (λ level want row nest t few h w. expression-fits d level want row nest t few h w) want nest t
 
-    chain-at : (d level nest sort : ℕ) (e : Expr) (t : Token) → nest ≤ 16 → need e ≤ deep level nest → room e ≤ wide level nest → Plain sort e → At level nest (readChain d s level nest sort e t)
+    chain-at : (d level nest : ℕ) (sort : PartSort) (e : Expr) (t : Token) → nest ≤ 16 → need e ≤ deep level nest → room e ≤ wide level nest → Plain sort e → At level nest (readChain d s level nest sort e t)
     chain-at zero level nest sort e t few i j p = holds-aside _ _
     chain-at (suc d) level nest sort e t few i j p = chain-fits level nest few d (λ sort k e at op o l i j p. joined-at d level nest sort k e at op o l few i j p) sort e t i j p
 
-    joined-at : (d level nest sort k : ℕ) (e : Expr) (at : ℕ) (op : Binary) → Table.operator sort k ≡ Table.between op → level ≤ Table.levelOf op → nest ≤ 16
+    joined-at : (d level nest : ℕ) (sort : PartSort) (k : ℕ) (e : Expr) (at : ℕ) (op : Binary) → Table.operator sort k ≡ Table.between op → level ≤ Table.levelOf op → nest ≤ 16
         → need e ≤ deep level nest → room e ≤ wide level nest → Plain sort e → At level nest (readJoined d s op nest sort e at)
     joined-at zero level nest sort k e at op o l few i j p = holds-aside _ _
     joined-at (suc d) level nest sort k e at op o l few i j p = joined-fits d (λ level want row nest t few h w. expression-fits d level want row nest t few h w) level nest sort k e at op o l few i j p

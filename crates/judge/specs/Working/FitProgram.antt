@@ -13,7 +13,9 @@ use Rattle.lexical.specs.declared.token.Token.{Token}
 use Rattle.syntax.specs.Expr.{Expr, Program, none, also, Clause, plain, valued, nested}
 use Rattle.syntax.specs.Parsed.{Parsed, aside}
 use Rattle.machine.specs.Need.{need, span, room, programNeed, clauseNeed, programRoom, clauseRoom}
-use Rattle.conditions.specs.Table.{ANY, TEST, TEXT, fits, stops}
+use Rattle.syntax.specs.Operator.{a-string, a-test}
+use Rattle.conditions.specs.Table.{PartSort, want-any, want-string, fits, stops}
+use Rattle.conditions.specs.Working.Reach.{string-any}
 use Rattle.conditions.specs.Word.{nextAt}
 use Rattle.conditions.specs.Operand.{settledTree}
 use Rattle.conditions.specs.Expression.{readExpression}
@@ -84,12 +86,12 @@ module _ (s : List ℕ) where
   unfolding ending
   ended-fits nest q t h = chosen (Holds (ClauseFits nest)) (eqb (t .kind) Kind.SEMICOLON) _ _ (λ e. holds-ok q _ h) (λ e. holds-aside _ _)
 
-  valuing-fits : (nest : ℕ) (e : Expr) → need e ≤ deep 0 nest → room e ≤ wide 0 nest → span e ≡ 0 → (x : ℕ) (f : Expr) (t : Token) → need f ≤ deep 3 nest → room f ≤ wide 3 nest
+  valuing-fits : (nest : ℕ) (e : Expr) → need e ≤ deep 0 nest → room e ≤ wide 0 nest → span e ≡ 0 → (x : PartSort) (f : Expr) (t : Token) → need f ≤ deep 3 nest → room f ≤ wide 3 nest
       → Holds (ClauseFits nest) (valuing s e x f t)
   unfolding valuing
   valuing-fits nest e i j z x f t k l =
-      chosen (Holds (ClauseFits nest)) (fits TEXT x) _ _
-      (λ h. ended-fits nest _ t (valued-fits nest e i j z (settledTree TEXT x f) (settled-need TEXT x f (deep 3 nest) k) (settled-room TEXT x f (wide 3 nest) l)))
+      chosen (Holds (ClauseFits nest)) (fits a-string x) _ _
+      (λ h. ended-fits nest _ t (valued-fits nest e i j z (settledTree a-string x f) (settled-need a-string x f (deep 3 nest) k) (settled-room a-string x f (wide 3 nest) l)))
       (λ h. holds-aside _ _)
 
   -- where a program stands
@@ -130,25 +132,25 @@ module _ (s : List ℕ) where
     clause-at : (d nest : ℕ) (t : Token) → nest ≤ 16 → Holds (ClauseFits nest) (readClause d s nest t)
     clause-at zero nest t few = holds-aside _ _
     clause-at (suc d) nest t few =
-        on-holds (deep 0 nest) (wide 0 nest) (ClauseFits nest) (readExpression d s 0 ANY 0 nest t) (λ sort e n. readTested d s nest sort e n)
-        (λ sort e n i j p. tested-at d nest sort e n few i j p) (expression-fits s d 0 ANY 0 nest t few (omega arith) (λ z. omega arith))
+        on-holds (deep 0 nest) (wide 0 nest) (ClauseFits nest) (readExpression d s 0 want-any 0 nest t) (λ sort e n. readTested d s nest sort e n)
+        (λ sort e n i j p. tested-at d nest sort e n few i j p) (expression-fits s d 0 want-any 0 nest t few (omega arith) (λ z. omega arith))
 
-    tested-at : (d nest sort : ℕ) (e : Expr) (t : Token) → nest ≤ 16 → need e ≤ deep 0 nest → room e ≤ wide 0 nest → Plain sort e → Holds (ClauseFits nest) (readTested d s nest sort e t)
+    tested-at : (d nest : ℕ) (sort : PartSort) (e : Expr) (t : Token) → nest ≤ 16 → need e ≤ deep 0 nest → room e ≤ wide 0 nest → Plain sort e → Holds (ClauseFits nest) (readTested d s nest sort e t)
     tested-at zero nest sort e t few i j p = holds-aside _ _
     tested-at (suc d) nest sort e t few i j p =
-        chosen (Holds (ClauseFits nest)) (fits TEST sort) _ _
+        chosen (Holds (ClauseFits nest)) (fits a-test sort) _ _
         (λ h. chosen (Holds (ClauseFits nest)) (eqb (t .kind) Kind.ARROW) _ _
-        (λ k. value-at d nest (settledTree TEST sort e) (nextAt s (t .end)) few (settled-need TEST sort e (deep 0 nest) i) (settled-room TEST sort e (wide 0 nest) j) (settled-test sort e h p))
-        (λ k. ended-fits nest (plain (settledTree TEST sort e)) t
-        (plain-fits nest (settledTree TEST sort e) (settled-need TEST sort e (deep 0 nest) i) (settled-room TEST sort e (wide 0 nest) j) (settled-test sort e h p))))
+        (λ k. value-at d nest (settledTree a-test sort e) (nextAt s (t .end)) few (settled-need a-test sort e (deep 0 nest) i) (settled-room a-test sort e (wide 0 nest) j) (settled-test sort e h p))
+        (λ k. ended-fits nest (plain (settledTree a-test sort e)) t
+        (plain-fits nest (settledTree a-test sort e) (settled-need a-test sort e (deep 0 nest) i) (settled-room a-test sort e (wide 0 nest) j) (settled-test sort e h p))))
         (λ h. holds-aside _ _)
 
     value-at : (d nest : ℕ) (e : Expr) (t : Token) → nest ≤ 16 → need e ≤ deep 0 nest → room e ≤ wide 0 nest → span e ≡ 0 → Holds (ClauseFits nest) (readValue d s nest e t)
     value-at zero nest e t few i j z = holds-aside _ _
     value-at (suc d) nest e t few i j z =
         chosen (Holds (ClauseFits nest)) (eqb (t .kind) Kind.OPEN-BRACE) _ _ (λ h. nested-at d nest e t i j z)
-        (λ h. on-holds (deep 3 nest) (wide 3 nest) (ClauseFits nest) (readExpression d s 3 TEXT 0 nest t) (λ sort f n. valuing s e sort f n)
-        (λ sort f n k l p. valuing-fits nest e i j z sort f n k l) (expression-fits s d 3 TEXT 0 nest t few (omega arith) (λ w. omega (arith, w))))
+        (λ h. on-holds (deep 3 nest) (wide 3 nest) (ClauseFits nest) (readExpression d s 3 want-string 0 nest t) (λ sort f n. valuing s e sort f n)
+        (λ sort f n k l p. valuing-fits nest e i j z sort f n k l) (expression-fits s d 3 want-string 0 nest t few (omega arith) (λ w. string-any w)))
 
     nested-at : (d nest : ℕ) (e : Expr) (t : Token) → need e ≤ deep 0 nest → room e ≤ wide 0 nest → span e ≡ 0 → Holds (ClauseFits nest) (readNested d s nest e t)
     nested-at zero nest e t i j z = holds-aside _ _

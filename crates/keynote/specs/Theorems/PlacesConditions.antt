@@ -10,9 +10,10 @@ use Rattle.lexical.specs.Kind
 use Rattle.lexical.specs.Literal.{decodedAt}
 use Rattle.lexical.specs.Number as Number
 use Rattle.lexical.specs.declared.token.Token.{Token}
-use Rattle.syntax.specs.Operator.{Unary, Binary, Sort, unaryTakes, unaryGives, binaryTakes, binaryGives}
+use Rattle.syntax.specs.Operator.{Unary, Binary, Sort, a-string, a-test, unaryTakes, unaryGives, binaryTakes, binaryGives}
 use Rattle.syntax.specs.Expr.{Expr, Program, none, also, Clause, nested, unary, binary}
 use Rattle.syntax.specs.Parsed.{Parsed, ok, aside, refusal, unexpected}
+use Rattle.conditions.specs.Table.{PartSort, Want, want-any, want-string}
 use Rattle.conditions.specs.Table
 use Rattle.conditions.specs.Working.Cases.{infix-cases, prefix-cases}
 use Rattle.conditions.specs.Word.{nextAt}
@@ -36,7 +37,7 @@ module _ (s : List ℕ) where
   next-in : (at : ℕ) → In s (nextAt s at)
   next-in at = token-in s Kind.IN-FIELD at
 
-  part-placed : {A : Type 0} {r : Parsed Part} (k : ℕ → Expr → Token → Parsed A) → Placed s 0 r → ((sort : ℕ) (e : Expr) (t : Token) → In s t → Placed s 0 (k sort e t)) → Placed s 0 (onPart r k)
+  part-placed : {A : Type 0} {r : Parsed Part} (k : PartSort → Expr → Token → Parsed A) → Placed s 0 r → ((sort : PartSort) (e : Expr) (t : Token) → In s t → Placed s 0 (k sort e t)) → Placed s 0 (onPart r k)
   part-placed k (p-ok (part sort e) t i) f = f sort e t i
   part-placed k (p-aside r p h g l) f = p-aside r p h g l
 
@@ -46,7 +47,7 @@ module _ (s : List ℕ) where
   nowhere : {A : Type 0} (t : Token) → In s t → Placed s 0 {A = A} (unexpected t)
   nowhere t i = at-token (refusal (t .kind)) t i zero-le (refusal-small (t .kind))
 
-  leaf-placed : (want row : ℕ) (t : Token) → In s t → Placed s 0 (readLeaf s want row t)
+  leaf-placed : (want : Want) (row : ℕ) (t : Token) → In s t → Placed s 0 (readLeaf s want row t)
   unfolding readLeaf readLiteral readName readDigits readFloat
   leaf-placed want row t i =
       placed-pick (eqb (t .kind) Kind.LITERAL) (placed-pick (ltb 2048 (length (decodedAt s (t .start)))) (at-token 7 t i zero-le (omega arith)) (p-ok _ _ (next-in (t .end))))
@@ -54,11 +55,11 @@ module _ (s : List ℕ) where
       (placed-pick (eqb (t .kind) Kind.DIGITS) (placed-pick (leb Number.LIMIT (Number.numberAt s (t .start) (t .end))) (at-token 5 t i zero-le (omega arith)) (p-ok _ _ (next-in (t .end))))
       (placed-pick (eqb (t .kind) Kind.AMPERSAND) (placed-pick (leb 16 row) (at-token 7 t i zero-le (omega arith)) (at-token 8 t i zero-le (omega arith))) (at-token 8 t i zero-le (omega arith)))))
 
-  applied-placed : (f : Expr → Expr) (takes gives : Sort) (sort : ℕ) (e : Expr) (t : Token) → In s t → Placed s 0 (applied f takes gives sort e t)
+  applied-placed : (f : Expr → Expr) (takes gives : Sort) (sort : PartSort) (e : Expr) (t : Token) → In s t → Placed s 0 (applied f takes gives sort e t)
   unfolding applied
-  applied-placed f takes gives sort e t i = placed-pick (Table.fits (Table.sortOf takes) sort) (p-ok _ t i) (nowhere t i)
+  applied-placed f takes gives sort e t i = placed-pick (Table.fits takes sort) (p-ok _ t i) (nowhere t i)
 
-  closing-placed : (sort : ℕ) (e : Expr) (t : Token) → In s t → Placed s 0 (closing s sort e t)
+  closing-placed : (sort : PartSort) (e : Expr) (t : Token) → In s t → Placed s 0 (closing s sort e t)
   closing-placed sort e t i = placed-pick (eqb (t .kind) Kind.CLOSE) (p-ok _ _ (next-in (t .end))) (nowhere t i)
 
   abbrev ChainIn : E.State → Type 0
@@ -68,8 +69,8 @@ module _ (s : List ℕ) where
   on-joined t i (p-aside r p h g l) = k-done (aside r p) (p-aside r p h g l)
   on-joined t i (p-ok (part x e) n j) = keeps-pick _ _ (leb (n .start) (t .start)) (k-done _ (zero-at t i)) (k-next (n, x, e) j)
 
-  chain-placed : (joined : Binary → ℕ → ℕ → Expr → ℕ → Parsed Part) → ((op : Binary) (nest sort : ℕ) (e : Expr) (at : ℕ) → at ≤ length s → Placed s 0 (joined op nest sort e at))
-      → (level nest sort : ℕ) (e : Expr) (t : Token) → In s t → Placed s 0 (E.chainOf joined s level nest sort e t)
+  chain-placed : (joined : Binary → ℕ → PartSort → Expr → ℕ → Parsed Part) → ((op : Binary) (nest : ℕ) (sort : PartSort) (e : Expr) (at : ℕ) → at ≤ length s → Placed s 0 (joined op nest sort e at))
+      → (level nest : ℕ) (sort : PartSort) (e : Expr) (t : Token) → In s t → Placed s 0 (E.chainOf joined s level nest sort e t)
   chain-placed joined g level nest sort e t i = loop-keeps ChainIn (Placed s 0) _ _ (chainTurn joined s level nest) (λ x j. zero-at (x .0) j)
       (λ x j. keeps-pick _ _ (leb (length s) (x .0 .start)) (k-done _ (p-ok _ (x .0) j))
       (keeps-pick _ _ (Table.binds level (Table.operator (x .1) (x .0 .kind)))
@@ -80,11 +81,11 @@ module _ (s : List ℕ) where
   mutual
     unfolding readExpression readOperand readPrefixed readBracketed readChain readJoined
 
-    pub expression-placed : (d level want row nest : ℕ) (t : Token) → In s t → Placed s 0 (readExpression d s level want row nest t)
+    pub expression-placed : (d level : ℕ) (want : Want) (row nest : ℕ) (t : Token) → In s t → Placed s 0 (readExpression d s level want row nest t)
     expression-placed zero level want row nest t i = zero-at t i
     expression-placed (suc d) level want row nest t i = part-placed _ (operand-placed d want row nest t i) (λ sort e n k. chain-in d level nest sort e n k)
 
-    operand-placed : (d want row nest : ℕ) (t : Token) → In s t → Placed s 0 (readOperand d s want row nest t)
+    operand-placed : (d : ℕ) (want : Want) (row nest : ℕ) (t : Token) → In s t → Placed s 0 (readOperand d s want row nest t)
     operand-placed zero want row nest t i = zero-at t i
     operand-placed (suc d) want row nest t i =
         placed-pick (Table.allows want (t .kind))
@@ -93,27 +94,27 @@ module _ (s : List ℕ) where
         (λ op z. prefixed-placed d op want row nest t i))
         (nowhere t i)
 
-    prefixed-placed : (d : ℕ) (op : Unary) (want row nest : ℕ) (t : Token) → In s t → Placed s 0 (readPrefixed d s op want row nest t)
+    prefixed-placed : (d : ℕ) (op : Unary) (want : Want) (row nest : ℕ) (t : Token) → In s t → Placed s 0 (readPrefixed d s op want row nest t)
     prefixed-placed zero op want row nest t i = zero-at t i
     prefixed-placed (suc d) op want row nest t i =
         placed-pick (leb 16 row) (at-token 7 t i zero-le (omega arith))
         (part-placed _ (expression-placed d (Table.operandLevel op) (Table.operandWant op want) (row + 1) nest (nextAt s (t .end)) (next-in (t .end))) (λ sort e n k. applied-placed (unary op) (unaryTakes op) (unaryGives op) sort e n k))
 
-    bracketed-placed : (d want nest : ℕ) (t : Token) → In s t → Placed s 0 (readBracketed d s want nest t)
+    bracketed-placed : (d : ℕ) (want : Want) (nest : ℕ) (t : Token) → In s t → Placed s 0 (readBracketed d s want nest t)
     bracketed-placed zero want nest t i = zero-at t i
     bracketed-placed (suc d) want nest t i =
         placed-pick (leb 16 nest) (at-token 7 t i zero-le (omega arith))
         (part-placed _ (expression-placed d (Table.insideLevel want) want 0 (nest + 1) (nextAt s (t .end)) (next-in (t .end))) (λ sort e n k. closing-placed sort e n k))
 
-    chain-in : (d level nest sort : ℕ) (e : Expr) (t : Token) → In s t → Placed s 0 (readChain d s level nest sort e t)
+    chain-in : (d level nest : ℕ) (sort : PartSort) (e : Expr) (t : Token) → In s t → Placed s 0 (readChain d s level nest sort e t)
     chain-in zero level nest sort e t i = zero-at t i
     chain-in (suc d) level nest sort e t i = chain-placed (λ op nest sort e at. readJoined d s op nest sort e at) (λ op nest sort e at h. joined-placed d op nest sort e at h) level nest sort e t i
 
-    joined-placed : (d : ℕ) (op : Binary) (nest sort : ℕ) (e : Expr) (at : ℕ) → at ≤ length s → Placed s 0 (readJoined d s op nest sort e at)
+    joined-placed : (d : ℕ) (op : Binary) (nest : ℕ) (sort : PartSort) (e : Expr) (at : ℕ) → at ≤ length s → Placed s 0 (readJoined d s op nest sort e at)
     joined-placed zero op nest sort e at h = p-aside 0 at zero-le zero-le h
     joined-placed (suc d) op nest sort e at h =
         part-placed _ (expression-placed d (Table.rightLevel op) (Table.rightWant op) 0 nest (nextAt s at) (next-in at))
-        (λ x f n k. applied-placed (binary op (settledTree (Table.sortOf (binaryTakes op)) sort e)) (binaryTakes op) (binaryGives op) x f n k)
+        (λ x f n k. applied-placed (binary op (settledTree (binaryTakes op) sort e)) (binaryTakes op) (binaryGives op) x f n k)
 
   -- ---- programs
 
@@ -121,9 +122,9 @@ module _ (s : List ℕ) where
   unfolding ending
   ending-placed q t i = placed-pick (eqb (t .kind) Kind.SEMICOLON) (p-ok q _ (next-in (t .end))) (nowhere t i)
 
-  valuing-placed : (e : Expr) (sort : ℕ) (f : Expr) (t : Token) → In s t → Placed s 0 (valuing s e sort f t)
+  valuing-placed : (e : Expr) (sort : PartSort) (f : Expr) (t : Token) → In s t → Placed s 0 (valuing s e sort f t)
   unfolding valuing
-  valuing-placed e sort f t i = placed-pick (Table.fits Table.TEXT sort) (ending-placed _ t i) (nowhere t i)
+  valuing-placed e sort f t i = placed-pick (Table.fits a-string sort) (ending-placed _ t i) (nowhere t i)
 
   stopping-placed : (nest : ℕ) (p : Program) (t : Token) → In s t → Placed s 0 (stopping nest p t)
   unfolding stopping
@@ -146,20 +147,20 @@ module _ (s : List ℕ) where
 
     clause-placed : (d nest : ℕ) (t : Token) → In s t → Placed s 0 (readClause d s nest t)
     clause-placed zero nest t i = zero-at t i
-    clause-placed (suc d) nest t i = part-placed _ (expression-placed d 0 Table.ANY 0 nest t i) (λ sort e n k. tested-placed d nest sort e n k)
+    clause-placed (suc d) nest t i = part-placed _ (expression-placed d 0 want-any 0 nest t i) (λ sort e n k. tested-placed d nest sort e n k)
 
-    tested-placed : (d nest sort : ℕ) (e : Expr) (t : Token) → In s t → Placed s 0 (readTested d s nest sort e t)
+    tested-placed : (d nest : ℕ) (sort : PartSort) (e : Expr) (t : Token) → In s t → Placed s 0 (readTested d s nest sort e t)
     tested-placed zero nest sort e t i = zero-at t i
     tested-placed (suc d) nest sort e t i =
-        placed-pick (Table.fits Table.TEST sort)
-        (placed-pick (eqb (t .kind) Kind.ARROW) (value-placed d nest (settledTree Table.TEST sort e) (nextAt s (t .end)) (next-in (t .end))) (ending-placed _ t i))
+        placed-pick (Table.fits a-test sort)
+        (placed-pick (eqb (t .kind) Kind.ARROW) (value-placed d nest (settledTree a-test sort e) (nextAt s (t .end)) (next-in (t .end))) (ending-placed _ t i))
         (nowhere t i)
 
     value-placed : (d nest : ℕ) (e : Expr) (t : Token) → In s t → Placed s 0 (readValue d s nest e t)
     value-placed zero nest e t i = zero-at t i
     value-placed (suc d) nest e t i =
         placed-pick (eqb (t .kind) Kind.OPEN-BRACE) (nested-placed d nest e t i)
-        (part-placed _ (expression-placed d 3 Table.TEXT 0 nest t i) (λ sort f n k. valuing-placed e sort f n k))
+        (part-placed _ (expression-placed d 3 want-string 0 nest t i) (λ sort f n k. valuing-placed e sort f n k))
 
     nested-placed : (d nest : ℕ) (e : Expr) (t : Token) → In s t → Placed s 0 (readNested d s nest e t)
     nested-placed zero nest e t i = zero-at t i

@@ -1,4 +1,4 @@
-use Rattle.conditions.specs.Table.{insideLevel}
+use Rattle.conditions.specs.Working.Numbered.{insideLevel}
 use borrow.Author.Needs.{needs}
 use Rattle.text.specs.Choice.{tests}
 use Rattle.conditions.proofs.table.inside_level.Statement.{statement}

@@ -1,5 +1,5 @@
 use Rattle.conditions.proofs.TableWays.{allows-number, allows-integer, allows-float, allows-not, allows-string}
-use Rattle.conditions.specs.Table.{allows}
+use Rattle.conditions.specs.Working.Numbered.{allows}
 use Rattle.text.specs.Choice.{tests}
 use borrow.Author.Needs.{needs}
 use Rattle.conditions.proofs.table.is_allowed.Statement.{statement}

@@ -1,4 +1,4 @@
-use Rattle.conditions.specs.Table.{fits}
+use Rattle.conditions.specs.Working.Numbered.{fits}
 use borrow.Author.Needs.{needs}
 use Rattle.text.specs.Choice.{tests}
 use Rattle.conditions.proofs.table.is_fit.Statement.{statement}
