@@ -241,14 +241,14 @@ test = b'foo == "bar" && $("foo") == "bar" && $foo == "xyz"\n && $(foo) == "xyz"
 local('dereferences', [POLICY + b'Conditions: ' + test + b';'], answered(1, 2, 1, 1, KEPT), attributes=foo)
 
 # The open points of the rules, as they are ruled.
-for page in 'open-points.tsv', 'open-points-02.tsv':
+for page in 'open-points.tsv', 'open-points-02.tsv', 'floats.tsv':
     with open(os.path.join(ROOT, 'second', 'data', page)) as f:
         for line in f:
             name, text, expected = line.rstrip('\n').split('\t')
             ruling(name, bytes.fromhex(text), expected.split('|')[:-1])
 
 file = b''.join(counted(name) + counted(bytes_) for name, bytes_, _ in rulings)
-assert 65535 < len(file) <= 131072
+assert 65535 < len(file) <= 262144
 rulings.append((b'too-long', file, refused(1, 0)))
 
 

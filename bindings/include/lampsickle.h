@@ -50,7 +50,7 @@ enum lampsickle_reason {
     LAMPSICKLE_INTEGER = 5,      /* an integer or a threshold is out of range */
     LAMPSICKLE_NOT_2 = 6,        /* KeyNote-Version isn't 2 */
     LAMPSICKLE_LIMIT = 7,        /* a limit is passed */
-    LAMPSICKLE_UNSUPPORTED = 8,  /* "&" as conversion, or a float literal */
+    /* No reason is 8. */
     LAMPSICKLE_UNVERIFIED = 9    /* standing 0, or a credential that speaks for POLICY */
 };
 

@@ -4,14 +4,16 @@
 use lampsickle::{limits, Entry, Query};
 
 /// Tokens that are tried, in words.
-const TOKENS: [(&str, &str); 13] = [
+const TOKENS: [(&str, &str); 15] = [
     ("\"x\"", "a string in quotes"),
     ("x", "a name"),
     ("2", "an integer"),
+    ("2.5", "a float"),
     ("(", "\"(\""),
     ("!", "\"!\""),
     ("$", "\"$\""),
     ("@", "\"@\""),
+    ("&", "\"&\""),
     ("-of", "\"-of\""),
     ("->", "\"->\""),
     ("{", "\"{\""),
@@ -32,7 +34,10 @@ const GROUPS: [(&[&str], &str); 4] = [
 pub fn stood(text: &[u8], place: usize) -> String {
     let front = text[..place.min(text.len())].trim_ascii_end();
     let mut all: Vec<String> = Vec::new();
-    all.extend(TOKENS.iter().filter(|(token, _)| follows(front, token)).map(|(_, words)| words.to_string()));
+    // Where "-" may stand, "-of" is that and a name.
+    let minus = follows(front, "-");
+    let can = |token: &str| follows(front, token) && (token != "-of" || !minus);
+    all.extend(TOKENS.iter().filter(|(token, _)| can(token)).map(|(_, words)| words.to_string()));
     for (tokens, words) in GROUPS {
         let some: Vec<&str> = tokens.iter().copied().filter(|token| follows(front, token)).collect();
         match some.len() == tokens.len() && !words.is_empty() {
@@ -44,6 +49,12 @@ pub fn stood(text: &[u8], place: usize) -> String {
         all.push("the end of the field".into());
     }
     all.join(", ")
+}
+
+/// Whether a float stands before a place: an ordering can follow, and no equality.
+pub fn behind_float(text: &[u8], place: usize) -> bool {
+    let front = text[..place.min(text.len())].trim_ascii_end();
+    follows(front, "<") && !follows(front, "==")
 }
 
 /// Whether a token can follow: the library finds no fault in it, or one that isn't
@@ -98,10 +109,27 @@ mod tests {
         assert_eq!(of("Authorizer: \"a\"\nLicensees: 2-of(\"c\""), "\")\", \",\"");
         assert_eq!(of("Authorizer: \"a\"\nConditions: dollars < 100;"), "a string in quotes, a name, \"(\", \"$\"");
         assert_eq!(of("Authorizer: \"a\"\nConditions: x = \"y\";"), "a comparison such as \"==\", \".\"");
+        assert_eq!(of("Authorizer: \"a\"\nConditions: &x < 1;"), "a float, \"(\", \"&\", \"-\"",);
+        assert_eq!(
+            of("Authorizer: \"a\"\nConditions: 1.5 == &x;"),
+            "\"<\", \">\", \"<=\", \">=\", \"+\", \"-\", \"*\", \"/\", \"^\""
+        );
         assert_eq!(
             of("Authorizer: \"a\"\nConditions: x == \"y\"\nComment: z"),
             "\"->\", \"&&\" or \"||\", \".\", \";\""
         );
+    }
+
+    #[test]
+    fn floats_before() {
+        let behind = |text: &str| behind_float(text.as_bytes(), text.len());
+        for front in ["1.5", "&x", "(-&x + 2.0)", "true && 1.5 "] {
+            assert!(behind(&format!("Authorizer: \"a\"\nConditions: {front}")), "{front}");
+        }
+        for front in ["", "1", "@x", "x", "\"1\"", "true", "1.5 <", "1.5 < 2.5", "1.5 +"] {
+            assert!(!behind(&format!("Authorizer: \"a\"\nConditions: {front}")), "{front}");
+        }
+        assert!(!behind("Authorizer: \"a\"\nLicensees: 1.5"));
     }
 
     #[test]

@@ -68,8 +68,8 @@ OPTIONS OF ask
         --json               print JSON
         --require CLASS      exit with 1 where the class is lower than CLASS
         --strict             exit with 5 where an assertion was set aside
-        --no-warn KIND,...   leave warnings of these kinds unsaid: number (\"@\"
-                             makes 0 of what is no number), pattern (what stands
+        --no-warn KIND,...   leave warnings of these kinds unsaid: number (\"@\" or
+                             \"&\" makes 0 of what is no number), pattern (what stands
                              behind \"~=\" is none), unset (a name that is read
                              isn't set), unread (nothing reads an attribute)
 

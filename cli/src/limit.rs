@@ -2,7 +2,9 @@
 
 use crate::assertion::reading::constants;
 use crate::assertion::tokens::{Field, Kind, Token, Tokens};
-use crate::assertion::{literal, BRACKETS, CONSTANTS, LICENSEES, LITERAL_BYTES, PREFIXES, PRINCIPAL_BYTES};
+use crate::assertion::{
+    literal, BRACKETS, CONSTANTS, FLOAT_DIGITS, LICENSEES, LITERAL_BYTES, PREFIXES, PRINCIPAL_BYTES,
+};
 use crate::text::counted;
 
 /// The limit that the token at a place passes, in words.
@@ -11,6 +13,7 @@ pub fn words(text: &[u8], place: usize) -> String {
     let found = tokens.iter().find(|token| token.start == place);
     let told = found.and_then(|token| match token.kind {
         Kind::Literal | Kind::Name => item(text, *token, &tokens),
+        Kind::Number => Some(number(token.of(text))),
         Kind::Sign => Some(sign(token.of(text))),
         _ => None,
     });
@@ -22,6 +25,12 @@ fn sign(sign: &[u8]) -> String {
         b"(" | b"{" => format!("with this bracket more than {BRACKETS} are open"),
         _ => format!("with this one more than {PREFIXES} prefix operators stand in a row"),
     }
+}
+
+/// A float; an integer passes no limit.
+fn number(number: &[u8]) -> String {
+    let digits = number.iter().filter(|byte| byte.is_ascii_digit()).count();
+    format!("this float has {}, but a float has at most {FLOAT_DIGITS}", counted(digits, "digit"))
 }
 
 /// A literal that is too long, a principal, or one item too many.
@@ -82,5 +91,7 @@ mod tests {
         );
         told(&format!("Authorizer: \"a\"\nConditions: {}", "(".repeat(17)), "more than 16 are open");
         told(&format!("Authorizer: \"a\"\nConditions: {}", "!".repeat(17)), "16 prefix operators");
+        told(&format!("Authorizer: \"a\"\nConditions: {}&x", "-".repeat(16)), "16 prefix operators");
+        told("Authorizer: \"a\"\nConditions: 0.123456789012345678", "19 digits, but a float has at most 18");
     }
 }

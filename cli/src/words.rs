@@ -38,7 +38,6 @@ pub fn reason(entry: Entry, text: &[u8]) -> String {
         5 => "this integer is above 2147483647, or this threshold isn't from 1 to 16".into(),
         6 => "KeyNote-Version isn't 2".into(),
         7 => limit::words(text, entry.place),
-        8 => unsupported(here),
         9 if entry.place > 0 => "a credential may not speak for POLICY; only a local assertion may".into(),
         9 => "the credential isn't verified, so its text isn't read".into(),
         _ => "a reason that isn't known".into(),
@@ -60,7 +59,11 @@ fn no_token(here: &[u8]) -> String {
 }
 
 fn misfit(text: &[u8], place: usize) -> String {
+    let equality = matches!(text.get(place..place + 2), Some(b"==" | b"!="));
     match (place < text.len(), could::stood(text, place)) {
+        (_, stood) if equality && could::behind_float(text, place) => {
+            format!("floats aren't tested for equality; these could stand here: {stood}")
+        }
         (true, stood) if stood.is_empty() => "this can't stand here by the grammar of its field".into(),
         (true, stood) => format!("this can't stand here; these could: {stood}"),
         (false, stood) if stood.is_empty() => "the text ends where its grammar asks for more".into(),
@@ -110,14 +113,6 @@ fn unlabelled(line: &[u8]) -> String {
     "a line begins with a field's label, a space, a tab or \"#\"; this one doesn't".into()
 }
 
-fn unsupported(here: &[u8]) -> String {
-    let what = match here.first() {
-        Some(b'&') => "a conversion to a float (\"&\")",
-        _ => "a float",
-    };
-    format!("{what} isn't supported yet")
-}
-
 #[cfg(test)]
 mod tests {
     use super::*;
@@ -150,9 +145,12 @@ mod tests {
 
     #[test]
     fn every_one_has_words() {
-        for number in 1..=9 {
-            assert!(!refusal(number).contains("known") && !of(number, 0, "x").contains("known"));
+        for number in 1..=10 {
+            assert!(!refusal(number).contains("known"));
         }
-        assert!(of(8, 0, "& x").ends_with("isn't supported yet"));
+        // No reason is 8.
+        for number in [1, 2, 3, 4, 5, 6, 7, 9] {
+            assert!(!of(number, 0, "x").contains("known"));
+        }
     }
 }

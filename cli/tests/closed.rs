@@ -148,6 +148,22 @@ fn warnings_of_attributes() {
 }
 
 #[test]
+fn warnings_of_floats() {
+    let draught = file("draught.kn", "Authorizer: \"POLICY\"\nConditions: &draught < 8.5 && &\"7,5\" < 8.5;\n");
+    let ask = |more: &[&str]| aside(&plain(&[&["--local", &draught][..], more].concat()), b"");
+    for value in ["7,5", "7.5 m", "1e1", "7.5000000000000000000", ""] {
+        let words = ask(&["-a", &format!("draught={value}")]);
+        assert!(words.contains("draught.kn:2:13: \"&\" makes 0 of draught, which is"), "{words}");
+        assert_eq!(ask(&["-a", &format!("draught={value}"), "--no-warn", "number"]), "");
+    }
+    let words = ask(&["-a", "draught=7.5"]);
+    assert!(words.ends_with(
+        "draught.kn:2:31: \"&\" makes 0 of \"7,5\", which is no number of at most 18 digits (--no-warn number)\n"
+    ));
+    assert_eq!(words.lines().count(), 1, "{words}");
+}
+
+#[test]
 fn warnings_of_patterns() {
     let text = "Authorizer: \"POLICY\"\nConditions: x ~= \"a**\" || x ~= p || x ~= \"^\" . p || x ~= \"b\";\n";
     let ask = |more: &[&str]| aside(&plain(&[&["--local", "-", "-a", "x=1"][..], more].concat()), text.as_bytes());
@@ -324,6 +340,10 @@ fn messages() {
     assert!(of(deep.as_bytes()).contains("with this bracket more than 16 are open (reason 7"));
     let words = of(b"Authorizer: \"POLICY\"\nConditions: dollars < 100;\n");
     assert!(words.contains("these could: a string in quotes, a name, \"(\", \"$\" (reason 2"), "{words}");
+    let words = of(b"Authorizer: \"POLICY\"\nConditions: &draught != 7.5;\n");
+    assert!(words.contains("floats aren't tested for equality; these could stand here: \"<\", \">\","), "{words}");
+    let words = of(b"Authorizer: \"POLICY\"\nConditions: &draught < 8;\n");
+    assert!(words.contains("this can't stand here; these could: a float, \"(\", \"&\", \"-\" (reason 2"), "{words}");
 }
 
 #[test]

@@ -86,7 +86,7 @@ pub fn one(task: &Task, number: u64, run: &mut Run) -> Result<(), Box<Difference
 }
 
 fn add(sum: &mut Run, run: &Run) {
-    let Coverage { numbers, reasons, ranks, rounds, reached, spellings, crowds, patterns } = &run.coverage;
+    let Coverage { numbers, reasons, ranks, rounds, reached, spellings, crowds, patterns, floats } = &run.coverage;
     merge(&mut sum.coverage.numbers, numbers);
     merge(&mut sum.coverage.reasons, reasons);
     merge(&mut sum.coverage.ranks, ranks);
@@ -94,7 +94,8 @@ fn add(sum: &mut Run, run: &Run) {
     merge(&mut sum.coverage.reached, reached);
     merge(&mut sum.coverage.spellings, spellings);
     merge(&mut sum.coverage.crowds, crowds);
-    sum.coverage.patterns.add(patterns);
+    sum.coverage.patterns.merge(patterns);
+    sum.coverage.floats.merge(floats);
     sum.pairs += run.pairs;
     sum.differing_pairs += run.differing_pairs;
 }

@@ -3,7 +3,7 @@
 
 use crate::bounded::Bounded;
 use crate::limits;
-use crate::line::{Fault, Field, Label, Listing};
+use crate::line::{Fault, Field, Label, Listing, GRAMMAR, LINE, NO_TOKEN};
 use crate::literal;
 use crate::token::{Kind, Token};
 
@@ -11,8 +11,10 @@ pub const NAME: u8 = 4;
 pub const NUMBER: u8 = 5;
 pub const KEYNOTE_VERSION: u8 = 6;
 pub const LIMIT: u8 = 7;
-pub const NOT_OFFERED: u8 = 8;
 pub const STANDING: u8 = 9;
+
+/// The reasons there are, 0 for a text that is kept. None is 8 any more.
+pub const REASONS: [u8; 9] = [0, NO_TOKEN, GRAMMAR, LINE, NAME, NUMBER, KEYNOTE_VERSION, LIMIT, STANDING];
 
 /// The standing of a verified credential.
 const CREDENTIAL: u8 = 2;
@@ -157,7 +159,7 @@ fn conditions(tokens: &[Token]) -> Result<(), Fault> {
         match token.kind {
             Kind::Digits => integer(token)?,
             Kind::Literal => literal_bytes(token)?,
-            Kind::Float | Kind::Ampersand => demand(false, NOT_OFFERED, token)?,
+            Kind::Float => demand(float_digits(token) <= limits::FLOAT_DIGITS, LIMIT, token)?,
             _ => {}
         }
         behind_operand =
@@ -183,6 +185,11 @@ fn principal(token: &Token, settings: &Settings) -> Result<Option<Token>, Fault>
 
 fn integer(token: &Token) -> Result<(), Fault> {
     demand(token.value <= limits::INTEGER_LITERAL, NUMBER, token)
+}
+
+/// All but the point.
+fn float_digits(token: &Token) -> usize {
+    usize::from(token.end - token.start) - 1
 }
 
 fn literal_bytes(token: &Token) -> Result<(), Fault> {

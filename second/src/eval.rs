@@ -3,10 +3,11 @@
 use std::cmp::Ordering;
 
 use crate::environment::Environment;
+use crate::float;
 use crate::integer::{self, Error};
 use crate::limits;
 use crate::pattern;
-use crate::store::{Assertion, Comparison, Node, Row};
+use crate::store::{Assertion, Comparison, Node, Operation, Row};
 
 /// A value that has been computed and not yet used.
 #[derive(Clone, Copy)]
@@ -19,6 +20,7 @@ enum Value<'a> {
         end: usize,
     },
     Integer(i32),
+    Float(f32),
     Truth(bool),
 }
 
@@ -29,9 +31,24 @@ pub struct Evaluator<'a> {
     stack: Vec<Value<'a>>,
     /// The built strings on the stack, one behind the other.
     built: Vec<u8>,
-    /// Whether pattern tests are listed as they are met.
+    /// Whether what is met is listed.
     watched: bool,
-    pattern_tests: Vec<PatternTest>,
+    met: Met,
+}
+
+/// What evaluation met, for those who ask what a run of records covers.
+#[derive(Clone, Debug, Default, PartialEq)]
+pub struct Met {
+    pub patterns: Vec<PatternTest>,
+    pub floats: Vec<FloatStep>,
+}
+
+/// A step of computing with floats.
+#[derive(Clone, Debug, PartialEq)]
+pub enum FloatStep {
+    Converted { text: Vec<u8>, float: f32 },
+    Calculated { operation: Operation, left: f32, right: f32, result: Result<f32, Error> },
+    Compared { comparison: Comparison, order: Ordering },
 }
 
 /// A pattern test that was met.
@@ -50,16 +67,16 @@ impl<'a> Evaluator<'a> {
             stack: Vec::new(),
             built: Vec::new(),
             watched: false,
-            pattern_tests: Vec::new(),
+            met: Met::default(),
         }
     }
 
-    /// The pattern tests that an assertion's Conditions meet.
-    pub fn pattern_tests(&mut self, assertion: &Assertion) -> Vec<PatternTest> {
+    /// What an assertion's Conditions meet.
+    pub fn met(&mut self, assertion: &Assertion) -> Met {
         self.watched = true;
         self.conditions(assertion);
         self.watched = false;
-        std::mem::take(&mut self.pattern_tests)
+        std::mem::take(&mut self.met)
     }
 
     /// The rank of an assertion's Conditions; a missing field is top.
@@ -124,6 +141,7 @@ impl<'a> Evaluator<'a> {
                 Value::Lent(environment.lookup(self.constants, name))
             }
             Node::Integer(number) => Value::Integer(number),
+            Node::Float(number) => Value::Float(number),
             Node::Truth(truth) => Value::Truth(truth),
             Node::Dereference => {
                 let name = self.stack.pop().expect("a name");
@@ -137,6 +155,7 @@ impl<'a> Evaluator<'a> {
                 self.drop_built(&text);
                 Value::Integer(number)
             }
+            Node::ToFloat => self.convert(),
             Node::Join => self.join()?,
             Node::Negate => Value::Integer(integer::negate(self.pop_integer())?),
             Node::Add => self.calculate(integer::add)?,
@@ -145,12 +164,15 @@ impl<'a> Evaluator<'a> {
             Node::Divide => self.calculate(integer::divide)?,
             Node::Remainder => self.calculate(integer::remainder)?,
             Node::Power => self.calculate(integer::power)?,
+            Node::NegateFloat => Value::Float(-self.pop_float()),
+            Node::CalculateFloats(operation) => self.calculate_floats(operation)?,
             Node::CompareTexts(comparison) => Value::Truth(self.compare_texts(comparison)),
             Node::CompareIntegers(comparison) => {
                 let right = self.pop_integer();
                 let left = self.pop_integer();
                 Value::Truth(holds(comparison, left.cmp(&right)))
             }
+            Node::CompareFloats(comparison) => Value::Truth(self.compare_floats(comparison)),
             Node::Match => Value::Truth(self.match_pattern()?),
             Node::Not => Value::Truth(!self.pop_truth()),
             _ => unreachable!("steps of a clause are taken in run"),
@@ -163,6 +185,46 @@ impl<'a> Evaluator<'a> {
         let right = self.pop_integer();
         let left = self.pop_integer();
         operation(left, right).map(Value::Integer)
+    }
+
+    /// "&" of the string on top of the stack.
+    fn convert(&mut self) -> Value<'a> {
+        let text = self.stack.pop().expect("a string");
+        let bytes = self.bytes(&text);
+        let float = float::from_text(bytes);
+        if self.watched {
+            let text = bytes.to_vec();
+            self.met.floats.push(FloatStep::Converted { text, float });
+        }
+        self.drop_built(&text);
+        Value::Float(float)
+    }
+
+    fn calculate_floats(&mut self, operation: Operation) -> Result<Value<'a>, Error> {
+        let right = self.pop_float();
+        let left = self.pop_float();
+        let result = match operation {
+            Operation::Add => float::add(left, right),
+            Operation::Subtract => float::subtract(left, right),
+            Operation::Multiply => float::multiply(left, right),
+            Operation::Divide => float::divide(left, right),
+            Operation::Power => float::power(left, right),
+        };
+        if self.watched {
+            self.met.floats.push(FloatStep::Calculated { operation, left, right, result });
+        }
+        result.map(Value::Float)
+    }
+
+    /// Zeros of either sign are equal.
+    fn compare_floats(&mut self, comparison: Comparison) -> bool {
+        let right = self.pop_float();
+        let left = self.pop_float();
+        let order = left.partial_cmp(&right).expect("errors are no floats");
+        if self.watched {
+            self.met.floats.push(FloatStep::Compared { comparison, order });
+        }
+        holds(comparison, order)
     }
 
     fn compare_texts(&mut self, comparison: Comparison) -> bool {
@@ -187,7 +249,7 @@ impl<'a> Evaluator<'a> {
         let found = pattern::matches(expression, bytes);
         if self.watched {
             let test = PatternTest { pattern: expression.to_vec(), string: bytes.to_vec(), found };
-            self.pattern_tests.push(test);
+            self.met.patterns.push(test);
         }
         self.drop_built(&pattern);
         self.drop_built(&string);
@@ -245,6 +307,13 @@ impl<'a> Evaluator<'a> {
     fn pop_integer(&mut self) -> i32 {
         match self.stack.pop() {
             Some(Value::Integer(number)) => number,
+            _ => unreachable!("the grammar keeps types apart"),
+        }
+    }
+
+    fn pop_float(&mut self) -> f32 {
+        match self.stack.pop() {
+            Some(Value::Float(number)) => number,
             _ => unreachable!("the grammar keeps types apart"),
         }
     }

@@ -6,8 +6,11 @@
 pub mod coverage;
 pub mod crowd;
 pub mod damage;
+pub mod decimal;
 pub mod edge;
 pub mod expression;
+pub mod float;
+pub mod float_coverage;
 pub mod keys;
 pub mod pattern;
 pub mod pattern_coverage;

@@ -12,6 +12,7 @@ pub mod draft;
 pub mod earley;
 pub mod environment;
 pub mod eval;
+pub mod float;
 pub mod generate;
 pub mod grammar;
 pub mod integer;

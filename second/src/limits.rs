@@ -46,10 +46,12 @@ pub const PREFIXES: usize = 16;
 pub const LITERAL_BYTES: usize = 2_048;
 pub const PRINCIPAL_BYTES: Range = Range::new(1, 256);
 pub const INTEGER_LITERAL: u32 = 2_147_483_647;
+pub const FLOAT_DIGITS: usize = 18;
 
 // Evaluation.
 pub const STRING_BYTES: usize = 4_096;
 pub const PATTERN_BYTES: usize = 256;
+pub const FLOAT_EXPONENT: f32 = 64.0;
 
 // The journal.
 pub const JOURNAL_BYTES: Range = Range::new(16, 65_535);

@@ -1,8 +1,9 @@
 //! The trees of Licensees and Conditions, written in postfix order, by binding
 //! strength. No tree means that something in the field is wrong, not what.
 
+use crate::float;
 use crate::limits;
-use crate::store::{Comparison, Licence, Node, Piece, Store};
+use crate::store::{Comparison, Licence, Node, Operation, Piece, Store};
 use crate::token::{Kind, Token};
 
 /// What an expression is.
@@ -150,7 +151,7 @@ impl Conditions<'_> {
         let equality = matches!(comparison, Comparison::Equal | Comparison::Unequal);
         let node = match (left, right) {
             (Type::Integer, Type::Integer) => Node::CompareIntegers(comparison),
-            (Type::Float, Type::Float) if !equality => Node::NotOffered,
+            (Type::Float, Type::Float) if !equality => Node::CompareFloats(comparison),
             _ => {
                 self.as_text(left)?;
                 self.as_text(right)?;
@@ -174,8 +175,8 @@ impl Conditions<'_> {
                 self.emit(operation(kind));
                 Some(Type::Integer)
             }
-            (Type::Float, Type::Float) if kind != Kind::Percent => {
-                self.emit(Node::NotOffered);
+            (Type::Float, Type::Float) => {
+                self.emit(Node::CalculateFloats(float_operation(kind)?));
                 Some(Type::Float)
             }
             _ => None,
@@ -218,7 +219,7 @@ impl Conditions<'_> {
                 Some(Type::Integer)
             }
             Kind::Float => {
-                self.emit(Node::NotOffered);
+                self.emit(Node::Float(float::literal(token.spelling(self.text))?));
                 Some(Type::Float)
             }
             _ => None,
@@ -238,14 +239,14 @@ impl Conditions<'_> {
         let inner = self.expression(PREFIX)?;
         let (node, result) = match (kind, inner) {
             (Kind::Minus, Type::Integer) => (Node::Negate, Type::Integer),
-            (Kind::Minus, Type::Float) => (Node::NotOffered, Type::Float),
+            (Kind::Minus, Type::Float) => (Node::NegateFloat, Type::Float),
             (Kind::Minus, _) => return None,
             _ => {
                 self.as_text(inner)?;
                 match kind {
                     Kind::At => (Node::ToInteger, Type::Integer),
                     Kind::Dollar => (Node::Dereference, Type::Text),
-                    _ => (Node::NotOffered, Type::Float),
+                    _ => (Node::ToFloat, Type::Float),
                 }
             }
         };
@@ -324,6 +325,18 @@ fn operation(kind: Kind) -> Node {
         Kind::Percent => Node::Remainder,
         _ => Node::Power,
     }
+}
+
+/// "%" has no float form.
+fn float_operation(kind: Kind) -> Option<Operation> {
+    Some(match kind {
+        Kind::Plus => Operation::Add,
+        Kind::Minus => Operation::Subtract,
+        Kind::Star => Operation::Multiply,
+        Kind::Slash => Operation::Divide,
+        Kind::Caret => Operation::Power,
+        _ => return None,
+    })
 }
 
 /// Writes the tree of a Licensees field that has tokens into the store.

@@ -31,16 +31,28 @@ pub enum Comparison {
     AtLeast,
 }
 
+/// An operation on two floats.
+#[derive(Clone, Copy, Debug, PartialEq, Eq, PartialOrd, Ord)]
+pub enum Operation {
+    Add,
+    Subtract,
+    Multiply,
+    Divide,
+    Power,
+}
+
 /// A step of Conditions. Operands stand before their operator. The ends are
 /// places among the nodes.
-#[derive(Clone, Copy, Debug, PartialEq, Eq)]
+#[derive(Clone, Copy, Debug, PartialEq)]
 pub enum Node {
     Text(Piece),
     Name(Piece),
     Integer(i32),
+    Float(f32),
     Truth(bool),
     Dereference,
     ToInteger,
+    ToFloat,
     Join,
     Negate,
     Add,
@@ -49,8 +61,12 @@ pub enum Node {
     Divide,
     Remainder,
     Power,
+    NegateFloat,
+    CalculateFloats(Operation),
     CompareTexts(Comparison),
     CompareIntegers(Comparison),
+    /// An ordering: equality of floats is no test.
+    CompareFloats(Comparison),
     /// Whether a string matches a pattern.
     Match,
     Not,
@@ -72,8 +88,6 @@ pub enum Node {
     Top,
     /// The clause's value is computed.
     Value,
-    /// Floats; a text that has them is set aside.
-    NotOffered,
 }
 
 /// A step of Licensees.

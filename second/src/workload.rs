@@ -37,6 +37,13 @@ pub fn all() -> Vec<Workload> {
         workload("lookups of long names", &lookups()),
         workload("integers", &repeated("1+", "1 != 0;")),
         workload("powers", &repeated("46340^2-46340^2 == 0 && ", "true;")),
+        workload("float literals", &repeated("1.5<2.5&&", "false;")),
+        workload("float literals of 18 digits", &repeated("1.23456789012345678<12345678901234567.8&&", "false;")),
+        workload("floats of short texts", &converted("8.75")),
+        workload("floats of 18 digits", &converted("12345678901234567.8")),
+        workload("floats of no numbers", &converted("8,75 metres")),
+        workload("float arithmetic", &repeated("1.5+2.5*0.5-1.25/3.0-", "1.5<0.0;")),
+        workload("float powers", &repeated("1.01^64.0<2.0&&", "false;")),
         workload("tests", &repeated("true&&", "true;")),
         workload("clauses", &repeated("false;", "")),
         workload("escapes", &repeated("\"\\101\"==\"\\1\"||", "true;")),
@@ -196,6 +203,11 @@ fn repeated(part: &str, ending: &str) -> Draft {
     let count = (limits::TEXT_BYTES.most - head.len() - ending.len()) / part.len();
     let text = format!("{head}{}{ending}", part.repeat(count));
     (0..7).fold(Draft::plain(), |draft, _| draft.local(&text))
+}
+
+/// Many conversions of one text to a float.
+fn converted(text: &str) -> Draft {
+    repeated("&x>-1.5&&", "false;").attribute("x", text)
 }
 
 /// Strings of nearly 4,096 bytes, joined and compared to their ends.

@@ -5,13 +5,13 @@ use std::collections::HashSet;
 use lampsickle::{Answer, Query};
 
 use super::attributes::Attribute;
-use crate::assertion::reading::{integer, read, reserved, Conversion, Reading};
+use crate::assertion::reading::{read, reserved, Conversion, Reading};
 use crate::report::Source;
 use crate::text::{brief, quoted};
 
 #[derive(Clone, Copy, Debug, PartialEq, Eq)]
 pub enum Kind {
-    /// "@" makes 0 of a string, since it is no number or none in range.
+    /// "@" or "&" makes 0 of a string, since it is no number or none in range.
     Number,
     /// What stands behind "~=" is no pattern.
     Pattern,
@@ -86,22 +86,19 @@ impl Told<'_> {
     }
 
     fn number(&mut self, source: &Source, conversion: &Conversion) {
-        let string = &conversion.string;
-        let new = match &string.name {
-            Some(name) if integer(&string.value).is_none() => self.names.insert(name.clone()),
-            _ => integer(&string.value).is_none(),
-        };
-        if !new {
+        let Conversion { place, to, string } = conversion;
+        let told = string.name.as_ref().is_some_and(|name| self.names.contains(name));
+        if told || to.holds(&string.value) {
             return;
         }
+        self.names.extend(string.name.clone());
+        let (value, range) = (quoted(&string.value), to.range());
         let what = match &string.name {
             Some(name) if !string.set => format!("{}, which isn't set", brief(name)),
-            Some(name) => {
-                format!("{}, which is {}, no number from -2147483648 to 2147483647", brief(name), quoted(&string.value))
-            }
-            None => format!("{}, which is no number from -2147483648 to 2147483647", quoted(&string.value)),
+            Some(name) => format!("{}, which is {value}, no {range}", brief(name)),
+            None => format!("{value}, which is no {range}"),
         };
-        self.warnings.push((Kind::Number, format!("{}: \"@\" makes 0 of {what}", source.at(conversion.place))));
+        self.warnings.push((Kind::Number, format!("{}: \"{}\" makes 0 of {what}", source.at(*place), to.sign())));
     }
 
     fn unset(&mut self, source: &Source, name: &[u8], place: usize) {

@@ -5,6 +5,7 @@ use lampsickle::Query;
 use super::literal;
 use super::pattern;
 use super::tokens::{Field, Kind, Token, Tokens};
+use super::FLOAT_DIGITS;
 use crate::text::quoted;
 
 /// What Conditions read.
@@ -14,7 +15,7 @@ pub struct Reading {
     pub names: Vec<(Vec<u8>, usize)>,
     /// A "$" stands there, so that any name may be read.
     pub computed: bool,
-    /// Strings of which "@" makes integers.
+    /// Strings of which "@" makes integers, and "&" floats.
     pub conversions: Vec<Conversion>,
     /// What stands behind "~=" and is no pattern.
     pub flaws: Vec<Flawed>,
@@ -42,9 +43,46 @@ impl Flawed {
 /// A string that is converted.
 #[derive(Clone, Debug, PartialEq, Eq)]
 pub struct Conversion {
-    /// The place of the "@".
+    /// The place of the "@" or "&".
     pub place: usize,
+    pub to: Number,
     pub string: Text,
+}
+
+/// What a string is converted to.
+#[derive(Clone, Copy, Debug, PartialEq, Eq)]
+pub enum Number {
+    Integer,
+    Float,
+}
+
+impl Number {
+    /// The operator that converts.
+    pub fn sign(self) -> &'static str {
+        match self {
+            Self::Integer => "@",
+            Self::Float => "&",
+        }
+    }
+
+    /// Which numbers aren't made 0, in words.
+    pub fn range(self) -> String {
+        match self {
+            Self::Integer => "number from -2147483648 to 2147483647".into(),
+            Self::Float => format!("number of at most {FLOAT_DIGITS} digits"),
+        }
+    }
+
+    /// Whether a string is such a number.
+    pub fn holds(self, string: &[u8]) -> bool {
+        match self {
+            Self::Integer => integer(string).is_some(),
+            Self::Float => {
+                let digits = string.iter().filter(|byte| byte.is_ascii_digit()).count();
+                parts(string).is_some() && digits <= FLOAT_DIGITS
+            }
+        }
+    }
 }
 
 /// What a string expression comes to.
@@ -70,10 +108,8 @@ pub fn read(text: &[u8], query: &Query) -> Reading {
         match (token.kind, token.of(text)) {
             (Kind::Name, name) if scope.constant(name).is_none() => reading.names.push((name.to_vec(), token.start)),
             (Kind::Sign, b"$") => reading.computed = true,
-            (Kind::Sign, b"@") => {
-                let string = scope.operand(index + 1).map(|(string, _)| string);
-                reading.conversions.extend(string.map(|string| Conversion { place: token.start, string }));
-            }
+            (Kind::Sign, b"@") => reading.conversions.extend(scope.conversion(index, Number::Integer)),
+            (Kind::Sign, b"&") => reading.conversions.extend(scope.conversion(index, Number::Float)),
             (Kind::Sign, b"~=") => reading.flaws.extend(scope.flawed(index)),
             _ => {}
         }
@@ -121,6 +157,12 @@ impl Scope<'_> {
     fn named(&self, name: &[u8]) -> Text {
         let value = self.lookup(name);
         Text { set: value.is_some(), value: value.unwrap_or_default(), name: Some(name.to_vec()) }
+    }
+
+    /// What a "@" or "&" converts.
+    fn conversion(&self, index: usize, to: Number) -> Option<Conversion> {
+        let (string, _) = self.operand(index + 1)?;
+        Some(Conversion { place: self.tokens[index].start, to, string })
     }
 
     /// What the operand at a token comes to, and the token behind it.
@@ -182,9 +224,8 @@ pub fn reserved(name: &[u8], query: &Query) -> Option<Vec<u8>> {
     }
 }
 
-/// The integer that "@" makes of a string, where it is a number in range: a "-" or
-/// none, digits, or digits and a point and digits, rounded down.
-pub fn integer(string: &[u8]) -> Option<i32> {
+/// A number's "-" or none, its digits, and its digits behind a point or "0".
+fn parts(string: &[u8]) -> Option<(bool, &[u8], &[u8])> {
     let (negative, digits) = match string.strip_prefix(b"-") {
         Some(digits) => (true, digits),
         None => (false, string),
@@ -193,9 +234,13 @@ pub fn integer(string: &[u8]) -> Option<i32> {
         Some(point) => (&digits[..point], &digits[point + 1..]),
         None => (digits, &b"0"[..]),
     };
-    if whole.is_empty() || part.is_empty() || !whole.iter().chain(part).all(u8::is_ascii_digit) {
-        return None;
-    }
+    let digits = !whole.is_empty() && !part.is_empty() && whole.iter().chain(part).all(u8::is_ascii_digit);
+    digits.then_some((negative, whole, part))
+}
+
+/// The integer that "@" makes of a string, rounded down, where it is a number in range.
+pub fn integer(string: &[u8]) -> Option<i32> {
+    let (negative, whole, part) = parts(string)?;
     let size = whole
         .iter()
         .try_fold(0_i64, |size, digit| (size <= i64::from(u32::MAX)).then(|| 10 * size + i64::from(digit - b'0')))?;
@@ -220,12 +265,15 @@ mod tests {
 
     #[test]
     fn names_and_conversions() {
-        let text = b"Local-Constants: c=\"5\"\nAuthorizer: \"POLICY\"\nConditions: @x<1 && @(c . (y))==2 && $z==\"w\";";
+        let text = b"Local-Constants: c=\"5\"\nAuthorizer: \"POLICY\"
+Conditions: @x<1 && @(c . (y))==2 && $z==\"w\" && &y<1.5 && -&(c)>&c;";
         let reading = read(text, &query(&[("y", "6")]));
         let names: Vec<&[u8]> = reading.names.iter().map(|(name, _)| name.as_slice()).collect();
-        assert_eq!((names, reading.computed), (vec![&b"x"[..], b"y", b"z"], true));
+        assert_eq!((names, reading.computed), (vec![&b"x"[..], b"y", b"z", b"y"], true));
         let values: Vec<&[u8]> = reading.conversions.iter().map(|item| item.string.value.as_slice()).collect();
-        assert_eq!(values, [&b""[..], b"56"]);
+        assert_eq!(values, [&b""[..], b"56", b"6", b"5", b"5"]);
+        let to: Vec<&str> = reading.conversions.iter().map(|item| item.to.sign()).collect();
+        assert_eq!(to, ["@", "@", "&", "&", "&"]);
         assert!(!reading.conversions[0].string.set && reading.conversions[1].string.set);
     }
 
@@ -259,6 +307,31 @@ mod tests {
         assert_eq!((of("2147483647.9"), of("-2147483648")), (Some(i32::MAX), Some(i32::MIN)));
         for string in ["", "-", "1.", ".5", "+1", " 1", "1e3", "2147483648", "-2147483648.5", "99999999999999999999"] {
             assert_eq!(of(string), None, "{string}");
+        }
+    }
+
+    #[test]
+    fn floats() {
+        for string in ["0", "-0", "007.50", "123456789012345678", "-12345678901234567.8"] {
+            assert!(Number::Float.holds(string.as_bytes()), "{string}");
+        }
+        for string in
+            ["", "-", "1.", ".5", "+1", " 1", "1e3", "7,5", "7.5 m", "1234567890123456789", "0.000000000000000000"]
+        {
+            assert!(!Number::Float.holds(string.as_bytes()), "{string}");
+        }
+    }
+
+    /// What the library makes 0 of is no number here, but for zero itself.
+    #[test]
+    fn as_the_library_makes_floats() {
+        let texts =
+            ["1", "-7.25", "0.1", "9999999999.5", "123456789012345678", "1234567890123456789", "1.", "x", "7,5", ""];
+        for string in texts {
+            let mut query = query(&[("x", string)]);
+            query.local("Authorizer: \"POLICY\"\nConditions: &x > 0.0 || &x < 0.0;");
+            let rank = ask(&query.record().expect("a record")).map(|answer| answer.rank);
+            assert_eq!(rank, Ok(u8::from(Number::Float.holds(string.as_bytes()))), "{string}");
         }
     }
 

@@ -16,11 +16,18 @@ use second::workload::{self, Workload};
 const GROWTH: &str = "growth";
 
 /// Conditions made to take as long as the limits allow.
-const HOSTILE: [&str; 9] = [
+const HOSTILE: [&str; 16] = [
     "long literals joined",
     "lookups of long names",
     "integers",
     "powers",
+    "float literals",
+    "float literals of 18 digits",
+    "floats of short texts",
+    "floats of 18 digits",
+    "floats of no numbers",
+    "float arithmetic",
+    "float powers",
     "tests",
     "clauses",
     "escapes",

@@ -9,8 +9,11 @@ use second::generate::coverage::Coverage;
 use second::print::PAGE;
 use second::random::Random;
 
-const OPEN_POINTS: [&str; 2] =
-    [include_str!("../../../second/data/open-points.tsv"), include_str!("../../../second/data/open-points-02.tsv")];
+const OPEN_POINTS: [&str; 3] = [
+    include_str!("../../../second/data/open-points.tsv"),
+    include_str!("../../../second/data/open-points-02.tsv"),
+    include_str!("../../../second/data/floats.tsv"),
+];
 const BOTH: [(&str, Implementation); 2] = [("library", fenced), ("second", answer)];
 
 fn unhex(digits: &str) -> Vec<u8> {
@@ -36,7 +39,7 @@ fn open_points() {
         alike(&record);
         count += 1;
     }
-    assert!(count >= 256, "{count} examples");
+    assert_eq!(count, 472);
 }
 
 fn holds(ruling: &Ruling, implementation: Implementation) -> bool {

@@ -2,6 +2,7 @@
 
 mod examples;
 mod fences;
+mod floats;
 mod generated;
 mod journal;
 mod orders;

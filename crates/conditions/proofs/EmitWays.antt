@@ -13,7 +13,7 @@ use Rattle.syntax.specs.Op
 use Rattle.syntax.specs.Code.{entry}
 use Rattle.syntax.specs.Parsed.{refusal}
 use Rattle.conditions.specs.Working.Numbered.{TEST, TEXT, TRUE, fits}
-use Rattle.conditions.specs.Working.Numbered.{operandOf, resultOf}
+use Rattle.conditions.specs.Working.Numbered.{operandOf, resultOf, prefixOf}
 use Rattle.conditions.specs.Word.{nextAt}
 use Rattle.conditions.specs.Working.Emit.{slotOf, above, put, settledTop, settled, Ran, ran, refused, finishAt, endedAt, valuedAt, closedAt}
 use Rattle.conditions.specs.declared.emit.Out.{Out}
@@ -133,3 +133,6 @@ module _ (s : List ℕ) (sort place top : ℕ) (t : Token) where
   pub closed-made : t .kind ≡ Kind.CLOSE → (n : Token) → n ≡ nextAt s (t .end) → Found sort place top n ≡ closedAt s sort place top t
   unfolding closedAt
   closed-made h n e = simp (eq-eqb _ _ h, sym e)
+
+pub prefix-finished : (m : List ℕ) (top op sort place q : ℕ) (n : Token) → q ≡ prefixOf op sort → (y : Ran) → y ≡ finishAt m top q sort place n → y ≡ finishAt m top (prefixOf op sort) sort place n
+prefix-finished m top op sort place q n e y ye = simp (sym e) ye

@@ -109,7 +109,7 @@ module _ (d : ℕ) (s m : List ℕ) (top want row nest : ℕ) (t : Token) (nz : 
       pub operand-bracketed : t .kind ≡ Kind.OPEN → y ≡ bracketedAt (d - 1) s m top want nest t → y ≡ operandAt d s m top want row nest t
       operand-bracketed h ye = simp (operand-unfold s m top nest d nz, sym ae, at, sym oe, eq-eqb _ _ on, eq-eqb _ _ h) ye
 
-      pub operand-leaf : (t .kind ≡ Kind.OPEN → ⊥) → y ≡ leafRead s m top want row t → y ≡ operandAt d s m top want row nest t
+      pub operand-leaf : (t .kind ≡ Kind.OPEN → ⊥) → y ≡ leafRead s m top want t → y ≡ operandAt d s m top want row nest t
       operand-leaf h ye = simp (operand-unfold s m top nest d nz, sym ae, at, sym oe, eq-eqb _ _ on, ne-eqb _ _ h) ye
 
 module _ (d : ℕ) (s m : List ℕ) (top op want row nest : ℕ) (t : Token) (nz : d ≡ 0 → ⊥) where
@@ -121,7 +121,7 @@ module _ (d : ℕ) (s m : List ℕ) (top op want row nest : ℕ) (t : Token) (nz
     pub prefixed-aside : (x p : ℕ) → r ≡ Aside x p → ran (Aside x p) b ≡ prefixedAt d s m top op want row nest t
     prefixed-aside x p e = simp (prefixed-unfold s m top nest d nz, lt-leb _ _ h, sym ne, sym le, sym we, sym re, e)
 
-    pub prefixed-found : (x p u : ℕ) (k : Token) → r ≡ Found x p u k → (y : Ran) → y ≡ finishAt b u op x p k → y ≡ prefixedAt d s m top op want row nest t
+    pub prefixed-found : (x p u : ℕ) (k : Token) → r ≡ Found x p u k → (y : Ran) → y ≡ finishAt b u (Numbered.prefixOf op x) x p k → y ≡ prefixedAt d s m top op want row nest t
     prefixed-found x p u k e y ye = simp (prefixed-unfold s m top nest d nz, lt-leb _ _ h, sym ne, sym le, sym we, sym re, e) ye
 
 module _ (d : ℕ) (s m : List ℕ) (top want nest : ℕ) (t : Token) (nz : d ≡ 0 → ⊥) where

@@ -2,9 +2,10 @@
 use mathlib.Core.Path.{_≡_, refl, sym, _∙_, ap}
 use mathlib.Core.Bool.{Bool, true, false}
 use mathlib.Core.List.{List}
-use Prim.Native.Nat.{ℕ, _<_, _≤_}
+use Prim.Native.Nat.{ℕ, _-_, _<_, _≤_}
+use native.Mathlib.Omega.{arith}
 use lib.ListN.{length}
-use lib.Dec.{leb}
+use lib.Dec.{leb, ltb}
 use borrow.Author.Tests.{lt-ltb, le-ltb, le-leb, lt-leb, leb-true, leb-false, eq-eqb, ne-eqb}
 use Rattle.lexical.specs.Kind
 use Rattle.lexical.specs.Literal.{decodedAt}
@@ -12,7 +13,7 @@ use Rattle.lexical.specs.Number.{LIMIT, numberAt}
 use Rattle.lexical.specs.Word.{spells, word-true, word-false}
 use Rattle.lexical.specs.declared.token.Token.{Token}
 use Rattle.syntax.specs.Op
-use Rattle.conditions.specs.Working.Numbered.{ANY, TEXT, NUMBER, TRUE, FALSE, wordSort}
+use Rattle.conditions.specs.Working.Numbered.{ANY, TEXT, INTEGER, FLOAT, TRUE, FALSE, wordSort}
 use Rattle.conditions.specs.Word.{nextAt}
 use Rattle.conditions.specs.Working.Emit.{Ran, ran, above, put}
 use Rattle.conditions.specs.Working.Leaf.{literalRead, nameRead, digitsRead, floatRead, leafRead}
@@ -55,7 +56,7 @@ module _ (s m : List ℕ) (top : ℕ) (t : Token) where
     digits-large h = simp (sym ve, h)
 
     pub digits-made : v ≡ false → (u : ℕ) (b : List ℕ) (x : Token) → u ≡ above m top → b ≡ put m top Op.NUMBER (t .start) → x ≡ nextAt s (t .end)
-        → ran (Found NUMBER 0 u x) b ≡ digitsRead s m top t
+        → ran (Found INTEGER 0 u x) b ≡ digitsRead s m top t
     unfolding digitsRead
     digits-made h u b x ue be xe = simp (sym ve, h, sym ue, sym be, sym xe)
 
@@ -68,34 +69,32 @@ module _ (s m : List ℕ) (top : ℕ) (t : Token) where
     unfolding nameRead
     name-made h u b ue be = simp (sym we, eq-eqb _ _ h, sym ue, sym be, sym xe)
 
-module _ (row : ℕ) (t : Token) where
-  pub float-row : t .kind ≡ Kind.AMPERSAND → 16 ≤ row → Aside 7 (t .start) ≡ floatRead row t
-  unfolding floatRead
-  float-row h k = simp (eq-eqb _ _ h, le-leb _ _ k)
+pub wide-none : (start end : ℕ) → end ≤ start → false ≡ ltb 19 (end - start)
+wide-none start end h = sym (le-ltb 19 (end - start) (omega (arith, h)))
 
-  pub float-sign : t .kind ≡ Kind.AMPERSAND → row < 16 → Aside 8 (t .start) ≡ floatRead row t
+module _ (s m : List ℕ) (top : ℕ) (t : Token) (v : Bool) (ve : v ≡ ltb 19 (t .end - t .start)) where
+  pub float-wide : v ≡ true → ran (Aside 7 (t .start)) m ≡ floatRead s m top t
   unfolding floatRead
-  float-sign h k = simp (eq-eqb _ _ h, lt-leb _ _ k)
+  float-wide h = simp (sym ve, h)
 
-  pub float-made : (t .kind ≡ Kind.AMPERSAND → ⊥) → Aside 8 (t .start) ≡ floatRead row t
+  pub float-made : v ≡ false → (u : ℕ) (b : List ℕ) (x : Token) → u ≡ above m top → b ≡ put m top Op.DECIMAL (t .start) → x ≡ nextAt s (t .end) → ran (Found FLOAT 0 u x) b ≡ floatRead s m top t
   unfolding floatRead
-  float-made h = simp (ne-eqb _ _ h)
+  float-made h u b x ue be xe = simp (sym ve, h, sym ue, sym be, sym xe)
 
-module _ (s m : List ℕ) (top want row : ℕ) (t : Token) (r : Ran) where
-  pub leaf-literal : t .kind ≡ Kind.LITERAL → r ≡ literalRead s m top t → r ≡ leafRead s m top want row t
+module _ (s m : List ℕ) (top want : ℕ) (t : Token) (r : Ran) where
+  pub leaf-literal : t .kind ≡ Kind.LITERAL → r ≡ literalRead s m top t → r ≡ leafRead s m top want t
   unfolding leafRead
   leaf-literal h e = simp (eq-eqb _ _ h) e
 
   module _ (l : t .kind ≡ Kind.LITERAL → ⊥) where
-    pub leaf-name : t .kind ≡ Kind.NAME → r ≡ nameRead s m top want t → r ≡ leafRead s m top want row t
+    pub leaf-name : t .kind ≡ Kind.NAME → r ≡ nameRead s m top want t → r ≡ leafRead s m top want t
     unfolding leafRead
     leaf-name h e = simp (ne-eqb _ _ l, eq-eqb _ _ h) e
 
-    pub leaf-digits : (t .kind ≡ Kind.NAME → ⊥) → t .kind ≡ Kind.DIGITS → r ≡ digitsRead s m top t → r ≡ leafRead s m top want row t
+    pub leaf-digits : (t .kind ≡ Kind.NAME → ⊥) → t .kind ≡ Kind.DIGITS → r ≡ digitsRead s m top t → r ≡ leafRead s m top want t
     unfolding leafRead
     leaf-digits n h e = simp (ne-eqb _ _ l, ne-eqb _ _ n, eq-eqb _ _ h) e
 
-pub leaf-float : (s m : List ℕ) (top want row : ℕ) (t : Token) → (t .kind ≡ Kind.LITERAL → ⊥) → (t .kind ≡ Kind.NAME → ⊥) → (t .kind ≡ Kind.DIGITS → ⊥)
-    → (o : Out) → o ≡ floatRead row t → ran o m ≡ leafRead s m top want row t
-unfolding leafRead
-leaf-float s m top want row t l n d o e = simp (ne-eqb _ _ l, ne-eqb _ _ n, ne-eqb _ _ d, e)
+    pub leaf-float : (t .kind ≡ Kind.NAME → ⊥) → (t .kind ≡ Kind.DIGITS → ⊥) → r ≡ floatRead s m top t → r ≡ leafRead s m top want t
+    unfolding leafRead
+    leaf-float n d e = simp (ne-eqb _ _ l, ne-eqb _ _ n, ne-eqb _ _ d) e

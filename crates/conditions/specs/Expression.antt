@@ -28,7 +28,7 @@ abbrev pub operandOf : (Unary → Want → ℕ → ℕ → Token → Parsed Part
 operandOf prefixed bracketed s want row nest t =
     pick (Table.allows want (t .kind))
     (Table.onPrefix (Table.prefixOperator (t .kind))
-    (pick (eqb (t .kind) Kind.OPEN) (bracketed want nest t) (readLeaf s want row t))
+    (pick (eqb (t .kind) Kind.OPEN) (bracketed want nest t) (readLeaf s want t))
     (λ op. prefixed op want row nest t))
     (unexpected t)
 
@@ -37,7 +37,7 @@ abbrev pub prefixedOf : Reader → List ℕ → Unary → Want → ℕ → ℕ �
 prefixedOf expression s op want row nest t =
     pick (leb 16 row) (aside 7 (t .start))
     (onPart (expression (Table.operandLevel op) (Table.operandWant op want) (row + 1) nest (nextAt s (t .end)))
-    (λ sort e n. applied (unary op) (unaryTakes op) (unaryGives op) sort e n))
+    (λ sort e n. applied (unary (Table.prefixOf op sort)) (unaryTakes (Table.prefixOf op sort)) (unaryGives (Table.prefixOf op sort)) sort e n))
 
 abbrev pub closing : List ℕ → PartSort → Expr → Token → Parsed Part
 closing s sort e t = pick (eqb (t .kind) Kind.CLOSE) (ok (part sort e) (nextAt s (t .end))) (unexpected t)

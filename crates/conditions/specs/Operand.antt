@@ -1,7 +1,7 @@
 -- Operands of one token, and what an operator makes of its operands. Assumes nothing.
 use mathlib.Core.Bool.{Bool}
 use mathlib.Core.List.{List}
-use Prim.Native.Nat.{ℕ}
+use Prim.Native.Nat.{ℕ, _-_}
 use lib.Dec.{eqb, leb, ltb}
 use lib.ListN.{length}
 use Rattle.text.specs.Choice.{pick}
@@ -9,9 +9,9 @@ use Rattle.lexical.specs.Kind
 use Rattle.lexical.specs.Literal.{decodedAt}
 use Rattle.lexical.specs.Number as Number
 use Rattle.lexical.specs.declared.token.Token.{Token}
-use Rattle.syntax.specs.Operator.{Sort, a-string, an-integer, a-test}
-use Rattle.syntax.specs.Expr.{Expr, literal, name, number, truth}
-use Rattle.syntax.specs.Code.{nameAt, numberAt}
+use Rattle.syntax.specs.Operator.{Sort, a-string, an-integer, a-float, a-test}
+use Rattle.syntax.specs.Expr.{Expr, literal, name, number, truth, decimal}
+use Rattle.syntax.specs.Code.{nameAt, numberAt, decimalAt}
 use Rattle.conditions.specs.Table.{PartSort, sorted, word, Want, fits}
 use Rattle.conditions.specs.Word.{nextAt, wordSort}
 use Rattle.syntax.specs.Parsed.{Parsed, ok, aside, unexpected}
@@ -32,20 +32,21 @@ readDigits s t =
     pick (leb Number.LIMIT (Number.numberAt s (t .start) (t .end))) (aside 5 (t .start))
     (ok (part (sorted an-integer) (number (numberAt s (t .start)))) (nextAt s (t .end)))
 
--- reason 8: ""&" as conversion, float literal"; "&" is a prefix operator too: reason 7 for the seventeenth in a row
-unfoldable pub readFloat : ℕ → Token → Parsed Part
-readFloat row t = pick (eqb (t .kind) Kind.AMPERSAND) (pick (leb 16 row) (aside 7 (t .start)) (aside 8 (t .start))) (aside 8 (t .start))
+-- reason 7: "Literals [..] of at most 18 digits", which is 19 bytes with the point
+unfoldable pub readFloat : List ℕ → Token → Parsed Part
+readFloat s t = pick (ltb 19 (t .end - t .start)) (aside 7 (t .start)) (ok (part (sorted a-float) (decimal (decimalAt s (t .start)))) (nextAt s (t .end)))
 
-unfoldable pub readLeaf : List ℕ → Want → ℕ → Token → Parsed Part
-readLeaf s want row t =
+unfoldable pub readLeaf : List ℕ → Want → Token → Parsed Part
+readLeaf s want t =
     pick (eqb (t .kind) Kind.LITERAL) (readLiteral s t)
     (pick (eqb (t .kind) Kind.NAME) (readName s want t)
-    (pick (eqb (t .kind) Kind.DIGITS) (readDigits s t) (readFloat row t)))
+    (pick (eqb (t .kind) Kind.DIGITS) (readDigits s t) (readFloat s t)))
 
 -- a bare word becomes the test or the string that is wanted
 abbrev pub wordTree : Sort → Bool → Expr → Expr
 wordTree a-string b e = e
 wordTree an-integer b e = truth b
+wordTree a-float b e = truth b
 wordTree a-test b e = truth b
 
 unfoldable pub settledTree : Sort → PartSort → Expr → Expr

@@ -4,6 +4,7 @@ use crate::table::TEXT;
 use crate::table::TRUE;
 use crate::table::is_fit;
 use crate::table::operand_of;
+use crate::table::prefix_of;
 use crate::table::refusal_of;
 use crate::table::result_of;
 use lexical::kind;
@@ -12,7 +13,7 @@ use lexical::token::Token;
 use syntax;
 ghost use mathlib.Core.Path.{_≡_};
 ghost use Prim.Native.Nat.{_<_};
-ghost use Rattle.conditions.specs.Working.Numbered.{operandOf};
+ghost use Rattle.conditions.specs.Working.Numbered.{operandOf, prefixOf};
 ghost use Rattle.conditions.specs.Working.Emit.{slotOf, above, put, settledTop, settled, ran, refused, finishAt, endedAt, valuedAt, closedAt};
 
 // What was read: its sort, the place of a bare word that is not settled yet, the end of the code, and the token behind it. Or the
@@ -120,7 +121,22 @@ pub fn finish_any(code: &mut [u32], top: usize, op: u32, sort: u8, place: usize,
     unexpected(next)
 }
 
-// The same, at once where the operand is no bare word.
+// Writes a prefix operator behind its operand.
+pub fn finish_prefix(
+    code: &mut [u32],
+    top: usize,
+    op: u32,
+    sort: u8,
+    place: usize,
+    next: Token,
+) -> Out
+    ensures { λ r. ⌜ ran r (now (code .exit)) ≡ finishAt (now (code .entry)) top (prefixOf op sort) sort place next ⌝ }
+{
+    let p = prefix_of(op, sort);
+    finish_any(code, top, p, sort, place, next)
+}
+
+// The same as finish_any, at once where the operand is no bare word.
 pub fn finish(code: &mut [u32], top: usize, op: u32, sort: u8, place: usize, next: Token) -> Out
     ensures { λ r. ⌜ ran r (now (code .exit)) ≡ finishAt (now (code .entry)) top op sort place next ⌝ }
 {

@@ -2,7 +2,7 @@
 use crate::emit::Out;
 use crate::emit::closed;
 use crate::emit::finish;
-use crate::emit::finish_any;
+use crate::emit::finish_prefix;
 use crate::emit::settle_for;
 use crate::emit::unexpected;
 use crate::leaf::ROW;
@@ -85,7 +85,7 @@ fn operand(
         if t.kind == kind::OPEN {
             return bracketed(s, code, top, want, nest, t, d - 1);
         }
-        return leaf(s, code, top, want, row, t);
+        return leaf(s, code, top, want, t);
     }
     unexpected(t)
 }
@@ -131,7 +131,7 @@ fn prefixed(
             place,
             top: u,
             next,
-        } => finish_any(code, u, op, sort, place, next),
+        } => finish_prefix(code, u, op, sort, place, next),
     }
 }
 

@@ -3,7 +3,8 @@ use crate::emit::Out;
 use crate::emit::push;
 use crate::table::ANY;
 use crate::table::FALSE;
-use crate::table::NUMBER;
+use crate::table::FLOAT;
+use crate::table::INTEGER;
 use crate::table::TEXT;
 use crate::table::TRUE;
 use lexical::kind;
@@ -15,12 +16,17 @@ use lexical::word::is_false;
 use lexical::word::is_true;
 use syntax;
 ghost use mathlib.Core.Path.{_≡_};
+ghost use Prim.Native.Nat.{_-_};
+ghost use lib.Dec.{ltb};
 ghost use Rattle.conditions.specs.Working.Numbered.{wordSort};
 ghost use Rattle.conditions.specs.Working.Emit.{ran};
 ghost use Rattle.conditions.specs.Working.Leaf.{literalRead, nameRead, digitsRead, floatRead, leafRead};
 
-// The most bytes that a literal may give, and the most prefix operators in a row.
+// The most bytes that a literal may give, the most bytes of a float literal, which are 18 digits and a point, and the most prefix operators in
+// a row.
 pub const LONGEST: usize = 2048;
+
+pub const WIDEST: usize = 19;
 
 pub const ROW: usize = 16;
 
@@ -96,34 +102,46 @@ fn digits(s: &[u8], code: &mut [u32], top: usize, t: Token) -> Out
     let u = push(code, top, syntax::NUMBER, t.start);
     let next = token_at(s, kind::IN_FIELD, t.end);
     Out::Found {
-        sort: NUMBER,
+        sort: INTEGER,
         place: 0,
         top: u,
         next,
     }
 }
 
-// A float literal, or "&" behind so many prefix operators in a row.
-fn float(row: usize, t: Token) -> Out
-    ensures { λ r. ⌜ r ≡ floatRead row t ⌝ }
+// Are there more bytes than a float literal may have?
+fn is_wide(start: usize, end: usize) -> bool
+    ensures { λ r. ⌜ r ≡ ltb 19 (end - start) ⌝ }
 {
-    if t.kind == kind::AMPERSAND {
-        if ROW <= row {
-            return Out::Aside {
-                reason: 7,
-                at: t.start,
-            };
-        }
+    if end <= start {
+        return false;
     }
-    Out::Aside {
-        reason: 8,
-        at: t.start,
+    WIDEST < end - start
+}
+
+// A float literal.
+fn float(s: &[u8], code: &mut [u32], top: usize, t: Token) -> Out
+    ensures { λ r. ⌜ ran r (now (code .exit)) ≡ floatRead (now (s .entry)) (now (code .entry)) top t ⌝ }
+{
+    if is_wide(t.start, t.end) {
+        return Out::Aside {
+            reason: 7,
+            at: t.start,
+        };
+    }
+    let u = push(code, top, syntax::DECIMAL, t.start);
+    let next = token_at(s, kind::IN_FIELD, t.end);
+    Out::Found {
+        sort: FLOAT,
+        place: 0,
+        top: u,
+        next,
     }
 }
 
 // A token that may stand as an operand and is neither a prefix operator nor a bracket.
-pub fn leaf(s: &[u8], code: &mut [u32], top: usize, want: u8, row: usize, t: Token) -> Out
-    ensures { λ r. ⌜ ran r (now (code .exit)) ≡ leafRead (now (s .entry)) (now (code .entry)) top want row t ⌝ }
+pub fn leaf(s: &[u8], code: &mut [u32], top: usize, want: u8, t: Token) -> Out
+    ensures { λ r. ⌜ ran r (now (code .exit)) ≡ leafRead (now (s .entry)) (now (code .entry)) top want t ⌝ }
 {
     if t.kind == kind::LITERAL {
         return literal(s, code, top, t);
@@ -134,5 +152,5 @@ pub fn leaf(s: &[u8], code: &mut [u32], top: usize, want: u8, row: usize, t: Tok
     if t.kind == kind::DIGITS {
         return digits(s, code, top, t);
     }
-    float(row, t)
+    float(s, code, top, t)
 }

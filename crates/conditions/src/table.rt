@@ -7,21 +7,23 @@ ghost use Prim.Native.Nat.{_<_};
 ghost use Rattle.text.specs.Choice.{pick};
 ghost use Rattle.syntax.specs.Parsed.{refusal};
 ghost use Rattle.conditions.specs.Table.{beginsString, beginsNumber, beginsFloat, stops};
-ghost use Rattle.conditions.specs.Working.Numbered.{allows, insideLevel, fits, comparison, numberOperator, textOperator, testOperator, operator, prefixOperator, levelOf, operandOf, resultOf, operandLevel, operandWant, rightWant, rightLevel, binds};
+ghost use Rattle.conditions.specs.Working.Numbered.{allows, begins, insideLevel, fits, comparison, numberOperator, floatOperator, textOperator, testOperator, operator, prefixOperator, prefixOf, levelOf, levelAbove, operandOf, operandAbove, resultOf, resultAbove, operandLevel, operandWant, rightWant, rightLevel, binds};
 
 pub const ANY: u8 = 0;
 
 pub const TEXT: u8 = 1;
 
-pub const NUMBER: u8 = 2;
+pub const INTEGER: u8 = 2;
 
-pub const INTEGER: u8 = 3;
+pub const FLOAT: u8 = 3;
+
+pub const NUMBER: u8 = 4;
 
 pub const TEST: u8 = 0;
 
-pub const TRUE: u8 = 3;
+pub const TRUE: u8 = 4;
 
-pub const FALSE: u8 = 4;
+pub const FALSE: u8 = 5;
 
 pub const NONE: u32 = 0;
 
@@ -32,23 +34,33 @@ pub fn is_allowed(want: u8, k: usize) -> bool
     if k == kind::OPEN {
         return true;
     }
-    if k == kind::NOT {
-        return want == ANY;
-    }
     if want == TEXT {
         return is_string(k);
     }
+    if want == INTEGER {
+        return is_number(k);
+    }
+    if want == FLOAT {
+        return is_float(k);
+    }
+    is_begun(want, k)
+}
+
+// The same where a number or anything is wanted.
+fn is_begun(want: u8, k: usize) -> bool
+    ensures { λ r. ⌜ r ≡ begins want k ⌝ }
+{
     if is_number(k) {
         return true;
-    }
-    if want == INTEGER {
-        return false;
     }
     if is_float(k) {
         return true;
     }
     if want == NUMBER {
         return false;
+    }
+    if k == kind::NOT {
+        return true;
     }
     is_string(k)
 }
@@ -79,11 +91,14 @@ pub fn is_number(k: usize) -> bool
     k == kind::AT
 }
 
-// Does only a float begin with it?
+// Does a float begin with it?
 pub fn is_float(k: usize) -> bool
     ensures { λ r. ⌜ r ≡ beginsFloat k ⌝ }
 {
     if k == kind::FLOAT {
+        return true;
+    }
+    if k == kind::MINUS {
         return true;
     }
     k == kind::AMPERSAND
@@ -105,7 +120,7 @@ pub fn refusal_of(k: usize) -> u8
 // The comparison of strings, or NONE.
 pub fn comparison_of(k: usize) -> u32
     ensures { λ r. ⌜ r ≡ comparison k ⌝ }
-    ensures { λ r. ⌜ r < 22 ⌝ }
+    ensures { λ r. ⌜ r < 25 ⌝ }
 {
     if k == kind::EQUAL {
         return syntax::TEXT_EQUAL;
@@ -157,6 +172,40 @@ pub fn number_operator(k: usize) -> u32
     c + 7
 }
 
+// The operator behind a float, or NONE.
+pub fn float_operator(k: usize) -> u32
+    ensures { λ r. ⌜ r ≡ floatOperator k ⌝ }
+{
+    if k == kind::POWER {
+        return syntax::FLOAT_POWER;
+    }
+    if k == kind::TIMES {
+        return syntax::FLOAT_TIMES;
+    }
+    if k == kind::DIVIDE {
+        return syntax::FLOAT_OVER;
+    }
+    if k == kind::PLUS {
+        return syntax::FLOAT_PLUS;
+    }
+    if k == kind::MINUS {
+        return syntax::FLOAT_MINUS;
+    }
+    if k == kind::LESS {
+        return syntax::FLOAT_LESS;
+    }
+    if k == kind::GREATER {
+        return syntax::FLOAT_GREATER;
+    }
+    if k == kind::AT_MOST {
+        return syntax::FLOAT_AT_MOST;
+    }
+    if k == kind::AT_LEAST {
+        return syntax::FLOAT_AT_LEAST;
+    }
+    NONE
+}
+
 // The operator behind a string, or NONE.
 pub fn text_operator(k: usize) -> u32
     ensures { λ r. ⌜ r ≡ textOperator k ⌝ }
@@ -187,11 +236,14 @@ pub fn test_operator(k: usize) -> u32
 pub fn operator_of(sort: u8, k: usize) -> u32
     ensures { λ r. ⌜ r ≡ operator sort k ⌝ }
 {
-    if sort == NUMBER {
+    if sort == INTEGER {
         return number_operator(k);
     }
     if sort == TEXT {
         return text_operator(k);
+    }
+    if sort == FLOAT {
+        return float_operator(k);
     }
     let o = test_operator(k);
     if o != NONE {
@@ -219,7 +271,22 @@ pub fn prefix_operator(k: usize) -> u32
     if k == kind::NOT {
         return syntax::OPPOSITE;
     }
+    if k == kind::AMPERSAND {
+        return syntax::TO_FLOAT;
+    }
     NONE
+}
+
+// Unary "-" is that of what stands behind it.
+pub fn prefix_of(op: u32, sort: u8) -> u32
+    ensures { λ r. ⌜ r ≡ prefixOf op sort ⌝ }
+{
+    if op == syntax::NEGATE {
+        if sort == FLOAT {
+            return syntax::FLOAT_NEGATE;
+        }
+    }
+    op
 }
 
 // How tightly an operator between two operands binds.
@@ -228,16 +295,7 @@ pub fn level_of(op: u32) -> u8
     ensures { λ r. ⌜ r < 6 ⌝ }
 {
     if syntax::MINUS < op {
-        if op < syntax::BOTH {
-            return 2;
-        }
-        if op == syntax::BOTH {
-            return 1;
-        }
-        if op == syntax::EITHER {
-            return 0;
-        }
-        return 2;
+        return level_above(op);
     }
     if syntax::REMAINDER < op {
         return 3;
@@ -251,27 +309,66 @@ pub fn level_of(op: u32) -> u8
     4
 }
 
+// The same of a comparison, of an operator of floats or of tests.
+fn level_above(op: u32) -> u8
+    ensures { λ r. ⌜ r ≡ levelAbove op ⌝ }
+    ensures { λ r. ⌜ r < 6 ⌝ }
+{
+    if op < syntax::FLOAT_POWER {
+        return 2;
+    }
+    if syntax::FLOAT_MINUS < op {
+        if op < syntax::BOTH {
+            return 2;
+        }
+        if op == syntax::BOTH {
+            return 1;
+        }
+        return 0;
+    }
+    if syntax::FLOAT_OVER < op {
+        return 3;
+    }
+    if op == syntax::FLOAT_POWER {
+        return 5;
+    }
+    4
+}
+
 // What an operator takes.
 pub fn operand_of(op: u32) -> u8
     ensures { λ r. ⌜ r ≡ operandOf op ⌝ }
 {
-    if syntax::MINUS < op {
-        if syntax::AT_LEAST < op {
-            return TEST;
-        }
-        if syntax::MATCHES < op {
-            return NUMBER;
-        }
-        return TEXT;
-    }
     if syntax::JOIN < op {
-        return NUMBER;
+        if syntax::MINUS < op {
+            return operand_above(op);
+        }
+        return INTEGER;
     }
     if op == syntax::NEGATE {
-        return NUMBER;
+        return INTEGER;
     }
     if op == syntax::OPPOSITE {
         return TEST;
+    }
+    if op == syntax::FLOAT_NEGATE {
+        return FLOAT;
+    }
+    TEXT
+}
+
+// The same of a comparison, of an operator of floats or of tests.
+fn operand_above(op: u32) -> u8
+    ensures { λ r. ⌜ r ≡ operandAbove op ⌝ }
+{
+    if syntax::MATCHES < op {
+        if syntax::AT_LEAST < op {
+            if op < syntax::BOTH {
+                return FLOAT;
+            }
+            return TEST;
+        }
+        return INTEGER;
     }
     TEXT
 }
@@ -280,11 +377,11 @@ pub fn operand_of(op: u32) -> u8
 pub fn result_of(op: u32) -> u8
     ensures { λ r. ⌜ r ≡ resultOf op ⌝ }
 {
-    if syntax::MINUS < op {
-        return TEST;
-    }
     if syntax::JOIN < op {
-        return NUMBER;
+        if syntax::MINUS < op {
+            return result_above(op);
+        }
+        return INTEGER;
     }
     if op == syntax::OPPOSITE {
         return TEST;
@@ -295,7 +392,23 @@ pub fn result_of(op: u32) -> u8
     if op == syntax::JOIN {
         return TEXT;
     }
-    NUMBER
+    if syntax::OPPOSITE < op {
+        return FLOAT;
+    }
+    INTEGER
+}
+
+// The same of a comparison, of an operator of floats or of tests.
+fn result_above(op: u32) -> u8
+    ensures { λ r. ⌜ r ≡ resultAbove op ⌝ }
+{
+    if syntax::AT_LEAST < op {
+        if syntax::FLOAT_MINUS < op {
+            return TEST;
+        }
+        return FLOAT;
+    }
+    TEST
 }
 
 // How far the operand of a prefix operator reaches.
@@ -315,27 +428,23 @@ pub fn operand_want(op: u32, want: u8) -> u8
     if op == syntax::OPPOSITE {
         return ANY;
     }
-    if op != syntax::NEGATE {
-        return TEXT;
+    if op == syntax::NEGATE {
+        if want == ANY {
+            return NUMBER;
+        }
+        return want;
     }
-    if want == ANY {
-        return NUMBER;
+    if op == syntax::FLOAT_NEGATE {
+        return FLOAT;
     }
-    want
+    TEXT
 }
 
 // What is wanted to the right of an operator.
 pub fn right_want(op: u32) -> u8
     ensures { λ r. ⌜ r ≡ rightWant op ⌝ }
 {
-    let x = operand_of(op);
-    if x == TEST {
-        return ANY;
-    }
-    if x == TEXT {
-        return TEXT;
-    }
-    INTEGER
+    operand_of(op)
 }
 
 // How far the right operand of an operator reaches.
@@ -375,10 +484,7 @@ pub fn is_fit(wanted: u8, sort: u8) -> bool
     if sort < TRUE {
         return false;
     }
-    if wanted == NUMBER {
-        return false;
-    }
-    true
+    wanted < INTEGER
 }
 
 // Does a program in so many brackets end before a token of this kind?

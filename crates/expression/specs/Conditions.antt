@@ -5,8 +5,9 @@ use Prim.Native.Nat.{ℕ, suc, _-_, max}
 use lib.ListN.{length}
 use Rattle.text.specs.Choice.{pick}
 use Rattle.text.specs.Equal.{equal}
-use Rattle.syntax.specs.Expr.{Expr, literal, name, number, truth, unary, binary, Program, none, also, Clause, plain, valued, nested}
-use Rattle.expression.specs.Value.{Value, text, integer, test, rank, fault}
+use Rattle.float.specs.Written.{floatOf}
+use Rattle.syntax.specs.Expr.{Expr, literal, name, number, truth, decimal, unary, binary, Program, none, also, Clause, plain, valued, nested}
+use Rattle.expression.specs.Value.{Value, text, integer, test, rank, float, fault}
 use Rattle.expression.specs.Integers.{ranged}
 use Rattle.expression.specs.Names.{Environment, lookup}
 use Rattle.expression.specs.Operations.{held, unaryOf, binaryOf}
@@ -17,6 +18,7 @@ evaluate env (literal b) = held b
 evaluate env (name n) = held (lookup env n)
 evaluate env (number n) = ranged false n
 evaluate env (truth t) = test t
+evaluate env (decimal b) = float (floatOf b)
 evaluate env (unary op e) = unaryOf (lookup env) op (evaluate env e)
 evaluate env (binary op e f) = binaryOf op (evaluate env e) (evaluate env f)
 
@@ -30,6 +32,7 @@ rankOf vs (text b) = indexFrom 0 vs b
 rankOf vs (integer i) = 0
 rankOf vs (test t) = 0
 rankOf vs (rank n) = 0
+rankOf vs (float x) = 0
 rankOf vs fault = 0
 
 -- "no value means top"
@@ -42,6 +45,7 @@ gate (text b) n = 0
 gate (integer i) n = 0
 gate (test t) n = pick t n 0
 gate (rank m) n = 0
+gate (float x) n = 0
 gate fault n = 0
 
 -- "the maximum over clauses whose test holds"

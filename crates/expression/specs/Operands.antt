@@ -3,13 +3,15 @@ use mathlib.Core.Bool.{Bool, true, false}
 use mathlib.Core.List.{List}
 use Prim.Native.Nat.{ℕ}
 use lib.Dec.{eqb}
+use lib.Ieee.{Float as Single, binary32, toBits, ofBits}
 use Rattle.text.specs.Choice.{pick}
 use Rattle.text.specs.Decimal.{integer as signed}
 use Rattle.text.specs.declared.Integer.{Integer}
-use Rattle.expression.specs.Value.{Value, text, integer, test, rank, fault}
+use Rattle.float.specs.Bits.{floatAt}
+use Rattle.expression.specs.Value.{Value, text, integer, test, rank, float, fault}
 use Rattle.expression.specs.declared.value.Operand.{Operand}
 use Rattle.expression.specs.declared.value.Packed.{Packed}
-use Rattle.expression.specs.declared.value.Operand.the-variants.{Text, Number, Test, Rank, Fault}
+use Rattle.expression.specs.declared.value.Operand.the-variants.{Text, Number, Test, Rank, Float, Fault}
 
 -- the two numbers
 unfoldable pub kindOf : Operand → ℕ
@@ -17,6 +19,7 @@ kindOf (Text n) = 0
 kindOf (Number b m) = pick b 2 1
 kindOf (Test t) = pick t 4 3
 kindOf (Rank n) = 5
+kindOf (Float f) = 7
 kindOf Fault = 6
 
 unfoldable pub sizeOf : Operand → ℕ
@@ -24,6 +27,7 @@ sizeOf (Text n) = n
 sizeOf (Number b m) = m
 sizeOf (Test t) = 0
 sizeOf (Rank n) = n
+sizeOf (Float f) = toBits binary32 f
 sizeOf Fault = 0
 
 abbrev pub pack : Operand → Packed
@@ -37,7 +41,8 @@ unpacked k n =
     (pick (eqb k 2) (Number true n)
     (pick (eqb k 3) (Test false)
     (pick (eqb k 4) (Test true)
-    (pick (eqb k 5) (Rank n) Fault)))))
+    (pick (eqb k 5) (Rank n)
+    (pick (eqb k 7) (Float (floatAt n)) Fault))))))
 
 -- how many bytes it has
 unfoldable pub width : Operand → ℕ
@@ -45,6 +50,7 @@ width (Text n) = n
 width (Number b m) = 0
 width (Test t) = 0
 width (Rank n) = 0
+width (Float f) = 0
 width Fault = 0
 
 -- the value of an operand with these bytes
@@ -53,6 +59,7 @@ valueOf (Text n) a = text a
 valueOf (Number b m) a = integer (signed b m)
 valueOf (Test t) a = test t
 valueOf (Rank n) a = rank n
+valueOf (Float f) a = float f
 valueOf Fault a = fault
 
 -- what an operand is, and what it holds
@@ -61,6 +68,7 @@ isText (Text n) = true
 isText (Number b m) = false
 isText (Test t) = false
 isText (Rank n) = false
+isText (Float f) = false
 isText Fault = false
 
 unfoldable pub isNumber : Operand → Bool
@@ -68,6 +76,7 @@ isNumber (Text n) = false
 isNumber (Number b m) = true
 isNumber (Test t) = false
 isNumber (Rank n) = false
+isNumber (Float f) = false
 isNumber Fault = false
 
 unfoldable pub integerIn : Operand → Integer
@@ -75,13 +84,31 @@ integerIn (Text n) = signed false 0
 integerIn (Number b m) = signed b m
 integerIn (Test t) = signed false 0
 integerIn (Rank n) = signed false 0
+integerIn (Float f) = signed false 0
 integerIn Fault = signed false 0
+
+unfoldable pub isFloat : Operand → Bool
+isFloat (Text n) = false
+isFloat (Number b m) = false
+isFloat (Test t) = false
+isFloat (Rank n) = false
+isFloat (Float f) = true
+isFloat Fault = false
+
+unfoldable pub floatIn : Operand → Single
+floatIn (Text n) = ofBits binary32 0
+floatIn (Number b m) = ofBits binary32 0
+floatIn (Test t) = ofBits binary32 0
+floatIn (Rank n) = ofBits binary32 0
+floatIn (Float f) = f
+floatIn Fault = ofBits binary32 0
 
 unfoldable pub isTest : Operand → Bool
 isTest (Text n) = false
 isTest (Number b m) = false
 isTest (Test t) = true
 isTest (Rank n) = false
+isTest (Float f) = false
 isTest Fault = false
 
 unfoldable pub isFault : Operand → Bool
@@ -89,6 +116,7 @@ isFault (Text n) = false
 isFault (Number b m) = false
 isFault (Test t) = false
 isFault (Rank n) = false
+isFault (Float f) = false
 isFault Fault = true
 
 unfoldable pub holdsIn : Operand → Bool
@@ -96,6 +124,7 @@ holdsIn (Text n) = false
 holdsIn (Number b m) = false
 holdsIn (Test t) = t
 holdsIn (Rank n) = false
+holdsIn (Float f) = false
 holdsIn Fault = false
 
 unfoldable pub rankIn : Operand → ℕ
@@ -103,6 +132,7 @@ rankIn (Text n) = 0
 rankIn (Number b m) = 0
 rankIn (Test t) = 0
 rankIn (Rank n) = n
+rankIn (Float f) = 0
 rankIn Fault = 0
 
 -- the test that it is

@@ -4,6 +4,7 @@ use mathlib.Core.List.{List, _++_}
 use Prim.Native.Nat.{ℕ}
 use lib.Dec.{ltb}
 use lib.ListN.{length}
+use lib.Ieee.{Float, lt, le}
 use Rattle.text.specs.Choice.{pick}
 use Rattle.text.specs.Order.{order}
 use Rattle.text.specs.Decimal.{decimal}
@@ -13,9 +14,13 @@ use Rattle.text.specs.declared.Order.the-variants.{Less, Equal, Greater}
 use Rattle.pattern.specs.Test.{testOf}
 use Rattle.pattern.specs.declared.Answer.{Answer}
 use Rattle.pattern.specs.declared.Answer.the-variants.{Yes, No, Error}
-use Rattle.syntax.specs.Operator.{Unary, Binary, Relation}
+use Rattle.float.specs.Written.{floatOf}
+use Rattle.float.specs.Operations as Floats
+use Rattle.float.specs.declared.operation.Computed.{Computed}
+use Rattle.float.specs.declared.operation.Computed.the-variants as computed
+use Rattle.syntax.specs.Operator.{Unary, Binary, Relation, Ordering}
 use Rattle.syntax.specs.Operator as Operator
-use Rattle.expression.specs.Value.{Value, text, integer, test, fault, onText, onInteger, onTest}
+use Rattle.expression.specs.Value.{Value, text, integer, test, float, fault, onText, onInteger, onTest, onFloat}
 use Rattle.expression.specs.Integers.{plus, minus, times, over, remainder, power, negated, compared}
 
 -- "string over 4,096 bytes" is a fault
@@ -56,12 +61,27 @@ answered Error = fault
 unfoldable pub matched : List ℕ → List ℕ → Value
 matched a b = answered (testOf b a)
 
--- two strings, two integers
+-- "An infinite or not-a-number result is an error"
+abbrev pub valued : Computed → Value
+valued (computed.Finite x) = float x
+valued computed.Error = fault
+
+-- comparisons of floats
+unfoldable pub ordered : Ordering → Float → Float → Bool
+ordered Operator.float-less a b = lt a b
+ordered Operator.float-greater a b = lt b a
+ordered Operator.float-at-most a b = le a b
+ordered Operator.float-at-least a b = le b a
+
+-- two strings, two integers, two floats
 unfoldable pub onTexts : (List ℕ → List ℕ → Value) → Value → Value → Value
 onTexts f v w = onText (λ a. onText (λ b. f a b) w) v
 
 unfoldable pub onIntegers : (Integer → Integer → Value) → Value → Value → Value
 onIntegers f v w = onInteger (λ a. onInteger (λ b. f a b) w) v
+
+unfoldable pub onFloats : (Float → Float → Value) → Value → Value → Value
+onFloats f v w = onFloat (λ a. onFloat (λ b. f a b) w) v
 
 -- strings compare "by byte; a proper prefix is less"; "&& and || go left to right and stop once decided"
 unfoldable pub binaryOf : Binary → Value → Value → Value
@@ -75,6 +95,12 @@ binaryOf Operator.minus v w = onIntegers minus v w
 binaryOf (Operator.comparison Operator.strings r) v w = onTexts (λ a b. test (relates r (order a b))) v w
 binaryOf (Operator.comparison Operator.integers r) v w = onIntegers (λ a b. test (relates r (compared a b))) v w
 binaryOf Operator.matches v w = onTexts matched v w
+binaryOf Operator.float-power v w = onFloats (λ a b. valued (Floats.power a b)) v w
+binaryOf Operator.float-times v w = onFloats (λ a b. valued (Floats.times a b)) v w
+binaryOf Operator.float-over v w = onFloats (λ a b. valued (Floats.over a b)) v w
+binaryOf Operator.float-plus v w = onFloats (λ a b. valued (Floats.plus a b)) v w
+binaryOf Operator.float-minus v w = onFloats (λ a b. valued (Floats.minus a b)) v w
+binaryOf (Operator.float-order o) v w = onFloats (λ a b. test (ordered o a b)) v w
 binaryOf Operator.both v w = onTest (λ t. pick t (onTest test w) (test false)) v
 binaryOf Operator.either v w = onTest (λ t. pick t (test true) (onTest test w)) v
 
@@ -88,9 +114,18 @@ negative v = onInteger negated v
 unfoldable pub opposite : Value → Value
 opposite v = onTest (λ t. test (not t)) v
 
+-- "&", unary "-" of floats
+unfoldable pub toFloat : Value → Value
+toFloat v = onText (λ a. float (floatOf a)) v
+
+unfoldable pub floatNegative : Value → Value
+floatNegative v = onFloat (λ a. valued (Floats.negated a)) v
+
 -- "$" looks its string up
 unfoldable pub unaryOf : (List ℕ → List ℕ) → Unary → Value → Value
 unaryOf look Operator.lookup v = onText (λ a. held (look a)) v
 unaryOf look Operator.convert v = converted v
 unaryOf look Operator.negate v = negative v
 unaryOf look Operator.opposite v = opposite v
+unaryOf look Operator.to-float v = toFloat v
+unaryOf look Operator.float-negate v = floatNegative v

@@ -7,7 +7,7 @@ use Rattle.text.specs.Choice.{pick}
 use Rattle.text.specs.Equal.{equal}
 use Rattle.record.specs.Query.{Attribute}
 use Rattle.syntax.specs.Operator.{isLookup}
-use Rattle.syntax.specs.Expr.{Expr, literal, name, number, truth, unary, binary, Program, none, also, Clause, plain, valued, nested}
+use Rattle.syntax.specs.Expr.{Expr, literal, name, number, truth, decimal, unary, binary, Program, none, also, Clause, plain, valued, nested}
 use Rattle.expression.specs.Names.{Environment}
 
 -- "the name stands there as a string"; "$" may read any name
@@ -16,6 +16,7 @@ reads (literal b) n = false
 reads (name m) n = equal m n
 reads (number k) n = false
 reads (truth t) n = false
+reads (decimal b) n = false
 reads (unary op e) n = isLookup op || reads e n
 reads (binary op e f) n = reads e n || reads f n
 

@@ -4,7 +4,7 @@ use mathlib.Core.List.{List}
 use Prim.Native.Nat.{ℕ}
 use Rattle.text.specs.Equal.{equal}
 use Rattle.syntax.specs.Operator.{isLookup}
-use Rattle.syntax.specs.Expr.{Expr, literal, name, number, truth, unary, binary, Program, none, also, Clause, plain, valued, nested}
+use Rattle.syntax.specs.Expr.{Expr, literal, name, number, truth, decimal, unary, binary, Program, none, also, Clause, plain, valued, nested}
 
 -- "the name stands there as a string"
 unfoldable pub names : Expr → List ℕ → Bool
@@ -12,6 +12,7 @@ names (literal b) n = false
 names (name m) n = equal m n
 names (number k) n = false
 names (truth t) n = false
+names (decimal b) n = false
 names (unary op e) n = names e n
 names (binary op e f) n = names e n || names f n
 
@@ -31,6 +32,7 @@ computes (literal b) = false
 computes (name m) = false
 computes (number k) = false
 computes (truth t) = false
+computes (decimal b) = false
 computes (unary op e) = isLookup op || computes e
 computes (binary op e f) = computes e || computes f
 

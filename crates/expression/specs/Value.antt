@@ -3,16 +3,18 @@ use mathlib.Core.Bool.{Bool, false}
 use mathlib.Core.List.{List, []}
 use Prim.Native.Nat.{ℕ}
 use lib.ListN.{length}
+use lib.Ieee.{Float as Single}
 use Rattle.text.specs.declared.Integer.{Integer}
 use Rattle.expression.specs.declared.value.Operand.{Operand}
-use Rattle.expression.specs.declared.value.Operand.the-variants.{Text, Number, Test, Rank, Fault}
+use Rattle.expression.specs.declared.value.Operand.the-variants.{Text, Number, Test, Rank, Float, Fault}
 
--- a string, an integer, a test, the rank of a program; "an error"
+-- a string, an integer, a 32-bit float, a test, the rank of a program; "an error"
 pub data Value : Type 0 where
   text : List ℕ → Value
   integer : Integer → Value
   test : Bool → Value
   rank : ℕ → Value
+  float : Single → Value
   fault : Value
 
 -- where a value of one kind is wanted, another is a fault
@@ -21,6 +23,7 @@ onText f (text b) = f b
 onText f (integer i) = fault
 onText f (test t) = fault
 onText f (rank n) = fault
+onText f (float x) = fault
 onText f fault = fault
 
 abbrev pub onInteger : (Integer → Value) → Value → Value
@@ -28,6 +31,7 @@ onInteger f (text b) = fault
 onInteger f (integer i) = f i
 onInteger f (test t) = fault
 onInteger f (rank n) = fault
+onInteger f (float x) = fault
 onInteger f fault = fault
 
 abbrev pub onTest : (Bool → Value) → Value → Value
@@ -35,7 +39,16 @@ onTest f (text b) = fault
 onTest f (integer i) = fault
 onTest f (test t) = f t
 onTest f (rank n) = fault
+onTest f (float x) = fault
 onTest f fault = fault
+
+abbrev pub onFloat : (Single → Value) → Value → Value
+onFloat f (text b) = fault
+onFloat f (integer i) = fault
+onFloat f (test t) = fault
+onFloat f (rank n) = fault
+onFloat f (float x) = f x
+onFloat f fault = fault
 
 -- the operand: a string is its length
 unfoldable pub operand : Value → Operand
@@ -43,6 +56,7 @@ operand (text b) = Text (length b)
 operand (integer i) = Number (i .negative) (i .size)
 operand (test t) = Test t
 operand (rank n) = Rank n
+operand (float x) = Float x
 operand fault = Fault
 
 -- the bytes of a string; other values have none
@@ -51,4 +65,5 @@ bytesOf (text b) = b
 bytesOf (integer i) = []
 bytesOf (test t) = []
 bytesOf (rank n) = []
+bytesOf (float x) = []
 bytesOf fault = []

@@ -11,14 +11,17 @@ use crate::integer::subtract;
 use crate::name::rank_of;
 use crate::value::Operand;
 use crate::value::Packed;
+use crate::value::float_in;
 use crate::value::holds_in;
 use crate::value::integer_in;
+use crate::value::is_float;
 use crate::value::is_number;
 use crate::value::is_test;
 use crate::value::is_text;
 use crate::value::pack_operand;
 use crate::value::rank_in;
 use crate::value::told;
+use float::operation::Computed;
 use pattern::Answer;
 use text::Integer;
 use text::Order;
@@ -33,8 +36,8 @@ ghost use Rattle.text.specs.Decimal.{integer as signed};
 ghost use Rattle.expression.specs.Value.{operand, rank};
 ghost use Rattle.expression.specs.Operands.{pack, valueOf, holdsIn, testIn};
 ghost use Rattle.expression.specs.Integers.{ranged, apart};
-ghost use Rattle.expression.specs.Operations.{isLess, isEqual, isGreater, answered, matched, held, converted, negative, opposite as not-of};
-ghost use Rattle.expression.specs.Working.Numbered.{relatesBy, arithmetic, textual, logical, ofTexts, ofIntegers, ofTests, isTextual, binaryBy};
+ghost use Rattle.expression.specs.Operations.{isLess, isEqual, isGreater, answered, matched, valued, held, converted, negative, opposite as not-of, toFloat, floatNegative};
+ghost use Rattle.expression.specs.Working.Numbered.{relatesBy, arithmetic, textual, logical, orderedBy, floating, ofTexts, ofIntegers, ofFloats, ofTests, isTextual, binaryBy};
 ghost use Rattle.expression.specs.Conditions.{rankOf};
 ghost use Rattle.expression.specs.Working.Clauses.{applied, combined};
 
@@ -281,6 +284,68 @@ fn integers(op: u32, x: Operand, y: Operand, a: &[u8], b: &[u8]) -> Operand
     Operand::Fault
 }
 
+// What an operation on floats gives: an error is a fault.
+fn value_of(x: Computed) -> Operand
+    ensures { λ r. ⌜ r ≡ operand (valued x) ⌝ }
+{
+    match x {
+        Computed::Finite { value } => Operand::Float { value },
+        Computed::Error => Operand::Fault,
+    }
+}
+
+// The four comparisons of floats.
+fn float_relation(op: u32, a: f32, b: f32) -> bool
+    ensures { λ r. ⌜ r ≡ orderedBy op a b ⌝ }
+{
+    if op == syntax::FLOAT_LESS {
+        return a < b;
+    }
+    if op == syntax::FLOAT_GREATER {
+        return a > b;
+    }
+    if op == syntax::FLOAT_AT_MOST {
+        return a <= b;
+    }
+    a >= b
+}
+
+// Two floats.
+fn of_floats(op: u32, a: f32, b: f32) -> Operand
+    ensures { λ r. ⌜ r ≡ operand (floating op a b) ⌝ }
+{
+    if op == syntax::FLOAT_POWER {
+        return value_of(float::operation::raise_to(a, b));
+    }
+    if op == syntax::FLOAT_TIMES {
+        return value_of(float::operation::multiply(a, b));
+    }
+    if op == syntax::FLOAT_OVER {
+        return value_of(float::operation::divide(a, b));
+    }
+    if op == syntax::FLOAT_PLUS {
+        return value_of(float::operation::add(a, b));
+    }
+    if op == syntax::FLOAT_MINUS {
+        return value_of(float::operation::subtract(a, b));
+    }
+    Operand::Test {
+        holds: float_relation(op, a, b),
+    }
+}
+
+fn floats(op: u32, x: Operand, y: Operand, a: &[u8], b: &[u8]) -> Operand
+    ensures { λ r. ⌜ r ≡ operand (ofFloats op (valueOf x (now (a .entry))) (valueOf y (now (b .entry)))) ⌝ }
+{
+    if is_float(x) {
+        if is_float(y) {
+            return of_floats(op, float_in(x), float_in(y));
+        }
+        return Operand::Fault;
+    }
+    Operand::Fault
+}
+
 // The test that an operand is; a fault where it is none.
 fn as_test(x: Operand) -> Operand
     ensures { λ r. ⌜ r ≡ testIn x ⌝ }
@@ -331,6 +396,9 @@ fn binary(op: u32, x: Operand, y: Operand, a: &[u8], b: &[u8]) -> Operand
     }
     if op <= syntax::AT_LEAST {
         return integers(op, x, y, a, b);
+    }
+    if op <= syntax::FLOAT_AT_LEAST {
+        return floats(op, x, y, a, b);
     }
     if op <= syntax::EITHER {
         return tests(op, x, y, a, b);
@@ -428,6 +496,26 @@ fn oppose(x: Operand, a: &[u8]) -> Operand
     Operand::Fault
 }
 
+fn convert_to_float(x: Operand, a: &[u8]) -> Operand
+    ensures { λ r. ⌜ r ≡ operand (toFloat (valueOf x (now (a .entry)))) ⌝ }
+{
+    if is_text(x) {
+        return Operand::Float {
+            value: float::written::to_float(a),
+        };
+    }
+    Operand::Fault
+}
+
+fn negate_float(x: Operand, a: &[u8]) -> Operand
+    ensures { λ r. ⌜ r ≡ operand (floatNegative (valueOf x (now (a .entry)))) ⌝ }
+{
+    if is_float(x) {
+        return value_of(float::operation::negate(float_in(x)));
+    }
+    Operand::Fault
+}
+
 // The highest rank.
 pub fn top_rank(values: &[usize]) -> usize
     ensures { λ r. ⌜ r ≡ length (now (values .entry)) - 1 ⌝ }
@@ -450,6 +538,12 @@ pub fn apply(op: u32, x: Operand, a: &[u8], query: &[u8], values: &[usize]) -> O
     }
     if op == syntax::OPPOSITE {
         return oppose(x, a);
+    }
+    if op == syntax::TO_FLOAT {
+        return convert_to_float(x, a);
+    }
+    if op == syntax::FLOAT_NEGATE {
+        return negate_float(x, a);
     }
     let n = top_rank(values);
     Operand::Rank { rank: gated(x, n) }

@@ -1,14 +1,17 @@
-// What an operand of the machine is: a string by its length, an integer, a test, a rank, or a fault.
+// What an operand of the machine is: a string by its length, an integer, a test, a rank, a float, or a fault.
+use float::bits::bits_of;
+use float::bits::float_of;
 use text::Integer;
 ghost use mathlib.Core.Path.{_≡_};
 ghost use Rattle.expression.specs.declared.value.Operand.the-variants.{Test};
-ghost use Rattle.expression.specs.Operands.{kindOf, sizeOf, pack, unpacked, width, isText, isNumber, integerIn, isTest, isFault, holdsIn, rankIn};
+ghost use Rattle.expression.specs.Operands.{kindOf, sizeOf, pack, unpacked, width, isText, isNumber, integerIn, isFloat, floatIn, isTest, isFault, holdsIn, rankIn};
 
 pub enum Operand {
     Text { length: usize },
     Number { negative: bool, size: u64 },
     Test { holds: bool },
     Rank { rank: usize },
+    Float { value: f32 },
     Fault,
 }
 
@@ -31,6 +34,7 @@ pub fn kind_of(v: Operand) -> u64
             3
         }
         Operand::Rank { rank: _ } => 5,
+        Operand::Float { value: _ } => 7,
         Operand::Fault => 6,
     }
 }
@@ -43,6 +47,7 @@ pub fn size_of(v: Operand) -> u64
         Operand::Number { negative: _, size } => size,
         Operand::Test { holds: _ } => 0,
         Operand::Rank { rank } => rank as u64,
+        Operand::Float { value } => bits_of(value),
         Operand::Fault => 0,
     }
 }
@@ -103,6 +108,11 @@ pub fn unpack(kind: u64, size: u64) -> Operand
             rank: size as usize,
         };
     }
+    if kind == 7 {
+        return Operand::Float {
+            value: float_of(size),
+        };
+    }
     Operand::Fault
 }
 
@@ -118,6 +128,7 @@ pub fn width_of(v: Operand) -> usize
         } => 0,
         Operand::Test { holds: _ } => 0,
         Operand::Rank { rank: _ } => 0,
+        Operand::Float { value: _ } => 0,
         Operand::Fault => 0,
     }
 }
@@ -133,6 +144,7 @@ pub fn is_text(v: Operand) -> bool
         } => false,
         Operand::Test { holds: _ } => false,
         Operand::Rank { rank: _ } => false,
+        Operand::Float { value: _ } => false,
         Operand::Fault => false,
     }
 }
@@ -148,6 +160,7 @@ pub fn is_number(v: Operand) -> bool
         } => true,
         Operand::Test { holds: _ } => false,
         Operand::Rank { rank: _ } => false,
+        Operand::Float { value: _ } => false,
         Operand::Fault => false,
     }
 }
@@ -170,10 +183,47 @@ pub fn integer_in(v: Operand) -> Integer
             negative: false,
             size: 0,
         },
+        Operand::Float { value: _ } => Integer {
+            negative: false,
+            size: 0,
+        },
         Operand::Fault => Integer {
             negative: false,
             size: 0,
         },
+    }
+}
+
+pub fn is_float(v: Operand) -> bool
+    ensures { λ r. ⌜ r ≡ isFloat v ⌝ }
+{
+    match v {
+        Operand::Text { length: _ } => false,
+        Operand::Number {
+            negative: _,
+            size: _,
+        } => false,
+        Operand::Test { holds: _ } => false,
+        Operand::Rank { rank: _ } => false,
+        Operand::Float { value: _ } => true,
+        Operand::Fault => false,
+    }
+}
+
+// The float, 0.0 where the operand is none.
+pub fn float_in(v: Operand) -> f32
+    ensures { λ r. ⌜ r ≡ floatIn v ⌝ }
+{
+    match v {
+        Operand::Text { length: _ } => 0.0,
+        Operand::Number {
+            negative: _,
+            size: _,
+        } => 0.0,
+        Operand::Test { holds: _ } => 0.0,
+        Operand::Rank { rank: _ } => 0.0,
+        Operand::Float { value } => value,
+        Operand::Fault => 0.0,
     }
 }
 
@@ -188,6 +238,7 @@ pub fn is_test(v: Operand) -> bool
         } => false,
         Operand::Test { holds: _ } => true,
         Operand::Rank { rank: _ } => false,
+        Operand::Float { value: _ } => false,
         Operand::Fault => false,
     }
 }
@@ -203,6 +254,7 @@ pub fn is_fault(v: Operand) -> bool
         } => false,
         Operand::Test { holds: _ } => false,
         Operand::Rank { rank: _ } => false,
+        Operand::Float { value: _ } => false,
         Operand::Fault => true,
     }
 }
@@ -219,6 +271,7 @@ pub fn holds_in(v: Operand) -> bool
         } => false,
         Operand::Test { holds } => holds,
         Operand::Rank { rank: _ } => false,
+        Operand::Float { value: _ } => false,
         Operand::Fault => false,
     }
 }
@@ -235,6 +288,7 @@ pub fn rank_in(v: Operand) -> usize
         } => 0,
         Operand::Test { holds: _ } => 0,
         Operand::Rank { rank } => rank,
+        Operand::Float { value: _ } => 0,
         Operand::Fault => 0,
     }
 }

@@ -1,5 +1,5 @@
 -- The grammar of Conditions over kinds of token: types as nonterminals (B02), and the precedence classes in it (B01): a class of a type is a
--- nonterminal, and its operators take the class above on their right, so they group "left to right in a class". Floats and "&", which have reason 8, are in it, "as in the RFC".
+-- nonterminal, and its operators take the class above on their right, so they group "left to right in a class".
 -- Assumes nothing.
 use mathlib.Core.List.{List, [], _∷_, _++_}
 use Prim.Native.Nat.{ℕ}
@@ -63,7 +63,7 @@ pub data FloatTimes : ℕ → Type 0 where
   float-divide : FloatTimes Kind.DIVIDE
 
 -- <FloatEx>:: <FloatEx> "+" <FloatEx> | <FloatEx> "-" <FloatEx> | <FloatEx> "*" <FloatEx> | <FloatEx> "/" <FloatEx> | <FloatEx> "^" <FloatEx>
--- | "-" <FloatEx> | "(" <FloatEx> ")" | <FloatLiteral> | "&" <StrEx>; reason 8: ""&" as conversion, float literal"
+-- | "-" <FloatEx> | "(" <FloatEx> ")" | <FloatLiteral> | "&" <StrEx>; ""&" binds as "@""
 pub data Float : Class → List ℕ → Type 0 where
   float-literal : Float operand (Kind.FLOAT ∷ [])
   float-minus : (ks : List ℕ) → Float operand ks → Float operand (Kind.MINUS ∷ ks)

@@ -9,3 +9,5 @@ pub mod Grouping
 pub mod Exactly
 pub mod Readers
 pub mod Convert
+pub mod Floats
+pub mod Decimals

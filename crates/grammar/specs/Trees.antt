@@ -1,5 +1,5 @@
 -- What a Conditions field's tokens say: the trees of crate syntax, production by production, over the tokens of a text. A class's operators have the
--- class itself on the left and the class above on the right, so a tree groups as the classes do. Reason 8's two, floats and "&", have no tree. Assumes nothing.
+-- class itself on the left and the class above on the right, so a tree groups as the classes do. Assumes nothing.
 use mathlib.Core.Path.{_≡_}
 use mathlib.Core.Bool.{true, false}
 use mathlib.Core.List.{List, [], _∷_, _++_}
@@ -8,10 +8,10 @@ use Rattle.lexical.specs.Kind
 use Rattle.lexical.specs.Literal.{decodedAt}
 use Rattle.lexical.specs.Word.{word-true, word-false}
 use Rattle.lexical.specs.declared.token.Token.{Token}
-use Rattle.syntax.specs.Operator.{Binary, Relation}
+use Rattle.syntax.specs.Operator.{Binary, Relation, Ordering}
 use Rattle.syntax.specs.Operator as Operator
-use Rattle.syntax.specs.Code.{nameAt, numberAt}
-use Rattle.syntax.specs.Expr.{Expr, literal, name, number, truth, unary, binary, Program, none, also, Clause, plain, valued, nested}
+use Rattle.syntax.specs.Code.{nameAt, numberAt, decimalAt}
+use Rattle.syntax.specs.Expr.{Expr, literal, name, number, truth, decimal, unary, binary, Program, none, also, Clause, plain, valued, nested}
 use Rattle.grammar.specs.Conditions.{Class, operand, power, product, conjunction, whole}
 use Rattle.grammar.specs.Spelled.{spelled}
 
@@ -51,6 +51,39 @@ pub data IntTree (s : List ℕ) : Class → List Token → Expr → Type 0 where
   sum-tree : (t : Token) (ts us : List Token) (e f : Expr) (o : Binary) → SumOp (t .kind) o → IntTree s whole ts e → IntTree s product us f
       → IntTree s whole (ts ++ t ∷ us) (binary o e f)
 
+-- the operator that a mark writes between floats: "* /"
+pub data FloatProductOp : ℕ → Binary → Type 0 where
+  float-times-op : FloatProductOp Kind.TIMES Operator.float-times
+  float-divide-op : FloatProductOp Kind.DIVIDE Operator.float-over
+
+-- "+ -"
+pub data FloatSumOp : ℕ → Binary → Type 0 where
+  float-plus-op : FloatSumOp Kind.PLUS Operator.float-plus
+  float-minus-op : FloatSumOp Kind.MINUS Operator.float-minus
+
+-- floats, as integers; ""&" binds as "@""
+pub data FloatTree (s : List ℕ) : Class → List Token → Expr → Type 0 where
+  decimal-tree : (t : Token) → t .kind ≡ Kind.FLOAT → FloatTree s operand (t ∷ []) (decimal (decimalAt s (t .start)))
+  float-negate-tree : (t : Token) (ts : List Token) (e : Expr) → t .kind ≡ Kind.MINUS → FloatTree s operand ts e → FloatTree s operand (t ∷ ts) (unary Operator.float-negate e)
+  to-float-tree : (t : Token) (ts : List Token) (e : Expr) → t .kind ≡ Kind.AMPERSAND → StrTree s operand ts e → FloatTree s operand (t ∷ ts) (unary Operator.to-float e)
+  decimal-bracket : (t u : Token) (ts : List Token) (e : Expr) → t .kind ≡ Kind.OPEN → u .kind ≡ Kind.CLOSE → FloatTree s whole ts e → FloatTree s operand (t ∷ ts ++ u ∷ []) e
+  decimal-one : (ts : List Token) (e : Expr) → FloatTree s operand ts e → FloatTree s power ts e
+  float-power-tree : (t : Token) (ts us : List Token) (e f : Expr) → t .kind ≡ Kind.POWER → FloatTree s power ts e → FloatTree s operand us f
+      → FloatTree s power (ts ++ t ∷ us) (binary Operator.float-power e f)
+  decimal-up : (ts : List Token) (e : Expr) → FloatTree s power ts e → FloatTree s product ts e
+  float-product-tree : (t : Token) (ts us : List Token) (e f : Expr) (o : Binary) → FloatProductOp (t .kind) o → FloatTree s product ts e → FloatTree s power us f
+      → FloatTree s product (ts ++ t ∷ us) (binary o e f)
+  decimal-term : (ts : List Token) (e : Expr) → FloatTree s product ts e → FloatTree s whole ts e
+  float-sum-tree : (t : Token) (ts us : List Token) (e f : Expr) (o : Binary) → FloatSumOp (t .kind) o → FloatTree s whole ts e → FloatTree s product us f
+      → FloatTree s whole (ts ++ t ∷ us) (binary o e f)
+
+-- the order of floats that a mark writes: "Equality tests of floats are refused"
+pub data OrderOp : ℕ → Ordering → Type 0 where
+  float-less-op : OrderOp Kind.LESS Operator.float-less
+  float-greater-op : OrderOp Kind.GREATER Operator.float-greater
+  float-at-most-op : OrderOp Kind.AT-MOST Operator.float-at-most
+  float-at-least-op : OrderOp Kind.AT-LEAST Operator.float-at-least
+
 -- the relation that a mark writes
 pub data CompareOp : ℕ → Relation → Type 0 where
   equal-op : CompareOp Kind.EQUAL Operator.equal
@@ -66,6 +99,8 @@ pub data TestTree (s : List ℕ) : Class → List Token → Expr → Type 0 wher
   false-tree : (t : Token) → t .kind ≡ Kind.NAME → spelled s t word-false ≡ true → TestTree s operand (t ∷ []) (truth false)
   compare-numbers : (t : Token) (ts us : List Token) (e f : Expr) (o : Relation) → CompareOp (t .kind) o → IntTree s whole ts e → IntTree s whole us f
       → TestTree s operand (ts ++ t ∷ us) (binary (Operator.comparison Operator.integers o) e f)
+  compare-floats : (t : Token) (ts us : List Token) (e f : Expr) (o : Ordering) → OrderOp (t .kind) o → FloatTree s whole ts e → FloatTree s whole us f
+      → TestTree s operand (ts ++ t ∷ us) (binary (Operator.float-order o) e f)
   compare-texts : (t : Token) (ts us : List Token) (e f : Expr) (o : Relation) → CompareOp (t .kind) o → StrTree s whole ts e → StrTree s whole us f
       → TestTree s operand (ts ++ t ∷ us) (binary (Operator.comparison Operator.strings o) e f)
   match-tree : (t : Token) (ts us : List Token) (e f : Expr) → t .kind ≡ Kind.MATCHES → StrTree s whole ts e → StrTree s whole us f

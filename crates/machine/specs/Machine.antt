@@ -9,14 +9,16 @@ use Rattle.text.specs.Scan.{run}
 use Rattle.text.specs.Class.{inClass, digit, word}
 use Rattle.text.specs.Digits.{value, limit}
 use Rattle.lexical.specs.Literal.{decodedAt}
-use Rattle.syntax.specs.Op.{LITERAL, NAME, NUMBER, TRUE, FALSE, LOOKUP, OPPOSITE, BOTH, EITHER, BEGIN, PLAIN, VALUED, NESTED, RAISE}
+use Rattle.float.specs.Written.{floatOf}
+use Rattle.syntax.specs.Code.{decimalAt}
+use Rattle.syntax.specs.Op.{LITERAL, NAME, NUMBER, TRUE, DECIMAL, LOOKUP, FLOAT-NEGATE, BOTH, EITHER, BEGIN, PLAIN, VALUED, NESTED, RAISE}
 use Rattle.expression.specs.Value.{operand}
 use Rattle.expression.specs.Operands.{kindOf, sizeOf, unpacked, width, valueOf, isText}
 use Rattle.expression.specs.Integers.{ranged}
 use Rattle.expression.specs.Conditions.{top}
 use Rattle.expression.specs.Working.Clauses.{applied, combined}
 use Rattle.expression.specs.declared.value.Operand.{Operand}
-use Rattle.expression.specs.declared.value.Operand.the-variants.{Text, Test, Rank, Fault}
+use Rattle.expression.specs.declared.value.Operand.the-variants.{Text, Test, Rank, Float, Fault}
 
 -- the two stacks; or that the machine can't go on
 pub data State : Type 0 where
@@ -81,13 +83,14 @@ raised depth vals stuck = stuck
 unfoldable pub runAt : ℕ → List ℕ → ℕ → List ℕ
 runAt k s at = take (run (inClass k) (drop at s)) (drop at s)
 
--- a literal, a name, a number, a test
+-- a literal, a name, a number, a float literal, a test
 unfoldable pub pushStep : ℕ → ℕ → List ℕ → (List ℕ → List ℕ) → ℕ → ℕ → List ℕ → List ℕ → State
 pushStep depth room s look op at vs bs =
     pick (eqb op LITERAL) (textStep depth room (decodedAt s at) vs bs)
     (pick (eqb op NAME) (textStep depth room (look (runAt word s at)) vs bs)
     (pick (eqb op NUMBER) (placed depth vs bs (operand (ranged false (min (value (runAt digit s at)) limit))))
-    (placed depth vs bs (Test (eqb op TRUE)))))
+    (pick (eqb op DECIMAL) (placed depth vs bs (Float (floatOf (decimalAt s at))))
+    (placed depth vs bs (Test (eqb op TRUE))))))
 
 -- does a test that doesn't hold lie on its program's rank, its clause's string passed by?
 unfoldable pub isIdle : List ℕ → Bool
@@ -104,12 +107,12 @@ clauseStep depth vals op vs bs =
 unfoldable pub actOf : ℕ → ℕ → (List ℕ → List ℕ) → List (List ℕ) → ℕ → List ℕ → List ℕ → State
 actOf depth room look vals op vs bs =
     pick (eqb op LOOKUP) (lookupStep depth room look vs bs)
-    (pick (leb op OPPOSITE) (unaryStep depth vals op vs bs)
+    (pick (leb op FLOAT-NEGATE) (unaryStep depth vals op vs bs)
     (pick (leb op EITHER) (binaryStep depth vals op vs bs) (clauseStep depth vals op vs bs)))
 
 -- one entry: an operation and a place
 unfoldable pub stepOf : ℕ → ℕ → List ℕ → (List ℕ → List ℕ) → List (List ℕ) → ℕ → ℕ → List ℕ → List ℕ → State
-stepOf depth room s look vals op at vs bs = pick (leb op FALSE) (pushStep depth room s look op at vs bs) (actOf depth room look vals op vs bs)
+stepOf depth room s look vals op at vs bs = pick (leb op DECIMAL) (pushStep depth room s look op at vs bs) (actOf depth room look vals op vs bs)
 
 unfoldable pub stepped : ℕ → ℕ → List ℕ → (List ℕ → List ℕ) → List (List ℕ) → ℕ → List ℕ → List ℕ → State
 stepped depth room s look vals e vs bs = stepOf depth room s look vals (e / 65536) (e % 65536) vs bs
@@ -121,16 +124,16 @@ isFalse vs = pick (ltb (length vs) 2) false (eqb (getD vs (length vs - 2) 0) 3)
 -- Such a test lies below k operands when an operation comes: is it no left side of "&&" any more, or not known to be one?
 unfoldable pub outer : ℕ → ℕ → Bool
 outer op k =
-    pick (leb op FALSE) false
-    (pick (ltb EITHER op) true (pick (eqb k 0) true (pick (leb op OPPOSITE) false (pick (eqb k 1) (not (eqb op BOTH)) false))))
+    pick (leb op DECIMAL) false
+    (pick (ltb EITHER op) true (pick (eqb k 0) true (pick (leb op FLOAT-NEGATE) false (pick (eqb k 1) (not (eqb op BOTH)) false))))
 
 -- how many operands lie above it then
 unfoldable pub above : ℕ → ℕ → ℕ
-above op k = pick (leb op FALSE) (k + 1) (pick (leb op OPPOSITE) k (k - 1))
+above op k = pick (leb op DECIMAL) (k + 1) (pick (leb op FLOAT-NEGATE) k (k - 1))
 
 -- and which entry is the next to be run, as far as is known: the one behind the operation where that is the "&&"
 unfoldable pub behindOf : ℕ → ℕ → ℕ → ℕ → ℕ
-behindOf op k known next = pick (leb op OPPOSITE) known (pick (eqb k 1) next known)
+behindOf op k known next = pick (leb op FLOAT-NEGATE) known (pick (eqb k 1) next known)
 
 -- or, where no more is known, the end of the clause whose string lies above it
 unfoldable pub stopAt : ℕ → ℕ → ℕ → ℕ → ℕ
@@ -164,7 +167,7 @@ needless high vs es = pick (isFalse vs) (goOn 0 0 0 es) (pick (isHighest high vs
 
 -- behind an operation; what is merely put on the stacks is not looked at
 abbrev pub ahead : ℕ → ℕ → State → List ℕ → ℕ
-ahead high op (on vs bs) es = pick (leb op FALSE) 0 (needless high vs es)
+ahead high op (on vs bs) es = pick (leb op DECIMAL) 0 (needless high vs es)
 ahead high op stuck es = 0
 
 -- the entries behind the first m

@@ -1,7 +1,7 @@
 -- How much room Conditions need to run: operands at once, and bytes of strings. Assumes nothing.
 use Prim.Native.Nat.{ℕ, _+_, max}
-use Rattle.syntax.specs.Operator.{Sort, a-string, an-integer, a-test, unaryGives, binaryGives}
-use Rattle.syntax.specs.Expr.{Expr, literal, name, number, truth, unary, binary, Program, none, also, Clause, plain, valued, nested}
+use Rattle.syntax.specs.Operator.{Sort, a-string, an-integer, a-float, a-test, unaryGives, binaryGives}
+use Rattle.syntax.specs.Expr.{Expr, literal, name, number, truth, decimal, unary, binary, Program, none, also, Clause, plain, valued, nested}
 
 -- operands that are on the stack at once
 unfoldable pub need : Expr → ℕ
@@ -9,6 +9,7 @@ need (literal b) = 1
 need (name n) = 1
 need (number n) = 1
 need (truth t) = 1
+need (decimal b) = 1
 need (unary op e) = need e
 need (binary op e f) = max (need e) (1 + need f)
 
@@ -26,6 +27,7 @@ unfoldable mutual
 abbrev pub spanOf : Sort → ℕ
 spanOf a-string = 4096
 spanOf an-integer = 0
+spanOf a-float = 0
 spanOf a-test = 0
 
 -- those of an expression's value
@@ -34,6 +36,7 @@ span (literal b) = 4096
 span (name n) = 4096
 span (number n) = 0
 span (truth t) = 0
+span (decimal b) = 0
 span (unary op e) = spanOf (unaryGives op)
 span (binary op e f) = spanOf (binaryGives op)
 
@@ -43,6 +46,7 @@ room (literal b) = 4096
 room (name n) = 4096
 room (number n) = 0
 room (truth t) = 0
+room (decimal b) = 0
 room (unary op e) = max (room e) (spanOf (unaryGives op))
 room (binary op e f) = max (room e) (span e + room f)
 

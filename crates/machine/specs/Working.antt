@@ -7,5 +7,6 @@ pub mod Passing
 pub mod Ending
 pub mod Running
 pub mod Kinds
+pub mod Decimals
 pub mod Widths
 pub mod Stacking

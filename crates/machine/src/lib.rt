@@ -26,10 +26,13 @@ ghost use Prim.Native.Nat.{_+_, _-_, _≤_, _<_, max};
 ghost use lib.Dec.{eqb, leb};
 ghost use lib.ListN.{length, take, drop};
 ghost use Rattle.text.specs.Choice.{pick};
-ghost use Rattle.text.specs.Class.{word};
+ghost use Rattle.text.specs.Class.{inClass, digit, word};
+ghost use Rattle.text.specs.Scan.{past};
 ghost use Rattle.text.specs.Counted.{counted};
 ghost use Rattle.lexical.specs.Literal.{decodedAt};
+ghost use Rattle.float.specs.Written.{floatOf};
 ghost use Rattle.syntax.specs.Op.{PLAIN, RAISE};
+ghost use Rattle.syntax.specs.Code.{decimalAt};
 ghost use Rattle.expression.specs.Conditions.{indexFrom};
 ghost use Rattle.expression.specs.Operands.{rankIn};
 ghost use Rattle.expression.specs.Tables.{lookupIn};
@@ -62,6 +65,31 @@ fn word_at(s: &[u8], at: usize) -> &[u8]
     }
     let e = text::word_end_by_blocks(s, at);
     &s[at..e]
+}
+
+// Behind the digits from a place on.
+fn digits_end(s: &[u8], at: usize) -> usize
+    ensures { λ r. ⌜ r ≡ past (inClass digit) (now (s .entry)) at ⌝ }
+{
+    if s.len() <= at {
+        return at;
+    }
+    at + text::front(&s[at..], text::DIGIT)
+}
+
+// The float that the literal from a place on writes.
+fn decimal_at(s: &[u8], at: usize) -> f32
+    ensures { λ r. ⌜ r ≡ floatOf (decimalAt (now (s .entry)) at) ⌝ }
+{
+    if s.len() <= at {
+        return 0.0;
+    }
+    let p = digits_end(s, at);
+    if s.len() <= p {
+        return float::written::to_float(&s[at..]);
+    }
+    let e = digits_end(s, p + 1);
+    float::written::to_float(&s[at..e])
 }
 
 // Puts an operand on a stack of n numbers; t is where its string ends.
@@ -607,7 +635,7 @@ fn is_true(op: u32) -> bool
     op == syntax::TRUE
 }
 
-// Puts a literal, a name's value, a number or a test on the stacks.
+// Puts a literal, a name's value, a number, a float or a test on the stacks.
 fn push_step<'a>(
     op: u32,
     at: usize,
@@ -635,6 +663,10 @@ fn push_step<'a>(
     if op == syntax::NUMBER {
         let m = text::number_at(s, at);
         return put(stack, n, t, in_range(false, m));
+    }
+    if op == syntax::DECIMAL {
+        let x = decimal_at(s, at);
+        return put(stack, n, t, Operand::Float { value: x });
     }
     let h = is_true(op);
     put(stack, n, t, Operand::Test { holds: h })
@@ -704,7 +736,7 @@ fn act<'a>(
     if op == syntax::LOOKUP {
         return lookup_step(query, consts, values, names, constants, stack, n, bytes, t);
     }
-    if op <= syntax::OPPOSITE {
+    if op <= syntax::FLOAT_NEGATE {
         return unary_step(op, query, values, stack, n, bytes, t);
     }
     if op <= syntax::EITHER {
@@ -717,7 +749,7 @@ fn act<'a>(
 fn is_outer(op: u32, k: usize) -> bool
     ensures { λ r. ⌜ r ≡ outer op k ⌝ }
 {
-    if op <= syntax::FALSE {
+    if op <= syntax::DECIMAL {
         return false;
     }
     if syntax::EITHER < op {
@@ -726,7 +758,7 @@ fn is_outer(op: u32, k: usize) -> bool
     if k == 0 {
         return true;
     }
-    if op <= syntax::OPPOSITE {
+    if op <= syntax::FLOAT_NEGATE {
         return false;
     }
     if k != 1 {
@@ -740,10 +772,10 @@ fn above_it(op: u32, k: usize) -> usize
     requires { ⌜ k < 18446744073709551615 ⌝ }
     ensures { λ r. ⌜ r ≡ above op k ⌝ }
 {
-    if op <= syntax::FALSE {
+    if op <= syntax::DECIMAL {
         return k + 1;
     }
-    if op <= syntax::OPPOSITE {
+    if op <= syntax::FLOAT_NEGATE {
         return k;
     }
     if k == 0 {
@@ -756,7 +788,7 @@ fn above_it(op: u32, k: usize) -> usize
 fn behind_it(op: u32, k: usize, known: usize, next: usize) -> usize
     ensures { λ r. ⌜ r ≡ behindOf op k known next ⌝ }
 {
-    if op <= syntax::OPPOSITE {
+    if op <= syntax::FLOAT_NEGATE {
         return known;
     }
     if k == 1 {
@@ -891,7 +923,7 @@ fn run<'a>(
         let e = code[i];
         let op = e / 65536;
         let at = wide(e % 65536);
-        if op <= syntax::FALSE {
+        if op <= syntax::DECIMAL {
             match push_step(
                 op,
                 at,

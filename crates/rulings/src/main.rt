@@ -6,7 +6,7 @@ use printed::cut;
 use text::counted_at;
 
 // Room for the file.
-const ROOM: usize = 131072;
+const ROOM: usize = 262144;
 
 fn put_ruling(name: &[u8], record: &[u8]) {
     io::write_all(STDOUT_FILENO, name);

@@ -10,7 +10,7 @@ use Rattle.lexical.specs.Literal.{decodedAt}
 use Rattle.syntax.specs.Operator.{Unary, Binary}
 use Rattle.syntax.specs.Operation.{numberOf}
 use Rattle.syntax.specs.Operation as Operation
-use Rattle.syntax.specs.Expr.{Expr, literal, name, number, truth, unary, binary, Program, none, also, Clause, plain, valued, nested}
+use Rattle.syntax.specs.Expr.{Expr, literal, name, number, truth, decimal, unary, binary, Program, none, also, Clause, plain, valued, nested}
 
 -- an entry: the number of an operation, and a place of the text
 unfoldable pub entry : ℕ → ℕ → ℕ
@@ -23,6 +23,10 @@ nameAt s at = take (run (inClass word) (drop at s)) (drop at s)
 unfoldable pub numberAt : List ℕ → ℕ → ℕ
 numberAt s at = min (value (take (run (inClass digit) (drop at s)) (drop at s))) limit
 
+-- "float literal (digits "." digits)": the one that starts at a place
+unfoldable pub decimalAt : List ℕ → ℕ → List ℕ
+decimalAt s at = take (run (inClass digit) (drop at s) + 1 + run (inClass digit) (drop (at + run (inClass digit) (drop at s) + 1) s)) (drop at s)
+
 -- code of an expression in the text s: its places fit an entry
 pub data Codes (s : List ℕ) : Expr → List ℕ → Type 0 where
   code-literal : (at : ℕ) → at < 65536 → Codes s (literal (decodedAt s at)) (entry (numberOf Operation.literal) at ∷ [])
@@ -30,6 +34,7 @@ pub data Codes (s : List ℕ) : Expr → List ℕ → Type 0 where
   code-number : (at : ℕ) → at < 65536 → Codes s (number (numberAt s at)) (entry (numberOf Operation.number) at ∷ [])
   code-true : Codes s (truth true) (entry (numberOf (Operation.truth true)) 0 ∷ [])
   code-false : Codes s (truth false) (entry (numberOf (Operation.truth false)) 0 ∷ [])
+  code-decimal : (at : ℕ) → at < 65536 → Codes s (decimal (decimalAt s at)) (entry (numberOf Operation.decimal) at ∷ [])
   code-unary : {op : Unary} {e : Expr} {c : List ℕ} → Codes s e c → Codes s (unary op e) (c ++ (entry (numberOf (Operation.unary op)) 0 ∷ []))
   code-binary : {op : Binary} {e f : Expr} {c d : List ℕ} → Codes s e c → Codes s f d → Codes s (binary op e f) (c ++ d ++ (entry (numberOf (Operation.binary op)) 0 ∷ []))
 

@@ -4,12 +4,13 @@ use mathlib.Core.List.{List}
 use Prim.Native.Nat.{ℕ}
 use Rattle.syntax.specs.Operator.{Unary, Binary}
 
--- strings, integers and tests
+-- strings, integers, floats and tests; a float literal is the bytes that write it
 pub data Expr : Type 0 where
   literal : List ℕ → Expr
   name : List ℕ → Expr
   number : ℕ → Expr
   truth : Bool → Expr
+  decimal : List ℕ → Expr
   unary : Unary → Expr → Expr
   binary : Binary → Expr → Expr → Expr
 

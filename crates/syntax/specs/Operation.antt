@@ -2,7 +2,7 @@
 use mathlib.Core.Bool.{Bool, true, false}
 use Prim.Native.Nat.{ℕ}
 use Rattle.syntax.specs.Op
-use Rattle.syntax.specs.Operator.{Unary, Binary, Side, Relation}
+use Rattle.syntax.specs.Operator.{Unary, Binary, Side, Relation, Ordering}
 use Rattle.syntax.specs.Operator as Operator
 
 -- what an entry says: an operand of one token, an operator, a program's begin or a clause's end; and what the machine does behind a clause
@@ -11,6 +11,7 @@ pub data Operation : Type 0 where
   name : Operation
   number : Operation
   truth : Bool → Operation
+  decimal : Operation
   unary : Unary → Operation
   binary : Binary → Operation
   begin : Operation
@@ -24,6 +25,8 @@ unaryNumber Operator.lookup = Op.LOOKUP
 unaryNumber Operator.convert = Op.CONVERT
 unaryNumber Operator.negate = Op.NEGATE
 unaryNumber Operator.opposite = Op.OPPOSITE
+unaryNumber Operator.to-float = Op.TO-FLOAT
+unaryNumber Operator.float-negate = Op.FLOAT-NEGATE
 
 abbrev pub comparisonNumber : Side → Relation → ℕ
 comparisonNumber Operator.strings Operator.equal = Op.TEXT-EQUAL
@@ -39,6 +42,12 @@ comparisonNumber Operator.integers Operator.greater = Op.GREATER
 comparisonNumber Operator.integers Operator.at-most = Op.AT-MOST
 comparisonNumber Operator.integers Operator.at-least = Op.AT-LEAST
 
+abbrev pub orderNumber : Ordering → ℕ
+orderNumber Operator.float-less = Op.FLOAT-LESS
+orderNumber Operator.float-greater = Op.FLOAT-GREATER
+orderNumber Operator.float-at-most = Op.FLOAT-AT-MOST
+orderNumber Operator.float-at-least = Op.FLOAT-AT-LEAST
+
 abbrev pub binaryNumber : Binary → ℕ
 binaryNumber Operator.join = Op.JOIN
 binaryNumber Operator.power = Op.POWER
@@ -49,6 +58,12 @@ binaryNumber Operator.plus = Op.PLUS
 binaryNumber Operator.minus = Op.MINUS
 binaryNumber (Operator.comparison side relation) = comparisonNumber side relation
 binaryNumber Operator.matches = Op.MATCHES
+binaryNumber Operator.float-power = Op.FLOAT-POWER
+binaryNumber Operator.float-times = Op.FLOAT-TIMES
+binaryNumber Operator.float-over = Op.FLOAT-OVER
+binaryNumber Operator.float-plus = Op.FLOAT-PLUS
+binaryNumber Operator.float-minus = Op.FLOAT-MINUS
+binaryNumber (Operator.float-order order) = orderNumber order
 binaryNumber Operator.both = Op.BOTH
 binaryNumber Operator.either = Op.EITHER
 
@@ -59,6 +74,7 @@ numberOf name = Op.NAME
 numberOf number = Op.NUMBER
 numberOf (truth true) = Op.TRUE
 numberOf (truth false) = Op.FALSE
+numberOf decimal = Op.DECIMAL
 numberOf (unary op) = unaryNumber op
 numberOf (binary op) = binaryNumber op
 numberOf begin = Op.BEGIN

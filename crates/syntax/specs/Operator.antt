@@ -1,12 +1,14 @@
 -- The operators of expressions, and what each takes and gives. Assumes nothing.
 use mathlib.Core.Bool.{Bool, true, false}
 
--- before an operand: "$", "@", unary "-", "!"
+-- before an operand: "$", "@", unary "-" of integers, "!", "&", unary "-" of floats
 pub data Unary : Type 0 where
   lookup : Unary
   convert : Unary
   negate : Unary
   opposite : Unary
+  to-float : Unary
+  float-negate : Unary
 
 -- "Both sides of a comparison have one type"
 pub data Side : Type 0 where
@@ -22,7 +24,15 @@ pub data Relation : Type 0 where
   at-most : Relation
   at-least : Relation
 
--- between operands: "."; "^", "*", "/", "%", "+", "-"; a comparison; "~="; "&&", "||"
+-- "<", ">", "<=", ">=" of floats: "Equality tests of floats are refused"
+pub data Ordering : Type 0 where
+  float-less : Ordering
+  float-greater : Ordering
+  float-at-most : Ordering
+  float-at-least : Ordering
+
+-- between operands: "."; "^", "*", "/", "%", "+", "-" of integers; a comparison of strings or integers; "~=";
+-- "^", "*", "/", "+", "-" and a comparison of floats; "&&", "||"
 pub data Binary : Type 0 where
   join : Binary
   power : Binary
@@ -33,13 +43,20 @@ pub data Binary : Type 0 where
   minus : Binary
   comparison : Side → Relation → Binary
   matches : Binary
+  float-power : Binary
+  float-times : Binary
+  float-over : Binary
+  float-plus : Binary
+  float-minus : Binary
+  float-order : Ordering → Binary
   both : Binary
   either : Binary
 
--- what an expression is: a string, an integer or a test
+-- what an expression is: "a string, an integer or a 32-bit float", or a test
 pub data Sort : Type 0 where
   a-string : Sort
   an-integer : Sort
+  a-float : Sort
   a-test : Sort
 
 abbrev pub sideSort : Side → Sort
@@ -52,6 +69,8 @@ unaryTakes lookup = a-string
 unaryTakes convert = a-string
 unaryTakes negate = an-integer
 unaryTakes opposite = a-test
+unaryTakes to-float = a-string
+unaryTakes float-negate = a-float
 
 abbrev pub binaryTakes : Binary → Sort
 binaryTakes join = a-string
@@ -63,6 +82,12 @@ binaryTakes plus = an-integer
 binaryTakes minus = an-integer
 binaryTakes (comparison side relation) = sideSort side
 binaryTakes matches = a-string
+binaryTakes float-power = a-float
+binaryTakes float-times = a-float
+binaryTakes float-over = a-float
+binaryTakes float-plus = a-float
+binaryTakes float-minus = a-float
+binaryTakes (float-order order) = a-float
 binaryTakes both = a-test
 binaryTakes either = a-test
 
@@ -72,6 +97,8 @@ unaryGives lookup = a-string
 unaryGives convert = an-integer
 unaryGives negate = an-integer
 unaryGives opposite = a-test
+unaryGives to-float = a-float
+unaryGives float-negate = a-float
 
 abbrev pub binaryGives : Binary → Sort
 binaryGives join = a-string
@@ -83,6 +110,12 @@ binaryGives plus = an-integer
 binaryGives minus = an-integer
 binaryGives (comparison side relation) = a-test
 binaryGives matches = a-test
+binaryGives float-power = a-float
+binaryGives float-times = a-float
+binaryGives float-over = a-float
+binaryGives float-plus = a-float
+binaryGives float-minus = a-float
+binaryGives (float-order order) = a-test
 binaryGives both = a-test
 binaryGives either = a-test
 
@@ -92,3 +125,5 @@ isLookup lookup = true
 isLookup convert = false
 isLookup negate = false
 isLookup opposite = false
+isLookup to-float = false
+isLookup float-negate = false

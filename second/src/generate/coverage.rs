@@ -4,8 +4,11 @@ use std::collections::BTreeMap;
 use std::fmt;
 
 use super::crowd;
+use super::float_coverage::FloatCoverage;
 use super::pattern_coverage::PatternCoverage;
-use crate::{check, limits, record, solution_by_bytes, Outcome};
+use crate::environment::Environment;
+use crate::eval::Evaluator;
+use crate::{check, limits, read_assertions, record, solution_by_bytes, Outcome};
 
 #[derive(Clone, Debug, Default, PartialEq, Eq)]
 pub struct Coverage {
@@ -20,6 +23,7 @@ pub struct Coverage {
     /// Queries that are large in one way or another.
     pub crowds: BTreeMap<&'static str, u64>,
     pub patterns: PatternCoverage,
+    pub floats: FloatCoverage,
 }
 
 /// What equality of bytes may change.
@@ -59,10 +63,30 @@ impl Coverage {
     /// Counts what tells one query from another.
     pub fn count_query(&mut self, record: &[u8], outcome: &Outcome, report: &[u8]) {
         self.count_spellings(record, outcome);
-        self.patterns.count(record);
+        self.count_assertions(record);
         let met = crowds(record, outcome, report);
         for (what, _) in CROWDS.iter().zip(met).filter(|(_, met)| *met) {
             *self.crowds.entry(what).or_default() += 1;
+        }
+    }
+
+    /// Counts what the assertions of a query hold, and what their Conditions meet.
+    fn count_assertions(&mut self, record: &[u8]) {
+        let Ok(query) = record::read(record) else { return };
+        let reading = read_assertions(&query);
+        let environment = Environment::new(&query, &reading.store);
+        let mut evaluator = Evaluator::new(&environment);
+        for assertion in reading.kept.iter() {
+            let nodes = assertion.conditions.map_or(&[][..], |row| row.of(&reading.store.nodes));
+            let met = evaluator.met(assertion);
+            self.patterns.count(nodes, &met.patterns);
+            self.floats.count(nodes, &met.floats);
+        }
+        for (statement, fault) in query.statements.iter().zip(&reading.faults) {
+            match fault {
+                Some(fault) => self.floats.count_fault(statement.text, *fault),
+                None => self.floats.count_literals(statement.text),
+            }
         }
     }
 
@@ -86,7 +110,7 @@ impl Coverage {
         for number in 0..=record::ROOT_ASKS {
             need(self.numbers.contains_key(&number), format!("number {number}"));
         }
-        for reason in 0..=check::STANDING {
+        for reason in check::REASONS {
             need(self.reasons.contains_key(&reason), format!("reason {reason}"));
         }
         for rank in 0..limits::VALUES.most as u8 {
@@ -100,6 +124,7 @@ impl Coverage {
             need(self.crowds.contains_key(what), what.into());
         }
         missing.extend(self.patterns.missing());
+        missing.extend(self.floats.missing());
         missing
     }
 }
@@ -113,7 +138,8 @@ impl fmt::Display for Coverage {
         writeln!(formatter, "reached {:?}", self.reached)?;
         writeln!(formatter, "changed by spellings {:?}", self.spellings)?;
         writeln!(formatter, "large ones {:?}", self.crowds)?;
-        write!(formatter, "{}", self.patterns)
+        writeln!(formatter, "{}", self.patterns)?;
+        write!(formatter, "{}", self.floats)
     }
 }
 

@@ -6,7 +6,7 @@ use crate::limits;
 use crate::random::Random;
 
 /// Tokens to be put where they may not belong.
-const TOKENS: [&[u8]; 56] = [
+const TOKENS: [&[u8]; 58] = [
     b"\"a\"",
     b"\"\"",
     b"x",
@@ -17,6 +17,8 @@ const TOKENS: [&[u8]; 56] = [
     b"17",
     b"2147483648",
     b"1.5",
+    b"12345678901234567.8",
+    b"0.0000000000000000000",
     b"-of",
     b"->",
     b"&&",
@@ -128,14 +130,24 @@ fn fields(random: &mut Random, sketch: &mut Sketch) {
     }
 }
 
-/// Floats and patterns where integers and equality stood.
+/// Floats and patterns where integers and equality stood, and the other way round.
 fn conversions(random: &mut Random, tokens: &mut [Vec<u8>]) {
+    const ORDERINGS: [&[u8]; 4] = [b"<", b">", b"<=", b">="];
+    const EQUALITIES: [&[u8]; 3] = [b"==", b"!=", b"~="];
+    const FLOATS: [&[u8]; 4] = [b"1.5", b"64.0", b"0.1", b"1.000000000000000000"];
     for token in tokens {
         let other: &[u8] = match token[0] {
-            b'=' if token.len() == 2 => b"~=",
+            b'=' | b'!' if token.len() == 2 => match random.below(3) {
+                0 => b"~=",
+                _ => *random.pick(&ORDERINGS),
+            },
+            b'<' | b'>' => *random.pick(&EQUALITIES),
             b'@' => b"&",
-            b'0'..=b'9' => b"1.5",
+            b'&' if token.len() == 1 => b"@",
+            b'0'..=b'9' if token.contains(&b'.') => b"2",
+            b'0'..=b'9' => *random.pick(&FLOATS),
             b'%' => b"/",
+            b'/' => b"%",
             _ => continue,
         };
         if !random.once_in(4) {

@@ -1,5 +1,6 @@
 //! Limits of texts and of evaluation, met or passed by one.
 
+use super::float;
 use crate::draft::Draft;
 use crate::limits;
 use crate::random::Random;
@@ -26,7 +27,7 @@ fn near(random: &mut Random, limit: usize) -> usize {
 }
 
 fn text(random: &mut Random) -> String {
-    match random.below(19) {
+    match random.below(23) {
         0 => {
             let count = near(random, limits::CONSTANTS);
             let mut names: Vec<String> = (0..count).map(|index| format!("c{index}=\"{index}\"")).collect();
@@ -197,7 +198,11 @@ fn text(random: &mut Random) -> String {
             ]);
             format!("{POLICY}Conditions: {test};")
         }
-        17 => {
+        17 => format!("{POLICY}{}", float::digits(random)),
+        18 => float::in_field(random),
+        19 => format!("{POLICY}Conditions: {};", float::mixed(random)),
+        20 => format!("{POLICY}Conditions: {};", float::end(random)),
+        21 => {
             let literal = *random.pick(&["\"POLICY\"", "\"\\120OLICY\"", "p", "q", "\"policy\""]);
             format!("Local-Constants: p=\"POLICY\" _q=\"POLICY\"\nAuthorizer: {literal}")
                 .replace(" _q", *random.pick(&[" q", " _q", " p", " P"]))

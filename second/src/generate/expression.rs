@@ -1,5 +1,6 @@
 //! Random expressions of each type, as rows of tokens.
 
+use super::decimal;
 use super::pattern;
 use super::scene::Scene;
 use crate::random::Random;
@@ -76,6 +77,9 @@ fn comparison(random: &mut Random, scene: &Scene, depth: usize) -> Tokens {
         joined([subject, token("~="), vec![literal(random, &pattern)]])
     } else if random.once_in(24) {
         joined([string(random, scene, depth), token("~="), string(random, scene, depth)])
+    } else if random.once_in(4) {
+        let operator = *random.pick(&["<", ">", "<=", ">="]);
+        joined([floating(random, scene, depth), token(operator), floating(random, scene, depth)])
     } else if random.once_in(2) {
         joined([string(random, scene, depth), token(operator), string(random, scene, depth)])
     } else {
@@ -130,6 +134,35 @@ fn integer_operand(random: &mut Random, scene: &Scene, depth: usize) -> Tokens {
         2 => joined([token("@"), string_operand(random, scene, depth)]),
         3 | 4 => joined([token("-"), integer_operand(random, scene, depth - 1)]),
         _ => bracketed(integer(random, scene, depth - 1)),
+    }
+}
+
+fn floating(random: &mut Random, scene: &Scene, depth: usize) -> Tokens {
+    if depth == 0 || random.once_in(3) {
+        return float_operand(random, scene, 0);
+    }
+    match random.below(3) {
+        0 => {
+            let operator = *random.pick(&["+", "-", "*", "/", "^"]);
+            let left = floating(random, scene, depth - 1);
+            joined([left, token(operator), float_operand(random, scene, depth - 1)])
+        }
+        _ => float_operand(random, scene, depth),
+    }
+}
+
+fn float_operand(random: &mut Random, scene: &Scene, depth: usize) -> Tokens {
+    const NUMBERS: [&str; 8] = ["0.0", "1.0", "2.0", "0.5", "3.0", "64.0", "007.50", "0.1"];
+    match random.below(if depth == 0 { 4 } else { 7 }) {
+        0 => token(random.pick(&NUMBERS)),
+        1 => token(decimal::literal(random)),
+        2 => joined([token("&"), string_operand(random, scene, depth)]),
+        3 => {
+            let text = decimal::text(random);
+            joined([token("&"), vec![literal(random, text.as_bytes())]])
+        }
+        4 | 5 => joined([token("-"), float_operand(random, scene, depth - 1)]),
+        _ => bracketed(floating(random, scene, depth - 1)),
     }
 }
 

@@ -3,12 +3,10 @@
 use std::collections::BTreeMap;
 use std::fmt;
 
-use crate::environment::Environment;
-use crate::eval::{Evaluator, PatternTest};
+use crate::eval::PatternTest;
 use crate::limits;
 use crate::pattern::{Fault, FAULTS};
-use crate::store::{Assertion, Node};
-use crate::{read_assertions, record};
+use crate::store::Node;
 
 #[derive(Clone, Debug, Default, PartialEq, Eq)]
 pub struct PatternCoverage {
@@ -33,21 +31,10 @@ const KINDS: [&str; 12] = [
 ];
 
 impl PatternCoverage {
-    /// Counts the pattern tests that a record's kept assertions meet.
-    pub fn count(&mut self, record: &[u8]) {
-        let Ok(query) = record::read(record) else { return };
-        let reading = read_assertions(&query);
-        let environment = Environment::new(&query, &reading.store);
-        let mut evaluator = Evaluator::new(&environment);
-        for assertion in reading.kept.iter() {
-            let nodes = nodes_of(assertion, &reading.store.nodes);
-            if !nodes.contains(&Node::Match) {
-                continue;
-            }
-            let tests = evaluator.pattern_tests(assertion);
-            tests.iter().for_each(|test| self.count_test(test));
-            self.count_nodes(nodes, tests.iter().any(|test| test.found.is_err()));
-        }
+    /// Counts what the Conditions of an assertion hold and met.
+    pub fn count(&mut self, nodes: &[Node], tests: &[PatternTest]) {
+        tests.iter().for_each(|test| self.count_test(test));
+        self.count_nodes(nodes, tests.iter().any(|test| test.found.is_err()));
     }
 
     fn count_test(&mut self, test: &PatternTest) {
@@ -95,7 +82,7 @@ impl PatternCoverage {
         }
     }
 
-    pub fn add(&mut self, other: &Self) {
+    pub fn merge(&mut self, other: &Self) {
         for (kind, count) in &other.kinds {
             *self.kinds.entry(kind).or_default() += count;
         }
@@ -111,10 +98,6 @@ impl PatternCoverage {
         let faults = FAULTS.into_iter().filter(|fault| !self.faults.contains_key(fault));
         kinds.chain(faults.map(|fault| format!("pattern: fault {fault:?}")))
     }
-}
-
-fn nodes_of<'a>(assertion: &Assertion, nodes: &'a [Node]) -> &'a [Node] {
-    assertion.conditions.map_or(&[], |row| row.of(nodes))
 }
 
 impl fmt::Display for PatternCoverage {

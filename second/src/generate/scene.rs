@@ -9,7 +9,7 @@ const NAMES: [&str; 12] =
     ["app_domain", "x", "y", "dollars", "true", "False", "name", "X", "a_1", "Comment", "POLICY", "n0"];
 
 /// Strings that are compared, looked up and converted.
-const WORDS: [&[u8]; 22] = [
+const WORDS: [&[u8]; 27] = [
     b"",
     b"x",
     b"y",
@@ -24,6 +24,11 @@ const WORDS: [&[u8]; 22] = [
     b"-2147483648.5",
     b"1e3",
     b"07.0",
+    b"9.75",
+    b"16777217",
+    b"8388608.5",
+    b"-12345678901234567.8",
+    b"123456789012345678.9",
     b"a",
     b"ab",
     b"abc",

@@ -2,6 +2,7 @@
 //! that none hides another.
 
 use super::expression;
+use super::float;
 use super::pattern;
 use super::scene::Scene;
 use crate::draft::Draft;
@@ -58,7 +59,7 @@ fn threshold(count: usize) -> String {
 }
 
 fn test(random: &mut Random, scene: &Scene, draft: &Draft) -> Vec<u8> {
-    match random.below(13) {
+    match random.below(17) {
         0..=3 => integers(random).into(),
         4 => converted(random).into(),
         5 => lengths(random).into(),
@@ -66,6 +67,7 @@ fn test(random: &mut Random, scene: &Scene, draft: &Draft) -> Vec<u8> {
         7 => joined_names(random, draft),
         8 => spellings(random).into(),
         9 | 10 => short(random, pattern::test),
+        11..=14 => float::test(random).into(),
         _ => short(random, |random| expression::test(random, scene, 4).join(&b' ')),
     }
 }

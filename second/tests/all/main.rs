@@ -1,5 +1,6 @@
 //! All tests, in one program so that they are built once.
 
+mod floats;
 mod generated;
 mod grammar;
 mod open_points;

@@ -11,7 +11,11 @@ fn unhex(digits: &str) -> Vec<u8> {
 fn every_example() {
     let mut wrong = Vec::new();
     let mut count = 0;
-    let pages = [include_str!("../../data/open-points.tsv"), include_str!("../../data/open-points-02.tsv")];
+    let pages = [
+        include_str!("../../data/open-points.tsv"),
+        include_str!("../../data/open-points-02.tsv"),
+        include_str!("../../data/floats.tsv"),
+    ];
     for line in pages.iter().flat_map(|page| page.lines()) {
         let columns: Vec<&str> = line.split('\t').collect();
         let [name, record, expected] = columns[..] else { panic!("three columns: {line}") };
@@ -22,5 +26,5 @@ fn every_example() {
         count += 1;
     }
     assert!(wrong.is_empty(), "{}", wrong.join("\n"));
-    assert!(count >= 256, "{count} examples");
+    assert_eq!(count, 472);
 }

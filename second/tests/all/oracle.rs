@@ -1,5 +1,5 @@
-//! Expressions as trees, computed here by recursion over wide integers, against
-//! the same expressions written as Conditions with the fewest brackets.
+//! Expressions as trees, computed here by recursion over wide integers and wide
+//! floats, against the same expressions written as Conditions with the fewest brackets.
 
 use second::answer;
 use second::draft::Draft;
@@ -9,6 +9,7 @@ use second::random::Random;
 /// A tree; its type follows from its place.
 enum Tree {
     Number(i64),
+    Real(&'static str),
     Text(&'static str),
     Name(&'static str),
     Truth(bool),
@@ -16,11 +17,13 @@ enum Tree {
     Binary(&'static str, Box<Tree>, Box<Tree>),
 }
 
-use Tree::{Binary, Name, Number, Text, Truth, Unary};
+use Tree::{Binary, Name, Number, Real, Text, Truth, Unary};
 
 const ATTRIBUTES: [(&str, &str); 4] = [("x", "y"), ("y", "-7.5"), ("z", "z"), ("big", "2147483647")];
-const TEXTS: [&str; 8] = ["", "x", "y", "z", "-7.5", "12", "big", "a b"];
+const TEXTS: [&str; 10] = ["", "x", "y", "z", "-7.5", "12", "big", "a b", "16777217", "0.0000000000000000001"];
 const NUMBERS: [i64; 8] = [0, 1, 2, 3, 31, 46_341, 65_536, 2_147_483_647];
+const REALS: [&str; 9] =
+    ["0.0", "1.0", "2.0", "0.1", "3.25", "64.0", "16777217.0", "99999999999999999.9", "0.00000000000000001"];
 
 fn string(random: &mut Random, depth: usize) -> Tree {
     match random.below(if depth == 0 { 2 } else { 4 }) {
@@ -43,17 +46,33 @@ fn integer(random: &mut Random, depth: usize) -> Tree {
     }
 }
 
+fn float(random: &mut Random, depth: usize) -> Tree {
+    match random.below(if depth == 0 { 1 } else { 6 }) {
+        0 => Real(REALS[random.below(REALS.len())]),
+        1 => Unary("-", Box::new(float(random, depth - 1))),
+        2 => Unary("&", Box::new(string(random, depth - 1))),
+        _ => {
+            let operator = *random.pick(&["+", "-", "*", "/", "^", "*", "/"]);
+            Binary(operator, Box::new(float(random, depth - 1)), Box::new(float(random, depth - 1)))
+        }
+    }
+}
+
 fn test(random: &mut Random, depth: usize) -> Tree {
-    match random.below(if depth == 0 { 1 } else { 7 }) {
+    match random.below(if depth == 0 { 1 } else { 9 }) {
         0 => Truth(random.once_in(2)),
         1 => Unary("!", Box::new(test(random, depth - 1))),
         2 | 3 => {
             let operator = *random.pick(&["&&", "||"]);
             Binary(operator, Box::new(test(random, depth - 1)), Box::new(test(random, depth - 1)))
         }
+        4 | 5 => {
+            let operator = *random.pick(&["<", ">", "<=", ">="]);
+            Binary(operator, Box::new(float(random, depth - 1)), Box::new(float(random, depth - 1)))
+        }
         way => {
             let operator = *random.pick(&["==", "!=", "<", ">", "<=", ">="]);
-            let mut side = || if way == 4 { string(random, depth - 1) } else { integer(random, depth - 1) };
+            let mut side = || if way == 6 { string(random, depth - 1) } else { integer(random, depth - 1) };
             Binary(operator, Box::new(side()), Box::new(side()))
         }
     }
@@ -81,6 +100,7 @@ fn write(tree: &Tree, least: u8, text: &mut String) {
     text.push_str(if bracket { "(" } else { "" });
     match tree {
         Number(number) => text.push_str(&number.to_string()),
+        Real(number) => text.push_str(number),
         Text(content) => *text += &format!("\"{content}\""),
         Name(name) => text.push_str(name),
         Truth(truth) => *text += &truth.to_string(),
@@ -100,6 +120,7 @@ fn write(tree: &Tree, least: u8, text: &mut String) {
 
 enum Value {
     Number(i64),
+    Real(f32),
     Text(String),
     Truth(bool),
 }
@@ -108,12 +129,15 @@ enum Value {
 fn value(tree: &Tree) -> Option<Value> {
     Some(match tree {
         Number(number) => Value::Number(*number),
+        Real(number) => Value::Real(number.parse().expect("a number")),
         Text(text) => Value::Text(text.to_string()),
         Name(name) => Value::Text(lookup(name)),
         Truth(truth) => Value::Truth(*truth),
         Unary(operator, inner) => match (*operator, value(inner)?) {
             ("!", Value::Truth(truth)) => Value::Truth(!truth),
             ("-", Value::Number(number)) => Value::Number(ranged(-i128::from(number))?),
+            ("-", Value::Real(number)) => Value::Real(-number),
+            ("&", Value::Text(text)) => Value::Real(real(&text)),
             ("$", Value::Text(text)) => Value::Text(lookup(&text)),
             ("@", Value::Text(text)) => Value::Number(converted(&text)),
             _ => panic!("types"),
@@ -131,6 +155,10 @@ fn value(tree: &Tree) -> Option<Value> {
                 Some(truth) => Value::Truth(truth),
                 None => Value::Number(calculated(operator, left.into(), right.into())?),
             },
+            (Value::Real(left), Value::Real(right)) => match compared(operator, &left, &right) {
+                Some(truth) => Value::Truth(truth),
+                None => Value::Real(calculated_widely(operator, left, right)?),
+            },
             (Value::Text(left), Value::Text(right)) => match compared(operator, &left, &right) {
                 Some(truth) => Value::Truth(truth),
                 None => Value::Text(left + &right),
@@ -140,7 +168,7 @@ fn value(tree: &Tree) -> Option<Value> {
     })
 }
 
-fn compared<T: Ord>(operator: &str, left: &T, right: &T) -> Option<bool> {
+fn compared<T: PartialOrd>(operator: &str, left: &T, right: &T) -> Option<bool> {
     Some(match operator {
         "==" => left == right,
         "!=" => left != right,
@@ -168,6 +196,22 @@ fn calculated(operator: &str, left: i128, right: i128) -> Option<i64> {
     }
 }
 
+/// By way of 64-bit floats: rounding twice gives what rounding once does.
+fn calculated_widely(operator: &str, left: f32, right: f32) -> Option<f32> {
+    let (wide, other) = (f64::from(left), f64::from(right));
+    let result = match operator {
+        "+" => wide + other,
+        "-" => wide - other,
+        "*" => wide * other,
+        "/" => wide / other,
+        _ => {
+            let times = (0..=64u8).find(|&times| f64::from(times) == other)?;
+            (0..times).fold(1.0, |product, _| f64::from((product * wide) as f32))
+        }
+    };
+    Some(result as f32).filter(|result| result.is_finite())
+}
+
 fn ranged(number: i128) -> Option<i64> {
     i32::try_from(number).ok().map(i64::from)
 }
@@ -177,12 +221,27 @@ fn lookup(name: &str) -> String {
     found.map_or(String::new(), |(_, value)| value.to_string())
 }
 
-/// "@" for the few texts that occur: digits with at most one sign and point.
-fn converted(text: &str) -> i64 {
+/// Digits with at most one sign and point.
+fn is_number(text: &str) -> bool {
     let shape = text.strip_prefix('-').unwrap_or(text);
     let parts: Vec<&str> = shape.split('.').collect();
     let digits = |part: &&str| !part.is_empty() && part.bytes().all(|byte| byte.is_ascii_digit());
-    if parts.len() > 2 || !parts.iter().all(digits) {
+    parts.len() <= 2 && parts.iter().all(digits)
+}
+
+/// "&" for the few texts that occur.
+fn real(text: &str) -> f32 {
+    let short = text.bytes().filter(u8::is_ascii_digit).count() <= 18;
+    if is_number(text) && short {
+        text.parse().expect("a number")
+    } else {
+        0.0
+    }
+}
+
+/// "@" for the few texts that occur.
+fn converted(text: &str) -> i64 {
+    if !is_number(text) {
         return 0;
     }
     let number = text.parse::<f64>().expect("a number").floor();

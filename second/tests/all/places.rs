@@ -1,6 +1,7 @@
 //! A reason is told from the text up to the token at its place: what stands
 //! behind that token may be anything.
 
+use second::check::REASONS;
 use second::draft::Draft;
 use second::generate::{of_sort, Sort};
 use second::line::{LABELS, LINE, NO_TOKEN};
@@ -51,5 +52,5 @@ fn what_follows_changes_nothing() {
             met[usize::from(reason)] += 1;
         }
     }
-    assert!(met[2..].iter().all(|&count| count > 30), "{met:?}");
+    assert!(REASONS[2..].iter().all(|&reason| met[usize::from(reason)] > 30), "{met:?}");
 }

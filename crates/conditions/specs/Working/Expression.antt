@@ -25,14 +25,14 @@ abbrev pub operandBody : (List ℕ → ℕ → ℕ → ℕ → ℕ → ℕ → T
 operandBody prefixed bracketed s m top want row nest t =
     pick (Numbered.allows want (t .kind))
     (pick (eqb (Numbered.prefixOperator (t .kind)) Numbered.NONE)
-    (pick (eqb (t .kind) Kind.OPEN) (bracketed m top want nest t) (leafRead s m top want row t))
+    (pick (eqb (t .kind) Kind.OPEN) (bracketed m top want nest t) (leafRead s m top want t))
     (prefixed m top (Numbered.prefixOperator (t .kind)) want row nest t))
     (ran (refused t) m)
 
 abbrev pub prefixedBody : Expr → List ℕ → List ℕ → ℕ → ℕ → ℕ → ℕ → ℕ → Token → Ran
 prefixedBody expr s m top op want row nest t =
     pick (leb 16 row) (ran (Aside 7 (t .start)) m)
-    (onFound (expr m top (Numbered.operandLevel op) (Numbered.operandWant op want) (row + 1) nest (nextAt s (t .end))) (λ x p u n b. finishAt b u op x p n))
+    (onFound (expr m top (Numbered.operandLevel op) (Numbered.operandWant op want) (row + 1) nest (nextAt s (t .end))) (λ x p u n b. finishAt b u (Numbered.prefixOf op x) x p n))
 
 abbrev pub bracketedBody : Expr → List ℕ → List ℕ → ℕ → ℕ → ℕ → Token → Ran
 bracketedBody expr s m top want nest t =

@@ -1,6 +1,6 @@
 -- Operands of one token. Assumes nothing.
 use mathlib.Core.List.{List}
-use Prim.Native.Nat.{ℕ}
+use Prim.Native.Nat.{ℕ, _-_}
 use lib.Dec.{eqb, ltb, leb}
 use lib.ListN.{length}
 use Rattle.text.specs.Choice.{pick}
@@ -10,7 +10,7 @@ use Rattle.lexical.specs.Number.{LIMIT, numberAt}
 use Rattle.lexical.specs.declared.token.Token.{Token}
 use Rattle.syntax.specs.Op
 use Rattle.conditions.specs.Word.{nextAt}
-use Rattle.conditions.specs.Working.Numbered.{TEXT, NUMBER, wordSort}
+use Rattle.conditions.specs.Working.Numbered.{TEXT, INTEGER, FLOAT, wordSort}
 use Rattle.conditions.specs.Working.Emit.{Ran, ran, above, put}
 use Rattle.conditions.specs.declared.emit.Out.{Out}
 use Rattle.conditions.specs.declared.emit.Out.the-variants.{Found, Aside}
@@ -29,13 +29,13 @@ unfoldable pub nameRead : List ℕ → List ℕ → ℕ → ℕ → Token → Ra
 nameRead s m top want t = nameAs s m top t (wordSort s want (t .start) (t .end))
 
 unfoldable pub digitsRead : List ℕ → List ℕ → ℕ → Token → Ran
-digitsRead s m top t = pick (leb LIMIT (numberAt s (t .start) (t .end))) (ran (Aside 5 (t .start)) m) (leafFound s m top NUMBER Op.NUMBER t)
+digitsRead s m top t = pick (leb LIMIT (numberAt s (t .start) (t .end))) (ran (Aside 5 (t .start)) m) (leafFound s m top INTEGER Op.NUMBER t)
 
-unfoldable pub floatRead : ℕ → Token → Out
-floatRead row t = pick (eqb (t .kind) Kind.AMPERSAND) (pick (leb 16 row) (Aside 7 (t .start)) (Aside 8 (t .start))) (Aside 8 (t .start))
+unfoldable pub floatRead : List ℕ → List ℕ → ℕ → Token → Ran
+floatRead s m top t = pick (ltb 19 (t .end - t .start)) (ran (Aside 7 (t .start)) m) (leafFound s m top FLOAT Op.DECIMAL t)
 
-unfoldable pub leafRead : List ℕ → List ℕ → ℕ → ℕ → ℕ → Token → Ran
-leafRead s m top want row t =
+unfoldable pub leafRead : List ℕ → List ℕ → ℕ → ℕ → Token → Ran
+leafRead s m top want t =
     pick (eqb (t .kind) Kind.LITERAL) (literalRead s m top t)
     (pick (eqb (t .kind) Kind.NAME) (nameRead s m top want t)
-    (pick (eqb (t .kind) Kind.DIGITS) (digitsRead s m top t) (ran (floatRead row t) m)))
+    (pick (eqb (t .kind) Kind.DIGITS) (digitsRead s m top t) (floatRead s m top t)))

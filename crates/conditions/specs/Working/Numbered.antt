@@ -8,8 +8,8 @@ use Rattle.lexical.specs.Kind
 use Rattle.syntax.specs.Op
 use Rattle.syntax.specs.Operation.{unaryNumber, binaryNumber}
 use Rattle.lexical.specs.Word.{spells, word-true, word-false}
-use Rattle.syntax.specs.Operator.{a-string, an-integer, a-test}
-use Rattle.conditions.specs.Table.{PartSort, sorted, word, Want, want-any, want-string, want-number, want-integer, beginsString, beginsNumber, beginsFloat, Infix, no-infix, between, Prefix, no-prefix, before}
+use Rattle.syntax.specs.Operator.{a-string, an-integer, a-float, a-test}
+use Rattle.conditions.specs.Table.{PartSort, sorted, word, Want, want-any, want-string, want-number, want-integer, want-float, beginsString, beginsNumber, beginsFloat, Infix, no-infix, between, Prefix, no-prefix, before}
 
 -- wanted: anything
 abbrev pub ANY : ℕ
@@ -19,13 +19,17 @@ ANY = 0
 abbrev pub TEXT : ℕ
 TEXT = 1
 
--- wanted: an integer or a float; a sort: an integer
-abbrev pub NUMBER : ℕ
-NUMBER = 2
-
--- wanted: an integer
+-- an integer
 abbrev pub INTEGER : ℕ
-INTEGER = 3
+INTEGER = 2
+
+-- a float
+abbrev pub FLOAT : ℕ
+FLOAT = 3
+
+-- wanted: an integer or a float
+abbrev pub NUMBER : ℕ
+NUMBER = 4
 
 -- sorts: a test
 abbrev pub TEST : ℕ
@@ -33,16 +37,17 @@ TEST = 0
 
 -- the bare word true
 abbrev pub TRUE : ℕ
-TRUE = 3
+TRUE = 4
 
 -- the bare word false
 abbrev pub FALSE : ℕ
-FALSE = 4
+FALSE = 5
 
 -- the number that the code holds for what was read, and for what is wanted
 abbrev pub sortNumber : PartSort → ℕ
 sortNumber (sorted a-string) = TEXT
-sortNumber (sorted an-integer) = NUMBER
+sortNumber (sorted an-integer) = INTEGER
+sortNumber (sorted a-float) = FLOAT
 sortNumber (sorted a-test) = TEST
 sortNumber (word true) = TRUE
 sortNumber (word false) = FALSE
@@ -52,25 +57,28 @@ wantNumber want-any = ANY
 wantNumber want-string = TEXT
 wantNumber want-number = NUMBER
 wantNumber want-integer = INTEGER
+wantNumber want-float = FLOAT
+
+-- what begins with a token of kind k where a number or anything is wanted
+unfoldable pub begins : ℕ → ℕ → Bool
+begins want k =
+    pick (beginsNumber k) true (pick (beginsFloat k) true (pick (eqb want NUMBER) false (pick (eqb k Kind.NOT) true (beginsString k))))
 
 -- may a token of kind k stand where `want` is wanted?
 unfoldable pub allows : ℕ → ℕ → Bool
 allows want k =
     pick (eqb k Kind.OPEN) true
-    (pick (eqb k Kind.NOT) (eqb want ANY)
     (pick (eqb want TEXT) (beginsString k)
-    (pick (beginsNumber k) true
-    (pick (eqb want INTEGER) false
-    (pick (beginsFloat k) true
-    (pick (eqb want NUMBER) false (beginsString k)))))))
+    (pick (eqb want INTEGER) (beginsNumber k)
+    (pick (eqb want FLOAT) (beginsFloat k) (begins want k))))
 
--- brackets hold a whole test, or a whole string or integer
+-- brackets hold a whole test, or a whole string, integer or float
 unfoldable pub insideLevel : ℕ → ℕ
 insideLevel want = pick (eqb want ANY) 0 3
 
 -- is what was read of this sort, or a bare word that can become it?
 unfoldable pub fits : ℕ → ℕ → Bool
-fits wanted sort = pick (eqb sort wanted) true (pick (ltb sort TRUE) false (pick (eqb wanted NUMBER) false true))
+fits wanted sort = pick (eqb sort wanted) true (pick (ltb sort TRUE) false (ltb wanted INTEGER))
 
 -- ""true" and "false" may also be attribute names": where both may stand, the word is not settled yet
 unfoldable pub wordSort : List ℕ → ℕ → ℕ → ℕ → ℕ
@@ -102,6 +110,19 @@ numberOperator k =
     (pick (eqb k Kind.MINUS) Op.MINUS
     (pick (eqb (comparison k) NONE) NONE (comparison k + 7)))))))
 
+-- the operator behind a float
+unfoldable pub floatOperator : ℕ → ℕ
+floatOperator k =
+    pick (eqb k Kind.POWER) Op.FLOAT-POWER
+    (pick (eqb k Kind.TIMES) Op.FLOAT-TIMES
+    (pick (eqb k Kind.DIVIDE) Op.FLOAT-OVER
+    (pick (eqb k Kind.PLUS) Op.FLOAT-PLUS
+    (pick (eqb k Kind.MINUS) Op.FLOAT-MINUS
+    (pick (eqb k Kind.LESS) Op.FLOAT-LESS
+    (pick (eqb k Kind.GREATER) Op.FLOAT-GREATER
+    (pick (eqb k Kind.AT-MOST) Op.FLOAT-AT-MOST
+    (pick (eqb k Kind.AT-LEAST) Op.FLOAT-AT-LEAST NONE))))))))
+
 -- the operator behind a string
 unfoldable pub textOperator : ℕ → ℕ
 textOperator k = pick (eqb k Kind.DOT) Op.JOIN (pick (eqb k Kind.MATCHES) Op.MATCHES (comparison k))
@@ -113,9 +134,10 @@ testOperator k = pick (eqb k Kind.AND) Op.BOTH (pick (eqb k Kind.OR) Op.EITHER N
 -- "Both sides of a comparison have one type": the operator behind what was read; a bare word is a test or a string
 unfoldable pub operator : ℕ → ℕ → ℕ
 operator sort k =
-    pick (eqb sort NUMBER) (numberOperator k)
+    pick (eqb sort INTEGER) (numberOperator k)
     (pick (eqb sort TEXT) (textOperator k)
-    (pick (eqb (testOperator k) NONE) (pick (eqb sort TEST) NONE (textOperator k)) (testOperator k)))
+    (pick (eqb sort FLOAT) (floatOperator k)
+    (pick (eqb (testOperator k) NONE) (pick (eqb sort TEST) NONE (textOperator k)) (testOperator k))))
 
 -- the operator before an operand
 unfoldable pub prefixOperator : ℕ → ℕ
@@ -123,35 +145,36 @@ prefixOperator k =
     pick (eqb k Kind.MINUS) Op.NEGATE
     (pick (eqb k Kind.AT) Op.CONVERT
     (pick (eqb k Kind.DOLLAR) Op.LOOKUP
-    (pick (eqb k Kind.NOT) Op.OPPOSITE NONE)))
+    (pick (eqb k Kind.NOT) Op.OPPOSITE
+    (pick (eqb k Kind.AMPERSAND) Op.TO-FLOAT NONE))))
 
 -- "! above && above || (house), a comparison inside", "then ^, then * / %, then + -": 0 || 1 && 2 comparisons 3 + - . 4 * / % 5 ^
+unfoldable pub levelAbove : ℕ → ℕ
+levelAbove op =
+    pick (ltb op Op.FLOAT-POWER) 2
+    (pick (ltb Op.FLOAT-MINUS op) (pick (ltb op Op.BOTH) 2 (pick (eqb op Op.BOTH) 1 0))
+    (pick (ltb Op.FLOAT-OVER op) 3 (pick (eqb op Op.FLOAT-POWER) 5 4)))
+
 unfoldable pub levelOf : ℕ → ℕ
-levelOf op =
-    pick (eqb op Op.EITHER) 0
-    (pick (eqb op Op.BOTH) 1
-    (pick (ltb Op.MINUS op) 2
-    (pick (eqb op Op.POWER) 5
-    (pick (eqb op Op.JOIN) 3
-    (pick (ltb op Op.PLUS) 4 3)))))
+levelOf op = pick (ltb Op.MINUS op) (levelAbove op) (pick (ltb Op.REMAINDER op) 3 (pick (eqb op Op.POWER) 5 (pick (eqb op Op.JOIN) 3 4)))
 
 -- the sort of an operator's operands
+unfoldable pub operandAbove : ℕ → ℕ
+operandAbove op = pick (ltb Op.MATCHES op) (pick (ltb Op.AT-LEAST op) (pick (ltb op Op.BOTH) FLOAT TEST) INTEGER) TEXT
+
 unfoldable pub operandOf : ℕ → ℕ
 operandOf op =
-    pick (eqb op Op.OPPOSITE) TEST
-    (pick (ltb Op.AT-LEAST op) TEST
-    (pick (ltb Op.MATCHES op) NUMBER
-    (pick (ltb Op.MINUS op) TEXT
-    (pick (eqb op Op.NEGATE) NUMBER
-    (pick (ltb Op.JOIN op) NUMBER TEXT)))))
+    pick (ltb Op.JOIN op) (pick (ltb Op.MINUS op) (operandAbove op) INTEGER)
+    (pick (eqb op Op.NEGATE) INTEGER (pick (eqb op Op.OPPOSITE) TEST (pick (eqb op Op.FLOAT-NEGATE) FLOAT TEXT)))
 
 -- the sort of what it gives
+unfoldable pub resultAbove : ℕ → ℕ
+resultAbove op = pick (ltb Op.AT-LEAST op) (pick (ltb Op.FLOAT-MINUS op) TEST FLOAT) TEST
+
 unfoldable pub resultOf : ℕ → ℕ
 resultOf op =
-    pick (ltb Op.MINUS op) TEST
-    (pick (eqb op Op.OPPOSITE) TEST
-    (pick (eqb op Op.LOOKUP) TEXT
-    (pick (eqb op Op.JOIN) TEXT NUMBER)))
+    pick (ltb Op.JOIN op) (pick (ltb Op.MINUS op) (resultAbove op) INTEGER)
+    (pick (eqb op Op.OPPOSITE) TEST (pick (eqb op Op.LOOKUP) TEXT (pick (eqb op Op.JOIN) TEXT (pick (ltb Op.OPPOSITE op) FLOAT INTEGER))))
 
 -- "!" takes a comparison; "@ and $ bind as unary -", which takes no operator between operands
 unfoldable pub operandLevel : ℕ → ℕ
@@ -159,15 +182,15 @@ operandLevel op = pick (eqb op Op.OPPOSITE) 2 6
 
 -- what is wanted behind a prefix operator
 unfoldable pub operandWant : ℕ → ℕ → ℕ
-operandWant op want = pick (eqb op Op.OPPOSITE) ANY (pick (eqb op Op.NEGATE) (pick (eqb want ANY) NUMBER want) TEXT)
+operandWant op want = pick (eqb op Op.OPPOSITE) ANY (pick (eqb op Op.NEGATE) (pick (eqb want ANY) NUMBER want) (pick (eqb op Op.FLOAT-NEGATE) FLOAT TEXT))
 
--- what is wanted where an operand of this sort stands to the right
-abbrev pub wantOf : ℕ → ℕ
-wantOf sort = pick (eqb sort TEST) ANY (pick (eqb sort TEXT) TEXT INTEGER)
-
--- what is wanted to the right of an operator
+-- what is wanted to the right of an operator: what it takes has one number, wanted or read
 unfoldable pub rightWant : ℕ → ℕ
-rightWant op = wantOf (operandOf op)
+rightWant op = operandOf op
+
+-- unary "-" is that of what stands behind it
+unfoldable pub prefixOf : ℕ → ℕ → ℕ
+prefixOf op sort = pick (eqb op Op.NEGATE) (pick (eqb sort FLOAT) Op.FLOAT-NEGATE op) op
 
 -- "left to right in a class": the right operand reaches to the next operator of the same level
 unfoldable pub rightLevel : ℕ → ℕ

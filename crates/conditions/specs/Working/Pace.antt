@@ -19,7 +19,7 @@ use Rattle.lexical.specs.LineLaws.{token-real, token-fault, token-end}
 use Rattle.lexical.specs.declared.token.Token.{Token}
 use Rattle.syntax.specs.Op
 use Rattle.syntax.specs.Parsed.{refusal}
-use Rattle.syntax.specs.Operator.{Sort, a-string, an-integer, a-test}
+use Rattle.syntax.specs.Operator.{Sort, a-string, an-integer, a-float, a-test}
 use Rattle.conditions.specs.Table.{PartSort, sorted, word, Want}
 use Rattle.conditions.specs.Working.Numbered.{sortNumber, wantNumber}
 use Rattle.conditions.specs.Working.Numbered
@@ -68,6 +68,7 @@ pub settled-most : (m : List ℕ) (top : ℕ) (x : PartSort) → settledTop m to
 unfolding settledTop
 settled-most m top (sorted a-string) = omega arith
 settled-most m top (sorted an-integer) = omega arith
+settled-most m top (sorted a-float) = omega arith
 settled-most m top (sorted a-test) = omega arith
 settled-most m top (word true) = above-most m top
 settled-most m top (word false) = above-most m top
@@ -85,9 +86,6 @@ refusal-some k =
 
 pub seven : _≡_ {A = ℕ} 7 0 → ⊥
 seven z = omega (arith, z)
-
-pub eight : _≡_ {A = ℕ} 8 0 → ⊥
-eight z = omega (arith, z)
 
 module _ (s : List ℕ) (top₀ at₀ low : ℕ) where
   pub paced-refused : (t : Token) (b : List ℕ) → Paced s top₀ at₀ low (ran (refused t) b)
@@ -146,19 +144,16 @@ module _ (s m : List ℕ) (top : ℕ) (t : Token) (wide : t .start < t .end) (in
   unfolding nameRead
   name-paced want = rw (word-number s want (t .start) (t .end)) (name-as (wordSort s want (t .start) (t .end)) (name-cases s want (t .start) (t .end)))
 
-  float-paced : (row : ℕ) → Paced s top (t .start) (t .start) (ran (floatRead row t) m)
+  float-paced : Paced s top (t .start) (t .start) (floatRead s m top t)
   unfolding floatRead
-  float-paced row =
-      split (eqb (t .kind) Kind.AMPERSAND)
-      (λ h. split (leb 16 row) (λ k. rw (h, k) (paced-aside 7 (t .start) m seven)) (λ k. rw (h, k) (paced-aside 8 (t .start) m eight)))
-      (λ h. rw h (paced-aside 8 (t .start) m eight))
+  float-paced = chosen (Paced s top (t .start) (t .start)) (ltb 19 (t .end - t .start)) _ _ (λ e. paced-aside 7 (t .start) m seven) (λ e. found-paced a-float Op.DECIMAL)
 
-  pub leaf-paced : (want : Want) (row : ℕ) → Paced s top (t .start) (t .start) (leafRead s m top (wantNumber want) row t)
+  pub leaf-paced : (want : Want) → Paced s top (t .start) (t .start) (leafRead s m top (wantNumber want) t)
   unfolding leafRead
-  leaf-paced want row =
+  leaf-paced want =
       chosen (Paced s top (t .start) (t .start)) (eqb (t .kind) Kind.LITERAL) _ _ (λ e. literal-paced)
       (λ e. chosen (Paced s top (t .start) (t .start)) (eqb (t .kind) Kind.NAME) _ _ (λ f. name-paced want)
-      (λ f. chosen (Paced s top (t .start) (t .start)) (eqb (t .kind) Kind.DIGITS) _ _ (λ g. digits-paced) (λ g. float-paced row)))
+      (λ f. chosen (Paced s top (t .start) (t .start)) (eqb (t .kind) Kind.DIGITS) _ _ (λ g. digits-paced) (λ g. float-paced)))
 
 -- a loop that always moves on
 pub data Goes {X R : Type 0} (μ : X → ℕ) (I : X → Type 0) (T : R → Type 0) (x : X) : Step X R → Type 0 where

@@ -21,7 +21,7 @@ use Rattle.conditions.specs.Word.{nextAt}
 use Rattle.conditions.specs.Working.Emit.{Ran, ran, settledTop, settled, finishAt, closedAt}
 use Rattle.conditions.specs.Working.Expression
 use Rattle.conditions.specs.Working.Pace.{Sound, real, next-sound, next-after, debt, settled-most, Paced, paced-aside, paced-found, paced-refused, paced-on, finish-paced, leaf-paced, seven, Goes, goes-on, ends, loop-holds}
-use Rattle.conditions.specs.Working.TieTable.{allows-number, inside-number, binary-row, operator-number, prefix-number, unary-row, unary-want, right-want, right-level, binds-number, alike-prefix, alike-infix}
+use Rattle.conditions.specs.Working.TieTable.{prefix-of, allows-number, inside-number, binary-row, operator-number, prefix-number, unary-row, unary-want, right-want, right-level, binds-number, alike-prefix, alike-infix}
 use Rattle.conditions.specs.Working.Reach.{allowed-real, spread, spread-level, operand-level-most, prefix-level, operand-wanted, inside-most, inside-wanted, level-most, binds-level, operator-token, right-wanted}
 use Rattle.conditions.specs.declared.emit.Out.the-variants.{Found, Aside}
 
@@ -41,8 +41,9 @@ module _ (s : List ℕ) where
     prefixed-body m top op want row nest t wide inside deep =
         rw (unary-row op .0, unary-want op want) (chosen (Paced s top (t .start) (t .start)) (leb 16 row) _ _ (λ h. paced-aside 7 (t .start) m seven)
         (λ h. paced-on s top (t .start) (t .start) top (nextAt s (t .end) .start) (nextAt s (t .end) .start)
-        (Expression.exprAt d s m top (Table.operandLevel op) (wantNumber (Table.operandWant op want)) (row + 1) nest (nextAt s (t .end))) (λ x p u n b. finishAt b u (unaryNumber op) x p n)
-        (λ x p u n b k i j. finish-paced s top (t .start) (t .start) (unaryNumber op) (unaryGives op) (unary-row op .2) x p u n b k (omega (arith, i, wide, next-after s (t .end) inside)) (omega (arith, j, wide, next-after s (t .end) inside)))
+        (Expression.exprAt d s m top (Table.operandLevel op) (wantNumber (Table.operandWant op want)) (row + 1) nest (nextAt s (t .end))) (λ x p u n b. finishAt b u (Numbered.prefixOf (unaryNumber op) x) x p n)
+        (λ x p u n b k i j. rw (prefix-of op x) (finish-paced s top (t .start) (t .start) (unaryNumber (Table.prefixOf op x)) (unaryGives (Table.prefixOf op x)) (unary-row (Table.prefixOf op x) .2) x p u n b k
+        (omega (arith, i, wide, next-after s (t .end) inside)) (omega (arith, j, wide, next-after s (t .end) inside))))
         (inner m top (Table.operandLevel op) (Table.operandWant op want) (row + 1) nest (nextAt s (t .end)) (next-sound s (t .end)) (operand-level-most op) (operand-wanted op want)
         (omega (arith, deep, leb-false 16 row h)))))
 
@@ -141,7 +142,7 @@ module _ (s : List ℕ) where
         rw (prefix-number (t .kind)) (alike-prefix (λ (i : Table.Prefix). Paced s top (t .start) (t .start)) (Table.prefixOperator (t .kind)) Table.no-prefix Table.before
         _ (λ op. Expression.prefixedAt d s m top op (wantNumber want) row nest t)
         (chosen (Paced s top (t .start) (t .start)) (eqb (t .kind) Kind.OPEN) _ _
-        (λ f. bracketed-paced d m top want nest t (w .0) (w .1) (omega (arith, deep))) (λ f. leaf-paced s m top t (w .0) (w .1) want row))
+        (λ f. bracketed-paced d m top want nest t (w .0) (w .1) (omega (arith, deep))) (λ f. leaf-paced s m top t (w .0) (w .1) want))
         (λ op e. prefixed-paced d m top op want row nest t (w .0) (w .1) (omega (arith, deep, prefix-level want (t .kind) op h e)))))
         (λ h. paced-refused s top (t .start) (t .start) t m))
 

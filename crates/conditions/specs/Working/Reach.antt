@@ -8,8 +8,8 @@ use borrow.Author.Tests.{leb-true, eqb-true, eqb-false}
 use Rattle.text.specs.Choice.{pick, split, clash}
 use Rattle.lexical.specs.Kind
 use Rattle.lexical.specs.Bounds.{chosen}
-use Rattle.syntax.specs.Operator.{Unary, Binary, Side, a-string, an-integer, a-test, lookup, convert, negate, opposite, join, power, times, over, remainder, plus, minus, comparison, matches, both, either, strings, integers}
-use Rattle.conditions.specs.Table.{PartSort, sorted, word, Want, want-any, want-string, want-number, want-integer, isAny, Infix, no-infix, between, Prefix, no-prefix, before}
+use Rattle.syntax.specs.Operator.{Unary, Binary, Side, a-string, an-integer, a-float, a-test, lookup, convert, negate, opposite, to-float, float-negate, join, power, times, over, remainder, plus, minus, comparison, matches, float-power, float-times, float-over, float-plus, float-minus, float-order, both, either, strings, integers}
+use Rattle.conditions.specs.Table.{PartSort, sorted, word, Want, want-any, want-string, want-number, want-integer, want-float, isAny, Infix, no-infix, between, Prefix, no-prefix, before}
 use Rattle.conditions.specs.Table
 
 -- a token that may stand as an operand is no fault and not the end
@@ -31,16 +31,18 @@ number-real k =
 float-real : (k : ℕ) → Real k (Table.beginsFloat k)
 unfolding Table.beginsFloat
 float-real k =
-    chosen (Real k) (eqb k Kind.FLOAT) true _ (λ e h. omega (arith, eqb-true k Kind.FLOAT e)) (λ e h. omega (arith, eqb-true k Kind.AMPERSAND h))
+    chosen (Real k) (eqb k Kind.FLOAT) true _ (λ e h. omega (arith, eqb-true k Kind.FLOAT e))
+    (λ e. chosen (Real k) (eqb k Kind.MINUS) true _ (λ f h. omega (arith, eqb-true k Kind.MINUS f)) (λ f h. omega (arith, eqb-true k Kind.AMPERSAND h)))
 
 begins-real : (want : Want) (k : ℕ) → Real k (Table.begins want k)
 begins-real want-any k =
-    chosen (Real k) (eqb k Kind.NOT) true _ (λ f h. omega (arith, eqb-true k Kind.NOT f))
-    (λ f. chosen (Real k) (Table.beginsNumber k) true _ (λ i h. number-real k i)
-    (λ i. chosen (Real k) (Table.beginsFloat k) true _ (λ l h. float-real k l) (λ l. string-real k)))
+    chosen (Real k) (Table.beginsNumber k) true _ (λ i h. number-real k i)
+    (λ i. chosen (Real k) (Table.beginsFloat k) true _ (λ l h. float-real k l)
+    (λ l. chosen (Real k) (eqb k Kind.NOT) true _ (λ f h. omega (arith, eqb-true k Kind.NOT f)) (λ f. string-real k)))
 begins-real want-string k = string-real k
 begins-real want-number k = chosen (Real k) (Table.beginsNumber k) true _ (λ i h. number-real k i) (λ i. float-real k)
 begins-real want-integer k = number-real k
+begins-real want-float k = float-real k
 
 pub allowed-real : (want : Want) (k : ℕ) → Table.allows want k ≡ true → Kind.BAD-LINE < k
 unfolding Table.allows
@@ -51,6 +53,7 @@ is-any want-any e = refl
 is-any want-string e = clash e refl
 is-any want-number e = clash e refl
 is-any want-integer e = clash e refl
+is-any want-float e = clash e refl
 
 -- wants differ
 pub string-any : {A : Type 0} → want-string ≡ want-any → A
@@ -71,12 +74,15 @@ operand-level-most lookup = omega arith
 operand-level-most convert = omega arith
 operand-level-most negate = omega arith
 operand-level-most opposite = omega arith
+operand-level-most to-float = omega arith
+operand-level-most float-negate = omega arith
 
 number-wanted : (want : Want) → Table.numeric want ≡ want-any → 6 ≤ 2
 number-wanted want-any h = clash (ap isAny h) refl
 number-wanted want-string h = clash (ap isAny h) refl
 number-wanted want-number h = clash (ap isAny h) refl
 number-wanted want-integer h = clash (ap isAny h) refl
+number-wanted want-float h = clash (ap isAny h) refl
 
 operand-level-least : (op : Unary) → 2 ≤ Table.operandLevel op
 unfolding Table.operandLevel
@@ -84,6 +90,8 @@ operand-level-least lookup = omega arith
 operand-level-least convert = omega arith
 operand-level-least negate = omega arith
 operand-level-least opposite = omega arith
+operand-level-least to-float = omega arith
+operand-level-least float-negate = omega arith
 
 pub operand-wanted : (op : Unary) (want : Want) → Table.operandWant op want ≡ want-any → Table.operandLevel op ≤ 2
 unfolding Table.operandWant Table.operandLevel
@@ -91,6 +99,8 @@ operand-wanted lookup want h = string-any h
 operand-wanted convert want h = string-any h
 operand-wanted negate want h = number-wanted want h
 operand-wanted opposite want h = omega arith
+operand-wanted to-float want h = string-any h
+operand-wanted float-negate want h = clash (ap isAny h) refl
 
 -- "!" stands only where a test may
 not-wanted : (want : Want) (k : ℕ) → k ≡ Kind.NOT → Table.allows want k ≡ true → isAny want ≡ true
@@ -99,6 +109,7 @@ not-wanted want-any k e h = refl
 not-wanted want-string k e h = clash (rw e at h) refl
 not-wanted want-number k e h = clash (rw e at h) refl
 not-wanted want-integer k e h = clash (rw e at h) refl
+not-wanted want-float k e h = clash (rw e at h) refl
 
 spread-any : (want : Want) → isAny want ≡ true → spread want ≡ 68
 unfolding spread
@@ -113,7 +124,8 @@ unfolding Table.prefixOperator Table.operandLevel
 other-level k n =
     rw n (chosen (λ (i : Prefix). levelBehind i ≡ 6) (eqb k Kind.MINUS) (before negate) _ (λ e. refl)
     (λ e. chosen (λ (i : Prefix). levelBehind i ≡ 6) (eqb k Kind.AT) (before convert) _ (λ f. refl)
-    (λ f. chosen (λ (i : Prefix). levelBehind i ≡ 6) (eqb k Kind.DOLLAR) (before lookup) no-prefix (λ g. refl) (λ g. refl))))
+    (λ f. chosen (λ (i : Prefix). levelBehind i ≡ 6) (eqb k Kind.DOLLAR) (before lookup) _ (λ g. refl)
+    (λ g. chosen (λ (i : Prefix). levelBehind i ≡ 6) (eqb k Kind.AMPERSAND) (before to-float) no-prefix (λ h. refl) (λ h. refl)))))
 
 -- an operator that may stand before an operand reaches no further than that operand may
 pub prefix-level : (want : Want) (k : ℕ) (op : Unary) → Table.allows want k ≡ true → Table.prefixOperator k ≡ before op → (6 - Table.operandLevel op) * 17 ≤ spread want
@@ -141,6 +153,12 @@ level-most plus = omega arith
 level-most minus = omega arith
 level-most (comparison side r) = omega arith
 level-most matches = omega arith
+level-most float-power = omega arith
+level-most float-times = omega arith
+level-most float-over = omega arith
+level-most float-plus = omega arith
+level-most float-minus = omega arith
+level-most (float-order order) = omega arith
 level-most both = omega arith
 level-most either = omega arith
 
@@ -157,6 +175,12 @@ right-wanted minus h = clash (ap isAny h) refl
 right-wanted (comparison strings r) h = string-any h
 right-wanted (comparison integers r) h = clash (ap isAny h) refl
 right-wanted matches h = string-any h
+right-wanted float-power h = clash (ap isAny h) refl
+right-wanted float-times h = clash (ap isAny h) refl
+right-wanted float-over h = clash (ap isAny h) refl
+right-wanted float-plus h = clash (ap isAny h) refl
+right-wanted float-minus h = clash (ap isAny h) refl
+right-wanted (float-order order) h = clash (ap isAny h) refl
 right-wanted both h = omega arith
 right-wanted either h = omega arith
 
@@ -193,6 +217,19 @@ module _ (level k : ℕ) where
       (λ e. chosen Apart (eqb k Kind.PLUS) _ _ (λ e n. omega (arith, eqb-true k Kind.PLUS e))
       (λ e. chosen Apart (eqb k Kind.MINUS) _ _ (λ e n. omega (arith, eqb-true k Kind.MINUS e)) (λ e. comparison-token integers))))))
 
+  float-token : Apart (Table.floatOperator k)
+  unfolding Table.floatOperator Table.ordering
+  float-token =
+      chosen Apart (eqb k Kind.POWER) _ _ (λ e n. omega (arith, eqb-true k Kind.POWER e))
+      (λ e. chosen Apart (eqb k Kind.TIMES) _ _ (λ e n. omega (arith, eqb-true k Kind.TIMES e))
+      (λ e. chosen Apart (eqb k Kind.DIVIDE) _ _ (λ e n. omega (arith, eqb-true k Kind.DIVIDE e))
+      (λ e. chosen Apart (eqb k Kind.PLUS) _ _ (λ e n. omega (arith, eqb-true k Kind.PLUS e))
+      (λ e. chosen Apart (eqb k Kind.MINUS) _ _ (λ e n. omega (arith, eqb-true k Kind.MINUS e))
+      (λ e. chosen Apart (eqb k Kind.LESS) _ _ (λ e n. omega (arith, eqb-true k Kind.LESS e))
+      (λ e. chosen Apart (eqb k Kind.GREATER) _ _ (λ e n. omega (arith, eqb-true k Kind.GREATER e))
+      (λ e. chosen Apart (eqb k Kind.AT-MOST) _ _ (λ e n. omega (arith, eqb-true k Kind.AT-MOST e))
+      (λ e. chosen Apart (eqb k Kind.AT-LEAST) _ _ (λ e n. omega (arith, eqb-true k Kind.AT-LEAST e)) (λ e. none-token)))))))))
+
   text-token : Apart (Table.textOperator k)
   unfolding Table.textOperator
   text-token =
@@ -209,5 +246,6 @@ module _ (level k : ℕ) where
   unfolding Table.operator
   operator-token (sorted a-string) = text-token
   operator-token (sorted an-integer) = number-token
+  operator-token (sorted a-float) = float-token
   operator-token (sorted a-test) = test-token no-infix none-token
   operator-token (word b) = test-token (Table.textOperator k) text-token

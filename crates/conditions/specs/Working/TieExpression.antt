@@ -17,6 +17,7 @@ use Rattle.syntax.specs.Expr.{Expr, unary, binary}
 use Rattle.conditions.specs.Table.{PartSort, sorted, Want}
 use Rattle.conditions.specs.Table
 use Rattle.conditions.specs.Working.Numbered.{sortNumber, wantNumber}
+use Rattle.conditions.specs.Working.Numbered
 use Rattle.conditions.specs.Word.{nextAt}
 use Rattle.syntax.specs.Parsed.{Parsed, ok, aside, unexpected}
 use Rattle.conditions.specs.Parsed.{Part, part}
@@ -26,7 +27,7 @@ use Rattle.conditions.specs.Working.Emit.{Ran, ran, refused, settledTop,
 use Rattle.conditions.specs.Working.Expression as Write
 use Rattle.conditions.specs.Working.Written.{Grown, keeps-self, kept, under}
 use Rattle.conditions.specs.Working.Same.{PartCodes, Same, same-aside, same-part, same-refused, same-on, both, start-within, Steps, both-next, both-done, loop-same}
-use Rattle.conditions.specs.Working.TieTable.{allows-number, inside-number, alike-prefix, alike-infix, operator-number, prefix-number, unary-row, unary-want, binary-row, right-want, right-level, binds-number}
+use Rattle.conditions.specs.Working.TieTable.{prefix-of, allows-number, inside-number, alike-prefix, alike-infix, operator-number, prefix-number, unary-row, unary-want, binary-row, right-want, right-level, binds-number}
 use Rattle.conditions.specs.Working.TieOperand.{leaf-same, settle-grown, unary-same, binary-same}
 use Rattle.conditions.specs.declared.emit.Out.the-variants.{Found, Aside}
 
@@ -45,9 +46,10 @@ module _ (s : List ℕ) (short : length s < 65536) where
         (λ h. same-on (Same s m top) s m top same-aside
         (Read.readExpression d s (Table.operandLevel op) (Table.operandWant op want) (row + 1) nest (nextAt s (t .end)))
         (Write.exprAt d s m top (Table.operandLevel op) (wantNumber (Table.operandWant op want)) (row + 1) nest (nextAt s (t .end)))
-        (λ sort e n. applied (unary op) (unaryTakes op) (unaryGives op) sort e n) (λ x p u n b. finishAt b u (unaryNumber op) x p n)
-        (λ x p u e n b near within g. unary-same s m top b u x p e near g (unaryNumber op) (unaryTakes op) (unaryGives op) (unary-row op .1) (unary-row op .2)
-        (number-fits (Operation.unary op)) n within op refl)
+        (λ sort e n. applied (unary (Table.prefixOf op sort)) (unaryTakes (Table.prefixOf op sort)) (unaryGives (Table.prefixOf op sort)) sort e n)
+        (λ x p u n b. finishAt b u (Numbered.prefixOf (unaryNumber op) x) x p n)
+        (λ x p u e n b near within g. rw (prefix-of op x) (unary-same s m top b u x p e near g (unaryNumber (Table.prefixOf op x)) (unaryTakes (Table.prefixOf op x)) (unaryGives (Table.prefixOf op x))
+        (unary-row (Table.prefixOf op x) .1) (unary-row (Table.prefixOf op x) .2) (number-fits (Operation.unary (Table.prefixOf op x))) n within (Table.prefixOf op x) refl))
         (inner m top (Table.operandLevel op) (Table.operandWant op want) (row + 1) nest (nextAt s (t .end)) (start-within s (t .end)))))
 
     closed-same : (m : List ℕ) (top : ℕ) (x : PartSort) (p u : ℕ) (e : Expr) (n : Token) (b : List ℕ) → p < 65536 → Grown m top b u (λ c. PartCodes s p e c x)
@@ -152,7 +154,7 @@ module _ (s : List ℕ) (short : length s < 65536) where
         rw (allows-number want (t .kind)) (both (Same s m top) (Table.allows want (t .kind)) _ _ _ _
         (λ h. rw (prefix-number (t .kind)) (alike-prefix (Same s m top) (Table.prefixOperator (t .kind)) _ (λ op. Read.readPrefixed d s op want row nest t)
         _ (λ op. Write.prefixedAt d s m top op (wantNumber want) row nest t)
-        (both (Same s m top) (eqb (t .kind) Kind.OPEN) _ _ _ _ (λ l. bracketed-same d m top want nest t) (λ l. leaf-same s short m top t within want row))
+        (both (Same s m top) (eqb (t .kind) Kind.OPEN) _ _ _ _ (λ l. bracketed-same d m top want nest t) (λ l. leaf-same s short m top t within want))
         (λ op l. prefixed-same d m top op want row nest t)))
         (λ h. same-refused s m top t m (keeps-self m top)))
 

@@ -2,7 +2,7 @@
 use mathlib.Core.Path.{_≡_, refl, sym}
 use mathlib.Core.Bool.{Bool, true, false}
 use mathlib.Core.List.{List, [], _∷_, _++_}
-use Prim.Native.Nat.{ℕ, _+_, _<_, _≤_}
+use Prim.Native.Nat.{ℕ, _+_, _-_, _<_, _≤_}
 use native.Mathlib.Omega.{arith}
 use lib.Dec.{eqb, ltb, leb}
 use lib.ListN.{length}
@@ -15,10 +15,10 @@ use Rattle.lexical.specs.Number as Number
 use Rattle.lexical.specs.Word.{spells, word-true, word-false}
 use Rattle.lexical.specs.declared.token.Token.{Token}
 use Rattle.syntax.specs.Op
-use Rattle.syntax.specs.Operator.{Unary, Binary, Sort, a-string, an-integer, a-test}
+use Rattle.syntax.specs.Operator.{Unary, Binary, Sort, a-string, an-integer, a-float, a-test}
 use Rattle.syntax.specs.Operation.{unaryNumber, binaryNumber}
 use Rattle.syntax.specs.Expr.{Expr, name, unary, binary, truth}
-use Rattle.syntax.specs.Code.{entry, nameAt, Codes, code-literal, code-name, code-number, code-true, code-false, code-unary, code-binary}
+use Rattle.syntax.specs.Code.{entry, nameAt, Codes, code-literal, code-name, code-number, code-decimal, code-true, code-false, code-unary, code-binary}
 use Rattle.conditions.specs.Table.{PartSort, sorted, word, Want}
 use Rattle.conditions.specs.Table
 use Rattle.conditions.specs.Working.Numbered.{sortNumber, wantNumber}
@@ -84,19 +84,18 @@ module _ (s : List ℕ) (short : length s < 65536) (m : List ℕ) (top : ℕ) wh
     unfolding readName nameRead
     name-same want = rw (word-number s want (t .start) (t .end)) (name-as (wordSort s want (t .start) (t .end)) (name-cases s want (t .start) (t .end)))
 
-    float-same : (row : ℕ) → Same s m top (readFloat row t) (ran (floatRead row t) m)
+    float-same : Same s m top (readFloat s t) (floatRead s m top t)
     unfolding readFloat floatRead
-    float-same row =
-        split (eqb (t .kind) Kind.AMPERSAND)
-        (λ h. split (leb 16 row) (λ k. rw (h, k) (same-aside 7 (t .start) m (keeps-self m top))) (λ k. rw (h, k) (same-aside 8 (t .start) m (keeps-self m top))))
-        (λ h. rw h (same-aside 8 (t .start) m (keeps-self m top)))
+    float-same =
+        both (Same s m top) (ltb 19 (t .end - t .start)) _ _ _ _ (λ h. same-aside 7 (t .start) m (keeps-self m top))
+        (λ h. entered a-float Op.DECIMAL _ (omega arith) (code-decimal (t .start) (omega (arith, within, short))))
 
-    pub leaf-same : (want : Want) (row : ℕ) → Same s m top (readLeaf s want row t) (leafRead s m top (wantNumber want) row t)
+    pub leaf-same : (want : Want) → Same s m top (readLeaf s want t) (leafRead s m top (wantNumber want) t)
     unfolding readLeaf leafRead
-    leaf-same want row =
+    leaf-same want =
         both (Same s m top) (eqb (t .kind) Kind.LITERAL) _ _ _ _ (λ h. literal-same)
         (λ h. both (Same s m top) (eqb (t .kind) Kind.NAME) _ _ _ _ (λ h. name-same want)
-        (λ h. both (Same s m top) (eqb (t .kind) Kind.DIGITS) _ _ _ _ (λ h. digits-same) (λ h. float-same row)))
+        (λ h. both (Same s m top) (eqb (t .kind) Kind.DIGITS) _ _ _ _ (λ h. digits-same) (λ h. float-same)))
 
 -- a bare word becomes what is wanted
 module _ (s m : List ℕ) (top : ℕ) (b : List ℕ) (u p : ℕ) (e : Expr) (near : p < 65536) where
@@ -131,11 +130,14 @@ module _ (s m : List ℕ) (top : ℕ) (b : List ℕ) (u p : ℕ) (e : Expr) (nea
   unfolding settled settledTop settledTree
   settle-grown wanted (sorted a-string) g = plain-grown a-string g
   settle-grown wanted (sorted an-integer) g = plain-grown an-integer g
+  settle-grown wanted (sorted a-float) g = plain-grown a-float g
   settle-grown wanted (sorted a-test) g = plain-grown a-test g
   settle-grown a-string (word true) g = name-grown true g
   settle-grown a-string (word false) g = name-grown false g
   settle-grown an-integer (word true) g = true-grown g
   settle-grown an-integer (word false) g = false-grown g
+  settle-grown a-float (word true) g = true-grown g
+  settle-grown a-float (word false) g = false-grown g
   settle-grown a-test (word true) g = true-grown g
   settle-grown a-test (word false) g = false-grown g
 

@@ -5,7 +5,7 @@ use mathlib.Core.List.{List}
 use Prim.Native.Nat.{ℕ}
 use Rattle.text.specs.Choice.{split, clash}
 use Rattle.syntax.specs.Operator.{isLookup}
-use Rattle.syntax.specs.Expr.{Expr, literal, name, number, truth, unary, binary, Program, none, also, Clause, plain, valued, nested}
+use Rattle.syntax.specs.Expr.{Expr, literal, name, number, truth, decimal, unary, binary, Program, none, also, Clause, plain, valued, nested}
 use Rattle.expression.specs.Reads.{reads, programReads, clauseReads}
 use Rattle.expression.specs.Standing.{names, programNames, clauseNames, computes, programComputes, clauseComputes}
 
@@ -21,6 +21,7 @@ unread (literal b) n h k = k
 unread (name m) n h k = k
 unread (number b) n h k = k
 unread (truth t) n h k = k
+unread (decimal b) n h k = k
 unread (unary op e) n h k = split (isLookup op) (λ o. clash (rw o) h) (λ o. rw o (unread e n (rw o at h) k))
 unread (binary op e f) n h k = either (computes e) (computes f) (names e n) (names f n) (reads e n) (reads f n) (unread e n) (unread f n) h k
 

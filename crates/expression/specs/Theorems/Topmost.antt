@@ -7,7 +7,7 @@ use lib.ListN.{length}
 use Rattle.text.specs.Choice.{pick}
 use Rattle.text.specs.Equal.{equal}
 use Rattle.syntax.specs.Expr.{Program, none, also, Clause, plain, valued, nested}
-use Rattle.expression.specs.Value.{Value, text, integer, test, rank, fault}
+use Rattle.expression.specs.Value.{Value, text, integer, test, rank, float, fault}
 use Rattle.expression.specs.Names.{Environment}
 use Rattle.expression.specs.Conditions.{evaluate, indexFrom, rankOf, top, gate, conditions, clause}
 
@@ -26,6 +26,7 @@ rank-most vs (text b) = omega (arith, index-most 0 vs b)
 rank-most vs (integer i) = omega arith
 rank-most vs (test t) = omega arith
 rank-most vs (rank n) = omega arith
+rank-most vs (float x) = omega arith
 rank-most vs fault = omega arith
 
 gate-most : (v : Value) (n m : ℕ) → n ≤ m → gate v n ≤ m
@@ -33,6 +34,7 @@ gate-most (text b) n m h = omega arith
 gate-most (integer i) n m h = omega arith
 gate-most (test t) n m h = pick-most t n 0 m h (omega arith)
 gate-most (rank k) n m h = omega arith
+gate-most (float x) n m h = omega arith
 gate-most fault n m h = omega arith
 
 mutual

@@ -8,8 +8,8 @@ use Rattle.text.specs.Equal.{equal, equal-true, equal-refl}
 use Rattle.record.specs.Query.{Attribute}
 use Rattle.syntax.specs.Operator.{Unary, isLookup}
 use Rattle.syntax.specs.Operator as Operator
-use Rattle.syntax.specs.Expr.{Expr, literal, name, number, truth, unary, binary, Program, none, also, Clause, plain, valued, nested}
-use Rattle.expression.specs.Value.{Value, text, integer, test, rank, fault, onText}
+use Rattle.syntax.specs.Expr.{Expr, literal, name, number, truth, decimal, unary, binary, Program, none, also, Clause, plain, valued, nested}
+use Rattle.expression.specs.Value.{Value, text, integer, test, rank, float, fault, onText}
 use Rattle.expression.specs.Names.{Environment, settingOr, fromQuery, lookup}
 use Rattle.expression.specs.Operations.{held, unaryOf}
 use Rattle.expression.specs.Conditions.{evaluate, conditions, clause}
@@ -47,12 +47,15 @@ look-nothing Operator.lookup f g v h = clash refl h
 look-nothing Operator.convert f g v h = refl
 look-nothing Operator.negate f g v h = refl
 look-nothing Operator.opposite f g v h = refl
+look-nothing Operator.to-float f g v h = refl
+look-nothing Operator.float-negate f g v h = refl
 
 look-text : (f g : List ℕ → List ℕ) (v : Value) → ((n : List ℕ) → f n ≡ g n) → onText (λ a. held (f a)) v ≡ onText (λ a. held (g a)) v
 look-text f g (text b) h = ap held (h b)
 look-text f g (integer i) h = refl
 look-text f g (test t) h = refl
 look-text f g (rank n) h = refl
+look-text f g (float x) h = refl
 look-text f g fault h = refl
 
 look-all : (op : Unary) (f g : List ℕ → List ℕ) (v : Value) → ((n : List ℕ) → f n ≡ g n) → unaryOf f op v ≡ unaryOf g op v
@@ -61,6 +64,8 @@ look-all Operator.lookup f g v k = look-text f g v k
 look-all Operator.convert f g v k = refl
 look-all Operator.negate f g v k = refl
 look-all Operator.opposite f g v k = refl
+look-all Operator.to-float f g v k = refl
+look-all Operator.float-negate f g v k = refl
 
 module _ (env : Environment) (R : List ℕ → Type 0) {l m : List Attribute} (same : Alike R l m) where
   abbrev Free : (List ℕ → Bool) → Type 0
@@ -81,6 +86,7 @@ module _ (env : Environment) (R : List ℕ → Type 0) {l m : List Attribute} (s
   evaluate-same (name n) h = ap held (lookup-same n (h n (equal-refl n)))
   evaluate-same (number k) h = refl
   evaluate-same (truth t) h = refl
+  evaluate-same (decimal b) h = refl
   evaluate-same (unary op e) h =
       ap (unaryOf (lookup (withAttributes env l)) op) (evaluate-same e (λ n r. h n (or-right (isLookup op) _ r)))
       ∙ split (isLookup op)

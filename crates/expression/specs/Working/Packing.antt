@@ -67,18 +67,18 @@ module _ (x y : ℕ) (q : Packed) where
 
 -- `of_naturals`
 module _ (op x y : ℕ) (q : Packed) where
-  pub naturals-sum : op ≡ 14 → q ≡ pack (operand (ranged false (x + y))) → q ≡ pack (operand (arithmetic op (signed false x) (signed false y)))
+  pub naturals-sum : op ≡ 17 → q ≡ pack (operand (ranged false (x + y))) → q ≡ pack (operand (arithmetic op (signed false x) (signed false y)))
   unfolding arithmetic plus
   naturals-sum h e = rw h e
 
-  pub naturals-less : op ≡ 15 → q ≡ pack (operand (apart false x y)) → q ≡ pack (operand (arithmetic op (signed false x) (signed false y)))
+  pub naturals-less : op ≡ 18 → q ≡ pack (operand (apart false x y)) → q ≡ pack (operand (arithmetic op (signed false x) (signed false y)))
   unfolding arithmetic minus plus
   naturals-less h e = rw h e
 
   pub naturals-other : (v : Operand) → v ≡ operand (arithmetic op (signed false x) (signed false y)) → q ≡ pack v → q ≡ pack (operand (arithmetic op (signed false x) (signed false y)))
   naturals-other v ve e = e ∙ ap pack ve
 
-  pub naturals-order : 23 ≤ op → (o : Order) → o ≡ compared (signed false x) (signed false y) → (k : ℕ) → k ≡ op - 23 → (t : Bool) → t ≡ relatesBy k o → q ≡ pack (Test t)
+  pub naturals-order : 26 ≤ op → (o : Order) → o ≡ compared (signed false x) (signed false y) → (k : ℕ) → k ≡ op - 26 → (t : Bool) → t ≡ relatesBy k o → q ≡ pack (Test t)
       → q ≡ pack (operand (arithmetic op (signed false x) (signed false y)))
   naturals-order h o oe k ke t te e =
       e ∙ ap pack (does-compare op (signed false x) (signed false y)

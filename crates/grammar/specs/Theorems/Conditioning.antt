@@ -39,7 +39,7 @@ use Rattle.grammar.specs.Working.Looping.{Went, went-next, went-done, lo
 use Rattle.grammar.specs.Working.Stations.{TEXT, in-clause, value, Place, p-dead, p-begin, p-arrow, p-block, p-any, p-text, p-have, flat, station}
 use Rattle.grammar.specs.Working.Stationed.{Behind, behind-arrow, behind-semicolon, held-end, value-ends, brace-opens, brace-closes, block-ends, conditions-dead, conditions-over}
 use Rattle.grammar.specs.Working.Joints.{Fits, fit-test, fit-word, Unfit, TestFit, test-fits, test-unfit, test-fit, binds-less, kind-same, test-kind}
-use Rattle.grammar.specs.Working.Told.{Told, told-text, told-test, settle, Suits, suits-text, Completes, completes, finish}
+use Rattle.grammar.specs.Working.Told.{goal-test, goal-text, Told, told-text, told-test, settle, Suits, suits-text, Completes, completes, finish}
 use Rattle.grammar.specs.Working.Onward.{Starts, start-any, start-text, after, asked-any, asked-text, any-test, strict-dead}
 use Rattle.grammar.specs.Working.Openings as O
 use Rattle.grammar.specs.Working.Reading.{Real, real-token, runs, runs-on, run-one, runs-last, Reading, got, halted, otherwise, expression-reads}
@@ -148,7 +148,7 @@ module _ (s : List ℕ) where
           ending-reads (pre ++ us) n (valued e f) (tokens-append s Kind.IN-FIELD t v n pre us arrow-path p) (value-tree us f d) (p-have TEXT (value nest))
           (value-runs us n z p ∙ g (p-text TEXT (value nest)) (start-text (value nest))) (value-ends nest)
           (λ y. value-wrong nest (kindIn s n) b (test-kind s n Kind.SEMICOLON refl refl ∙ y))
-      value-reads z _ (halted us n p (completes rest _ (told-text _ _ f d)) g r h) =
+      value-reads z _ (halted us n p (completes rest _ _ goal-text (told-text _ _ f d)) g r h) =
           c-halted (pre ++ us) n (tokens-append s Kind.IN-FIELD t v n pre us arrow-path p) rest (valued e f)
           (subst (λ (l : List Token). ProgramTree s l (a-clause (valued e f))) (sym (append-assoc pre us rest)) (value-tree (us ++ rest) f d))
           (value-runs us n z p ∙ g (p-text TEXT (value nest)) (start-text (value nest))) r h
@@ -222,8 +222,8 @@ module _ (s : List ℕ) where
           tree : TestTree s whole ts (settledTree a-test sort e)
           tree = told-whole ts (settledTree a-test sort e) (settle s a-test sort 0 ts e (omega arith) f d)
 
-      completed : Completes s a-test 0 ts → Unfit sort → ClauseRead nest t (unexpected u)
-      completed (completes rest f k) x =
+      completed : Completes s want-any 0 ts → Unfit sort → ClauseRead nest t (unexpected u)
+      completed (completes rest f _ goal-test k) x =
           c-halted ts u path rest (plain f) (plain-tree (ts ++ rest) f (told-whole (ts ++ rest) f k))
           (at-clause ∙ strict-dead (in-clause nest) 0 (omega arith) sort (kindIn s u) x b) (refusal (u .kind)) refl
 
@@ -241,7 +241,7 @@ module _ (s : List ℕ) where
 
     clause-body : (tested : ℕ → PartSort → Expr → Token → Parsed Clause) → Tested tested → (rr : Parsed Part) → Reading s 0 0 0 want-any t rr → ClauseRead nest t (onPart rr (λ sort e n. tested nest sort e n))
     clause-body tested h _ (got ts u sort e p x y d b g) = h ts u sort e p y d b g
-    clause-body tested h _ (halted ts u p (completes rest f d) g r z) =
+    clause-body tested h _ (halted ts u p (completes rest f _ goal-test d) g r z) =
         c-halted ts u p rest (plain f) (plain-tree (ts ++ rest) f (told-whole (ts ++ rest) f d)) (g (p-any (in-clause nest)) (start-any (in-clause nest))) r z
     clause-body tested h _ (otherwise r p n) = c-otherwise r p n
 

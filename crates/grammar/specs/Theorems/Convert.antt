@@ -12,7 +12,7 @@ use Rattle.grammar.specs.Working.Stationed.{conditions-dead}
 
 -- "@x ." begins no sentence: the "." has no continuation
 pub convert-dot : (k : ℕ) → Name k → Viable Conditions (Kind.AT ∷ k ∷ Kind.DOT ∷ []) → ⊥
-unfolding station Table.allows Table.beginsString Table.beginsNumber Table.beginsFloat Table.operator Table.numberOperator Table.comparison Table.binds
+unfolding station Table.allows Table.beginsString Table.beginsNumber Table.beginsFloat Table.operator Table.numberOperator Table.floatOperator Table.comparison Table.binds
 convert-dot _ any-name = conditions-dead (Kind.AT ∷ Kind.NAME ∷ Kind.DOT ∷ []) refl
 convert-dot _ truth-name = conditions-dead (Kind.AT ∷ TRUTH ∷ Kind.DOT ∷ []) refl
 

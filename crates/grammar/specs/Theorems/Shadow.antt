@@ -11,11 +11,11 @@ use Rattle.lexical.specs.Bounds.{chosen}
 use Rattle.lexical.specs.Word.{word-true, word-false}
 use Rattle.lexical.specs.declared.token.Token.{Token}
 use Rattle.syntax.specs.Expr.{Expr}
-use Rattle.grammar.specs.Conditions.{Class, operand, power, product, conjunction, whole, TRUTH, Name, any-name, truth-name, Str, str-literal, str-name, str-lookup, str-bracket, str-one, str-join, Product, times, divide, remainder, Sum, plus, minus, Int, int-literal, int-minus, int-convert, int-bracket, int-one, int-power, int-up, int-product, int-term, int-sum, less, greater, at-most, at-least, Compare, order, equal, unequal, of-integers, of-strings, matching, Tests, test-truth, test-comparison, test-not, test-bracket, test-one, test-and, test-ands, test-or, Clauses, no-clause, clause, tested, valued, nested}
+use Rattle.grammar.specs.Conditions.{Class, operand, power, product, conjunction, whole, TRUTH, Name, any-name, truth-name, Str, str-literal, str-name, str-lookup, str-bracket, str-one, str-join, Product, times, divide, remainder, Sum, plus, minus, Int, int-literal, int-minus, int-convert, int-bracket, int-one, int-power, int-up, int-product, int-term, int-sum, FloatTimes, float-times, float-divide, Float, float-literal, float-minus, float-convert, float-bracket, float-one, float-power, float-up, float-product, float-term, float-sum, Order, less, greater, at-most, at-least, Compare, order, equal, unequal, of-integers, of-floats, of-strings, matching, Tests, test-truth, test-comparison, test-not, test-bracket, test-one, test-and, test-ands, test-or, Clauses, no-clause, clause, tested, valued, nested}
 use Rattle.grammar.specs.Spelled.{spelled, kindIn, kindsIn}
 use Rattle.grammar.specs.Working.Marks.{kinds-append, around, before}
-use Rattle.syntax.specs.Operator.{Binary, Relation}
-use Rattle.grammar.specs.Trees.{StrTree, literal-tree, name-tree, lookup-tree, text-bracket, text-one, join-tree, ProductOp, times-op, divide-op, remainder-op, SumOp, plus-op, minus-op, IntTree, number-tree, negate-tree, convert-tree, number-bracket, number-one, power-tree, number-up, product-tree, number-term, sum-tree, CompareOp, equal-op, unequal-op, less-op, greater-op, at-most-op, at-least-op, TestTree, true-tree, false-tree, compare-numbers, compare-texts, match-tree, not-tree, test-bracket-tree, test-once, and-tree, test-up, or-tree, Says, a-program, a-clause, ProgramTree, no-clauses, one-more, plain-tree, valued-tree, nested-tree}
+use Rattle.syntax.specs.Operator.{Binary, Relation, Ordering}
+use Rattle.grammar.specs.Trees.{StrTree, literal-tree, name-tree, lookup-tree, text-bracket, text-one, join-tree, ProductOp, times-op, divide-op, remainder-op, SumOp, plus-op, minus-op, IntTree, number-tree, negate-tree, convert-tree, number-bracket, number-one, power-tree, number-up, product-tree, number-term, sum-tree, CompareOp, equal-op, unequal-op, less-op, greater-op, at-most-op, at-least-op, FloatProductOp, float-times-op, float-divide-op, FloatSumOp, float-plus-op, float-minus-op, FloatTree, decimal-tree, float-negate-tree, to-float-tree, decimal-bracket, decimal-one, float-power-tree, decimal-up, float-product-tree, decimal-term, float-sum-tree, OrderOp, float-less-op, float-greater-op, float-at-most-op, float-at-least-op, TestTree, true-tree, false-tree, compare-numbers, compare-floats, compare-texts, match-tree, not-tree, test-bracket-tree, test-once, and-tree, test-up, or-tree, Says, a-program, a-clause, ProgramTree, no-clauses, one-more, plain-tree, valued-tree, nested-tree}
 
 -- any token but a name is of the lexer's kind
 pub kind-other : (s : List ℕ) (t : Token) → eqb (t .kind) Kind.NAME ≡ false → kindIn s t ≡ t .kind
@@ -45,6 +45,20 @@ product-shadow _ _ remainder-op = (remainder, refl)
 pub sum-shadow : (k : ℕ) (o : Binary) → SumOp k o → Sum k × (eqb k Kind.NAME ≡ false)
 sum-shadow _ _ plus-op = (plus, refl)
 sum-shadow _ _ minus-op = (minus, refl)
+
+pub float-product-shadow : (k : ℕ) (o : Binary) → FloatProductOp k o → FloatTimes k × (eqb k Kind.NAME ≡ false)
+float-product-shadow _ _ float-times-op = (float-times, refl)
+float-product-shadow _ _ float-divide-op = (float-divide, refl)
+
+pub float-sum-shadow : (k : ℕ) (o : Binary) → FloatSumOp k o → Sum k × (eqb k Kind.NAME ≡ false)
+float-sum-shadow _ _ float-plus-op = (plus, refl)
+float-sum-shadow _ _ float-minus-op = (minus, refl)
+
+pub order-shadow : (k : ℕ) (o : Ordering) → OrderOp k o → Order k × (eqb k Kind.NAME ≡ false)
+order-shadow _ _ float-less-op = (less, refl)
+order-shadow _ _ float-greater-op = (greater, refl)
+order-shadow _ _ float-at-most-op = (at-most, refl)
+order-shadow _ _ float-at-least-op = (at-least, refl)
 
 pub compare-shadow : (k : ℕ) (o : Relation) → CompareOp k o → Compare k × (eqb k Kind.NAME ≡ false)
 compare-shadow _ _ equal-op = (equal, refl)
@@ -85,12 +99,29 @@ module _ (s : List ℕ) where
   int-shadow _ _ _ (sum-tree t ts us e f o k d g) =
       around (kindIn s) (Int whole) t ts us (t .kind) (kind-other s t (sum-shadow _ o k .1)) (int-sum _ _ _ (sum-shadow _ o k .0) (int-shadow whole ts e d) (int-shadow product us f g))
 
+  pub float-shadow : (c : Class) (ts : List Token) (e : Expr) → FloatTree s c ts e → Float c (kindsIn s ts)
+  float-shadow _ _ _ (decimal-tree t k) = marked (Float operand) t [] Kind.FLOAT k refl float-literal
+  float-shadow _ _ _ (float-negate-tree t ts e k d) = marked (Float operand) t ts Kind.MINUS k refl (float-minus _ (float-shadow operand ts e d))
+  float-shadow _ _ _ (to-float-tree t ts e k d) = marked (Float operand) t ts Kind.AMPERSAND k refl (float-convert _ (str-shadow operand ts e d))
+  float-shadow _ _ _ (decimal-bracket t u ts e k l d) = bracketed (Float operand) t u ts k l (float-bracket _ (float-shadow whole ts e d))
+  float-shadow _ _ _ (decimal-one ts e d) = float-one _ (float-shadow operand ts e d)
+  float-shadow _ _ _ (float-power-tree t ts us e f k d g) = around (kindIn s) (Float power) t ts us Kind.POWER (kind-mark s t Kind.POWER k refl) (float-power _ _ (float-shadow power ts e d) (float-shadow operand us f g))
+  float-shadow _ _ _ (decimal-up ts e d) = float-up _ (float-shadow power ts e d)
+  float-shadow _ _ _ (float-product-tree t ts us e f o k d g) =
+      around (kindIn s) (Float product) t ts us (t .kind) (kind-other s t (float-product-shadow _ o k .1)) (float-product _ _ _ (float-product-shadow _ o k .0) (float-shadow product ts e d) (float-shadow power us f g))
+  float-shadow _ _ _ (decimal-term ts e d) = float-term _ (float-shadow product ts e d)
+  float-shadow _ _ _ (float-sum-tree t ts us e f o k d g) =
+      around (kindIn s) (Float whole) t ts us (t .kind) (kind-other s t (float-sum-shadow _ o k .1)) (float-sum _ _ _ (float-sum-shadow _ o k .0) (float-shadow whole ts e d) (float-shadow product us f g))
+
   pub test-shadow : (c : Class) (ts : List Token) (e : Expr) → TestTree s c ts e → Tests c (kindsIn s ts)
   test-shadow _ _ _ (true-tree t k w) = subst (λ (x : ℕ). Tests operand (x ∷ [])) (sym (kind-true s t k w)) test-truth
   test-shadow _ _ _ (false-tree t k w) = subst (λ (x : ℕ). Tests operand (x ∷ [])) (sym (kind-false s t k w)) test-truth
   test-shadow _ _ _ (compare-numbers t ts us e f o k d g) =
       around (kindIn s) (Tests operand) t ts us (t .kind) (kind-other s t (compare-shadow _ o k .1))
       (test-comparison _ (of-integers _ _ _ (compare-shadow _ o k .0) (int-shadow whole ts e d) (int-shadow whole us f g)))
+  test-shadow _ _ _ (compare-floats t ts us e f o k d g) =
+      around (kindIn s) (Tests operand) t ts us (t .kind) (kind-other s t (order-shadow _ o k .1))
+      (test-comparison _ (of-floats _ _ _ (order-shadow _ o k .0) (float-shadow whole ts e d) (float-shadow whole us f g)))
   test-shadow _ _ _ (compare-texts t ts us e f o k d g) =
       around (kindIn s) (Tests operand) t ts us (t .kind) (kind-other s t (compare-shadow _ o k .1))
       (test-comparison _ (of-strings _ _ _ (compare-shadow _ o k .0) (str-shadow whole ts e d) (str-shadow whole us f g)))

@@ -8,22 +8,23 @@ use borrow.Author.Tests.{eqb-true, leb-false}
 use Rattle.text.specs.Choice.{pick, split, clash}
 use Rattle.lexical.specs.Kind
 use Rattle.lexical.specs.Bounds.{chosen}
-use Rattle.syntax.specs.Operator.{Binary, Sort, a-string, an-integer, a-test}
-use Rattle.conditions.specs.Table.{PartSort, sorted, word, Want, want-any, want-string, want-number, want-integer}
+use Rattle.syntax.specs.Operator.{Binary, Sort, a-string, an-integer, a-float, a-test}
+use Rattle.conditions.specs.Table.{PartSort, sorted, word, Want, want-any, want-string, want-number, want-integer, want-float}
 use Rattle.conditions.specs.Table
-use Rattle.grammar.specs.Theorems.Shadow.{product-shadow, sum-shadow, compare-shadow}
-use Rattle.grammar.specs.Working.Stations.{Had, had, TEXT, NUMBER, TEST, TRUE, Wanted, EITHER, INTEGER, Spot, in-clause, in-bracket, Frame, tests, right, Place, p-dead, p-over, p-begin, p-arrow, p-block, p-any, p-text, p-number, p-have, strict, station, endAt}
-use Rattle.grammar.specs.Working.Stationed.{Words, w-text, w-word, Held, h-test, h-word, Junction, junction-and, junction-or, strict-strict, power-number, product-number, sum-number, dot-text, words-dot, number-compare, words-compare, words-match, held-junction}
-use Rattle.grammar.specs.Working.Joints.{Fits, fit-test, fit-text, fit-number, fit-word, fit-name, Unfit, unfit-text, unfit-number, Joint, j-power, j-product, j-sum, j-join, j-numbers, j-texts, j-match, j-and, j-or, Tabled, tabled, joint-tabled, TestFit, test-fits, test-unfit, test-fit, Operated, no-operator, joins, operated, binds-less}
-use Rattle.grammar.specs.Working.Told.{goal, Suits, suits-any, suits-text, suits-number, suits-integer}
+use Rattle.grammar.specs.Theorems.Shadow.{product-shadow, sum-shadow, float-product-shadow, float-sum-shadow, order-shadow, compare-shadow}
+use Rattle.grammar.specs.Working.Stations.{TEXT, NUMBER, FLOATING, TEST, TRUE, Spot, in-clause, in-bracket, Frame, tests, right, Place, p-dead, p-over, p-begin, p-arrow, p-block, p-any, p-text, p-number, p-have, strict, station, endAt}
+use Rattle.grammar.specs.Working.Stationed.{Words, w-text, w-word, Held, h-test, h-word, Junction, junction-and, junction-or, strict-strict, power-number, product-number, sum-number, power-float, times-float, sum-float, dot-text, words-dot, number-compare, float-compare, words-compare, words-match, held-junction}
+use Rattle.grammar.specs.Working.Joints.{Fits, fit-test, fit-text, fit-number, fit-float, fit-word, fit-name, Unfit, unfit-text, unfit-number, unfit-float, Joint, j-power, j-product, j-sum, j-float-power, j-float-product, j-float-sum, j-orders, j-join, j-numbers, j-texts, j-match, j-and, j-or, Tabled, tabled, joint-tabled, TestFit, test-fits, test-unfit, test-fit, Operated, no-operator, joins, operated, binds-less}
+use Rattle.grammar.specs.Working.Told.{aim, Suits, suits-any, suits-text, suits-number, suits-decimal, suits-integer, suits-float}
 
 -- the places where a reader of a level begins; one operand may stand for a string of any sort
 pub data Starts (level : ℕ) : Want → Place → Type 0 where
   start-any : (S : Spot) → Starts level want-any (p-any S)
   start-text : (F : Frame) → Starts level want-string (p-text TEXT F)
-  start-operand : (r : Had) (F : Frame) → 5 < level → Starts level want-string (p-text r F)
-  start-number : (F : Frame) → Starts level want-number (p-number EITHER F)
-  start-integer : (F : Frame) → Starts level want-integer (p-number INTEGER F)
+  start-operand : (r : PartSort) (F : Frame) → 5 < level → Starts level want-string (p-text r F)
+  start-number : (F : Frame) → Starts level want-number (p-number want-number F)
+  start-integer : (F : Frame) → Starts level want-integer (p-number want-integer F)
+  start-float : (F : Frame) → Starts level want-float (p-number want-float F)
 
 pub starts-up : (level m : ℕ) (want : Want) (q : Place) → level ≤ m → Starts level want q → Starts m want q
 starts-up level m _ _ h (start-any S) = start-any S
@@ -31,13 +32,22 @@ starts-up level m _ _ h (start-text F) = start-text F
 starts-up level m _ _ h (start-operand r F i) = start-operand r F (omega (arith, h, i))
 starts-up level m _ _ h (start-number F) = start-number F
 starts-up level m _ _ h (start-integer F) = start-integer F
+starts-up level m _ _ h (start-float F) = start-float F
 
 -- where what was read from there leads
 abbrev pub afterAny : Spot → PartSort → Place
 afterAny S (sorted a-string) = p-have TEXT (tests S)
 afterAny S (sorted an-integer) = p-have NUMBER (tests S)
+afterAny S (sorted a-float) = p-have FLOATING (tests S)
 afterAny S (sorted a-test) = p-have TEST (tests (strict S))
 afterAny S (word b) = p-have TRUE (tests S)
+
+abbrev pub afterNumber : Frame → PartSort → Place
+afterNumber F (sorted a-string) = p-have NUMBER F
+afterNumber F (sorted an-integer) = p-have NUMBER F
+afterNumber F (sorted a-float) = p-have FLOATING F
+afterNumber F (sorted a-test) = p-have NUMBER F
+afterNumber F (word b) = p-have NUMBER F
 
 abbrev pub after : Place → PartSort → Place
 after p-dead sort = p-dead
@@ -47,7 +57,7 @@ after (p-arrow d) sort = p-dead
 after (p-block d) sort = p-dead
 after (p-any S) sort = afterAny S sort
 after (p-text r F) sort = p-have r F
-after (p-number w F) sort = p-have NUMBER F
+after (p-number w F) sort = afterNumber F sort
 after (p-have sort′ F) sort = p-dead
 
 -- at what levels a reader is asked for what
@@ -56,13 +66,14 @@ pub data Asked (level : ℕ) : Want → Type 0 where
   asked-text : 2 < level → level ≤ 6 → Asked level want-string
   asked-number : 2 < level → level ≤ 6 → Asked level want-number
   asked-integer : 2 < level → level ≤ 6 → Asked level want-integer
+  asked-float : 2 < level → level ≤ 6 → Asked level want-float
 
 -- behind a string or a test at a place of tests
-any-text : (S : Spot) (k : ℕ) (p : Place) → ((sort : Had) (F : Frame) → Words S sort F → station (p-have sort F) k ≡ p) → (sort : PartSort) → Fits a-string sort → station (after (p-any S) sort) k ≡ p
+any-text : (S : Spot) (k : ℕ) (p : Place) → ((sort : PartSort) (F : Frame) → Words S sort F → station (p-have sort F) k ≡ p) → (sort : PartSort) → Fits a-string sort → station (after (p-any S) sort) k ≡ p
 any-text S k p h _ fit-text = h TEXT (tests S) w-text
 any-text S k p h _ (fit-name b) = h TRUE (tests S) w-word
 
-pub any-test : (S : Spot) (k : ℕ) (p : Place) → ((sort : Had) (F : Frame) → Held S sort F → station (p-have sort F) k ≡ p) → (sort : PartSort) → Fits a-test sort → station (after (p-any S) sort) k ≡ p
+pub any-test : (S : Spot) (k : ℕ) (p : Place) → ((sort : PartSort) (F : Frame) → Held S sort F → station (p-have sort F) k ≡ p) → (sort : PartSort) → Fits a-test sort → station (after (p-any S) sort) k ≡ p
 any-test S k p h _ fit-test = h TEST (tests (strict S)) h-test
 any-test S k p h _ (fit-word b) = h TRUE (tests S) h-word
 
@@ -94,6 +105,10 @@ unfit-low _ k _ unfit-number (joins op l o r j-power fit-number) b = level-two o
 unfit-low _ k _ unfit-number (joins op l o r (j-product _ _ c) fit-number) b = level-two op (omega (arith, tabled-level op l o r (joint-tabled k op l o r (j-product k op c)))) b
 unfit-low _ k _ unfit-number (joins op l o r (j-sum _ _ c) fit-number) b = level-two op (omega (arith, tabled-level op l o r (joint-tabled k op l o r (j-sum k op c)))) b
 unfit-low _ k _ unfit-number (joins op l o r (j-numbers _ x c) fit-number) b = level-two op (omega (arith, tabled-level op l o r (joint-tabled k op l o r (j-numbers k x c)))) b
+unfit-low _ k _ unfit-float (joins op l o r j-float-power fit-float) b = level-two op (omega (arith, tabled-level op l o r (joint-tabled k op l o r j-float-power))) b
+unfit-low _ k _ unfit-float (joins op l o r (j-float-product _ _ c) fit-float) b = level-two op (omega (arith, tabled-level op l o r (joint-tabled k op l o r (j-float-product k op c)))) b
+unfit-low _ k _ unfit-float (joins op l o r (j-float-sum _ _ c) fit-float) b = level-two op (omega (arith, tabled-level op l o r (joint-tabled k op l o r (j-float-sum k op c)))) b
+unfit-low _ k _ unfit-float (joins op l o r (j-orders _ x c) fit-float) b = level-two op (omega (arith, tabled-level op l o r (joint-tabled k op l o r (j-orders k x c)))) b
 
 -- a bare word that no operator of strings follows is a test
 word-operator : (k : ℕ) → Table.binds 2 (Table.operator (word true) k) ≡ false → Table.binds 0 (Table.operator (word true) k) ≡ Table.binds 0 (Table.operator (sorted a-test) k)
@@ -115,6 +130,10 @@ right-number : (S : Spot) (k : ℕ) → Table.binds 3 (Table.operator (sorted an
 unfolding station
 right-number S k b = rw (b, test-none k, test-low k)
 
+right-float : (S : Spot) (k : ℕ) → Table.binds 3 (Table.operator (sorted a-float) k) ≡ false → station (p-have FLOATING (right S)) k ≡ station (p-have TEST (tests S)) k
+unfolding station
+right-float S k b = rw (b, test-none k, test-low k)
+
 word-ends : (S : Spot) (k : ℕ) → endAt TRUE (strict S) k ≡ endAt TEST (strict S) k
 word-ends (in-clause d) k = refl
 word-ends (in-bracket b S) k = refl
@@ -133,9 +152,11 @@ pub strict-test : (S : Spot) (m : ℕ) → m ≤ 2 → (sort : PartSort) (k : �
 strict-test S m h _ k fit-test b = ap (λ (x : Spot). station (p-have TEST (tests x)) k) (strict-strict S)
 strict-test S m h _ k (fit-word c) b = word-strict S k (binds-less m 2 (Table.operator (word true) k) (ap (Table.binds m) (sym (word-same c k)) ∙ b) h)
 
-unfit-ends : (S : Spot) (sort : PartSort) (k : ℕ) → Unfit sort → endAt (had sort) (strict S) k ≡ p-dead
+unfit-ends : (S : Spot) (sort : PartSort) (k : ℕ) → Unfit sort → endAt sort (strict S) k ≡ p-dead
 unfit-ends (in-clause d) _ k unfit-text = refl
 unfit-ends (in-clause d) _ k unfit-number = refl
+unfit-ends (in-clause d) _ k unfit-float = refl
+unfit-ends (in-bracket b S) _ k unfit-float = chosen (λ (q : Place). q ≡ p-dead) (eqb k Kind.CLOSE) p-dead p-dead (λ e. refl) (λ e. refl)
 unfit-ends (in-bracket b S) _ k unfit-text = chosen (λ (q : Place). q ≡ p-dead) (eqb k Kind.CLOSE) p-dead p-dead (λ e. refl) (λ e. refl)
 unfit-ends (in-bracket b S) _ k unfit-number = chosen (λ (q : Place). q ≡ p-dead) (eqb k Kind.CLOSE) p-dead p-dead (λ e. refl) (λ e. refl)
 
@@ -148,6 +169,9 @@ strict-dead S m h _ k unfit-text b =
 strict-dead S m h _ k unfit-number b =
     let c : Table.binds 2 (Table.operator (sorted an-integer) k) ≡ false = binds-less m 2 (Table.operator (sorted an-integer) k) b h in
     rw (binds-less 2 3 (Table.operator (sorted an-integer) k) c (omega arith), c, unfit-low (sorted an-integer) k (Table.operator (sorted an-integer) k) unfit-number (operated (sorted an-integer) k) c, unfit-ends S (sorted an-integer) k unfit-number)
+strict-dead S m h _ k unfit-float b =
+    let c : Table.binds 2 (Table.operator (sorted a-float) k) ≡ false = binds-less m 2 (Table.operator (sorted a-float) k) b h in
+    rw (binds-less 2 3 (Table.operator (sorted a-float) k) c (omega arith), c, unfit-low (sorted a-float) k (Table.operator (sorted a-float) k) unfit-float (operated (sorted a-float) k) c, unfit-ends S (sorted a-float) k unfit-float)
 
 -- p, behind a mark, is where an operand is wanted; behind that what the mark makes is read
 pub data Onward (q : Place) (level : ℕ) (want : Want) (o r : Sort) (p : Place) : Type 0 where
@@ -169,18 +193,38 @@ text-fit _ k level (fit-name c) b = split (eqb k Kind.AND) (λ e. rw (eqb-true k
 number-fit : (sort : PartSort) (k level : ℕ) → Fits an-integer sort → Table.binds level (Table.operator sort k) ≡ false → Table.binds level (Table.operator (sorted an-integer) k) ≡ false
 number-fit _ k level fit-number b = b
 
+float-fit : (sort : PartSort) (k level : ℕ) → Fits a-float sort → Table.binds level (Table.operator sort k) ≡ false → Table.binds level (Table.operator (sorted a-float) k) ≡ false
+float-fit _ k level fit-float b = b
+
+pub float-test : a-float ≡ a-test → ⊥
+float-test z = let v : _≡_ {A = ℕ} 0 1 = cc in omega (arith, v)
+
 pub number-test : an-integer ≡ a-test → ⊥
 number-test z = let v : _≡_ {A = ℕ} 0 1 = cc in omega (arith, v)
 
 pub text-test : a-string ≡ a-test → ⊥
 text-test z = let v : _≡_ {A = ℕ} 0 1 = cc in omega (arith, v)
 
+-- behind a number, and behind a float
+pub number-after : (F : Frame) (sort : PartSort) → Fits an-integer sort → afterNumber F sort ≡ p-have NUMBER F
+number-after F _ fit-number = refl
+
+pub float-after : (F : Frame) (sort : PartSort) → Fits a-float sort → afterNumber F sort ≡ p-have FLOATING F
+float-after F _ fit-float = refl
+
 -- an operator between integers
-arithmetic : (q : Place) (F : Frame) (level k : ℕ) → after q (sorted an-integer) ≡ p-have NUMBER F → station (p-have NUMBER F) k ≡ p-number INTEGER F
+arithmetic : (q : Place) (F : Frame) (level k : ℕ) → after q (sorted an-integer) ≡ p-have NUMBER F → station (p-have NUMBER F) k ≡ p-number want-integer F
     → Onward q level want-integer an-integer an-integer (station (after q (sorted an-integer)) k)
 arithmetic q F level k e f =
-    typed q level want-integer an-integer an-integer (station (after q (sorted an-integer)) k) (p-number INTEGER F) (ap (λ (p : Place). station p k) e ∙ f) (start-integer F) number-test
-    (λ sort j h b. ap (λ (p : Place). station p j) (sym e))
+    typed q level want-integer an-integer an-integer (station (after q (sorted an-integer)) k) (p-number want-integer F) (ap (λ (p : Place). station p k) e ∙ f) (start-integer F) number-test
+    (λ sort j h b. ap (λ (p : Place). station p j) (number-after F sort h ∙ sym e))
+
+-- and between floats
+computing : (q : Place) (F : Frame) (level k : ℕ) → after q (sorted a-float) ≡ p-have FLOATING F → station (p-have FLOATING F) k ≡ p-number want-float F
+    → Onward q level want-float a-float a-float (station (after q (sorted a-float)) k)
+computing q F level k e f =
+    typed q level want-float a-float a-float (station (after q (sorted a-float)) k) (p-number want-float F) (ap (λ (p : Place). station p k) e ∙ f) (start-float F) float-test
+    (λ sort j h b. ap (λ (p : Place). station p j) (float-after F sort h ∙ sym e))
 
 junction : (S : Spot) (m k : ℕ) → m ≤ 2 → Junction k → (sort : PartSort) → Fits a-test sort → Onward (p-any S) m want-any a-test a-test (station (after (p-any S) sort) k)
 junction S m k h j sort f =
@@ -192,11 +236,17 @@ pub joint-onward : (level : ℕ) (want : Want) (sort : PartSort) (k : ℕ) (op :
 joint-onward level _ _ _ _ _ _ _ _ a (start-any S) u j-power fit-number h = arithmetic (p-any S) (tests S) 6 Kind.POWER refl (power-number (tests S))
 joint-onward level _ _ _ _ _ _ _ _ a (start-any S) u (j-product k op c) fit-number h = arithmetic (p-any S) (tests S) 5 k refl (product-number (tests S) k (product-shadow k op c .0))
 joint-onward level _ _ _ _ _ _ _ _ a (start-any S) u (j-sum k op c) fit-number h = arithmetic (p-any S) (tests S) 4 k refl (sum-number (tests S) k (sum-shadow k op c .0))
+joint-onward level _ _ _ _ _ _ _ _ a (start-any S) u j-float-power fit-float h = computing (p-any S) (tests S) 6 Kind.POWER refl (power-float (tests S))
+joint-onward level _ _ _ _ _ _ _ _ a (start-any S) u (j-float-product k op c) fit-float h = computing (p-any S) (tests S) 5 k refl (times-float (tests S) k (float-product-shadow k op c .0))
+joint-onward level _ _ _ _ _ _ _ _ a (start-any S) u (j-float-sum k op c) fit-float h = computing (p-any S) (tests S) 4 k refl (sum-float (tests S) k (float-sum-shadow k op c .0))
+joint-onward level _ _ _ _ _ _ _ _ a (start-any S) u (j-orders k y c) fit-float h =
+    typed (p-any S) 3 want-float a-float a-test _ (p-number want-float (right (strict S))) (float-compare S k (order-shadow k y c .0)) (start-float (right (strict S))) float-test
+    (λ x j g b. ap (λ (p : Place). station p j) (float-after (right (strict S)) x g) ∙ right-float (strict S) j (float-fit x j 3 g b))
 joint-onward level _ sort _ _ _ _ _ _ a (start-any S) u j-join f h =
     typed (p-any S) 4 want-string a-string a-string _ (p-text TEXT (tests S)) (any-text S Kind.DOT _ (words-dot S) sort f) (start-text (tests S)) text-test (λ x j g b. refl)
 joint-onward level _ _ _ _ _ _ _ _ a (start-any S) u (j-numbers k y c) fit-number h =
-    typed (p-any S) 3 want-integer an-integer a-test _ (p-number INTEGER (right (strict S))) (number-compare S k (compare-shadow k y c .0)) (start-integer (right (strict S))) number-test
-    (λ x j g b. right-number (strict S) j (number-fit x j 3 g b))
+    typed (p-any S) 3 want-integer an-integer a-test _ (p-number want-integer (right (strict S))) (number-compare S k (compare-shadow k y c .0)) (start-integer (right (strict S))) number-test
+    (λ x j g b. ap (λ (p : Place). station p j) (number-after (right (strict S)) x g) ∙ right-number (strict S) j (number-fit x j 3 g b))
 joint-onward level _ sort _ _ _ _ _ _ a (start-any S) u (j-texts k y c) f h =
     typed (p-any S) 3 want-string a-string a-test _ (p-text TEXT (right (strict S))) (any-text S k _ (words-compare S k (compare-shadow k y c .0)) sort f) (start-text (right (strict S))) text-test
     (λ x j g b. right-text (strict S) j (text-fit x j 3 g b))
@@ -212,20 +262,32 @@ joint-onward level _ _ _ _ _ _ _ _ (asked-text i g) (start-text F) suits-text j-
 joint-onward level _ _ _ _ _ _ _ _ a (start-operand x F i) suits-text j-join fit-text h = absurd (let bad : ⊥ = omega (arith, i, h) in bad)
 joint-onward level _ _ _ _ _ _ _ _ a (start-operand x F i) suits-text (j-texts k y c) fit-text h = absurd (let bad : ⊥ = omega (arith, i, h) in bad)
 joint-onward level _ _ _ _ _ _ _ _ a (start-operand x F i) suits-text j-match fit-text h = absurd (let bad : ⊥ = omega (arith, i, h) in bad)
-joint-onward level _ _ _ _ _ _ _ _ a (start-number F) suits-number j-power fit-number h = arithmetic (p-number EITHER F) F 6 Kind.POWER refl (power-number F)
-joint-onward level _ _ _ _ _ _ _ _ a (start-number F) suits-number (j-product k op c) fit-number h = arithmetic (p-number EITHER F) F 5 k refl (product-number F k (product-shadow k op c .0))
-joint-onward level _ _ _ _ _ _ _ _ a (start-number F) suits-number (j-sum k op c) fit-number h = arithmetic (p-number EITHER F) F 4 k refl (sum-number F k (sum-shadow k op c .0))
+joint-onward level _ _ _ _ _ _ _ _ a (start-number F) suits-number j-power fit-number h = arithmetic (p-number want-number F) F 6 Kind.POWER refl (power-number F)
+joint-onward level _ _ _ _ _ _ _ _ a (start-number F) suits-number (j-product k op c) fit-number h = arithmetic (p-number want-number F) F 5 k refl (product-number F k (product-shadow k op c .0))
+joint-onward level _ _ _ _ _ _ _ _ a (start-number F) suits-number (j-sum k op c) fit-number h = arithmetic (p-number want-number F) F 4 k refl (sum-number F k (sum-shadow k op c .0))
 joint-onward level _ _ _ _ _ _ _ _ (asked-number i g) (start-number F) suits-number (j-numbers k y c) fit-number h = absurd (let bad : ⊥ = omega (arith, i, h) in bad)
-joint-onward level _ _ _ _ _ _ _ _ a (start-integer F) suits-integer j-power fit-number h = arithmetic (p-number INTEGER F) F 6 Kind.POWER refl (power-number F)
-joint-onward level _ _ _ _ _ _ _ _ a (start-integer F) suits-integer (j-product k op c) fit-number h = arithmetic (p-number INTEGER F) F 5 k refl (product-number F k (product-shadow k op c .0))
-joint-onward level _ _ _ _ _ _ _ _ a (start-integer F) suits-integer (j-sum k op c) fit-number h = arithmetic (p-number INTEGER F) F 4 k refl (sum-number F k (sum-shadow k op c .0))
+joint-onward level _ _ _ _ _ _ _ _ a (start-integer F) suits-integer j-power fit-number h = arithmetic (p-number want-integer F) F 6 Kind.POWER refl (power-number F)
+joint-onward level _ _ _ _ _ _ _ _ a (start-integer F) suits-integer (j-product k op c) fit-number h = arithmetic (p-number want-integer F) F 5 k refl (product-number F k (product-shadow k op c .0))
+joint-onward level _ _ _ _ _ _ _ _ a (start-integer F) suits-integer (j-sum k op c) fit-number h = arithmetic (p-number want-integer F) F 4 k refl (sum-number F k (sum-shadow k op c .0))
 joint-onward level _ _ _ _ _ _ _ _ (asked-integer i g) (start-integer F) suits-integer (j-numbers k y c) fit-number h = absurd (let bad : ⊥ = omega (arith, i, h) in bad)
+joint-onward level _ _ _ _ _ _ _ _ a (start-number F) suits-decimal j-float-power fit-float h = computing (p-number want-number F) F 6 Kind.POWER refl (power-float F)
+joint-onward level _ _ _ _ _ _ _ _ a (start-number F) suits-decimal (j-float-product k op c) fit-float h = computing (p-number want-number F) F 5 k refl (times-float F k (float-product-shadow k op c .0))
+joint-onward level _ _ _ _ _ _ _ _ a (start-number F) suits-decimal (j-float-sum k op c) fit-float h = computing (p-number want-number F) F 4 k refl (sum-float F k (float-sum-shadow k op c .0))
+joint-onward level _ _ _ _ _ _ _ _ (asked-number i g) (start-number F) suits-decimal (j-orders k y c) fit-float h = absurd (let bad : ⊥ = omega (arith, i, h) in bad)
+joint-onward level _ _ _ _ _ _ _ _ a (start-float F) suits-float j-float-power fit-float h = computing (p-number want-float F) F 6 Kind.POWER refl (power-float F)
+joint-onward level _ _ _ _ _ _ _ _ a (start-float F) suits-float (j-float-product k op c) fit-float h = computing (p-number want-float F) F 5 k refl (times-float F k (float-product-shadow k op c .0))
+joint-onward level _ _ _ _ _ _ _ _ a (start-float F) suits-float (j-float-sum k op c) fit-float h = computing (p-number want-float F) F 4 k refl (sum-float F k (float-sum-shadow k op c .0))
+joint-onward level _ _ _ _ _ _ _ _ (asked-float i g) (start-float F) suits-float (j-orders k y c) fit-float h = absurd (let bad : ⊥ = omega (arith, i, h) in bad)
 
 -- and what is read then suits what was wanted
 pub joint-suits : (level : ℕ) (want : Want) (sort : PartSort) (k : ℕ) (op : Binary) (l : ℕ) (o r : Sort) → Asked level want → Suits want sort → Joint k op l o r → Fits o sort → level ≤ l → Suits want (sorted r)
 joint-suits level _ _ _ _ _ _ _ a (suits-any sort) j-power f h = suits-any _
 joint-suits level _ _ _ _ _ _ _ a (suits-any sort) (j-product k op c) f h = suits-any _
 joint-suits level _ _ _ _ _ _ _ a (suits-any sort) (j-sum k op c) f h = suits-any _
+joint-suits level _ _ _ _ _ _ _ a (suits-any sort) j-float-power f h = suits-any _
+joint-suits level _ _ _ _ _ _ _ a (suits-any sort) (j-float-product k op c) f h = suits-any _
+joint-suits level _ _ _ _ _ _ _ a (suits-any sort) (j-float-sum k op c) f h = suits-any _
+joint-suits level _ _ _ _ _ _ _ a (suits-any sort) (j-orders k y c) f h = suits-any _
 joint-suits level _ _ _ _ _ _ _ a (suits-any sort) j-join f h = suits-any _
 joint-suits level _ _ _ _ _ _ _ a (suits-any sort) (j-numbers k y c) f h = suits-any _
 joint-suits level _ _ _ _ _ _ _ a (suits-any sort) (j-texts k y c) f h = suits-any _
@@ -235,14 +297,22 @@ joint-suits level _ _ _ _ _ _ _ a (suits-any sort) j-or f h = suits-any _
 joint-suits level _ _ _ _ _ _ _ a suits-text j-join fit-text h = suits-text
 joint-suits level _ _ _ _ _ _ _ (asked-text i g) suits-text (j-texts k y c) fit-text h = absurd (let bad : ⊥ = omega (arith, i, h) in bad)
 joint-suits level _ _ _ _ _ _ _ (asked-text i g) suits-text j-match fit-text h = absurd (let bad : ⊥ = omega (arith, i, h) in bad)
-joint-suits level _ _ _ _ _ _ _ a suits-number j-power f h = suits-number
-joint-suits level _ _ _ _ _ _ _ a suits-number (j-product k op c) f h = suits-number
-joint-suits level _ _ _ _ _ _ _ a suits-number (j-sum k op c) f h = suits-number
+joint-suits level _ _ _ _ _ _ _ a suits-number j-power fit-number h = suits-number
+joint-suits level _ _ _ _ _ _ _ a suits-number (j-product k op c) fit-number h = suits-number
+joint-suits level _ _ _ _ _ _ _ a suits-number (j-sum k op c) fit-number h = suits-number
 joint-suits level _ _ _ _ _ _ _ (asked-number i g) suits-number (j-numbers k y c) fit-number h = absurd (let bad : ⊥ = omega (arith, i, h) in bad)
-joint-suits level _ _ _ _ _ _ _ a suits-integer j-power f h = suits-integer
-joint-suits level _ _ _ _ _ _ _ a suits-integer (j-product k op c) f h = suits-integer
-joint-suits level _ _ _ _ _ _ _ a suits-integer (j-sum k op c) f h = suits-integer
+joint-suits level _ _ _ _ _ _ _ a suits-integer j-power fit-number h = suits-integer
+joint-suits level _ _ _ _ _ _ _ a suits-integer (j-product k op c) fit-number h = suits-integer
+joint-suits level _ _ _ _ _ _ _ a suits-integer (j-sum k op c) fit-number h = suits-integer
 joint-suits level _ _ _ _ _ _ _ (asked-integer i g) suits-integer (j-numbers k y c) fit-number h = absurd (let bad : ⊥ = omega (arith, i, h) in bad)
+joint-suits level _ _ _ _ _ _ _ a suits-decimal j-float-power fit-float h = suits-decimal
+joint-suits level _ _ _ _ _ _ _ a suits-decimal (j-float-product k op c) fit-float h = suits-decimal
+joint-suits level _ _ _ _ _ _ _ a suits-decimal (j-float-sum k op c) fit-float h = suits-decimal
+joint-suits level _ _ _ _ _ _ _ (asked-number i g) suits-decimal (j-orders k y c) fit-float h = absurd (let bad : ⊥ = omega (arith, i, h) in bad)
+joint-suits level _ _ _ _ _ _ _ a suits-float j-float-power fit-float h = suits-float
+joint-suits level _ _ _ _ _ _ _ a suits-float (j-float-product k op c) fit-float h = suits-float
+joint-suits level _ _ _ _ _ _ _ a suits-float (j-float-sum k op c) fit-float h = suits-float
+joint-suits level _ _ _ _ _ _ _ (asked-float i g) suits-float (j-orders k y c) fit-float h = absurd (let bad : ⊥ = omega (arith, i, h) in bad)
 
 test-ends : (m : ℕ) (sort : PartSort) (k : ℕ) → Fits a-test sort → Table.binds m (Table.operator sort k) ≡ false → Table.binds m (Table.operator (sorted a-test) k) ≡ false
 unfolding Table.operator Table.testOperator Table.binds
@@ -255,6 +325,10 @@ pub joint-ends : (k : ℕ) (op : Binary) (l : ℕ) (o r : Sort) → Joint k op l
 joint-ends _ _ _ _ _ j-power sort j f b = number-fit sort j 6 f b
 joint-ends _ _ _ _ _ (j-product k op c) sort j f b = number-fit sort j 5 f b
 joint-ends _ _ _ _ _ (j-sum k op c) sort j f b = number-fit sort j 4 f b
+joint-ends _ _ _ _ _ j-float-power sort j f b = float-fit sort j 6 f b
+joint-ends _ _ _ _ _ (j-float-product k op c) sort j f b = float-fit sort j 5 f b
+joint-ends _ _ _ _ _ (j-float-sum k op c) sort j f b = float-fit sort j 4 f b
+joint-ends _ _ _ _ _ (j-orders k y c) sort j f b = test-none j
 joint-ends _ _ _ _ _ j-join sort j f b = text-fit sort j 4 f b
 joint-ends _ _ _ _ _ (j-numbers k y c) sort j f b = test-none j
 joint-ends _ _ _ _ _ (j-texts k y c) sort j f b = test-none j
@@ -266,23 +340,16 @@ pub joint-asked : (k : ℕ) (op : Binary) (l : ℕ) (o r : Sort) → Joint k op 
 joint-asked _ _ _ _ _ j-power = asked-integer (omega arith) (omega arith)
 joint-asked _ _ _ _ _ (j-product k op c) = asked-integer (omega arith) (omega arith)
 joint-asked _ _ _ _ _ (j-sum k op c) = asked-integer (omega arith) (omega arith)
+joint-asked _ _ _ _ _ j-float-power = asked-float (omega arith) (omega arith)
+joint-asked _ _ _ _ _ (j-float-product k op c) = asked-float (omega arith) (omega arith)
+joint-asked _ _ _ _ _ (j-float-sum k op c) = asked-float (omega arith) (omega arith)
+joint-asked _ _ _ _ _ (j-orders k y c) = asked-float (omega arith) (omega arith)
 joint-asked _ _ _ _ _ j-join = asked-text (omega arith) (omega arith)
 joint-asked _ _ _ _ _ (j-numbers k y c) = asked-integer (omega arith) (omega arith)
 joint-asked _ _ _ _ _ (j-texts k y c) = asked-text (omega arith) (omega arith)
 joint-asked _ _ _ _ _ j-match = asked-text (omega arith) (omega arith)
 joint-asked _ _ _ _ _ j-and = asked-any (omega arith)
 joint-asked _ _ _ _ _ j-or = asked-any (omega arith)
-
-pub joint-goal : (k : ℕ) (op : Binary) (l : ℕ) (o r : Sort) → Joint k op l o r → goal (Table.wantOf o) ≡ o
-joint-goal _ _ _ _ _ j-power = refl
-joint-goal _ _ _ _ _ (j-product k op c) = refl
-joint-goal _ _ _ _ _ (j-sum k op c) = refl
-joint-goal _ _ _ _ _ j-join = refl
-joint-goal _ _ _ _ _ (j-numbers k y c) = refl
-joint-goal _ _ _ _ _ (j-texts k y c) = refl
-joint-goal _ _ _ _ _ j-match = refl
-joint-goal _ _ _ _ _ j-and = refl
-joint-goal _ _ _ _ _ j-or = refl
 
 -- what was read where it was wanted fits, or is no test where one was wanted
 pub data RightFit (o : Sort) (sort : PartSort) : Bool → Type 0 where
@@ -293,9 +360,11 @@ from-test : (sort : PartSort) (b : Bool) → TestFit sort b → RightFit a-test 
 from-test sort _ (test-fits f) = right-fits f
 from-test sort _ (test-unfit u) = right-unfit refl u
 
-pub right-fit : (want : Want) (sort : PartSort) → Suits want sort → RightFit (goal want) sort (Table.fits (goal want) sort)
+pub right-fit : (want : Want) (sort : PartSort) → Suits want sort → RightFit (aim want sort) sort (Table.fits (aim want sort) sort)
 unfolding Table.fits
 right-fit _ _ (suits-any sort) = from-test sort (Table.fits a-test sort) (test-fit sort)
 right-fit _ _ suits-text = right-fits fit-text
 right-fit _ _ suits-number = right-fits fit-number
+right-fit _ _ suits-decimal = right-fits fit-float
 right-fit _ _ suits-integer = right-fits fit-number
+right-fit _ _ suits-float = right-fits fit-float

@@ -6,103 +6,129 @@ use Prim.Native.Nat.{ℕ, _≤_}
 use native.Mathlib.Omega.{arith}
 use lib.Dec.{eqb}
 use borrow.Author.Tests.{eqb-true, ne-eqb}
-use Rattle.text.specs.Choice.{clash}
+use Rattle.text.specs.Choice.{split, clash}
 use Rattle.lexical.specs.Kind
 use Rattle.lexical.specs.Bounds.{chosen}
 use Rattle.lexical.specs.Word.{word-true, word-false}
 use Rattle.lexical.specs.declared.token.Token.{Token}
-use Rattle.syntax.specs.Operator.{Unary, Sort, a-string, an-integer, a-test, unaryTakes, unaryGives}
+use Rattle.syntax.specs.Operator.{Unary, Sort, a-string, an-integer, a-float, a-test, unaryTakes, unaryGives}
 use Rattle.syntax.specs.Operator as Operator
 use Rattle.syntax.specs.Expr.{Expr, unary}
-use Rattle.conditions.specs.Table.{PartSort, sorted, word, Want, want-any, want-string, want-number, want-integer}
+use Rattle.conditions.specs.Table.{PartSort, sorted, word, Want, want-any, want-string, want-number, want-integer, want-float}
 use Rattle.conditions.specs.Table
 use Rattle.conditions.specs.Word.{wordSort}
 use Rattle.grammar.specs.Conditions.{TRUTH}
 use Rattle.grammar.specs.Spelled.{spelled, kindIn}
-use Rattle.grammar.specs.Trees.{lookup-tree, negate-tree, convert-tree, not-tree}
+use Rattle.grammar.specs.Trees.{lookup-tree, negate-tree, convert-tree, float-negate-tree, to-float-tree, not-tree}
 use Rattle.grammar.specs.Theorems.Shadow.{kind-name, kind-true, kind-false}
-use Rattle.grammar.specs.Working.Stations.{Had, had, TEXT, NUMBER, TEST, TRUE, as-wanted, EITHER, INTEGER, Spot, in-bracket, Frame, tests, texts, numbers, Place, p-dead, p-any, p-text, p-number, p-have, strict, flat, station}
+use Rattle.grammar.specs.Working.Stations.{TEXT, NUMBER, FLOATING, TEST, TRUE, Spot, in-bracket, Frame, tests, texts, numbers, Place, p-dead, p-any, p-text, p-number, p-have, strict, flat, station}
 use Rattle.grammar.specs.Working.Stationed.{open-text, close-text, name-text, truth-any, open-any}
-use Rattle.grammar.specs.Working.Joints.{binds-less, kind-same}
-use Rattle.grammar.specs.Working.Told.{goal, Told, told-text, told-number, told-test, Suits, suits-any, suits-text, suits-number, suits-integer}
-use Rattle.grammar.specs.Working.Onward.{word-same, Starts, start-any, start-text, start-operand, start-number, start-integer, after, Asked, asked-any, asked-text, asked-number, asked-integer, Onward, onward, typed, number-test, text-test, strict-test, strict-dead}
+use Rattle.grammar.specs.Working.Joints.{Fits, binds-less, kind-same}
+use Rattle.grammar.specs.Working.Told.{aim, Goal, goal-test, goal-text, goal-number, goal-decimal, goal-integer, goal-float, Told, told-text, told-number, told-float, told-test, Suits, suits-any, suits-text, suits-number, suits-decimal, suits-integer, suits-float}
+use Rattle.grammar.specs.Working.Onward.{word-same, Starts, start-any, start-text, start-operand, start-number, start-integer, start-float, after, Asked, asked-any, asked-text, asked-number, asked-integer, asked-float, Onward, onward, typed, number-after, float-after, number-test, float-test, text-test, strict-test, strict-dead}
 
--- where `want` is wanted, the mark k writes the prefix operator op, behind which `wanted` is read at `level`; it takes one of sort o and gives one of sort r
+-- where `want` is wanted, the mark k writes the prefix operator op, behind which `wanted` is read at `level`; of one of sort o it makes one of sort r
 pub data Before : ℕ → Unary → Want → ℕ → Want → Sort → Sort → Type 0 where
   minus-any : Before Kind.MINUS Operator.negate want-any 6 want-number an-integer an-integer
+  minus-any-float : Before Kind.MINUS Operator.negate want-any 6 want-number a-float a-float
   minus-number : Before Kind.MINUS Operator.negate want-number 6 want-number an-integer an-integer
+  minus-number-float : Before Kind.MINUS Operator.negate want-number 6 want-number a-float a-float
   minus-integer : Before Kind.MINUS Operator.negate want-integer 6 want-integer an-integer an-integer
+  minus-float : Before Kind.MINUS Operator.negate want-float 6 want-float a-float a-float
   at-any : Before Kind.AT Operator.convert want-any 6 want-string a-string an-integer
   at-number : Before Kind.AT Operator.convert want-number 6 want-string a-string an-integer
   at-integer : Before Kind.AT Operator.convert want-integer 6 want-string a-string an-integer
+  ampersand-any : Before Kind.AMPERSAND Operator.to-float want-any 6 want-string a-string a-float
+  ampersand-number : Before Kind.AMPERSAND Operator.to-float want-number 6 want-string a-string a-float
+  ampersand-float : Before Kind.AMPERSAND Operator.to-float want-float 6 want-string a-string a-float
   dollar-any : Before Kind.DOLLAR Operator.lookup want-any 6 want-string a-string a-string
   dollar-text : Before Kind.DOLLAR Operator.lookup want-string 6 want-string a-string a-string
   not-test : Before Kind.NOT Operator.opposite want-any 2 want-any a-test a-test
 
--- what the tables say of it; its mark is no name
-pub data BeforeTabled (k : ℕ) (op : Unary) (want : Want) (level : ℕ) (wanted : Want) (o r : Sort) : Type 0 where
-  before-tabled : Table.operandLevel op ≡ level → Table.operandWant op want ≡ wanted → unaryTakes op ≡ o → unaryGives op ≡ r → goal wanted ≡ o
-      → eqb k Kind.NAME ≡ false → BeforeTabled k op want level wanted o r
+-- the operator of one of sort o, and what it takes and gives
+abbrev pub asTaken : Unary → Sort → Unary
+asTaken op o = Table.prefixOf op (sorted o)
 
-pub before-table : (k : ℕ) (op : Unary) (want : Want) (level : ℕ) (wanted : Want) (o r : Sort) → Before k op want level wanted o r → BeforeTabled k op want level wanted o r
-unfolding Table.operandLevel Table.operandWant
-before-table _ _ _ _ _ _ _ minus-any = before-tabled refl refl refl refl refl refl
-before-table _ _ _ _ _ _ _ minus-number = before-tabled refl refl refl refl refl refl
-before-table _ _ _ _ _ _ _ minus-integer = before-tabled refl refl refl refl refl refl
-before-table _ _ _ _ _ _ _ at-any = before-tabled refl refl refl refl refl refl
-before-table _ _ _ _ _ _ _ at-number = before-tabled refl refl refl refl refl refl
-before-table _ _ _ _ _ _ _ at-integer = before-tabled refl refl refl refl refl refl
-before-table _ _ _ _ _ _ _ dollar-any = before-tabled refl refl refl refl refl refl
-before-table _ _ _ _ _ _ _ dollar-text = before-tabled refl refl refl refl refl refl
-before-table _ _ _ _ _ _ _ not-test = before-tabled refl refl refl refl refl refl
-
-pub before-asked : (k : ℕ) (op : Unary) (want : Want) (level : ℕ) (wanted : Want) (o r : Sort) → Before k op want level wanted o r → Asked level wanted
-before-asked _ _ _ _ _ _ _ minus-any = asked-number (omega arith) (omega arith)
-before-asked _ _ _ _ _ _ _ minus-number = asked-number (omega arith) (omega arith)
-before-asked _ _ _ _ _ _ _ minus-integer = asked-integer (omega arith) (omega arith)
-before-asked _ _ _ _ _ _ _ at-any = asked-text (omega arith) (omega arith)
-before-asked _ _ _ _ _ _ _ at-number = asked-text (omega arith) (omega arith)
-before-asked _ _ _ _ _ _ _ at-integer = asked-text (omega arith) (omega arith)
-before-asked _ _ _ _ _ _ _ dollar-any = asked-text (omega arith) (omega arith)
-before-asked _ _ _ _ _ _ _ dollar-text = asked-text (omega arith) (omega arith)
-before-asked _ _ _ _ _ _ _ not-test = asked-any (omega arith)
+pub before-takes : (k : ℕ) (op : Unary) (want : Want) (level : ℕ) (wanted : Want) (o r : Sort) → Before k op want level wanted o r → (unaryTakes (asTaken op o) ≡ o) × (unaryGives (asTaken op o) ≡ r)
+before-takes _ _ _ _ _ _ _ minus-any = (refl, refl)
+before-takes _ _ _ _ _ _ _ minus-any-float = (refl, refl)
+before-takes _ _ _ _ _ _ _ minus-number = (refl, refl)
+before-takes _ _ _ _ _ _ _ minus-number-float = (refl, refl)
+before-takes _ _ _ _ _ _ _ minus-integer = (refl, refl)
+before-takes _ _ _ _ _ _ _ minus-float = (refl, refl)
+before-takes _ _ _ _ _ _ _ at-any = (refl, refl)
+before-takes _ _ _ _ _ _ _ at-number = (refl, refl)
+before-takes _ _ _ _ _ _ _ at-integer = (refl, refl)
+before-takes _ _ _ _ _ _ _ ampersand-any = (refl, refl)
+before-takes _ _ _ _ _ _ _ ampersand-number = (refl, refl)
+before-takes _ _ _ _ _ _ _ ampersand-float = (refl, refl)
+before-takes _ _ _ _ _ _ _ dollar-any = (refl, refl)
+before-takes _ _ _ _ _ _ _ dollar-text = (refl, refl)
+before-takes _ _ _ _ _ _ _ not-test = (refl, refl)
 
 pub before-suits : (k : ℕ) (op : Unary) (want : Want) (level : ℕ) (wanted : Want) (o r : Sort) → Before k op want level wanted o r → Suits want (sorted r)
 before-suits _ _ _ _ _ _ _ minus-any = suits-any _
+before-suits _ _ _ _ _ _ _ minus-any-float = suits-any _
 before-suits _ _ _ _ _ _ _ minus-number = suits-number
+before-suits _ _ _ _ _ _ _ minus-number-float = suits-decimal
 before-suits _ _ _ _ _ _ _ minus-integer = suits-integer
+before-suits _ _ _ _ _ _ _ minus-float = suits-float
 before-suits _ _ _ _ _ _ _ at-any = suits-any _
 before-suits _ _ _ _ _ _ _ at-number = suits-number
 before-suits _ _ _ _ _ _ _ at-integer = suits-integer
+before-suits _ _ _ _ _ _ _ ampersand-any = suits-any _
+before-suits _ _ _ _ _ _ _ ampersand-number = suits-decimal
+before-suits _ _ _ _ _ _ _ ampersand-float = suits-float
 before-suits _ _ _ _ _ _ _ dollar-any = suits-any _
 before-suits _ _ _ _ _ _ _ dollar-text = suits-text
 before-suits _ _ _ _ _ _ _ not-test = suits-any _
 
 -- the tree
-pub before-told : (s : List ℕ) (k : ℕ) (op : Unary) (want : Want) (level : ℕ) (wanted : Want) (o r : Sort) (t : Token) (us : List Token) (f : Expr) → Before k op want level wanted o r → t .kind ≡ k → Told s (sorted o) level us f
-    → Told s (sorted r) 7 (t ∷ us) (unary op f)
+pub before-told : (s : List ℕ) (k : ℕ) (op : Unary) (want : Want) (level : ℕ) (wanted : Want) (o r : Sort) (t : Token) (us : List Token) (f : Expr) → Before k op want level wanted o r → t .kind ≡ k
+    → Told s (sorted o) level us f → Told s (sorted r) 7 (t ∷ us) (unary (asTaken op o) f)
 before-told s _ _ _ _ _ _ _ t _ _ minus-any z (told-number _ us f d) = told-number 7 _ _ (negate-tree t us f z d)
+before-told s _ _ _ _ _ _ _ t _ _ minus-any-float z (told-float _ us f d) = told-float 7 _ _ (float-negate-tree t us f z d)
 before-told s _ _ _ _ _ _ _ t _ _ minus-number z (told-number _ us f d) = told-number 7 _ _ (negate-tree t us f z d)
+before-told s _ _ _ _ _ _ _ t _ _ minus-number-float z (told-float _ us f d) = told-float 7 _ _ (float-negate-tree t us f z d)
 before-told s _ _ _ _ _ _ _ t _ _ minus-integer z (told-number _ us f d) = told-number 7 _ _ (negate-tree t us f z d)
+before-told s _ _ _ _ _ _ _ t _ _ minus-float z (told-float _ us f d) = told-float 7 _ _ (float-negate-tree t us f z d)
 before-told s _ _ _ _ _ _ _ t _ _ at-any z (told-text _ us f d) = told-number 7 _ _ (convert-tree t us f z d)
 before-told s _ _ _ _ _ _ _ t _ _ at-number z (told-text _ us f d) = told-number 7 _ _ (convert-tree t us f z d)
 before-told s _ _ _ _ _ _ _ t _ _ at-integer z (told-text _ us f d) = told-number 7 _ _ (convert-tree t us f z d)
+before-told s _ _ _ _ _ _ _ t _ _ ampersand-any z (told-text _ us f d) = told-float 7 _ _ (to-float-tree t us f z d)
+before-told s _ _ _ _ _ _ _ t _ _ ampersand-number z (told-text _ us f d) = told-float 7 _ _ (to-float-tree t us f z d)
+before-told s _ _ _ _ _ _ _ t _ _ ampersand-float z (told-text _ us f d) = told-float 7 _ _ (to-float-tree t us f z d)
 before-told s _ _ _ _ _ _ _ t _ _ dollar-any z (told-text _ us f d) = told-text 7 _ _ (lookup-tree t us f z d)
 before-told s _ _ _ _ _ _ _ t _ _ dollar-text z (told-text _ us f d) = told-text 7 _ _ (lookup-tree t us f z d)
 before-told s _ _ _ _ _ _ _ t _ _ not-test z (told-test _ us f d) = told-test 7 _ _ (not-tree t us f z d)
 
 -- where the mark leads
+number-led : (F G : Frame) (x : PartSort) (j : ℕ) → F ≡ G → Fits an-integer x → station (after (p-number want-number F) x) j ≡ station (p-have NUMBER G) j
+number-led F G x j e g = ap (λ (p : Place). station p j) (number-after F x g ∙ ap (p-have NUMBER) e)
+
+float-led : (F G : Frame) (x : PartSort) (j : ℕ) → F ≡ G → Fits a-float x → station (after (p-number want-number F) x) j ≡ station (p-have FLOATING G) j
+float-led F G x j e g = ap (λ (p : Place). station p j) (float-after F x g ∙ ap (p-have FLOATING) e)
+
 pub before-onward : (k : ℕ) (op : Unary) (want : Want) (level : ℕ) (wanted : Want) (o r : Sort) (q : Place) → Before k op want level wanted o r → Starts 7 want q → Onward q level wanted o r (station q k)
 unfolding station Table.allows Table.beginsNumber Table.beginsString Table.beginsFloat
-before-onward _ _ _ _ _ _ _ _ minus-any (start-any S) = typed (p-any S) 6 _ an-integer _ _ (p-number EITHER (tests S)) refl (start-number (tests S)) number-test (λ x j g b. refl)
-before-onward _ _ _ _ _ _ _ _ minus-number (start-number F) = typed (p-number EITHER F) 6 _ an-integer _ _ (p-number EITHER F) refl (start-number F) number-test (λ x j g b. refl)
-before-onward _ _ _ _ _ _ _ _ minus-integer (start-integer F) = typed (p-number INTEGER F) 6 _ an-integer _ _ (p-number INTEGER F) refl (start-integer F) number-test (λ x j g b. refl)
+before-onward _ _ _ _ _ _ _ _ minus-any (start-any S) = typed (p-any S) 6 _ an-integer _ _ (p-number want-number (tests S)) refl (start-number (tests S)) number-test (λ x j g b. number-led (tests S) (tests S) x j refl g)
+before-onward _ _ _ _ _ _ _ _ minus-any-float (start-any S) = typed (p-any S) 6 _ a-float _ _ (p-number want-number (tests S)) refl (start-number (tests S)) float-test (λ x j g b. float-led (tests S) (tests S) x j refl g)
+before-onward _ _ _ _ _ _ _ _ minus-number (start-number F) = typed (p-number want-number F) 6 _ an-integer _ _ (p-number want-number F) refl (start-number F) number-test (λ x j g b. number-led F F x j refl g)
+before-onward _ _ _ _ _ _ _ _ minus-number-float (start-number F) = typed (p-number want-number F) 6 _ a-float _ _ (p-number want-number F) refl (start-number F) float-test (λ x j g b. float-led F F x j refl g)
+before-onward _ _ _ _ _ _ _ _ minus-integer (start-integer F) = typed (p-number want-integer F) 6 _ an-integer _ _ (p-number want-integer F) refl (start-integer F) number-test (λ x j g b. number-led F F x j refl g)
+before-onward _ _ _ _ _ _ _ _ minus-float (start-float F) = typed (p-number want-float F) 6 _ a-float _ _ (p-number want-float F) refl (start-float F) float-test (λ x j g b. float-led F F x j refl g)
 before-onward _ _ _ _ _ _ _ _ at-any (start-any S) =
     typed (p-any S) 6 _ a-string _ _ (p-text NUMBER (tests S)) refl (start-operand NUMBER (tests S) (omega arith)) text-test (λ x j g b. refl)
 before-onward _ _ _ _ _ _ _ _ at-number (start-number F) =
-    typed (p-number EITHER F) 6 _ a-string _ _ (p-text NUMBER F) refl (start-operand NUMBER F (omega arith)) text-test (λ x j g b. refl)
+    typed (p-number want-number F) 6 _ a-string _ _ (p-text NUMBER F) refl (start-operand NUMBER F (omega arith)) text-test (λ x j g b. refl)
 before-onward _ _ _ _ _ _ _ _ at-integer (start-integer F) =
-    typed (p-number INTEGER F) 6 _ a-string _ _ (p-text NUMBER F) refl (start-operand NUMBER F (omega arith)) text-test (λ x j g b. refl)
+    typed (p-number want-integer F) 6 _ a-string _ _ (p-text NUMBER F) refl (start-operand NUMBER F (omega arith)) text-test (λ x j g b. refl)
+before-onward _ _ _ _ _ _ _ _ ampersand-any (start-any S) =
+    typed (p-any S) 6 _ a-string _ _ (p-text FLOATING (tests S)) refl (start-operand FLOATING (tests S) (omega arith)) text-test (λ x j g b. refl)
+before-onward _ _ _ _ _ _ _ _ ampersand-number (start-number F) =
+    typed (p-number want-number F) 6 _ a-string _ _ (p-text FLOATING F) refl (start-operand FLOATING F (omega arith)) text-test (λ x j g b. refl)
+before-onward _ _ _ _ _ _ _ _ ampersand-float (start-float F) =
+    typed (p-number want-float F) 6 _ a-string _ _ (p-text FLOATING F) refl (start-operand FLOATING F (omega arith)) text-test (λ x j g b. refl)
 before-onward _ _ _ _ _ _ _ _ dollar-any (start-any S) = typed (p-any S) 6 _ a-string _ _ (p-text TEXT (tests S)) refl (start-text (tests S)) text-test (λ x j g b. refl)
 before-onward _ _ _ _ _ _ _ _ dollar-text (start-text F) = typed (p-text TEXT F) 6 _ a-string _ _ (p-text TEXT F) refl (start-text F) text-test (λ x j g b. refl)
 before-onward _ _ _ _ _ _ _ _ dollar-text (start-operand r F i) =
@@ -110,46 +136,110 @@ before-onward _ _ _ _ _ _ _ _ dollar-text (start-operand r F i) =
 before-onward _ _ _ _ _ _ _ _ not-test (start-any S) =
     onward (p-any (strict S)) refl (start-any (strict S)) (strict-test S 2 (omega arith)) (λ sort k z u b. strict-dead S 2 (omega arith) sort k u b)
 
+-- what a prefix operator makes of an operand goes by what must come of the operand
+pub as-aimed : (op : Unary) (want : Want) (sort : PartSort) → Suits (Table.operandWant op want) sort → Table.prefixOf op sort ≡ asTaken op (aim (Table.operandWant op want) sort)
+unfolding Table.operandWant
+as-aimed Operator.lookup want sort u = refl
+as-aimed Operator.convert want sort u = refl
+as-aimed Operator.negate want sort u = aimed (Table.numeric want) sort (numeric-any want) u
+  where
+    numeric-any : (want : Want) → Table.numeric want ≡ want-any → ⊥
+    numeric-any want-any e = clash (ap Table.isAny e) refl
+    numeric-any want-string e = clash (ap Table.isAny e) refl
+    numeric-any want-number e = clash (ap Table.isAny e) refl
+    numeric-any want-integer e = clash (ap Table.isAny e) refl
+    numeric-any want-float e = clash (ap Table.isAny e) refl
+
+    aimed : (w : Want) (sort : PartSort) → (w ≡ want-any → ⊥) → Suits w sort → Table.minusOf sort ≡ Table.minusOf (sorted (aim w sort))
+    aimed _ _ n (suits-any sort) = absurd (n refl)
+    aimed _ _ n suits-text = refl
+    aimed _ _ n suits-number = refl
+    aimed _ _ n suits-decimal = refl
+    aimed _ _ n suits-integer = refl
+    aimed _ _ n suits-float = refl
+as-aimed Operator.opposite want sort u = refl
+as-aimed Operator.to-float want sort u = refl
+as-aimed Operator.float-negate want sort u = refl
+
 -- a token that may stand as an operand: a prefix operator, or none
 pub data Prefixing (want : Want) (k : ℕ) : Table.Prefix → Type 0 where
-  prefixes : (op : Unary) (level : ℕ) (wanted : Want) (o r : Sort) → Before k op want level wanted o r → Prefixing want k (Table.before op)
+  prefixes : (op : Unary) (level : ℕ) (wanted : Want) → Table.operandLevel op ≡ level → Table.operandWant op want ≡ wanted → eqb k Kind.NAME ≡ false → Asked level wanted
+      → ((g : Sort) → Goal wanted g → Before k op want level wanted g (unaryGives (asTaken op g))) → Prefixing want k (Table.before op)
   no-prefix : Prefixing want k Table.no-prefix
 
 minus-prefix : (want : Want) → Table.allows want Kind.MINUS ≡ true → Prefixing want Kind.MINUS (Table.before Operator.negate)
-unfolding Table.allows Table.beginsString
-minus-prefix want-any h = prefixes _ _ _ _ _ minus-any
+unfolding Table.allows Table.beginsString Table.operandLevel Table.operandWant
+minus-prefix want-any h = prefixes Operator.negate 6 want-number refl refl refl (asked-number (omega arith) (omega arith)) takes
+  where
+    takes : (g : Sort) → Goal want-number g → Before Kind.MINUS Operator.negate want-any 6 want-number g (unaryGives (asTaken Operator.negate g))
+    takes _ goal-number = minus-any
+    takes _ goal-decimal = minus-any-float
 minus-prefix want-string h = clash h refl
-minus-prefix want-number h = prefixes _ _ _ _ _ minus-number
-minus-prefix want-integer h = prefixes _ _ _ _ _ minus-integer
+minus-prefix want-number h = prefixes Operator.negate 6 want-number refl refl refl (asked-number (omega arith) (omega arith)) takes
+  where
+    takes : (g : Sort) → Goal want-number g → Before Kind.MINUS Operator.negate want-number 6 want-number g (unaryGives (asTaken Operator.negate g))
+    takes _ goal-number = minus-number
+    takes _ goal-decimal = minus-number-float
+minus-prefix want-integer h = prefixes Operator.negate 6 want-integer refl refl refl (asked-integer (omega arith) (omega arith)) takes
+  where
+    takes : (g : Sort) → Goal want-integer g → Before Kind.MINUS Operator.negate want-integer 6 want-integer g (unaryGives (asTaken Operator.negate g))
+    takes _ goal-integer = minus-integer
+minus-prefix want-float h = prefixes Operator.negate 6 want-float refl refl refl (asked-float (omega arith) (omega arith)) takes
+  where
+    takes : (g : Sort) → Goal want-float g → Before Kind.MINUS Operator.negate want-float 6 want-float g (unaryGives (asTaken Operator.negate g))
+    takes _ goal-float = minus-float
+
+-- an operator that takes a string
+of-text : (k : ℕ) (op : Unary) (want : Want) (r : Sort) → Before k op want 6 want-string a-string r → unaryGives (asTaken op a-string) ≡ r
+    → (g : Sort) → Goal want-string g → Before k op want 6 want-string g (unaryGives (asTaken op g))
+of-text k op want r b e _ goal-text = rw e b
 
 at-prefix : (want : Want) → Table.allows want Kind.AT ≡ true → Prefixing want Kind.AT (Table.before Operator.convert)
-unfolding Table.allows Table.beginsString
-at-prefix want-any h = prefixes _ _ _ _ _ at-any
+unfolding Table.allows Table.beginsString Table.beginsFloat Table.operandLevel Table.operandWant
+at-prefix want-any h = prefixes Operator.convert 6 want-string refl refl refl (asked-text (omega arith) (omega arith)) (of-text _ _ _ _ at-any refl)
 at-prefix want-string h = clash h refl
-at-prefix want-number h = prefixes _ _ _ _ _ at-number
-at-prefix want-integer h = prefixes _ _ _ _ _ at-integer
+at-prefix want-number h = prefixes Operator.convert 6 want-string refl refl refl (asked-text (omega arith) (omega arith)) (of-text _ _ _ _ at-number refl)
+at-prefix want-integer h = prefixes Operator.convert 6 want-string refl refl refl (asked-text (omega arith) (omega arith)) (of-text _ _ _ _ at-integer refl)
+at-prefix want-float h = clash h refl
 
 dollar-prefix : (want : Want) → Table.allows want Kind.DOLLAR ≡ true → Prefixing want Kind.DOLLAR (Table.before Operator.lookup)
-unfolding Table.allows Table.beginsNumber Table.beginsFloat
-dollar-prefix want-any h = prefixes _ _ _ _ _ dollar-any
-dollar-prefix want-string h = prefixes _ _ _ _ _ dollar-text
+unfolding Table.allows Table.beginsNumber Table.beginsFloat Table.operandLevel Table.operandWant
+dollar-prefix want-any h = prefixes Operator.lookup 6 want-string refl refl refl (asked-text (omega arith) (omega arith)) (of-text _ _ _ _ dollar-any refl)
+dollar-prefix want-string h = prefixes Operator.lookup 6 want-string refl refl refl (asked-text (omega arith) (omega arith)) (of-text _ _ _ _ dollar-text refl)
 dollar-prefix want-number h = clash h refl
 dollar-prefix want-integer h = clash h refl
+dollar-prefix want-float h = clash h refl
+
+ampersand-prefix : (want : Want) → Table.allows want Kind.AMPERSAND ≡ true → Prefixing want Kind.AMPERSAND (Table.before Operator.to-float)
+unfolding Table.allows Table.beginsString Table.beginsNumber Table.operandLevel Table.operandWant
+ampersand-prefix want-any h = prefixes Operator.to-float 6 want-string refl refl refl (asked-text (omega arith) (omega arith)) (of-text _ _ _ _ ampersand-any refl)
+ampersand-prefix want-string h = clash h refl
+ampersand-prefix want-number h = prefixes Operator.to-float 6 want-string refl refl refl (asked-text (omega arith) (omega arith)) (of-text _ _ _ _ ampersand-number refl)
+ampersand-prefix want-integer h = clash h refl
+ampersand-prefix want-float h = prefixes Operator.to-float 6 want-string refl refl refl (asked-text (omega arith) (omega arith)) (of-text _ _ _ _ ampersand-float refl)
 
 not-prefix : (want : Want) → Table.allows want Kind.NOT ≡ true → Prefixing want Kind.NOT (Table.before Operator.opposite)
-unfolding Table.allows Table.beginsString Table.beginsNumber Table.beginsFloat
-not-prefix want-any h = prefixes _ _ _ _ _ not-test
+unfolding Table.allows Table.beginsString Table.beginsNumber Table.beginsFloat Table.operandLevel Table.operandWant
+not-prefix want-any h = prefixes Operator.opposite 2 want-any refl refl refl (asked-any (omega arith)) takes
+  where
+    takes : (g : Sort) → Goal want-any g → Before Kind.NOT Operator.opposite want-any 2 want-any g (unaryGives (asTaken Operator.opposite g))
+    takes _ goal-test = not-test
 not-prefix want-string h = clash h refl
 not-prefix want-number h = clash h refl
 not-prefix want-integer h = clash h refl
+not-prefix want-float h = clash h refl
 
 pub prefixing : (want : Want) (k : ℕ) → Table.allows want k ≡ true → Prefixing want k (Table.prefixOperator k)
 unfolding Table.prefixOperator
 prefixing want k h =
-    chosen (Prefixing want k) (eqb k Kind.MINUS) _ _ (λ e. let g : Table.allows want Kind.MINUS ≡ true = subst (λ (x : ℕ). Table.allows want x ≡ true) (eqb-true k _ e) h in rw (eqb-true k _ e) (minus-prefix want g))
-    (λ e. chosen (Prefixing want k) (eqb k Kind.AT) _ _ (λ e. let g : Table.allows want Kind.AT ≡ true = subst (λ (x : ℕ). Table.allows want x ≡ true) (eqb-true k _ e) h in rw (eqb-true k _ e) (at-prefix want g))
-    (λ e. chosen (Prefixing want k) (eqb k Kind.DOLLAR) _ _ (λ e. let g : Table.allows want Kind.DOLLAR ≡ true = subst (λ (x : ℕ). Table.allows want x ≡ true) (eqb-true k _ e) h in rw (eqb-true k _ e) (dollar-prefix want g))
-    (λ e. chosen (Prefixing want k) (eqb k Kind.NOT) _ _ (λ e. let g : Table.allows want Kind.NOT ≡ true = subst (λ (x : ℕ). Table.allows want x ≡ true) (eqb-true k _ e) h in rw (eqb-true k _ e) (not-prefix want g)) (λ e. no-prefix))))
+    chosen (Prefixing want k) (eqb k Kind.MINUS) _ _ (λ e. rw (eqb-true k _ e) (minus-prefix want (allowed-at Kind.MINUS e)))
+    (λ e. chosen (Prefixing want k) (eqb k Kind.AT) _ _ (λ e. rw (eqb-true k _ e) (at-prefix want (allowed-at Kind.AT e)))
+    (λ e. chosen (Prefixing want k) (eqb k Kind.DOLLAR) _ _ (λ e. rw (eqb-true k _ e) (dollar-prefix want (allowed-at Kind.DOLLAR e)))
+    (λ e. chosen (Prefixing want k) (eqb k Kind.NOT) _ _ (λ e. rw (eqb-true k _ e) (not-prefix want (allowed-at Kind.NOT e)))
+    (λ e. chosen (Prefixing want k) (eqb k Kind.AMPERSAND) _ _ (λ e. rw (eqb-true k _ e) (ampersand-prefix want (allowed-at Kind.AMPERSAND e))) (λ e. no-prefix)))))
+  where
+    allowed-at : (x : ℕ) → eqb k x ≡ true → Table.allows want x ≡ true
+    allowed-at x e = subst (λ (y : ℕ). Table.allows want y ≡ true) (eqb-true k _ e) h
 
 -- brackets
 pub data Enclosed (q : Place) (want : Want) : Type 0 where
@@ -158,15 +248,16 @@ pub data Enclosed (q : Place) (want : Want) : Type 0 where
       → Enclosed q want
 
 close-any : (S : Spot) (sort : PartSort) → Suits want-any sort → station (after (p-any (in-bracket true S)) sort) Kind.CLOSE ≡ after (p-any S) sort
-unfolding station Table.operator Table.numberOperator Table.textOperator Table.testOperator Table.comparison Table.binds
+unfolding station Table.operator Table.numberOperator Table.floatOperator Table.ordering Table.textOperator Table.testOperator Table.comparison Table.binds
 close-any S _ (suits-any (sorted a-test)) = refl
 close-any S _ (suits-any (sorted a-string)) = refl
 close-any S _ (suits-any (sorted an-integer)) = refl
+close-any S _ (suits-any (sorted a-float)) = refl
 close-any S _ (suits-any (word b)) = refl
 
 -- no operator and no closing bracket
 wrong-close : (S : Spot) (lone : Bool) (sort : PartSort) (k : ℕ) → Table.binds 0 (Table.operator sort k) ≡ false → eqb k Kind.CLOSE ≡ false
-    → station (p-have (had sort) (tests (in-bracket lone S))) k ≡ p-dead
+    → station (p-have sort (tests (in-bracket lone S))) k ≡ p-dead
 unfolding station
 wrong-close S lone sort k b c = rw (binds-less 0 3 (Table.operator sort k) b (omega arith), binds-less 0 2 (Table.operator sort k) b (omega arith), b, c) refl
 
@@ -175,9 +266,10 @@ dead-any : (S : Spot) (sort : PartSort) (k : ℕ) → Suits want-any sort → Ta
 dead-any S _ k (suits-any (sorted a-test)) b c = wrong-close S false (sorted a-test) k b c
 dead-any S _ k (suits-any (sorted a-string)) b c = wrong-close S true (sorted a-string) k b c
 dead-any S _ k (suits-any (sorted an-integer)) b c = wrong-close S true (sorted an-integer) k b c
+dead-any S _ k (suits-any (sorted a-float)) b c = wrong-close S true (sorted a-float) k b c
 dead-any S _ k (suits-any (word w)) b c = wrong-close S true (word true) k (ap (Table.binds 0) (sym (word-same w k)) ∙ b) c
 
-text-close : (r : Had) (F : Frame) (k : ℕ) → Table.binds 3 (Table.operator (sorted a-string) k) ≡ false → eqb k Kind.CLOSE ≡ false → station (p-have TEXT (texts r F)) k ≡ p-dead
+text-close : (r : PartSort) (F : Frame) (k : ℕ) → Table.binds 3 (Table.operator (sorted a-string) k) ≡ false → eqb k Kind.CLOSE ≡ false → station (p-have TEXT (texts r F)) k ≡ p-dead
 unfolding station
 text-close r F k b c = rw (b, c) refl
 
@@ -185,7 +277,11 @@ number-close : (F : Frame) (k : ℕ) → Table.binds 3 (Table.operator (sorted a
 unfolding station
 number-close F k b c = rw (b, c) refl
 
-text-enclosed : (r : Had) (F : Frame) → Enclosed (p-text r F) want-string
+float-close : (F : Frame) (k : ℕ) → Table.binds 3 (Table.operator (sorted a-float) k) ≡ false → eqb k Kind.CLOSE ≡ false → station (p-have FLOATING (numbers F)) k ≡ p-dead
+unfolding station
+float-close F k b c = rw (b, c) refl
+
+text-enclosed : (r : PartSort) (F : Frame) → Enclosed (p-text r F) want-string
 unfolding Table.insideLevel
 text-enclosed r F = enclosed (p-text TEXT (texts r F)) (open-text r F) (start-text (texts r F)) closes stays
   where
@@ -195,27 +291,47 @@ text-enclosed r F = enclosed (p-text TEXT (texts r F)) (open-text r F) (start-te
     stays : (sort : PartSort) (k : ℕ) → Suits want-string sort → Table.binds 3 (Table.operator sort k) ≡ false → eqb k Kind.CLOSE ≡ false → station (p-have TEXT (texts r F)) k ≡ p-dead
     stays _ k suits-text b c = text-close r F k b c
 
-open-number : (w : Want) (F : Frame) → station (p-number (as-wanted w) F) Kind.OPEN ≡ p-number (as-wanted w) (numbers F)
+open-number : (w : Want) (F : Frame) → station (p-number w F) Kind.OPEN ≡ p-number w (numbers F)
 unfolding station Table.allows
 open-number w F = refl
 
-close-number : (F : Frame) → station (p-have NUMBER (numbers F)) Kind.CLOSE ≡ p-have NUMBER F
-unfolding station Table.operator Table.numberOperator Table.comparison Table.binds
-close-number F = refl
+-- a number in brackets is of its sort
+pub data Numeric : PartSort → Type 0 where
+  as-integer : Numeric (sorted an-integer)
+  as-float : Numeric (sorted a-float)
+
+close-number : (w v : Want) (F : Frame) (sort : PartSort) → Numeric sort → station (after (p-number w (numbers F)) sort) Kind.CLOSE ≡ after (p-number v F) sort
+unfolding station Table.operator Table.numberOperator Table.floatOperator Table.ordering Table.comparison Table.binds
+close-number w v F _ as-integer = refl
+close-number w v F _ as-float = refl
+
+wrong-number : (w : Want) (F : Frame) (sort : PartSort) (k : ℕ) → Numeric sort → Table.binds 3 (Table.operator sort k) ≡ false → eqb k Kind.CLOSE ≡ false → station (after (p-number w (numbers F)) sort) k ≡ p-dead
+wrong-number w F _ k as-integer b c = number-close F k b c
+wrong-number w F _ k as-float b c = float-close F k b c
+
+number-suits : (sort : PartSort) → Suits want-number sort → Numeric sort
+number-suits _ suits-number = as-integer
+number-suits _ suits-decimal = as-float
+
+integer-suits : (sort : PartSort) → Suits want-integer sort → Numeric sort
+integer-suits _ suits-integer = as-integer
+
+float-suits : (sort : PartSort) → Suits want-float sort → Numeric sort
+float-suits _ suits-float = as-float
+
+number-enclosed : (w : Want) (F : Frame) → Table.isAny w ≡ false → ((G : Frame) → Starts 3 w (p-number w G)) → ((sort : PartSort) → Suits w sort → Numeric sort) → Enclosed (p-number w F) w
+unfolding Table.insideLevel
+number-enclosed w F n st h =
+    enclosed (p-number w (numbers F)) (open-number w F) (rw n (st (numbers F))) (λ sort u. close-number w w F sort (h sort u)) (rw n (λ sort k u b c. wrong-number w F sort k (h sort u) b c))
 
 pub encloses : (want : Want) (q : Place) → Starts 7 want q → Enclosed q want
 unfolding Table.insideLevel
 encloses _ _ (start-any S) = enclosed (p-any (in-bracket true S)) (open-any S) (start-any (in-bracket true S)) (close-any S) (dead-any S)
 encloses _ _ (start-text F) = text-enclosed TEXT F
 encloses _ _ (start-operand r F i) = text-enclosed r F
-encloses _ _ (start-number F) = enclosed (p-number EITHER (numbers F)) (open-number want-number F) (start-number (numbers F)) (λ sort u. close-number F) stays
-  where
-    stays : (sort : PartSort) (k : ℕ) → Suits want-number sort → Table.binds 3 (Table.operator sort k) ≡ false → eqb k Kind.CLOSE ≡ false → station (p-have NUMBER (numbers F)) k ≡ p-dead
-    stays _ k suits-number b c = number-close F k b c
-encloses _ _ (start-integer F) = enclosed (p-number INTEGER (numbers F)) (open-number want-integer F) (start-integer (numbers F)) (λ sort u. close-number F) stays
-  where
-    stays : (sort : PartSort) (k : ℕ) → Suits want-integer sort → Table.binds 3 (Table.operator sort k) ≡ false → eqb k Kind.CLOSE ≡ false → station (p-have NUMBER (numbers F)) k ≡ p-dead
-    stays _ k suits-integer b c = number-close F k b c
+encloses _ _ (start-number F) = number-enclosed want-number F refl start-number number-suits
+encloses _ _ (start-integer F) = number-enclosed want-integer F refl start-integer integer-suits
+encloses _ _ (start-float F) = number-enclosed want-float F refl start-float float-suits
 
 -- one token
 pub literal-leaf : (want : Want) (q : Place) → Starts 7 want q → Table.allows want Kind.LITERAL ≡ true → station q Kind.LITERAL ≡ after q (sorted a-string)
@@ -225,6 +341,7 @@ literal-leaf _ _ (start-text F) h = refl
 literal-leaf _ _ (start-operand r F i) h = refl
 literal-leaf _ _ (start-number F) h = clash h refl
 literal-leaf _ _ (start-integer F) h = clash h refl
+literal-leaf _ _ (start-float F) h = clash h refl
 
 pub literal-suits : (want : Want) → Table.allows want Kind.LITERAL ≡ true → Suits want (sorted a-string)
 unfolding Table.allows Table.beginsString Table.beginsNumber Table.beginsFloat
@@ -232,6 +349,7 @@ literal-suits want-any h = suits-any _
 literal-suits want-string h = suits-text
 literal-suits want-number h = clash h refl
 literal-suits want-integer h = clash h refl
+literal-suits want-float h = clash h refl
 
 pub digits-leaf : (want : Want) (q : Place) → Starts 7 want q → Table.allows want Kind.DIGITS ≡ true → station q Kind.DIGITS ≡ after q (sorted an-integer)
 unfolding station Table.allows Table.beginsString Table.beginsNumber Table.beginsFloat
@@ -240,6 +358,7 @@ digits-leaf _ _ (start-text F) h = clash h refl
 digits-leaf _ _ (start-operand r F i) h = clash h refl
 digits-leaf _ _ (start-number F) h = refl
 digits-leaf _ _ (start-integer F) h = refl
+digits-leaf _ _ (start-float F) h = clash h refl
 
 pub digits-suits : (want : Want) → Table.allows want Kind.DIGITS ≡ true → Suits want (sorted an-integer)
 unfolding Table.allows Table.beginsString Table.beginsNumber Table.beginsFloat
@@ -247,6 +366,48 @@ digits-suits want-any h = suits-any _
 digits-suits want-string h = clash h refl
 digits-suits want-number h = suits-number
 digits-suits want-integer h = suits-integer
+digits-suits want-float h = clash h refl
+
+pub float-leaf : (want : Want) (q : Place) → Starts 7 want q → Table.allows want Kind.FLOAT ≡ true → station q Kind.FLOAT ≡ after q (sorted a-float)
+unfolding station Table.allows Table.beginsString Table.beginsNumber Table.beginsFloat
+float-leaf _ _ (start-any S) h = refl
+float-leaf _ _ (start-text F) h = clash h refl
+float-leaf _ _ (start-operand r F i) h = clash h refl
+float-leaf _ _ (start-number F) h = refl
+float-leaf _ _ (start-integer F) h = clash h refl
+float-leaf _ _ (start-float F) h = refl
+
+pub float-fits : (want : Want) → Table.allows want Kind.FLOAT ≡ true → Suits want (sorted a-float)
+unfolding Table.allows Table.beginsString Table.beginsNumber Table.beginsFloat
+float-fits want-any h = suits-any _
+float-fits want-string h = clash h refl
+float-fits want-number h = suits-decimal
+float-fits want-integer h = clash h refl
+float-fits want-float h = suits-float
+
+-- what may stand as an operand and is no bracket, no prefix operator and none of these is a float's literal
+pub last-leaf : (want : Want) (k : ℕ) → Table.allows want k ≡ true → Table.prefixOperator k ≡ Table.no-prefix → eqb k Kind.OPEN ≡ false → eqb k Kind.LITERAL ≡ false → eqb k Kind.NAME ≡ false
+    → eqb k Kind.DIGITS ≡ false → eqb k Kind.FLOAT ≡ true
+unfolding Table.allows Table.beginsString Table.beginsNumber Table.beginsFloat Table.prefixOperator
+last-leaf want k h n o l m d =
+    split (eqb k Kind.FLOAT) (λ e. e)
+    (λ e. split (eqb k Kind.MINUS) (λ f. absurd (prefix-none Operator.negate (sym (rw f at n))))
+    (λ f. split (eqb k Kind.AT) (λ g. absurd (prefix-none Operator.convert (sym (rw (f, g) at n))))
+    (λ g. split (eqb k Kind.DOLLAR) (λ i. absurd (prefix-none Operator.lookup (sym (rw (f, g, i) at n))))
+    (λ i. split (eqb k Kind.NOT) (λ j. absurd (prefix-none Operator.opposite (sym (rw (f, g, i, j) at n))))
+    (λ j. split (eqb k Kind.AMPERSAND) (λ z. absurd (prefix-none Operator.to-float (sym (rw (f, g, i, j, z) at n))))
+    (λ z. clash h (nothing want e f g i j z)))))))
+  where
+    prefix-none : (op : Unary) → Table.no-prefix ≡ Table.before op → ⊥
+    prefix-none op e = let v : _≡_ {A = ℕ} 0 1 = cc in omega (arith, v)
+
+    nothing : (want : Want) → eqb k Kind.FLOAT ≡ false → eqb k Kind.MINUS ≡ false → eqb k Kind.AT ≡ false → eqb k Kind.DOLLAR ≡ false → eqb k Kind.NOT ≡ false → eqb k Kind.AMPERSAND ≡ false
+        → Table.allows want k ≡ false
+    nothing want-any e f g i j z = rw (o, l, m, d, e, f, g, i, j, z) refl
+    nothing want-string e f g i j z = rw (o, l, m, i) refl
+    nothing want-number e f g i j z = rw (o, d, e, f, g, z) refl
+    nothing want-integer e f g i j z = rw (o, d, f, g) refl
+    nothing want-float e f g i j z = rw (o, e, f, z) refl
 
 -- a name, or a bare word
 pub data Worded (s : List ℕ) (want : Want) (t : Token) : PartSort → Type 0 where
@@ -279,6 +440,7 @@ module _ (s : List ℕ) (t : Token) where
   worded want-string h z = plain-word (word-text z) suits-text
   worded want-number h z = clash h refl
   worded want-integer h z = clash h refl
+  worded want-float h z = clash h refl
 
   flat-kind : (t .kind ≡ TRUTH → ⊥) → flat (kindIn s t) ≡ t .kind
   flat-kind h = kind-same s t flat refl ∙ (rw (ne-eqb (t .kind) TRUTH h) refl)
@@ -291,15 +453,14 @@ module _ (s : List ℕ) (t : Token) where
   not-allowed _ _ (start-operand r F i) n h = rw (flat-kind n, h) refl
   not-allowed _ _ (start-number F) n h = rw (flat-kind n, h) refl
   not-allowed _ _ (start-integer F) n h = rw (flat-kind n, h) refl
+  not-allowed _ _ (start-float F) n h = rw (flat-kind n, h) refl
 
 pub asked-most : (level : ℕ) (want : Want) → Asked level want → level ≤ 7
 asked-most level _ (asked-any h) = omega (arith, h)
 asked-most level _ (asked-text h i) = omega (arith, i)
 asked-most level _ (asked-number h i) = omega (arith, i)
 asked-most level _ (asked-integer h i) = omega (arith, i)
-
-pub before-most : (k : ℕ) (op : Unary) (want : Want) (level : ℕ) (wanted : Want) (o r : Sort) → Before k op want level wanted o r → level ≤ 7
-before-most k op want level wanted o r b = asked-most level wanted (before-asked k op want level wanted o r b)
+asked-most level _ (asked-float h i) = omega (arith, i)
 
 pub inside-asked : (want : Want) → Asked (Table.insideLevel want) want
 unfolding Table.insideLevel
@@ -307,6 +468,7 @@ inside-asked want-any = asked-any (omega arith)
 inside-asked want-string = asked-text (omega arith) (omega arith)
 inside-asked want-number = asked-number (omega arith) (omega arith)
 inside-asked want-integer = asked-integer (omega arith) (omega arith)
+inside-asked want-float = asked-float (omega arith) (omega arith)
 
 pub asked-low : (level : ℕ) (want : Want) (m : ℕ) → Asked level want → m ≤ level → m ≤ 7
 asked-low level want m a h = omega (arith, asked-most level want a, h)

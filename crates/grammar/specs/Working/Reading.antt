@@ -14,11 +14,11 @@ use Rattle.lexical.specs.Bounds.{chosen}
 use Rattle.lexical.specs.Literal.{decodedAt}
 use Rattle.lexical.specs.Number as Number
 use Rattle.lexical.specs.declared.token.Token.{Token}
-use Rattle.syntax.specs.Operator.{Unary, Binary, Sort, a-string, an-integer, a-test, unaryTakes, unaryGives, binaryTakes, binaryGives}
+use Rattle.syntax.specs.Operator.{Unary, Binary, Sort, a-string, an-integer, a-float, a-test, unaryTakes, unaryGives, binaryTakes, binaryGives}
 use Rattle.syntax.specs.Code.{nameAt}
 use Rattle.syntax.specs.Expr.{Expr, name, unary, binary}
 use Rattle.syntax.specs.Parsed.{Parsed, ok, aside, refusal, unexpected}
-use Rattle.conditions.specs.Table.{PartSort, sorted, word, Want, want-any, want-string, want-number, want-integer, isAny}
+use Rattle.conditions.specs.Table.{PartSort, sorted, word, Want, want-any, want-string, want-number, want-integer, want-float, isAny}
 use Rattle.conditions.specs.Table
 use Rattle.conditions.specs.Word.{nextAt, wordSort}
 use Rattle.conditions.specs.Parsed.{Part, part, onPart}
@@ -30,15 +30,15 @@ use Rattle.conditions.specs.Working.Reach.{binds-level}
 use Rattle.grammar.specs.Conditions.{TRUTH}
 use Rattle.grammar.specs.Spelled.{kindIn, kindsIn, Tokens}
 use Rattle.grammar.specs.Viable.{at-once, and-on}
-use Rattle.grammar.specs.Trees.{literal-tree, name-tree, number-tree, true-tree, false-tree}
+use Rattle.grammar.specs.Trees.{literal-tree, name-tree, number-tree, decimal-tree, true-tree, false-tree}
 use Rattle.grammar.specs.Theorems.Shadow.{kind-other, kind-mark}
 use Rattle.grammar.specs.Working.Marks.{mark, kinds-append, tokens-append, tokens-one}
 use Rattle.grammar.specs.Working.Automaton.{run, run-append}
 use Rattle.grammar.specs.Working.Looping.{Went, went-next, went-done, loop-went}
 use Rattle.grammar.specs.Working.Stations.{Place, p-dead, station}
 use Rattle.grammar.specs.Working.Joints.{Fits, Unfit, Joint, Tabled, tabled, joint-tabled, joint-mark, Operated, joins, operated, binds-high, binds-none, operator-kind, test-kind}
-use Rattle.grammar.specs.Working.Told.{Told, told-text, told-number, told-word, lower, settle, joined, enclosed, goal, Suits, Completes, completes, completes-lower, finish, something}
-use Rattle.grammar.specs.Working.Onward.{Starts, starts-up, after, Asked, Onward, onward, joint-onward, joint-suits, joint-ends, joint-asked, joint-goal, RightFit, right-fits, right-unfit, right-fit}
+use Rattle.grammar.specs.Working.Told.{Told, told-text, told-number, told-float, told-word, lower, settle, joined, enclosed, aim, aim-goal, aim-right, Goal, goal-right, Suits, Completes, completes, completes-lower, finish, something}
+use Rattle.grammar.specs.Working.Onward.{Starts, starts-up, after, Asked, Onward, onward, joint-onward, joint-suits, joint-ends, joint-asked, RightFit, right-fits, right-unfit, right-fit}
 use Rattle.grammar.specs.Working.Openings as O
 
 -- an operator that a level takes, and the next tighter one does not, is of that level at most
@@ -73,52 +73,61 @@ module _ (s : List ℕ) where
     got : (ts : List Token) (u : Token) (sort : PartSort) (e : Expr) → Tokens s t ts u → Real s u → Suits want sort → Told s sort l ts e
         → Table.binds b (Table.operator sort (kindIn s u)) ≡ false → ((q : Place) → Starts level want q → runs q ts u ≡ station (after q sort) (kindIn s u))
         → Reading l b level want t (ok (part sort e) u)
-    halted : (ts : List Token) (u : Token) → Tokens s t ts u → Completes s (goal want) level ts → ((q : Place) → Starts level want q → runs q ts u ≡ p-dead)
+    halted : (ts : List Token) (u : Token) → Tokens s t ts u → Completes s want level ts → ((q : Place) → Starts level want q → runs q ts u ≡ p-dead)
         → (r : ℕ) → r ≡ refusal (u .kind) → Reading l b level want t (aside r (u .start))
     otherwise : (r p : ℕ) → (r ≡ 2 → ⊥) → Reading l b level want t (aside r p)
 
   -- what completes more completes less
-  completes-more : (w : Sort) (level : ℕ) (ts rest : List Token) → Completes s w level (ts ++ rest) → Completes s w level ts
-  completes-more w level ts rest (completes more e d) = completes (rest ++ more) e (subst (λ (l : List Token). Told s (sorted w) level l e) (append-assoc ts rest more) d)
+  completes-more : (w : Want) (level : ℕ) (ts rest : List Token) → Completes s w level (ts ++ rest) → Completes s w level ts
+  completes-more w level ts rest (completes more e x γ d) = completes (rest ++ more) e x γ (subst (λ (l : List Token). Told s (sorted x) level l e) (append-assoc ts rest more) d)
 
-  -- an operand behind tokens, and the operator that takes it
-  module _ (t : Token) (pre : List Token) (v : Token) (path : Tokens s t pre v) (l level : ℕ) (want : Want) (lv : ℕ) (wn : Want) (r x₀ y₀ : Sort) (build : Expr → Expr)
-      (takes : x₀ ≡ goal wn) (gives : y₀ ≡ r) (high : level ≤ 7) (low : level ≤ l) (deep : lv ≤ 7) (suits : Suits want (sorted r))
-      (grows : (us : List Token) (f : Expr) → Told s (sorted (goal wn)) lv us f → Told s (sorted r) l (pre ++ us) (build f))
-      (leads : (q : Place) → Starts level want q → Onward q lv wn (goal wn) r (run station q (kindsIn s pre)))
-      (ends : (sort : PartSort) (k : ℕ) → Fits (goal wn) sort → Table.binds lv (Table.operator sort k) ≡ false → Table.binds (l + 1) (Table.operator (sorted r) k) ≡ false) where
-    grown-completes : (us : List Token) → Completes s (goal wn) lv us → Completes s (goal want) level (pre ++ us)
-    grown-completes us (completes rest f d) =
-        completes-more (goal want) level (pre ++ us) rest
-        (subst (Completes s (goal want) level) (sym (append-assoc pre us rest)) (finish s want (sorted r) level l (pre ++ (us ++ rest)) (build f) high low suits (grows (us ++ rest) f d)))
+  -- an operand behind tokens, and the operator that takes it, by what must come of the operand
+  module _ (t : Token) (pre : List Token) (v : Token) (path : Tokens s t pre v) (l level : ℕ) (want : Want) (lv : ℕ) (wn : Want) (r : Sort → Sort) (build : Sort → Expr → Expr)
+      (make : PartSort → Expr → Token → Parsed Part)
+      (makes : (x : PartSort) → Suits wn x → (f : Expr) (n : Token) → make x f n ≡ applied (build (aim wn x)) (aim wn x) (r (aim wn x)) x f n)
+      (high : level ≤ 7) (low : level ≤ l) (deep : lv ≤ 7) (suits : (g : Sort) → Goal wn g → Suits want (sorted (r g)))
+      (grows : (g : Sort) → Goal wn g → (us : List Token) (f : Expr) → Told s (sorted g) lv us f → Told s (sorted (r g)) l (pre ++ us) (build g f))
+      (leads : (g : Sort) → Goal wn g → (q : Place) → Starts level want q → Onward q lv wn g (r g) (run station q (kindsIn s pre)))
+      (ends : (g : Sort) → Goal wn g → (sort : PartSort) (k : ℕ) → Fits g sort → Table.binds lv (Table.operator sort k) ≡ false → Table.binds (l + 1) (Table.operator (sorted (r g)) k) ≡ false) where
+    grown-completes : (us : List Token) → Completes s wn lv us → Completes s want level (pre ++ us)
+    grown-completes us (completes rest f g γ d) =
+        completes-more want level (pre ++ us) rest
+        (subst (Completes s want level) (sym (append-assoc pre us rest)) (finish s want (sorted (r g)) level l (pre ++ (us ++ rest)) (build g f) high low (suits g γ) (grows g γ (us ++ rest) f d)))
 
-    leads-fit : (q : Place) (us : List Token) (u : Token) (sort : PartSort) (p : Place) → Onward q lv wn (goal wn) r p → ((x : Place) → Starts lv wn x → runs x us u ≡ station (after x sort) (kindIn s u))
-        → Fits (goal wn) sort → Table.binds lv (Table.operator sort (kindIn s u)) ≡ false → runs p us u ≡ station (after q (sorted r)) (kindIn s u)
-    leads-fit q us u sort p (onward q′ e st h n) g f b = ap (λ (x : Place). runs x us u) e ∙ g q′ st ∙ h sort (kindIn s u) f b
+    leads-dead : (g : Sort) (q : Place) (us : List Token) (u : Token) (p : Place) → Onward q lv wn g (r g) p → ((x : Place) → Starts lv wn x → runs x us u ≡ p-dead) → runs p us u ≡ p-dead
+    leads-dead g q us u p (onward q′ e st h n) k = ap (λ (x : Place). runs x us u) e ∙ k q′ st
 
-    leads-unfit : (q : Place) (us : List Token) (u : Token) (sort : PartSort) (p : Place) → Onward q lv wn (goal wn) r p → ((x : Place) → Starts lv wn x → runs x us u ≡ station (after x sort) (kindIn s u))
-        → goal wn ≡ a-test → Unfit sort → Table.binds lv (Table.operator sort (kindIn s u)) ≡ false → runs p us u ≡ p-dead
-    leads-unfit q us u sort p (onward q′ e st h n) g z f b = ap (λ (x : Place). runs x us u) e ∙ g q′ st ∙ n sort (kindIn s u) z f b
+    module _ (g : Sort) (γ : Goal wn g) (us : List Token) (u : Token) (sort : PartSort) (f : Expr) (p : Tokens s v us u) (x : Real s u) (y : Suits wn sort) (d : Told s sort lv us f)
+        (b : Table.binds lv (Table.operator sort (kindIn s u)) ≡ false) (k : (q : Place) → Starts lv wn q → runs q us u ≡ station (after q sort) (kindIn s u)) where
+      leads-fit : (q o : Place) → Onward q lv wn g (r g) o → Fits g sort → runs o us u ≡ station (after q (sorted (r g))) (kindIn s u)
+      leads-fit q o (onward q′ e st h n) i = ap (λ (x : Place). runs x us u) e ∙ k q′ st ∙ h sort (kindIn s u) i b
 
-    leads-dead : (q : Place) (us : List Token) (u : Token) (p : Place) → Onward q lv wn (goal wn) r p → ((x : Place) → Starts lv wn x → runs x us u ≡ p-dead) → runs p us u ≡ p-dead
-    leads-dead q us u p (onward q′ e st h n) g = ap (λ (x : Place). runs x us u) e ∙ g q′ st
+      leads-unfit : (q o : Place) → Onward q lv wn g (r g) o → g ≡ a-test → Unfit sort → runs o us u ≡ p-dead
+      leads-unfit q o (onward q′ e st h n) z i = ap (λ (x : Place). runs x us u) e ∙ k q′ st ∙ n sort (kindIn s u) z i b
 
-    grown : (us : List Token) (u : Token) (sort : PartSort) (f : Expr) → Tokens s v us u → Real s u → Suits wn sort → Told s sort lv us f → Table.binds lv (Table.operator sort (kindIn s u)) ≡ false
-        → ((q : Place) → Starts lv wn q → runs q us u ≡ station (after q sort) (kindIn s u)) → (b : Bool) → RightFit (goal wn) sort b
-        → Reading l (l + 1) level want t (pick b (ok (part (sorted r) (build (settledTree (goal wn) sort f))) u) (unexpected u))
-    grown us u sort f p x y d b g _ (right-fits i) =
-        got (pre ++ us) u (sorted r) (build (settledTree (goal wn) sort f)) (tokens-append s Kind.IN-FIELD t v u pre us path p) x suits (grows us (settledTree (goal wn) sort f) (settle s (goal wn) sort lv us f deep i d))
-        (ends sort (kindIn s u) i b) (λ q st. runs-on q pre us u ∙ leads-fit q us u sort (run station q (kindsIn s pre)) (leads q st) g i b)
-    grown us u sort f p x y d b g _ (right-unfit z i) =
-        halted (pre ++ us) u (tokens-append s Kind.IN-FIELD t v u pre us path p) (grown-completes us (finish s wn sort lv lv us f deep (omega arith) y d))
-        (λ q st. runs-on q pre us u ∙ leads-unfit q us u sort (run station q (kindsIn s pre)) (leads q st) g z i b) (refusal (u .kind)) refl
+      grown : (c : Bool) → RightFit g sort c → Reading l (l + 1) level want t (pick c (ok (part (sorted (r g)) (build g (settledTree g sort f))) u) (unexpected u))
+      grown _ (right-fits i) =
+          got (pre ++ us) u (sorted (r g)) (build g (settledTree g sort f)) (tokens-append s Kind.IN-FIELD t v u pre us path p) x (suits g γ)
+          (grows g γ us (settledTree g sort f) (settle s g sort lv us f deep i d))
+          (ends g γ sort (kindIn s u) i b) (λ q st. runs-on q pre us u ∙ leads-fit q (run station q (kindsIn s pre)) (leads g γ q st) i)
+      grown _ (right-unfit z i) =
+          halted (pre ++ us) u (tokens-append s Kind.IN-FIELD t v u pre us path p) (grown-completes us (finish s wn sort lv lv us f deep (omega arith) y d))
+          (λ q st. runs-on q pre us u ∙ leads-unfit q (run station q (kindsIn s pre)) (leads g γ q st) z i) (refusal (u .kind)) refl
 
-    pub extend : (rr : Parsed Part) → Reading lv lv lv wn v rr → Reading l (l + 1) level want t (onPart rr (λ x f n. applied build x₀ y₀ x f n))
+    made : (us : List Token) (u : Token) (sort : PartSort) (f : Expr) → Tokens s v us u → Real s u → Suits wn sort → Told s sort lv us f → Table.binds lv (Table.operator sort (kindIn s u)) ≡ false
+        → ((q : Place) → Starts lv wn q → runs q us u ≡ station (after q sort) (kindIn s u))
+        → Reading l (l + 1) level want t (applied (build (aim wn sort)) (aim wn sort) (r (aim wn sort)) sort f u)
     unfolding applied
-    extend _ (got us u sort f p x y d b g) = rw (takes, gives) (grown us u sort f p x y d b g (Table.fits (goal wn) sort) (right-fit wn sort y))
+    made us u sort f p x y d b g = grown (aim wn sort) (aim-goal wn sort y) us u sort f p x y d b g (Table.fits (aim wn sort) sort) (right-fit wn sort y)
+
+    some-goal : (w : Want) (ts : List Token) → Completes s w lv ts → (g : Sort) × Goal w g
+    some-goal w ts (completes rest e g γ d) = (g, γ)
+
+    pub extend : (rr : Parsed Part) → Reading lv lv lv wn v rr → Reading l (l + 1) level want t (onPart rr make)
+    extend _ (got us u sort f p x y d b g) = subst (Reading l (l + 1) level want t) (sym (makes sort y f u)) (made us u sort f p x y d b g)
     extend _ (halted us u p c g rr e) =
         halted (pre ++ us) u (tokens-append s Kind.IN-FIELD t v u pre us path p) (grown-completes us c)
-        (λ q st. runs-on q pre us u ∙ leads-dead q us u (run station q (kindsIn s pre)) (leads q st) g) rr e
+        (λ q st. runs-on q pre us u ∙ leads-dead (some-goal wn us c .0) q us u (run station q (kindsIn s pre)) (leads (some-goal wn us c .0) (some-goal wn us c .1) q st) g) rr e
     extend _ (otherwise rr p n) = otherwise rr p n
 
   pub runs-last : (q p : Place) (ts : List Token) (u : Token) → run station q (kindsIn s ts) ≡ p → runs q ts u ≡ station p (kindIn s u)
@@ -165,22 +174,22 @@ module _ (s : List ℕ) where
     unfolding readName
     name-reads h z = name-sorts (wordSort s want (t .start) (t .end)) z (O.worded s t want h z)
 
-    float-reads : (row : ℕ) → Reading 7 8 7 want t (readFloat row t)
+    float-reads : Table.allows want Kind.FLOAT ≡ true → t .kind ≡ Kind.FLOAT → Reading 7 8 7 want t (readFloat s t)
     unfolding readFloat
-    float-reads row =
-        chosen (Reading 7 8 7 want t) (eqb (t .kind) Kind.AMPERSAND) _ _
-        (λ e. chosen (Reading 7 8 7 want t) (leb 16 row) _ _ (λ f. otherwise 7 (t .start) seven) (λ f. otherwise 8 (t .start) (λ y. let bad : ⊥ = omega (arith, y) in bad)))
-        (λ e. otherwise 8 (t .start) (λ y. let bad : ⊥ = omega (arith, y) in bad))
+    float-reads h z =
+        chosen (Reading 7 8 7 want t) (ltb 19 (t .end - t .start)) _ _ (λ e. otherwise 7 (t .start) seven)
+        (λ e. leaf (sorted a-float) _ (O.float-fits want h) (told-float 7 _ _ (decimal-tree t z)) (mark-at (sorted a-float) Kind.FLOAT z refl (λ q st. O.float-leaf want q st h)))
 
     allowed-at : (k : ℕ) → eqb (t .kind) k ≡ true → Table.allows want (t .kind) ≡ true → Table.allows want k ≡ true
     allowed-at k e h = subst (λ (x : ℕ). Table.allows want x ≡ true) (eqb-true (t .kind) k e) h
 
-    leaf-reads : (row : ℕ) → Table.allows want (t .kind) ≡ true → Reading 7 8 7 want t (readLeaf s want row t)
+    leaf-reads : Table.allows want (t .kind) ≡ true → Table.prefixOperator (t .kind) ≡ Table.no-prefix → eqb (t .kind) Kind.OPEN ≡ false → Reading 7 8 7 want t (readLeaf s want t)
     unfolding readLeaf
-    leaf-reads row h =
+    leaf-reads h n o =
         chosen (Reading 7 8 7 want t) (eqb (t .kind) Kind.LITERAL) _ _ (λ e. literal-reads (allowed-at Kind.LITERAL e h) (eqb-true _ _ e))
         (λ e. chosen (Reading 7 8 7 want t) (eqb (t .kind) Kind.NAME) _ _ (λ f. name-reads (allowed-at Kind.NAME f h) (eqb-true _ _ f))
-        (λ f. chosen (Reading 7 8 7 want t) (eqb (t .kind) Kind.DIGITS) _ _ (λ g. digits-reads (allowed-at Kind.DIGITS g h) (eqb-true _ _ g)) (λ g. float-reads row)))
+        (λ f. chosen (Reading 7 8 7 want t) (eqb (t .kind) Kind.DIGITS) _ _ (λ g. digits-reads (allowed-at Kind.DIGITS g h) (eqb-true _ _ g))
+        (λ g. let z : eqb (t .kind) Kind.FLOAT ≡ true = O.last-leaf want (t .kind) h n o e f g in float-reads (allowed-at Kind.FLOAT z h) (eqb-true _ _ z))))
 
     -- brackets
     abbrev level : ℕ
@@ -189,11 +198,11 @@ module _ (s : List ℕ) where
     abbrev first : Token
     first = nextAt s (t .end)
 
-    enclosed-completes : t .kind ≡ Kind.OPEN → (us : List Token) → Completes s (goal want) level us → Completes s (goal want) 7 (t ∷ us)
-    enclosed-completes z us (completes rest f d) =
-        completes (rest ++ mark Kind.CLOSE ∷ []) f
-        (subst (λ (l : List Token). Told s (sorted (goal want)) 7 (t ∷ l) f) (append-assoc us rest (mark Kind.CLOSE ∷ []))
-        (enclosed s (sorted (goal want)) t (mark Kind.CLOSE) (us ++ rest) f z refl (lower s (sorted (goal want)) 0 level (us ++ rest) f (omega arith) d)))
+    enclosed-completes : t .kind ≡ Kind.OPEN → (us : List Token) → Completes s want level us → Completes s want 7 (t ∷ us)
+    enclosed-completes z us (completes rest f w γ d) =
+        completes (rest ++ mark Kind.CLOSE ∷ []) f w γ
+        (subst (λ (l : List Token). Told s (sorted w) 7 (t ∷ l) f) (append-assoc us rest (mark Kind.CLOSE ∷ []))
+        (enclosed s (sorted w) t (mark Kind.CLOSE) (us ++ rest) f z refl (lower s (sorted w) 0 level (us ++ rest) f (omega arith) d)))
 
     opened-dead : (q : Place) (us : List Token) (u : Token) → t .kind ≡ Kind.OPEN → O.Enclosed q want → ((x : Place) → Starts level want x → runs x us u ≡ p-dead) → runs q (t ∷ us) u ≡ p-dead
     opened-dead q us u z (O.enclosed q′ e st c n) g = runs-first q q′ t us u Kind.OPEN (kind-mark s t Kind.OPEN z refl) e ∙ g q′ st
@@ -225,31 +234,45 @@ module _ (s : List ℕ) where
     bracket-reads z _ (otherwise r p n) = otherwise r p n
 
     -- a prefix operator
-    prefix-reads : (op : Unary) (lv : ℕ) (wn : Want) (o r : Sort) → O.Before (t .kind) op want lv wn o r → (rr : Parsed Part) → Reading (Table.operandLevel op) (Table.operandLevel op) (Table.operandLevel op) (Table.operandWant op want) first rr
-        → Reading 7 8 7 want t (onPart rr (λ sort e n. applied (unary op) (unaryTakes op) (unaryGives op) sort e n))
-    prefix-reads op lv wn o r b rr h = on-table (O.before-table (t .kind) op want lv wn o r b)
-      where
-        on-table : O.BeforeTabled (t .kind) op want lv wn o r → Reading 7 8 7 want t (onPart rr (λ sort e n. applied (unary op) (unaryTakes op) (unaryGives op) sort e n))
-        on-table (O.before-tabled el ew eo er eg em) =
-            extend t (t ∷ []) first (and-on t first [] (at-once first)) 7 7 want lv wn r (unaryTakes op) (unaryGives op) (unary op) (eo ∙ sym eg) er (omega arith) (omega arith) (O.before-most (t .kind) op want lv wn o r b)
-            (O.before-suits (t .kind) op want lv wn o r b) (λ us f d. O.before-told s (t .kind) op want lv wn o r t us f b refl (subst (λ (x : Sort). Told s (sorted x) lv us f) eg d))
-            (λ q st. subst (λ (x : Sort). Onward q lv wn x r (station q (kindIn s t))) (sym eg)
-            (subst (λ (x : ℕ). Onward q lv wn o r (station q x)) (sym (kind-other s t em)) (O.before-onward (t .kind) op want lv wn o r q b st)))
-            (λ sort k f g. binds-high 8 (Table.operator (sorted r) k) (omega arith)) rr
-            (subst (λ (x : ℕ). Reading x x x wn first rr) el (subst (λ (x : Want). Reading (Table.operandLevel op) (Table.operandLevel op) (Table.operandLevel op) x first rr) ew h))
+    abbrev madeOf : Unary → PartSort → Expr → Token → Parsed Part
+    madeOf op sort e n = applied (unary (Table.prefixOf op sort)) (unaryTakes (Table.prefixOf op sort)) (unaryGives (Table.prefixOf op sort)) sort e n
+
+    module _ (op : Unary) (lv : ℕ) (wn : Want) (el : Table.operandLevel op ≡ lv) (ew : Table.operandWant op want ≡ wn) (em : eqb (t .kind) Kind.NAME ≡ false) (a : Asked lv wn)
+        (bs : (g : Sort) → Goal wn g → O.Before (t .kind) op want lv wn g (unaryGives (O.asTaken op g))) where
+      abbrev gives : Sort → Sort
+      gives g = unaryGives (O.asTaken op g)
+
+      makes : (x : PartSort) → Suits wn x → (f : Expr) (n : Token) → madeOf op x f n ≡ applied (unary (O.asTaken op (aim wn x))) (aim wn x) (gives (aim wn x)) x f n
+      makes x u f n =
+          ap (λ (o : Unary). applied (unary o) (unaryTakes o) (unaryGives o) x f n) (as-aimed-at wn ew u)
+          ∙ ap (λ (g : Sort). applied (unary (O.asTaken op (aim wn x))) g (gives (aim wn x)) x f n) (O.before-takes (t .kind) op want lv wn (aim wn x) (gives (aim wn x)) (bs (aim wn x) (aim-goal wn x u)) .0)
+        where
+          as-aimed-at : (w : Want) → Table.operandWant op want ≡ w → Suits w x → Table.prefixOf op x ≡ O.asTaken op (aim w x)
+          as-aimed-at w e y =
+              let z : Suits (Table.operandWant op want) x = subst (λ (y : Want). Suits y x) (sym e) y in
+              subst (λ (y : Want). Table.prefixOf op x ≡ O.asTaken op (aim y x)) e (O.as-aimed op want x z)
+
+      prefix-reads : (rr : Parsed Part) → Reading (Table.operandLevel op) (Table.operandLevel op) (Table.operandLevel op) (Table.operandWant op want) first rr → Reading 7 8 7 want t (onPart rr (madeOf op))
+      prefix-reads rr h =
+          extend t (t ∷ []) first (and-on t first [] (at-once first)) 7 7 want lv wn gives (λ g. unary (O.asTaken op g)) (madeOf op) makes (omega arith) (omega arith) (O.asked-most lv wn a)
+          (λ g γ. O.before-suits (t .kind) op want lv wn g (gives g) (bs g γ)) (λ g γ us f d. O.before-told s (t .kind) op want lv wn g (gives g) t us f (bs g γ) refl d)
+          (λ g γ q st. subst (λ (x : ℕ). Onward q lv wn g (gives g) (station q x)) (sym (kind-other s t em)) (O.before-onward (t .kind) op want lv wn g (gives g) q (bs g γ) st))
+          (λ g γ sort k f b. binds-high 8 (Table.operator (sorted (gives g)) k) (omega arith)) rr
+          (subst (λ (x : ℕ). Reading x x x wn first rr) el (subst (λ (x : Want). Reading (Table.operandLevel op) (Table.operandLevel op) (Table.operandLevel op) x first rr) ew h))
 
     -- an operand
     operand-body : Real s t → (prefixed : Unary → Want → ℕ → ℕ → Token → Parsed Part) (bracketed : Want → ℕ → Token → Parsed Part) (row nest : ℕ)
-        → ((op : Unary) (lv : ℕ) (wn : Want) (o r : Sort) → O.Before (t .kind) op want lv wn o r → Reading 7 8 7 want t (prefixed op want row nest t))
+        → ((op : Unary) (lv : ℕ) (wn : Want) → Table.operandLevel op ≡ lv → Table.operandWant op want ≡ wn → eqb (t .kind) Kind.NAME ≡ false → Asked lv wn
+        → ((g : Sort) → Goal wn g → O.Before (t .kind) op want lv wn g (unaryGives (O.asTaken op g))) → Reading 7 8 7 want t (prefixed op want row nest t))
         → (t .kind ≡ Kind.OPEN → Reading 7 8 7 want t (bracketed want nest t)) → Reading 7 8 7 want t (E.operandOf prefixed bracketed s want row nest t)
     operand-body (real-token x n) prefixed bracketed row nest onPrefix onBracket =
-        chosen (Reading 7 8 7 want t) (Table.allows want (t .kind)) _ _ (λ h. allowed h (Table.prefixOperator (t .kind)) (O.prefixing want (t .kind) h))
+        chosen (Reading 7 8 7 want t) (Table.allows want (t .kind)) _ _ (λ h. allowed h (Table.prefixOperator (t .kind)) refl (O.prefixing want (t .kind) h))
         (λ h. halted [] t (at-once t) (something s want) (λ q st. O.not-allowed s t want q st n h) (refusal (t .kind)) refl)
       where
-        allowed : Table.allows want (t .kind) ≡ true → (i : Table.Prefix) → O.Prefixing want (t .kind) i
-            → Reading 7 8 7 want t (Table.onPrefix i (pick (eqb (t .kind) Kind.OPEN) (bracketed want nest t) (readLeaf s want row t)) (λ op. prefixed op want row nest t))
-        allowed h _ O.no-prefix = chosen (Reading 7 8 7 want t) (eqb (t .kind) Kind.OPEN) _ _ (λ e. onBracket (eqb-true _ _ e)) (λ e. leaf-reads row h)
-        allowed h _ (O.prefixes op lv wn o r b) = onPrefix op lv wn o r b
+        allowed : Table.allows want (t .kind) ≡ true → (i : Table.Prefix) → Table.prefixOperator (t .kind) ≡ i → O.Prefixing want (t .kind) i
+            → Reading 7 8 7 want t (Table.onPrefix i (pick (eqb (t .kind) Kind.OPEN) (bracketed want nest t) (readLeaf s want t)) (λ op. prefixed op want row nest t))
+        allowed h _ y O.no-prefix = chosen (Reading 7 8 7 want t) (eqb (t .kind) Kind.OPEN) _ _ (λ e. onBracket (eqb-true _ _ e)) (λ e. leaf-reads h y e)
+        allowed h _ y (O.prefixes op lv wn el ew em a b) = onPrefix op lv wn el ew em a b
 
   -- what the reader makes of a right operand
   pub data JoinedAs (u : Token) (sort : PartSort) (e : Expr) (op : Binary) : Parsed Part → Type 0 where
@@ -285,16 +308,17 @@ module _ (s : List ℕ) where
         → ((q : Place) → Starts level want q → runs q ts u ≡ station (after q sort) (kindIn s u))
         → (m : ℕ) × ((level ≤ m) × Reading m (m + 1) level want t (onPart rr (λ x f n. applied (binary op (settledTree (binaryTakes op) sort e)) (binaryTakes op) (binaryGives op) x f n)))
     unfolding Table.rightLevel Table.rightWant
-    operator-joined u sort e op lo o r j fit h rr inner l ts low p x y d b g = on-table (joint-tabled (u .kind) op lo o r j)
+    operator-joined u sort e op lo o r j fit h rr inner l ts low p x y d b g₀ = on-table (joint-tabled (u .kind) op lo o r j)
       where
         on-table : Tabled op lo o r → (m : ℕ) × ((level ≤ m) × Reading m (m + 1) level want t (onPart rr (λ x f n. applied (binary op (settledTree (binaryTakes op) sort e)) (binaryTakes op) (binaryGives op) x f n)))
         on-table (tabled el eo er) = (
           lo,
           (
             level-low,
-            extend t (ts ++ u ∷ []) (nextAt s (u .end)) (tokens-one s Kind.IN-FIELD t u ts p) lo level want (lo + 1) (Table.wantOf o) r (binaryTakes op) (binaryGives op) (binary op (settledTree (binaryTakes op) sort e))
-                (eo ∙ sym (joint-goal (u .kind) op lo o r j)) er (O.asked-most level want a) level-low (O.asked-most (lo + 1) (Table.wantOf o) (joint-asked (u .kind) op lo o r j))
-                (joint-suits level want sort (u .kind) op lo o r a y j fit level-low) grows leads ends rr inner-at,
+            extend t (ts ++ u ∷ []) (nextAt s (u .end)) (tokens-one s Kind.IN-FIELD t u ts p) lo level want (lo + 1) (Table.wantOf o) (λ g. r) (λ g. binary op (settledTree (binaryTakes op) sort e))
+                (λ x f n. applied (binary op (settledTree (binaryTakes op) sort e)) (binaryTakes op) (binaryGives op) x f n) makes (O.asked-most level want a) level-low
+                (O.asked-most (lo + 1) (Table.wantOf o) (joint-asked (u .kind) op lo o r j))
+                (λ g γ. joint-suits level want sort (u .kind) op lo o r a y j fit level-low) grows leads ends rr inner-at,
           ),
         )
           where
@@ -304,22 +328,28 @@ module _ (s : List ℕ) where
             lo-low : lo ≤ l
             lo-low = operator-low l op lo el b
 
+            makes : (x : PartSort) → Suits (Table.wantOf o) x → (f : Expr) (n : Token)
+                → applied (binary op (settledTree (binaryTakes op) sort e)) (binaryTakes op) (binaryGives op) x f n ≡ applied (binary op (settledTree (binaryTakes op) sort e)) (aim (Table.wantOf o) x) r x f n
+            makes x z f n =
+                ap (λ (g : Sort). applied (binary op (settledTree (binaryTakes op) sort e)) g (binaryGives op) x f n) (eo ∙ sym (aim-right o x))
+                ∙ ap (λ (g : Sort). applied (binary op (settledTree (binaryTakes op) sort e)) (aim (Table.wantOf o) x) g x f n) er
+
             left : Told s (sorted o) lo ts (settledTree o sort e)
             left = settle s o sort lo ts e (O.asked-low (lo + 1) (Table.wantOf o) lo (joint-asked (u .kind) op lo o r j) (omega arith)) fit (lower s sort lo l ts e lo-low d)
 
-            grows : (us : List Token) (f : Expr) → Told s (sorted (goal (Table.wantOf o))) (lo + 1) us f → Told s (sorted r) lo ((ts ++ u ∷ []) ++ us) (binary op (settledTree (binaryTakes op) sort e) f)
-            grows us f k =
+            grows : (g : Sort) → Goal (Table.wantOf o) g → (us : List Token) (f : Expr) → Told s (sorted g) (lo + 1) us f → Told s (sorted r) lo ((ts ++ u ∷ []) ++ us) (binary op (settledTree (binaryTakes op) sort e) f)
+            grows g γ us f k =
                 subst (λ (z : List Token). Told s (sorted r) lo z (binary op (settledTree (binaryTakes op) sort e) f)) (sym (append-assoc ts (u ∷ []) us))
-                (rw eo (joined s (u .kind) op lo o r u ts us (settledTree o sort e) f j refl left (subst (λ (z : Sort). Told s (sorted z) (lo + 1) us f) (joint-goal (u .kind) op lo o r j) k)))
+                (rw eo (joined s (u .kind) op lo o r u ts us (settledTree o sort e) f j refl left (subst (λ (z : Sort). Told s (sorted z) (lo + 1) us f) (sym (goal-right o g γ)) k)))
 
-            leads : (q : Place) → Starts level want q → Onward q (lo + 1) (Table.wantOf o) (goal (Table.wantOf o)) r (run station q (kindsIn s (ts ++ u ∷ [])))
-            leads q st =
-                subst (λ (z : Sort). Onward q (lo + 1) (Table.wantOf o) z r (run station q (kindsIn s (ts ++ u ∷ [])))) (sym (joint-goal (u .kind) op lo o r j))
-                (subst (Onward q (lo + 1) (Table.wantOf o) o r) (sym (run-one q ts u ∙ g q st ∙ ap (λ (z : ℕ). station (after q sort) z) (kind-other s u (joint-mark (u .kind) op lo o r j))))
+            leads : (g : Sort) → Goal (Table.wantOf o) g → (q : Place) → Starts level want q → Onward q (lo + 1) (Table.wantOf o) g r (run station q (kindsIn s (ts ++ u ∷ [])))
+            leads g γ q st =
+                subst (λ (z : Sort). Onward q (lo + 1) (Table.wantOf o) z r (run station q (kindsIn s (ts ++ u ∷ [])))) (goal-right o g γ)
+                (subst (Onward q (lo + 1) (Table.wantOf o) o r) (sym (run-one q ts u ∙ g₀ q st ∙ ap (λ (z : ℕ). station (after q sort) z) (kind-other s u (joint-mark (u .kind) op lo o r j))))
                 (joint-onward level want sort (u .kind) op lo o r q a st y j fit level-low))
 
-            ends : (x : PartSort) (k : ℕ) → Fits (goal (Table.wantOf o)) x → Table.binds (lo + 1) (Table.operator x k) ≡ false → Table.binds (lo + 1) (Table.operator (sorted r) k) ≡ false
-            ends x k f = joint-ends (u .kind) op lo o r j x k (subst (λ (z : Sort). Fits z x) (joint-goal (u .kind) op lo o r j) f)
+            ends : (g : Sort) → Goal (Table.wantOf o) g → (x : PartSort) (k : ℕ) → Fits g x → Table.binds (lo + 1) (Table.operator x k) ≡ false → Table.binds (lo + 1) (Table.operator (sorted r) k) ≡ false
+            ends g γ x k f = joint-ends (u .kind) op lo o r j x k (subst (λ (z : Sort). Fits z x) (sym (goal-right o g γ)) f)
 
             inner-at : Reading (lo + 1) (lo + 1) (lo + 1) (Table.wantOf o) (nextAt s (u .end)) rr
             inner-at =
@@ -398,7 +428,7 @@ module _ (s : List ℕ) where
     expression-body chain nest h _ (got ts u sort e p x y d b g) =
         h u sort e 7 ts (O.asked-most level want a) p x y d b (λ q st. g q (starts-up level 7 want q (O.asked-most level want a) st))
     expression-body chain nest h _ (halted ts u p c g r z) =
-        halted ts u p (completes-lower s (goal want) level 7 ts (O.asked-most level want a) c) (λ q st. g q (starts-up level 7 want q (O.asked-most level want a) st)) r z
+        halted ts u p (completes-lower s want level 7 ts (O.asked-most level want a) c) (λ q st. g q (starts-up level 7 want q (O.asked-most level want a) st)) r z
     expression-body chain nest h _ (otherwise r p n) = otherwise r p n
 
   module _ (reals : (at : ℕ) → Real s (nextAt s at)) where
@@ -409,11 +439,8 @@ module _ (s : List ℕ) where
         on-table : Tabled op lo o r → Asked (Table.levelOf op + 1) (Table.wantOf (binaryTakes op))
         on-table (tabled el eo er) = rw (el, eo) (joint-asked k op lo o r j)
 
-    prefix-asked : (k : ℕ) (op : Unary) (want : Want) (lv : ℕ) (wn : Want) (o r : Sort) → O.Before k op want lv wn o r → Asked (Table.operandLevel op) (Table.operandWant op want)
-    prefix-asked k op want lv wn o r b = on-table (O.before-table k op want lv wn o r b)
-      where
-        on-table : O.BeforeTabled k op want lv wn o r → Asked (Table.operandLevel op) (Table.operandWant op want)
-        on-table (O.before-tabled el ew eo er eg em) = rw (el, ew) (O.before-asked k op want lv wn o r b)
+    prefix-asked : (op : Unary) (want : Want) (lv : ℕ) (wn : Want) → Table.operandLevel op ≡ lv → Table.operandWant op want ≡ wn → Asked lv wn → Asked (Table.operandLevel op) (Table.operandWant op want)
+    prefix-asked op want lv wn el ew a = rw (el, ew) a
 
     mutual
       unfolding E.readExpression
@@ -428,14 +455,15 @@ module _ (s : List ℕ) where
       operand-reads zero want row nest t x = otherwise 0 (t .start) (λ k. let bad : ⊥ = omega (arith, k) in bad)
       operand-reads (suc d) want row nest t x =
           operand-body reals want t x (λ op want row nest t. E.readPrefixed d s op want row nest t) (λ want nest t. E.readBracketed d s want nest t) row nest
-          (λ op lv wn o r b. prefixed-reads d op want row nest t lv wn o r b) (λ z. bracketed-reads d want nest t z)
+          (λ op lv wn el ew em a b. prefixed-reads d op want row nest t lv wn el ew em a b) (λ z. bracketed-reads d want nest t z)
 
-      prefixed-reads : (d : ℕ) (op : Unary) (want : Want) (row nest : ℕ) (t : Token) (lv : ℕ) (wn : Want) (o r : Sort) → O.Before (t .kind) op want lv wn o r → Reading 7 8 7 want t (E.readPrefixed d s op want row nest t)
-      prefixed-reads zero op want row nest t lv wn o r b = otherwise 0 (t .start) (λ k. let bad : ⊥ = omega (arith, k) in bad)
-      prefixed-reads (suc d) op want row nest t lv wn o r b =
+      prefixed-reads : (d : ℕ) (op : Unary) (want : Want) (row nest : ℕ) (t : Token) (lv : ℕ) (wn : Want) → Table.operandLevel op ≡ lv → Table.operandWant op want ≡ wn → eqb (t .kind) Kind.NAME ≡ false
+          → Asked lv wn → ((g : Sort) → Goal wn g → O.Before (t .kind) op want lv wn g (unaryGives (O.asTaken op g))) → Reading 7 8 7 want t (E.readPrefixed d s op want row nest t)
+      prefixed-reads zero op want row nest t lv wn el ew em a b = otherwise 0 (t .start) (λ k. let bad : ⊥ = omega (arith, k) in bad)
+      prefixed-reads (suc d) op want row nest t lv wn el ew em a b =
           chosen (Reading 7 8 7 want t) (leb 16 row) _ _ (λ h. otherwise 7 (t .start) seven)
-          (λ h. prefix-reads reals want t op lv wn o r b (E.readExpression d s (Table.operandLevel op) (Table.operandWant op want) (row + 1) nest (nextAt s (t .end)))
-          (expression-reads d (Table.operandLevel op) (Table.operandWant op want) (row + 1) nest (nextAt s (t .end)) (prefix-asked (t .kind) op want lv wn o r b) (reals (t .end))))
+          (λ h. prefix-reads reals want t op lv wn el ew em a b (E.readExpression d s (Table.operandLevel op) (Table.operandWant op want) (row + 1) nest (nextAt s (t .end)))
+          (expression-reads d (Table.operandLevel op) (Table.operandWant op want) (row + 1) nest (nextAt s (t .end)) (prefix-asked op want lv wn el ew a) (reals (t .end))))
 
       bracketed-reads : (d : ℕ) (want : Want) (nest : ℕ) (t : Token) → t .kind ≡ Kind.OPEN → Reading 7 8 7 want t (E.readBracketed d s want nest t)
       bracketed-reads zero want nest t z = otherwise 0 (t .start) (λ k. let bad : ⊥ = omega (arith, k) in bad)

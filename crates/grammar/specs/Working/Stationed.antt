@@ -8,13 +8,13 @@ use borrow.Author.Tests.{ne-eqb}
 use mathlib.Core.Logic.{_⊎_, inl, inr}
 use Rattle.text.specs.Choice.{split}
 use Rattle.lexical.specs.Kind
-use Rattle.conditions.specs.Table.{want-any, want-string}
+use Rattle.conditions.specs.Table.{PartSort, want-any, want-string, want-number, want-integer, want-float}
 use Rattle.conditions.specs.Table
 use Rattle.grammar.specs.Fields.{Ends, end-of-text, next-version, next-constants, next-authorizer, next-licensees, next-conditions, next-comment, next-signature, field}
 use Rattle.grammar.specs.Conditions.{Class, operand, power, product, conjunction, whole, TRUTH, Name, any-name, truth-name, Str, str-literal, str-name, str-lookup, str-bracket, str-one, str-join, Product, times, divide, remainder, Sum, plus, minus, Int, int-literal, int-minus, int-convert, int-bracket, int-one, int-power, int-up, int-product, int-term, int-sum, FloatTimes, float-times, float-divide, Float, float-literal, float-minus, float-convert, float-bracket, float-one, float-power, float-up, float-product, float-term, float-sum, Order, less, greater, at-most, at-least, Compare, order, equal, unequal, Comparison, of-integers, of-floats, of-strings, matching, Tests, test-truth, test-comparison, test-not, test-bracket, test-one, test-and, test-ands, test-or, Clauses, no-clause, clause, tested, valued, nested, Conditions}
 use Rattle.grammar.specs.Viable.{Viable}
 use Rattle.grammar.specs.Working.Automaton.{run, run-append, run-dead, not-viable, not-longer}
-use Rattle.grammar.specs.Working.Stations.{Had, TEXT, NUMBER, TEST, TRUE, FLOATING, EITHER, INTEGER, FLOATS, Spot, in-clause, in-bracket, Frame, tests, right, value, texts, numbers, Place, p-dead, p-over, p-begin, p-arrow, p-block, p-any, p-text, p-number, p-have, strict, flat, station}
+use Rattle.grammar.specs.Working.Stations.{TEXT, NUMBER, TEST, TRUE, FLOATING, Spot, in-clause, in-bracket, Frame, tests, right, value, texts, numbers, Place, p-dead, p-over, p-begin, p-arrow, p-block, p-any, p-text, p-number, p-have, strict, flat, station}
 
 pub station-dead : (k : ℕ) → station p-dead k ≡ p-dead
 unfolding station
@@ -29,24 +29,24 @@ pub first-part : (q r : Place) (ks : List ℕ) (k : ℕ) → station q k ≡ r �
 first-part q r ks k f = ap (λ (x : Place). run station x ks) f
 
 -- strings where a string is wanted
-pub name-text : (r : Had) (F : Frame) (k : ℕ) → Name k → station (p-text r F) k ≡ p-have r F
+pub name-text : (r : PartSort) (F : Frame) (k : ℕ) → Name k → station (p-text r F) k ≡ p-have r F
 unfolding station Table.allows Table.beginsString
 name-text r F _ any-name = refl
 name-text r F _ truth-name = refl
 
-pub literal-text : (r : Had) (F : Frame) → station (p-text r F) Kind.LITERAL ≡ p-have r F
+pub literal-text : (r : PartSort) (F : Frame) → station (p-text r F) Kind.LITERAL ≡ p-have r F
 unfolding station Table.allows Table.beginsString
 literal-text r F = refl
 
-pub lookup-text : (r : Had) (F : Frame) → station (p-text r F) Kind.DOLLAR ≡ p-text r F
+pub lookup-text : (r : PartSort) (F : Frame) → station (p-text r F) Kind.DOLLAR ≡ p-text r F
 unfolding station Table.allows Table.beginsString
 lookup-text r F = refl
 
-pub open-text : (r : Had) (F : Frame) → station (p-text r F) Kind.OPEN ≡ p-text TEXT (texts r F)
+pub open-text : (r : PartSort) (F : Frame) → station (p-text r F) Kind.OPEN ≡ p-text TEXT (texts r F)
 unfolding station Table.allows
 open-text r F = refl
 
-pub close-text : (r : Had) (F : Frame) → station (p-have TEXT (texts r F)) Kind.CLOSE ≡ p-have r F
+pub close-text : (r : PartSort) (F : Frame) → station (p-have TEXT (texts r F)) Kind.CLOSE ≡ p-have r F
 unfolding station Table.operator Table.textOperator Table.comparison Table.binds
 close-text r F = refl
 
@@ -55,11 +55,11 @@ unfolding station Table.operator Table.textOperator Table.comparison Table.binds
 dot-text F = refl
 
 -- the sort of what a class of strings is: in a class above, any
-pub data Shown (F : Frame) (r : Had) : Class → Type 0 where
+pub data Shown (F : Frame) (r : PartSort) : Class → Type 0 where
   any-sort : Shown F r operand
   as-text : r ≡ TEXT → Shown F r whole
 
-pub text-run : (c : Class) (ks : List ℕ) → Str c ks → (r : Had) (F : Frame) → Shown F r c → run station (p-text r F) ks ≡ p-have r F
+pub text-run : (c : Class) (ks : List ℕ) → Str c ks → (r : PartSort) (F : Frame) → Shown F r c → run station (p-text r F) ks ≡ p-have r F
 text-run _ _ str-literal r F h = literal-text r F
 text-run _ _ (str-name k n) r F h = name-text r F k n
 text-run _ _ (str-lookup ks s) r F h = first-part (p-text r F) (p-text r F) ks Kind.DOLLAR (lookup-text r F) ∙ text-run operand ks s r F any-sort
@@ -68,64 +68,64 @@ text-run _ _ (str-bracket ks s) r F h =
     ∙ through-part (p-text TEXT (texts r F)) (p-have TEXT (texts r F)) (p-have r F) ks [] Kind.CLOSE (text-run whole ks s TEXT (texts r F) (as-text refl)) (close-text r F)
 text-run _ _ (str-one ks s) r F h = text-run operand ks s r F any-sort
 text-run _ _ (str-join ks ls s u) r F (as-text e) =
-    subst (λ (x : Had). run station (p-text x F) (ks ++ Kind.DOT ∷ ls) ≡ p-have x F) (sym e)
+    subst (λ (x : PartSort). run station (p-text x F) (ks ++ Kind.DOT ∷ ls) ≡ p-have x F) (sym e)
     (through-part (p-text TEXT F) (p-have TEXT F) (p-text TEXT F) ks ls Kind.DOT (text-run whole ks s TEXT F (as-text refl)) (dot-text F)
     ∙ text-run operand ls u TEXT F any-sort)
 
 -- numbers: where one is wanted, and what stands around it
-pub data Wants : Had → Place → Frame → Type 0 where
-  integer-wanted : (F : Frame) → Wants NUMBER (p-number INTEGER F) F
-  float-wanted : (F : Frame) → Wants FLOATING (p-number FLOATS F) F
-  first-integer : (F : Frame) → Wants NUMBER (p-number EITHER F) F
-  first-float : (F : Frame) → Wants FLOATING (p-number EITHER F) F
+pub data Wants : PartSort → Place → Frame → Type 0 where
+  integer-wanted : (F : Frame) → Wants NUMBER (p-number want-integer F) F
+  float-wanted : (F : Frame) → Wants FLOATING (p-number want-float F) F
+  first-integer : (F : Frame) → Wants NUMBER (p-number want-number F) F
+  first-float : (F : Frame) → Wants FLOATING (p-number want-number F) F
   any-integer : (S : Spot) → Wants NUMBER (p-any S) (tests S)
   any-float : (S : Spot) → Wants FLOATING (p-any S) (tests S)
 
 -- behind a mark before or around an operand a number is wanted again
-pub data Again (sort : Had) (q : Place) (F : Frame) (k : ℕ) : Type 0 where
+pub data Again (sort : PartSort) (q : Place) (F : Frame) (k : ℕ) : Type 0 where
   again : (r : Place) → station q k ≡ r → Wants sort r F → Again sort q F k
 
-pub data Inside (sort : Had) (q : Place) (F : Frame) : Type 0 where
+pub data Inside (sort : PartSort) (q : Place) (F : Frame) : Type 0 where
   inside : (r : Place) (G : Frame) → station q Kind.OPEN ≡ r → Wants sort r G → station (p-have sort G) Kind.CLOSE ≡ p-have sort F → Inside sort q F
 
-minus-again : (sort : Had) (q : Place) (F : Frame) → Wants sort q F → Again sort q F Kind.MINUS
-unfolding station Table.allows Table.beginsNumber Table.beginsString
-minus-again _ _ F (integer-wanted _) = again (p-number INTEGER F) refl (integer-wanted F)
-minus-again _ _ F (float-wanted _) = again (p-number FLOATS F) refl (float-wanted F)
-minus-again _ _ F (first-integer _) = again (p-number EITHER F) refl (first-integer F)
-minus-again _ _ F (first-float _) = again (p-number EITHER F) refl (first-float F)
-minus-again _ _ _ (any-integer S) = again (p-number EITHER (tests S)) refl (first-integer (tests S))
-minus-again _ _ _ (any-float S) = again (p-number EITHER (tests S)) refl (first-float (tests S))
+minus-again : (sort : PartSort) (q : Place) (F : Frame) → Wants sort q F → Again sort q F Kind.MINUS
+unfolding station Table.allows Table.beginsNumber Table.beginsString Table.beginsFloat
+minus-again _ _ F (integer-wanted _) = again (p-number want-integer F) refl (integer-wanted F)
+minus-again _ _ F (float-wanted _) = again (p-number want-float F) refl (float-wanted F)
+minus-again _ _ F (first-integer _) = again (p-number want-number F) refl (first-integer F)
+minus-again _ _ F (first-float _) = again (p-number want-number F) refl (first-float F)
+minus-again _ _ _ (any-integer S) = again (p-number want-number (tests S)) refl (first-integer (tests S))
+minus-again _ _ _ (any-float S) = again (p-number want-number (tests S)) refl (first-float (tests S))
 
-open-inside : (sort : Had) (q : Place) (F : Frame) → Wants sort q F → Inside sort q F
-unfolding station Table.allows Table.operator Table.numberOperator Table.comparison Table.binds
-open-inside _ _ F (integer-wanted _) = inside (p-number INTEGER (numbers F)) (numbers F) refl (integer-wanted (numbers F)) refl
-open-inside _ _ F (float-wanted _) = inside (p-number FLOATS (numbers F)) (numbers F) refl (float-wanted (numbers F)) refl
-open-inside _ _ F (first-integer _) = inside (p-number EITHER (numbers F)) (numbers F) refl (first-integer (numbers F)) refl
-open-inside _ _ F (first-float _) = inside (p-number EITHER (numbers F)) (numbers F) refl (first-float (numbers F)) refl
+open-inside : (sort : PartSort) (q : Place) (F : Frame) → Wants sort q F → Inside sort q F
+unfolding station Table.allows Table.operator Table.numberOperator Table.floatOperator Table.ordering Table.comparison Table.binds
+open-inside _ _ F (integer-wanted _) = inside (p-number want-integer (numbers F)) (numbers F) refl (integer-wanted (numbers F)) refl
+open-inside _ _ F (float-wanted _) = inside (p-number want-float (numbers F)) (numbers F) refl (float-wanted (numbers F)) refl
+open-inside _ _ F (first-integer _) = inside (p-number want-number (numbers F)) (numbers F) refl (first-integer (numbers F)) refl
+open-inside _ _ F (first-float _) = inside (p-number want-number (numbers F)) (numbers F) refl (first-float (numbers F)) refl
 open-inside _ _ _ (any-integer S) = inside (p-any (in-bracket true S)) (tests (in-bracket true S)) refl (any-integer (in-bracket true S)) refl
 open-inside _ _ _ (any-float S) = inside (p-any (in-bracket true S)) (tests (in-bracket true S)) refl (any-float (in-bracket true S)) refl
 
 -- a number in brackets, one behind "-", one behind a conversion, and two with an operator between them
-in-brackets : (sort : Had) (q : Place) (F : Frame) (ks : List ℕ) → Inside sort q F → ((r : Place) (G : Frame) → Wants sort r G → run station r ks ≡ p-have sort G)
+in-brackets : (sort : PartSort) (q : Place) (F : Frame) (ks : List ℕ) → Inside sort q F → ((r : Place) (G : Frame) → Wants sort r G → run station r ks ≡ p-have sort G)
     → run station q (Kind.OPEN ∷ ks ++ Kind.CLOSE ∷ []) ≡ p-have sort F
 in-brackets sort q F ks (inside r G e w c) h =
     first-part q r (ks ++ Kind.CLOSE ∷ []) Kind.OPEN e ∙ through-part r (p-have sort G) (p-have sort F) ks [] Kind.CLOSE (h r G w) c
 
-behind-mark : (sort : Had) (q : Place) (F : Frame) (ks : List ℕ) (k : ℕ) → Again sort q F k → ((r : Place) → Wants sort r F → run station r ks ≡ p-have sort F) → run station q (k ∷ ks) ≡ p-have sort F
+behind-mark : (sort : PartSort) (q : Place) (F : Frame) (ks : List ℕ) (k : ℕ) → Again sort q F k → ((r : Place) → Wants sort r F → run station r ks ≡ p-have sort F) → run station q (k ∷ ks) ≡ p-have sort F
 behind-mark sort q F ks k (again r e w) h = first-part q r ks k e ∙ h r w
 
 two : (q p r : Place) (ks ls : List ℕ) (k : ℕ) → run station q ks ≡ p → station p k ≡ r → run station r ls ≡ p → run station q (ks ++ k ∷ ls) ≡ p
 two q p r ks ls k e f g = through-part q p r ks ls k e f ∙ g
 
 pub digits-have : (q : Place) (F : Frame) → Wants NUMBER q F → station q Kind.DIGITS ≡ p-have NUMBER F
-unfolding station Table.allows Table.beginsNumber Table.beginsString
+unfolding station Table.allows Table.beginsNumber Table.beginsString Table.beginsFloat
 digits-have _ F (integer-wanted _) = refl
 digits-have _ F (first-integer _) = refl
 digits-have _ _ (any-integer S) = refl
 
 pub at-text : (q : Place) (F : Frame) → Wants NUMBER q F → station q Kind.AT ≡ p-text NUMBER F
-unfolding station Table.allows Table.beginsNumber Table.beginsString
+unfolding station Table.allows Table.beginsNumber Table.beginsString Table.beginsFloat
 at-text _ F (integer-wanted _) = refl
 at-text _ F (first-integer _) = refl
 at-text _ _ (any-integer S) = refl
@@ -143,32 +143,32 @@ ampersand-text _ F (first-float _) = refl
 ampersand-text _ _ (any-float S) = refl
 
 -- an operator behind a number
-pub power-number : (F : Frame) → station (p-have NUMBER F) Kind.POWER ≡ p-number INTEGER F
-unfolding station Table.operator Table.numberOperator Table.binds Table.levelOf
+pub power-number : (F : Frame) → station (p-have NUMBER F) Kind.POWER ≡ p-number want-integer F
+unfolding station Table.operator Table.numberOperator Table.floatOperator Table.ordering Table.binds Table.levelOf
 power-number F = refl
 
-pub product-number : (F : Frame) (o : ℕ) → Product o → station (p-have NUMBER F) o ≡ p-number INTEGER F
-unfolding station Table.operator Table.numberOperator Table.binds Table.levelOf
+pub product-number : (F : Frame) (o : ℕ) → Product o → station (p-have NUMBER F) o ≡ p-number want-integer F
+unfolding station Table.operator Table.numberOperator Table.floatOperator Table.ordering Table.binds Table.levelOf
 product-number F _ times = refl
 product-number F _ divide = refl
 product-number F _ remainder = refl
 
-pub sum-number : (F : Frame) (o : ℕ) → Sum o → station (p-have NUMBER F) o ≡ p-number INTEGER F
-unfolding station Table.operator Table.numberOperator Table.binds Table.levelOf
+pub sum-number : (F : Frame) (o : ℕ) → Sum o → station (p-have NUMBER F) o ≡ p-number want-integer F
+unfolding station Table.operator Table.numberOperator Table.floatOperator Table.ordering Table.binds Table.levelOf
 sum-number F _ plus = refl
 sum-number F _ minus = refl
 
-power-float : (F : Frame) → station (p-have FLOATING F) Kind.POWER ≡ p-number FLOATS F
-unfolding station Table.operator Table.numberOperator Table.binds Table.levelOf
+pub power-float : (F : Frame) → station (p-have FLOATING F) Kind.POWER ≡ p-number want-float F
+unfolding station Table.operator Table.numberOperator Table.floatOperator Table.ordering Table.binds Table.levelOf
 power-float F = refl
 
-times-float : (F : Frame) (o : ℕ) → FloatTimes o → station (p-have FLOATING F) o ≡ p-number FLOATS F
-unfolding station Table.operator Table.numberOperator Table.binds Table.levelOf
+pub times-float : (F : Frame) (o : ℕ) → FloatTimes o → station (p-have FLOATING F) o ≡ p-number want-float F
+unfolding station Table.operator Table.numberOperator Table.floatOperator Table.ordering Table.binds Table.levelOf
 times-float F _ float-times = refl
 times-float F _ float-divide = refl
 
-sum-float : (F : Frame) (o : ℕ) → Sum o → station (p-have FLOATING F) o ≡ p-number FLOATS F
-unfolding station Table.operator Table.numberOperator Table.binds Table.levelOf
+pub sum-float : (F : Frame) (o : ℕ) → Sum o → station (p-have FLOATING F) o ≡ p-number want-float F
+unfolding station Table.operator Table.numberOperator Table.floatOperator Table.ordering Table.binds Table.levelOf
 sum-float F _ plus = refl
 sum-float F _ minus = refl
 
@@ -179,13 +179,13 @@ int-run _ _ (int-convert ks s) q F w = first-part q (p-text NUMBER F) ks Kind.AT
 int-run _ _ (int-bracket ks i) q F w = in-brackets NUMBER q F ks (open-inside NUMBER q F w) (λ r G v. int-run whole ks i r G v)
 int-run _ _ (int-one ks i) q F w = int-run operand ks i q F w
 int-run _ _ (int-power ks ls i j) q F w =
-    two q (p-have NUMBER F) (p-number INTEGER F) ks ls Kind.POWER (int-run power ks i q F w) (power-number F) (int-run operand ls j (p-number INTEGER F) F (integer-wanted F))
+    two q (p-have NUMBER F) (p-number want-integer F) ks ls Kind.POWER (int-run power ks i q F w) (power-number F) (int-run operand ls j (p-number want-integer F) F (integer-wanted F))
 int-run _ _ (int-up ks i) q F w = int-run power ks i q F w
 int-run _ _ (int-product o ks ls p i j) q F w =
-    two q (p-have NUMBER F) (p-number INTEGER F) ks ls o (int-run product ks i q F w) (product-number F o p) (int-run power ls j (p-number INTEGER F) F (integer-wanted F))
+    two q (p-have NUMBER F) (p-number want-integer F) ks ls o (int-run product ks i q F w) (product-number F o p) (int-run power ls j (p-number want-integer F) F (integer-wanted F))
 int-run _ _ (int-term ks i) q F w = int-run product ks i q F w
 int-run _ _ (int-sum o ks ls p i j) q F w =
-    two q (p-have NUMBER F) (p-number INTEGER F) ks ls o (int-run whole ks i q F w) (sum-number F o p) (int-run product ls j (p-number INTEGER F) F (integer-wanted F))
+    two q (p-have NUMBER F) (p-number want-integer F) ks ls o (int-run whole ks i q F w) (sum-number F o p) (int-run product ls j (p-number want-integer F) F (integer-wanted F))
 
 pub float-run : (c : Class) (ks : List ℕ) → Float c ks → (q : Place) (F : Frame) → Wants FLOATING q F → run station q ks ≡ p-have FLOATING F
 float-run _ _ float-literal q F w = float-have q F w
@@ -194,20 +194,20 @@ float-run _ _ (float-convert ks s) q F w = first-part q (p-text FLOATING F) ks K
 float-run _ _ (float-bracket ks i) q F w = in-brackets FLOATING q F ks (open-inside FLOATING q F w) (λ r G v. float-run whole ks i r G v)
 float-run _ _ (float-one ks i) q F w = float-run operand ks i q F w
 float-run _ _ (float-power ks ls i j) q F w =
-    two q (p-have FLOATING F) (p-number FLOATS F) ks ls Kind.POWER (float-run power ks i q F w) (power-float F) (float-run operand ls j (p-number FLOATS F) F (float-wanted F))
+    two q (p-have FLOATING F) (p-number want-float F) ks ls Kind.POWER (float-run power ks i q F w) (power-float F) (float-run operand ls j (p-number want-float F) F (float-wanted F))
 float-run _ _ (float-up ks i) q F w = float-run power ks i q F w
 float-run _ _ (float-product o ks ls p i j) q F w =
-    two q (p-have FLOATING F) (p-number FLOATS F) ks ls o (float-run product ks i q F w) (times-float F o p) (float-run power ls j (p-number FLOATS F) F (float-wanted F))
+    two q (p-have FLOATING F) (p-number want-float F) ks ls o (float-run product ks i q F w) (times-float F o p) (float-run power ls j (p-number want-float F) F (float-wanted F))
 float-run _ _ (float-term ks i) q F w = float-run product ks i q F w
 float-run _ _ (float-sum o ks ls p i j) q F w =
-    two q (p-have FLOATING F) (p-number FLOATS F) ks ls o (float-run whole ks i q F w) (sum-float F o p) (float-run product ls j (p-number FLOATS F) F (float-wanted F))
+    two q (p-have FLOATING F) (p-number want-float F) ks ls o (float-run whole ks i q F w) (sum-float F o p) (float-run product ls j (p-number want-float F) F (float-wanted F))
 
 -- what was gone through, and of which sort in which frame it is
-pub data Gone (P : Had → Frame → Type 0) (q : Place) (ks : List ℕ) : Type 0 where
-  gone : (sort : Had) (F : Frame) → P sort F → run station q ks ≡ p-have sort F → Gone P q ks
+pub data Gone (P : PartSort → Frame → Type 0) (q : Place) (ks : List ℕ) : Type 0 where
+  gone : (sort : PartSort) (F : Frame) → P sort F → run station q ks ≡ p-have sort F → Gone P q ks
 
 -- strings where a test may stand
-pub data Words (S : Spot) : Had → Frame → Type 0 where
+pub data Words (S : Spot) : PartSort → Frame → Type 0 where
   w-text : Words S TEXT (tests S)
   w-word : Words S TRUE (tests S)
 
@@ -229,7 +229,7 @@ unfolding station Table.allows
 open-any S = refl
 
 pub not-any : (S : Spot) → station (p-any S) Kind.NOT ≡ p-any (strict S)
-unfolding station Table.allows
+unfolding station Table.allows Table.beginsString Table.beginsNumber Table.beginsFloat
 not-any S = refl
 
 words-close : (S : Spot) (q : Place) (ks : List ℕ) → Gone (Words (in-bracket true S)) q ks → Gone (Words S) q (ks ++ Kind.CLOSE ∷ [])
@@ -237,16 +237,16 @@ unfolding station Table.operator Table.textOperator Table.testOperator Table.com
 words-close S q ks (gone _ _ w-text e) = gone TEXT (tests S) w-text (through-part q _ _ ks [] Kind.CLOSE e refl)
 words-close S q ks (gone _ _ w-word e) = gone TRUE (tests S) w-word (through-part q _ _ ks [] Kind.CLOSE e refl)
 
-pub words-dot : (S : Spot) (sort : Had) (F : Frame) → Words S sort F → station (p-have sort F) Kind.DOT ≡ p-text TEXT (tests S)
+pub words-dot : (S : Spot) (sort : PartSort) (F : Frame) → Words S sort F → station (p-have sort F) Kind.DOT ≡ p-text TEXT (tests S)
 unfolding station Table.operator Table.textOperator Table.testOperator Table.comparison Table.binds Table.levelOf
 words-dot S _ _ w-text = refl
 words-dot S _ _ w-word = refl
 
-words-on : (S : Spot) (q r : Place) (ks ls : List ℕ) (k : ℕ) → ((sort : Had) (F : Frame) → Words S sort F → station (p-have sort F) k ≡ r) → Gone (Words S) q ks
+words-on : (S : Spot) (q r : Place) (ks ls : List ℕ) (k : ℕ) → ((sort : PartSort) (F : Frame) → Words S sort F → station (p-have sort F) k ≡ r) → Gone (Words S) q ks
     → run station q (ks ++ k ∷ ls) ≡ run station r ls
 words-on S q r ks ls k h (gone sort F w e) = through-part q (p-have sort F) r ks ls k e (h sort F w)
 
-in-front : (P : Had → Frame → Type 0) (q r : Place) (ks : List ℕ) (k : ℕ) → station q k ≡ r → Gone P r ks → Gone P q (k ∷ ks)
+in-front : (P : PartSort → Frame → Type 0) (q r : Place) (ks : List ℕ) (k : ℕ) → station q k ≡ r → Gone P r ks → Gone P q (k ∷ ks)
 in-front P q r ks k f (gone sort F w e) = gone sort F w (first-part q r ks k f ∙ e)
 
 string-any : (c : Class) (ks : List ℕ) → Str c ks → (S : Spot) → Gone (Words S) (p-any S) ks
@@ -263,7 +263,7 @@ string-any _ _ (str-join ks ls s u) S =
     (words-on S (p-any S) (p-text TEXT (tests S)) ks ls Kind.DOT (words-dot S) (string-any whole ks s S) ∙ text-run operand ls u TEXT (tests S) any-sort)
 
 -- tests: a test, the right side of a comparison, or a bare word
-pub data Held (S : Spot) : Had → Frame → Type 0 where
+pub data Held (S : Spot) : PartSort → Frame → Type 0 where
   h-test : Held S TEST (tests (strict S))
   h-text : Held S TEXT (right (strict S))
   h-number : Held S NUMBER (right (strict S))
@@ -271,7 +271,7 @@ pub data Held (S : Spot) : Had → Frame → Type 0 where
   h-word : Held S TRUE (tests S)
   h-strict : Held S TRUE (tests (strict S))
 
-pub words-compare : (S : Spot) (o : ℕ) → Compare o → (sort : Had) (F : Frame) → Words S sort F → station (p-have sort F) o ≡ p-text TEXT (right (strict S))
+pub words-compare : (S : Spot) (o : ℕ) → Compare o → (sort : PartSort) (F : Frame) → Words S sort F → station (p-have sort F) o ≡ p-text TEXT (right (strict S))
 unfolding station Table.operator Table.textOperator Table.testOperator Table.comparison Table.binds Table.levelOf
 words-compare S _ (order _ less) _ _ w-text = refl
 words-compare S _ (order _ less) _ _ w-word = refl
@@ -286,13 +286,13 @@ words-compare S _ equal _ _ w-word = refl
 words-compare S _ unequal _ _ w-text = refl
 words-compare S _ unequal _ _ w-word = refl
 
-pub words-match : (S : Spot) (sort : Had) (F : Frame) → Words S sort F → station (p-have sort F) Kind.MATCHES ≡ p-text TEXT (right (strict S))
+pub words-match : (S : Spot) (sort : PartSort) (F : Frame) → Words S sort F → station (p-have sort F) Kind.MATCHES ≡ p-text TEXT (right (strict S))
 unfolding station Table.operator Table.textOperator Table.testOperator Table.comparison Table.binds Table.levelOf
 words-match S _ _ w-text = refl
 words-match S _ _ w-word = refl
 
-pub number-compare : (S : Spot) (o : ℕ) → Compare o → station (p-have NUMBER (tests S)) o ≡ p-number INTEGER (right (strict S))
-unfolding station Table.operator Table.numberOperator Table.comparison Table.binds Table.levelOf
+pub number-compare : (S : Spot) (o : ℕ) → Compare o → station (p-have NUMBER (tests S)) o ≡ p-number want-integer (right (strict S))
+unfolding station Table.operator Table.numberOperator Table.floatOperator Table.ordering Table.comparison Table.binds Table.levelOf
 number-compare S _ (order _ less) = refl
 number-compare S _ (order _ greater) = refl
 number-compare S _ (order _ at-most) = refl
@@ -300,8 +300,8 @@ number-compare S _ (order _ at-least) = refl
 number-compare S _ equal = refl
 number-compare S _ unequal = refl
 
-float-compare : (S : Spot) (o : ℕ) → Order o → station (p-have FLOATING (tests S)) o ≡ p-number FLOATS (right (strict S))
-unfolding station Table.operator Table.numberOperator Table.comparison Table.binds Table.levelOf
+pub float-compare : (S : Spot) (o : ℕ) → Order o → station (p-have FLOATING (tests S)) o ≡ p-number want-float (right (strict S))
+unfolding station Table.operator Table.numberOperator Table.floatOperator Table.ordering Table.comparison Table.binds Table.levelOf
 float-compare S _ less = refl
 float-compare S _ greater = refl
 float-compare S _ at-most = refl
@@ -310,12 +310,12 @@ float-compare S _ at-least = refl
 comparison-run : (ks : List ℕ) → Comparison ks → (S : Spot) → Gone (Held S) (p-any S) ks
 comparison-run _ (of-integers o ks ls c i j) S =
     gone NUMBER (right (strict S)) h-number
-    (through-part (p-any S) (p-have NUMBER (tests S)) (p-number INTEGER (right (strict S))) ks ls o (int-run whole ks i (p-any S) (tests S) (any-integer S)) (number-compare S o c)
-    ∙ int-run whole ls j (p-number INTEGER (right (strict S))) (right (strict S)) (integer-wanted (right (strict S))))
+    (through-part (p-any S) (p-have NUMBER (tests S)) (p-number want-integer (right (strict S))) ks ls o (int-run whole ks i (p-any S) (tests S) (any-integer S)) (number-compare S o c)
+    ∙ int-run whole ls j (p-number want-integer (right (strict S))) (right (strict S)) (integer-wanted (right (strict S))))
 comparison-run _ (of-floats o ks ls c i j) S =
     gone FLOATING (right (strict S)) h-float
-    (through-part (p-any S) (p-have FLOATING (tests S)) (p-number FLOATS (right (strict S))) ks ls o (float-run whole ks i (p-any S) (tests S) (any-float S)) (float-compare S o c)
-    ∙ float-run whole ls j (p-number FLOATS (right (strict S))) (right (strict S)) (float-wanted (right (strict S))))
+    (through-part (p-any S) (p-have FLOATING (tests S)) (p-number want-float (right (strict S))) ks ls o (float-run whole ks i (p-any S) (tests S) (any-float S)) (float-compare S o c)
+    ∙ float-run whole ls j (p-number want-float (right (strict S))) (right (strict S)) (float-wanted (right (strict S))))
 comparison-run _ (of-strings o ks ls c i j) S =
     gone TEXT (right (strict S)) h-text
     (words-on S (p-any S) (p-text TEXT (right (strict S))) ks ls o (words-compare S o c) (string-any whole ks i S) ∙ text-run whole ls j TEXT (right (strict S)) (as-text refl))
@@ -332,7 +332,7 @@ strict-strict (in-clause d) = refl
 strict-strict (in-bracket b S) = refl
 
 -- a test where nothing else may stand is a test
-loosen : (S : Spot) (sort : Had) (F : Frame) → Held (strict S) sort F → Held S sort F
+loosen : (S : Spot) (sort : PartSort) (F : Frame) → Held (strict S) sort F → Held S sort F
 loosen (in-clause d) sort F h = h
 loosen (in-bracket b S) _ _ h-test = h-test
 loosen (in-bracket b S) _ _ h-text = h-text
@@ -349,8 +349,8 @@ pub data Junction : ℕ → Type 0 where
   junction-and : Junction Kind.AND
   junction-or : Junction Kind.OR
 
-pub held-junction : (S : Spot) (k : ℕ) → Junction k → (sort : Had) (F : Frame) → Held S sort F → station (p-have sort F) k ≡ p-any (strict S)
-unfolding station Table.operator Table.numberOperator Table.textOperator Table.testOperator Table.comparison Table.binds Table.levelOf
+pub held-junction : (S : Spot) (k : ℕ) → Junction k → (sort : PartSort) (F : Frame) → Held S sort F → station (p-have sort F) k ≡ p-any (strict S)
+unfolding station Table.operator Table.numberOperator Table.floatOperator Table.ordering Table.textOperator Table.testOperator Table.comparison Table.binds Table.levelOf
 held-junction S _ junction-and _ _ h-test = ap p-any (strict-strict S)
 held-junction S _ junction-and _ _ h-text = ap p-any (strict-strict S)
 held-junction S _ junction-and _ _ h-number = ap p-any (strict-strict S)
@@ -366,7 +366,7 @@ held-junction S _ junction-or _ _ h-strict = ap p-any (strict-strict S)
 
 -- a closing bracket
 held-close : (S : Spot) (q : Place) (ks : List ℕ) → Gone (Held (in-bracket true S)) q ks → Gone (Held S) q (ks ++ Kind.CLOSE ∷ [])
-unfolding station Table.operator Table.numberOperator Table.textOperator Table.testOperator Table.comparison Table.binds Table.levelOf
+unfolding station Table.operator Table.numberOperator Table.floatOperator Table.ordering Table.textOperator Table.testOperator Table.comparison Table.binds Table.levelOf
 held-close S q ks (gone _ _ h-test e) = gone TEST (tests (strict S)) h-test (through-part q _ _ ks [] Kind.CLOSE e refl)
 held-close S q ks (gone _ _ h-text e) = gone TEST (tests (strict S)) h-test (through-part q _ _ ks [] Kind.CLOSE e refl)
 held-close S q ks (gone _ _ h-number e) = gone TEST (tests (strict S)) h-test (through-part q _ _ ks [] Kind.CLOSE e refl)
@@ -395,8 +395,8 @@ pub data Behind (d : ℕ) : ℕ → Place → Type 0 where
   behind-arrow : Behind d Kind.ARROW (p-arrow d)
   behind-semicolon : Behind d Kind.SEMICOLON (p-begin d)
 
-pub held-end : (d k : ℕ) (p : Place) → Behind d k p → (sort : Had) (F : Frame) → Held (in-clause d) sort F → station (p-have sort F) k ≡ p
-unfolding station Table.operator Table.numberOperator Table.textOperator Table.testOperator Table.comparison Table.binds Table.levelOf
+pub held-end : (d k : ℕ) (p : Place) → Behind d k p → (sort : PartSort) (F : Frame) → Held (in-clause d) sort F → station (p-have sort F) k ≡ p
+unfolding station Table.operator Table.numberOperator Table.floatOperator Table.ordering Table.textOperator Table.testOperator Table.comparison Table.binds Table.levelOf
 held-end d _ _ behind-arrow _ _ h-test = refl
 held-end d _ _ behind-arrow _ _ h-text = refl
 held-end d _ _ behind-arrow _ _ h-number = refl
@@ -411,16 +411,16 @@ held-end d _ _ behind-semicolon _ _ h-word = refl
 held-end d _ _ behind-semicolon _ _ h-strict = refl
 
 -- a test where a clause may begin, and a value behind "->"
-not-dead : (sort : Had) (F : Frame) → p-have sort F ≡ p-dead → ⊥
+not-dead : (sort : PartSort) (F : Frame) → p-have sort F ≡ p-dead → ⊥
 not-dead sort F z = let v : _≡_ {A = ℕ} 0 1 = cc in omega (arith, v)
 
 module _ (q q′ : Place) (agree : (k : ℕ) → (station q′ k ≡ station q k) ⊎ (station q k ≡ p-dead)) where
-  resume-first : (k : ℕ) (ks : List ℕ) (sort : Had) (F : Frame) → (station q′ k ≡ station q k) ⊎ (station q k ≡ p-dead) → run station q (k ∷ ks) ≡ p-have sort F → run station q′ (k ∷ ks) ≡ p-have sort F
+  resume-first : (k : ℕ) (ks : List ℕ) (sort : PartSort) (F : Frame) → (station q′ k ≡ station q k) ⊎ (station q k ≡ p-dead) → run station q (k ∷ ks) ≡ p-have sort F → run station q′ (k ∷ ks) ≡ p-have sort F
   resume-first k ks sort F (inl e) h = ap (λ (x : Place). run station x ks) e ∙ h
   resume-first k ks sort F (inr e) h =
       absurd (not-dead sort F (sym h ∙ ap (λ (x : Place). run station x ks) e ∙ run-dead station p-dead station-dead ks))
 
-  pub resume : ((sort : Had) (F : Frame) → q ≡ p-have sort F → ⊥) → (ks : List ℕ) (sort : Had) (F : Frame) → run station q ks ≡ p-have sort F → run station q′ ks ≡ p-have sort F
+  pub resume : ((sort : PartSort) (F : Frame) → q ≡ p-have sort F → ⊥) → (ks : List ℕ) (sort : PartSort) (F : Frame) → run station q ks ≡ p-have sort F → run station q′ ks ≡ p-have sort F
   resume apart [] sort F h = absurd (apart sort F h)
   resume apart (k ∷ ks) sort F h = resume-first k ks sort F (agree k) h
 
@@ -432,10 +432,10 @@ pub arrow-agrees : (d k : ℕ) → (station (p-arrow d) k ≡ station (p-text TE
 unfolding station
 arrow-agrees d k = split (Table.allows want-string (flat k)) (λ e. inl (rw e refl)) (λ e. inr (rw e refl))
 
-pub begin-run : (d : ℕ) (ks : List ℕ) (sort : Had) (F : Frame) → run station (p-any (in-clause d)) ks ≡ p-have sort F → run station (p-begin d) ks ≡ p-have sort F
+pub begin-run : (d : ℕ) (ks : List ℕ) (sort : PartSort) (F : Frame) → run station (p-any (in-clause d)) ks ≡ p-have sort F → run station (p-begin d) ks ≡ p-have sort F
 begin-run d = resume (p-any (in-clause d)) (p-begin d) (begin-agrees d) (λ sort F z. let v : _≡_ {A = ℕ} 0 1 = cc in omega (arith, v))
 
-arrow-run : (d : ℕ) (ks : List ℕ) (sort : Had) (F : Frame) → run station (p-text TEXT (value d)) ks ≡ p-have sort F → run station (p-arrow d) ks ≡ p-have sort F
+arrow-run : (d : ℕ) (ks : List ℕ) (sort : PartSort) (F : Frame) → run station (p-text TEXT (value d)) ks ≡ p-have sort F → run station (p-arrow d) ks ≡ p-have sort F
 arrow-run d = resume (p-text TEXT (value d)) (p-arrow d) (arrow-agrees d) (λ sort F z. let v : _≡_ {A = ℕ} 0 1 = cc in omega (arith, v))
 
 -- a test of a clause and the mark behind it

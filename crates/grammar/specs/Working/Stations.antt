@@ -1,48 +1,30 @@
 -- Places in a Conditions field, with what stands around them: the automaton by which kinds are seen to begin no sentence. It goes by the tables of
--- crate conditions, and has the floats besides. Assumes nothing.
+-- crate conditions. Assumes nothing.
 use mathlib.Core.Bool.{Bool, true, false}
 use Prim.Native.Nat.{ℕ, zero, suc}
 use lib.Dec.{eqb}
 use Rattle.text.specs.Choice.{pick}
 use Rattle.lexical.specs.Kind
-use Rattle.syntax.specs.Operator.{a-string, an-integer, a-test}
-use Rattle.conditions.specs.Table.{PartSort, sorted, word, Want, want-any, want-string, want-number, want-integer}
+use Rattle.syntax.specs.Operator.{a-string, an-integer, a-float, a-test}
+use Rattle.conditions.specs.Table.{PartSort, sorted, word, Want, want-any, want-string, want-number, want-integer, want-float}
 use Rattle.conditions.specs.Table
 use Rattle.grammar.specs.Conditions.{TRUTH}
 
--- what was read, or a float
-pub data Had : Type 0 where
-  had : PartSort → Had
-  floating : Had
+-- what was read
+abbrev pub TEXT : PartSort
+TEXT = sorted a-string
 
-abbrev pub TEXT : Had
-TEXT = had (sorted a-string)
+abbrev pub NUMBER : PartSort
+NUMBER = sorted an-integer
 
-abbrev pub NUMBER : Had
-NUMBER = had (sorted an-integer)
+abbrev pub FLOATING : PartSort
+FLOATING = sorted a-float
 
-abbrev pub TEST : Had
-TEST = had (sorted a-test)
+abbrev pub TEST : PartSort
+TEST = sorted a-test
 
-abbrev pub TRUE : Had
-TRUE = had (word true)
-
-abbrev pub FLOATING : Had
-FLOATING = floating
-
--- what is wanted where a number stands, or floats
-pub data Wanted : Type 0 where
-  as-wanted : Want → Wanted
-  floats : Wanted
-
-abbrev pub EITHER : Wanted
-EITHER = as-wanted want-number
-
-abbrev pub INTEGER : Wanted
-INTEGER = as-wanted want-integer
-
-abbrev pub FLOATS : Wanted
-FLOATS = floats
+abbrev pub TRUE : PartSort
+TRUE = word true
 
 -- where tests stand: in a clause with so many "{" open, or in a round bracket; true: it may still turn out to hold a string or a number
 pub data Spot : Type 0 where
@@ -54,7 +36,7 @@ pub data Frame : Type 0 where
   tests : Spot → Frame
   right : Spot → Frame
   value : ℕ → Frame
-  texts : Had → Frame → Frame
+  texts : PartSort → Frame → Frame
   numbers : Frame → Frame
 
 pub data Place : Type 0 where
@@ -64,9 +46,9 @@ pub data Place : Type 0 where
   p-arrow : ℕ → Place
   p-block : ℕ → Place
   p-any : Spot → Place
-  p-text : Had → Frame → Place
-  p-number : Wanted → Frame → Place
-  p-have : Had → Frame → Place
+  p-text : PartSort → Frame → Place
+  p-number : Want → Frame → Place
+  p-have : PartSort → Frame → Place
 
 -- a test and nothing else
 abbrev pub strict : Spot → Spot
@@ -77,80 +59,67 @@ strict (in-bracket b S) = in-bracket false S
 abbrev pub flat : ℕ → ℕ
 flat k = pick (eqb k TRUTH) Kind.NAME k
 
--- the operator behind what was read; floats have no "%", "==" and "!="
-abbrev pub acts : Had → ℕ → Table.Infix
-acts (had sort) k = Table.operator sort k
-acts floating k = pick (eqb k Kind.REMAINDER) Table.no-infix (pick (eqb k Kind.EQUAL) Table.no-infix (pick (eqb k Kind.UNEQUAL) Table.no-infix (Table.numberOperator k)))
-
 -- a test, and nothing else; a test, or a bare word that becomes one
-abbrev pub settledTest : Had → Bool
-settledTest (had (sorted a-string)) = false
-settledTest (had (sorted an-integer)) = false
-settledTest (had (sorted a-test)) = true
-settledTest (had (word b)) = false
-settledTest floating = false
+abbrev pub settledTest : PartSort → Bool
+settledTest (sorted a-string) = false
+settledTest (sorted an-integer) = false
+settledTest (sorted a-float) = false
+settledTest (sorted a-test) = true
+settledTest (word b) = false
 
-abbrev pub isTest : Had → Bool
-isTest (had (sorted a-string)) = false
-isTest (had (sorted an-integer)) = false
-isTest (had (sorted a-test)) = true
-isTest (had (word b)) = true
-isTest floating = false
+abbrev pub isTest : PartSort → Bool
+isTest (sorted a-string) = false
+isTest (sorted an-integer) = false
+isTest (sorted a-float) = false
+isTest (sorted a-test) = true
+isTest (word b) = true
 
 -- where the right operand of a sort is wanted
-abbrev pub rightOf : Had → Frame → Place
-rightOf (had (sorted a-string)) F = p-text TEXT F
-rightOf (had (sorted an-integer)) F = p-number INTEGER F
-rightOf (had (sorted a-test)) F = p-text TEXT F
-rightOf (had (word b)) F = p-text TEXT F
-rightOf floating F = p-number FLOATS F
+abbrev pub rightOf : PartSort → Frame → Place
+rightOf (sorted a-string) F = p-text TEXT F
+rightOf (sorted an-integer) F = p-number want-integer F
+rightOf (sorted a-float) F = p-number want-float F
+rightOf (sorted a-test) F = p-text TEXT F
+rightOf (word b) F = p-text TEXT F
 
-abbrev pub closeAt : Bool → Had → Spot → Place
+abbrev pub closeAt : Bool → PartSort → Spot → Place
 closeAt lone sort S =
     pick (settledTest sort) (p-have TEST (tests (strict S)))
     (pick lone (p-have sort (tests S)) (pick (isTest sort) (p-have TEST (tests (strict S))) p-dead))
 
-abbrev pub endAt : Had → Spot → ℕ → Place
+abbrev pub endAt : PartSort → Spot → ℕ → Place
 endAt sort (in-clause d) k = pick (isTest sort) (pick (eqb k Kind.ARROW) (p-arrow d) (pick (eqb k Kind.SEMICOLON) (p-begin d) p-dead)) p-dead
 endAt sort (in-bracket lone S) k = pick (eqb k Kind.CLOSE) (closeAt lone sort S) p-dead
 
-abbrev pub leaveAt : Had → Frame → ℕ → Place
+abbrev pub leaveAt : PartSort → Frame → ℕ → Place
 leaveAt sort (tests S) k =
-    pick (Table.binds 2 (acts sort k)) (rightOf sort (right (strict S))) (pick (Table.binds 0 (acts sort k)) (p-any (strict S)) (endAt sort S k))
+    pick (Table.binds 2 (Table.operator sort k)) (rightOf sort (right (strict S))) (pick (Table.binds 0 (Table.operator sort k)) (p-any (strict S)) (endAt sort S k))
 leaveAt sort (right S) k = pick (Table.binds 0 (Table.operator (sorted a-test) k)) (p-any (strict S)) (endAt TEST S k)
 leaveAt sort (value d) k = pick (eqb k Kind.SEMICOLON) (p-begin d) p-dead
 leaveAt sort (texts r F) k = pick (eqb k Kind.CLOSE) (p-have r F) p-dead
 leaveAt sort (numbers F) k = pick (eqb k Kind.CLOSE) (p-have sort F) p-dead
 
-abbrev pub haveAt : Had → Frame → ℕ → Place
-haveAt sort F k = pick (Table.binds 3 (acts sort k)) (rightOf sort F) (leaveAt sort F k)
+abbrev pub haveAt : PartSort → Frame → ℕ → Place
+haveAt sort F k = pick (Table.binds 3 (Table.operator sort k)) (rightOf sort F) (leaveAt sort F k)
 
 -- operands, where they are allowed
-abbrev pub goText : Had → Frame → ℕ → Place
+abbrev pub goText : PartSort → Frame → ℕ → Place
 goText r F k = pick (eqb k Kind.OPEN) (p-text TEXT (texts r F)) (pick (eqb k Kind.DOLLAR) (p-text r F) (p-have r F))
 
-abbrev pub isFloats : Wanted → Bool
-isFloats (as-wanted w) = false
-isFloats floats = true
-
-abbrev pub allowsNumber : Wanted → ℕ → Bool
-allowsNumber (as-wanted w) k = Table.allows w k
-allowsNumber floats k = Table.allows want-number k
-
-abbrev pub goNumber : Wanted → Frame → ℕ → Place
+abbrev pub goNumber : Want → Frame → ℕ → Place
 goNumber w F k =
     pick (eqb k Kind.OPEN) (p-number w (numbers F))
     (pick (eqb k Kind.MINUS) (p-number w F)
     (pick (eqb k Kind.FLOAT) (p-have FLOATING F)
     (pick (eqb k Kind.AMPERSAND) (p-text FLOATING F)
-    (pick (isFloats w) p-dead (pick (eqb k Kind.AT) (p-text NUMBER F) (p-have NUMBER F))))))
+    (pick (eqb k Kind.AT) (p-text NUMBER F) (p-have NUMBER F)))))
 
 abbrev pub goAny : Spot → ℕ → Place
 goAny S k =
     pick (eqb k Kind.OPEN) (p-any (in-bracket true S))
     (pick (eqb k Kind.NOT) (p-any (strict S))
     (pick (eqb k TRUTH) (p-have TRUE (tests S))
-    (pick (Table.beginsString k) (goText TEXT (tests S) k) (goNumber EITHER (tests S) k))))
+    (pick (Table.beginsString k) (goText TEXT (tests S) k) (goNumber want-number (tests S) k))))
 
 abbrev pub overAt : ℕ → Place
 overAt zero = p-over
@@ -164,5 +133,5 @@ station (p-arrow d) k = pick (Table.allows want-string (flat k)) (goText TEXT (v
 station (p-block d) k = pick (eqb k Kind.SEMICOLON) (p-begin d) p-dead
 station (p-any S) k = pick (Table.allows want-any (flat k)) (goAny S k) p-dead
 station (p-text r F) k = pick (Table.allows want-string (flat k)) (goText r F k) p-dead
-station (p-number w F) k = pick (allowsNumber w (flat k)) (goNumber w F k) p-dead
+station (p-number w F) k = pick (Table.allows w (flat k)) (goNumber w F k) p-dead
 station (p-have sort F) k = haveAt sort F k

@@ -11,10 +11,10 @@ use Rattle.lexical.specs.Bounds.{chosen}
 use Rattle.lexical.specs.Literal.{decodedAt}
 use Rattle.lexical.specs.Word.{spells, word-true, word-false}
 use Rattle.lexical.specs.declared.token.Token.{Token}
-use Rattle.syntax.specs.Operator.{Unary, Binary, Relation, Sort, a-string, an-integer, a-test, unaryTakes, unaryGives, binaryTakes, binaryGives}
+use Rattle.syntax.specs.Operator.{Unary, Binary, Relation, Ordering, Sort, a-string, an-integer, a-float, a-test, unaryTakes, unaryGives, binaryTakes, binaryGives}
 use Rattle.syntax.specs.Operator as Operator
-use Rattle.syntax.specs.Code.{nameAt, numberAt}
-use Rattle.syntax.specs.Expr.{Expr, literal, name, number, truth, unary, binary, Program, none, also, Clause, plain, valued, nested}
+use Rattle.syntax.specs.Code.{nameAt, numberAt, decimalAt}
+use Rattle.syntax.specs.Expr.{Expr, literal, name, number, truth, decimal, unary, binary, Program, none, also, Clause, plain, valued, nested}
 use Rattle.conditions.specs.Table.{PartSort, sorted, word, want-any}
 use Rattle.conditions.specs.Table
 use Rattle.conditions.specs.Word.{wordSort}
@@ -22,8 +22,8 @@ use Rattle.conditions.specs.Operand.{settledTree}
 use borrow.Author.Tests.{eqb-true, ne-eqb}
 use Rattle.grammar.specs.Conditions.{Class, operand, power, product, conjunction, whole}
 use Rattle.grammar.specs.Spelled.{spelled}
-use Rattle.grammar.specs.Trees.{StrTree, literal-tree, name-tree, lookup-tree, text-bracket, text-one, join-tree, times-op, divide-op, remainder-op, plus-op, minus-op, IntTree, number-tree, negate-tree, convert-tree, number-bracket, number-one, power-tree, number-up, product-tree, number-term, sum-tree, CompareOp, equal-op, unequal-op, less-op, greater-op, at-most-op, at-least-op, TestTree, true-tree, false-tree, compare-numbers, compare-texts, match-tree, not-tree, test-bracket-tree, test-once, and-tree, test-up, or-tree, Says, a-program, a-clause, ProgramTree, no-clauses, one-more, plain-tree, valued-tree, nested-tree}
-use Rattle.grammar.specs.Working.Joints.{Joint, j-power, j-product, j-sum, j-join, j-numbers, j-texts, j-match, j-and, j-or, Tabled, tabled, joint-tabled}
+use Rattle.grammar.specs.Trees.{StrTree, literal-tree, name-tree, lookup-tree, text-bracket, text-one, join-tree, times-op, divide-op, remainder-op, plus-op, minus-op, IntTree, number-tree, negate-tree, convert-tree, number-bracket, number-one, power-tree, number-up, product-tree, number-term, sum-tree, float-times-op, float-divide-op, float-plus-op, float-minus-op, FloatTree, decimal-tree, float-negate-tree, to-float-tree, decimal-bracket, decimal-one, float-power-tree, decimal-up, float-product-tree, decimal-term, float-sum-tree, OrderOp, float-less-op, float-greater-op, float-at-most-op, float-at-least-op, CompareOp, equal-op, unequal-op, less-op, greater-op, at-most-op, at-least-op, TestTree, true-tree, false-tree, compare-numbers, compare-floats, compare-texts, match-tree, not-tree, test-bracket-tree, test-once, and-tree, test-up, or-tree, Says, a-program, a-clause, ProgramTree, no-clauses, one-more, plain-tree, valued-tree, nested-tree}
+use Rattle.grammar.specs.Working.Joints.{Joint, j-power, j-product, j-sum, j-float-power, j-float-product, j-float-sum, j-orders, j-join, j-numbers, j-texts, j-match, j-and, j-or, Tabled, tabled, joint-tabled}
 use Rattle.grammar.specs.Working.Automaton.{run, run-append}
 use Rattle.grammar.specs.Working.Marks.{at-kind}
 use Rattle.grammar.specs.Working.Pending.{Entry, pending, opening, reduce, reduce-same, Stops, stops-end, stops-open, stops-low, stops-up, stops-is, reduce-own}
@@ -71,8 +71,11 @@ levelOf k =
 abbrev taken : Sort → Value → Expr
 taken x v = settledTree x (v .0) (v .1)
 
+abbrev applied : Unary → Value → Value
+applied op v = (sorted (unaryGives op), unary op (taken (unaryTakes op) v))
+
 abbrev prefixed : Unary → Value → Value
-prefixed op v = (sorted (unaryGives op), unary op (taken (unaryTakes op) v))
+prefixed op v = applied (Table.prefixOf op (v .0)) v
 
 abbrev joined : Binary → Value → Value → Value
 joined op v w = (sorted (binaryGives op), binary op (taken (binaryTakes op) v) (taken (binaryTakes op) w))
@@ -115,9 +118,10 @@ module _ (s : List ℕ) where
       (pick (eqb (t .kind) Kind.LITERAL) (y-have C (sorted a-string, literal (decodedAt s (t .start))) P)
       (pick (eqb (t .kind) Kind.NAME) (y-have C (wordSort s want-any (t .start) (t .end), name (nameAt s (t .start))) P)
       (pick (eqb (t .kind) Kind.DIGITS) (y-have C (sorted an-integer, number (numberAt s (t .start))) P)
+      (pick (eqb (t .kind) Kind.FLOAT) (y-have C (sorted a-float, decimal (decimalAt s (t .start))) P)
       (pick (eqb (t .kind) Kind.OPEN-BRACE) (openBlock C)
       (pick (eqb (t .kind) Kind.CLOSE-BRACE) (closeBlock C)
-      (before C P (t .kind)))))))
+      (before C P (t .kind))))))))
   yard (y-have C v P) t =
       pick (eqb (t .kind) Kind.CLOSE) (closedIn C (reduce 0 v P))
       (pick (eqb (t .kind) Kind.ARROW) (arrowed C (reduce 0 v P))
@@ -134,6 +138,7 @@ module _ (s : List ℕ) where
     means-test : (e : Expr) → Means a-test e (sorted a-test, e)
     means-text : (e : Expr) → Means a-string e (sorted a-string, e)
     means-number : (e : Expr) → Means an-integer e (sorted an-integer, e)
+    means-float : (e : Expr) → Means a-float e (sorted a-float, e)
     means-true-name : (e : Expr) → Means a-string e (word true, e)
     means-false-name : (e : Expr) → Means a-string e (word false, e)
     means-true : (e : Expr) → Means a-test (truth true) (word true, e)
@@ -144,6 +149,7 @@ module _ (s : List ℕ) where
   means-settled _ _ _ (means-test e) = refl
   means-settled _ _ _ (means-text e) = refl
   means-settled _ _ _ (means-number e) = refl
+  means-settled _ _ _ (means-float e) = refl
   means-settled _ _ _ (means-true-name e) = refl
   means-settled _ _ _ (means-false-name e) = refl
   means-settled _ _ _ (means-true e) = refl
@@ -188,6 +194,9 @@ module _ (s : List ℕ) where
   from-number : (k : ℕ) (op : Binary) → Table.operator (sorted an-integer) k ≡ Table.between op → (e : Expr) (v : Value) → Means an-integer e v → Table.operator (v .0) k ≡ Table.between op
   from-number k op h _ _ (means-number e) = h
 
+  from-float : (k : ℕ) (op : Binary) → Table.operator (sorted a-float) k ≡ Table.between op → (e : Expr) (v : Value) → Means a-float e v → Table.operator (v .0) k ≡ Table.between op
+  from-float k op h _ _ (means-float e) = h
+
   from-test : (k : ℕ) (op : Binary) → Table.operator (sorted a-test) k ≡ Table.between op → Table.operator (word true) k ≡ Table.between op → Table.operator (word false) k ≡ Table.between op → (e : Expr) (v : Value) → Means a-test e v → Table.operator (v .0) k ≡ Table.between op
   from-test k op a b c _ _ (means-test e) = a
   from-test k op a b c _ _ (means-true e) = b
@@ -210,14 +219,27 @@ module _ (s : List ℕ) where
   texts-compared : (k : ℕ) (x : Relation) → CompareOp k x → Acting k (Operator.comparison Operator.integers x) 2 an-integer a-test → Acting k (Operator.comparison Operator.strings x) 2 a-string a-test
   texts-compared k x c (operator-is a b z l h) = operator-is a b z l (compare-text k x c)
 
+  floats-compared : (k : ℕ) (x : Ordering) → OrderOp k x → Acting k (Operator.float-order x) 2 a-float a-test
+  unfolding Table.operator Table.floatOperator Table.ordering levelOf
+  floats-compared _ _ float-less-op = operator-is refl refl refl refl (from-float Kind.LESS (Operator.float-order Operator.float-less) refl)
+  floats-compared _ _ float-greater-op = operator-is refl refl refl refl (from-float Kind.GREATER (Operator.float-order Operator.float-greater) refl)
+  floats-compared _ _ float-at-most-op = operator-is refl refl refl refl (from-float Kind.AT-MOST (Operator.float-order Operator.float-at-most) refl)
+  floats-compared _ _ float-at-least-op = operator-is refl refl refl refl (from-float Kind.AT-LEAST (Operator.float-order Operator.float-at-least) refl)
+
   joint-operator : (k : ℕ) (op : Binary) (l : ℕ) (o r : Sort) → Joint k op l o r → Acting k op l o r
-  unfolding Table.operator Table.numberOperator Table.textOperator Table.testOperator Table.comparison levelOf
+  unfolding Table.operator Table.numberOperator Table.floatOperator Table.ordering Table.textOperator Table.testOperator Table.comparison levelOf
   joint-operator _ _ _ _ _ j-power = operator-is refl refl refl refl (from-number Kind.POWER Operator.power refl)
   joint-operator _ _ _ _ _ (j-product _ _ times-op) = operator-is refl refl refl refl (from-number Kind.TIMES Operator.times refl)
   joint-operator _ _ _ _ _ (j-product _ _ divide-op) = operator-is refl refl refl refl (from-number Kind.DIVIDE Operator.over refl)
   joint-operator _ _ _ _ _ (j-product _ _ remainder-op) = operator-is refl refl refl refl (from-number Kind.REMAINDER Operator.remainder refl)
   joint-operator _ _ _ _ _ (j-sum _ _ plus-op) = operator-is refl refl refl refl (from-number Kind.PLUS Operator.plus refl)
   joint-operator _ _ _ _ _ (j-sum _ _ minus-op) = operator-is refl refl refl refl (from-number Kind.MINUS Operator.minus refl)
+  joint-operator _ _ _ _ _ j-float-power = operator-is refl refl refl refl (from-float Kind.POWER Operator.float-power refl)
+  joint-operator _ _ _ _ _ (j-float-product _ _ float-times-op) = operator-is refl refl refl refl (from-float Kind.TIMES Operator.float-times refl)
+  joint-operator _ _ _ _ _ (j-float-product _ _ float-divide-op) = operator-is refl refl refl refl (from-float Kind.DIVIDE Operator.float-over refl)
+  joint-operator _ _ _ _ _ (j-float-sum _ _ float-plus-op) = operator-is refl refl refl refl (from-float Kind.PLUS Operator.float-plus refl)
+  joint-operator _ _ _ _ _ (j-float-sum _ _ float-minus-op) = operator-is refl refl refl refl (from-float Kind.MINUS Operator.float-minus refl)
+  joint-operator _ _ _ _ _ (j-orders k x c) = floats-compared k x c
   joint-operator _ _ _ _ _ j-join = operator-is refl refl refl refl (from-text Kind.DOT Operator.join refl refl refl)
   joint-operator _ _ _ _ _ (j-numbers k x c) = numbers-compared k x c
   joint-operator _ _ _ _ _ (j-texts k x c) = texts-compared k x c (numbers-compared k x c)
@@ -275,27 +297,39 @@ module _ (s : List ℕ) where
     want-digits z =
         rw (at-kind t Kind.DIGITS Kind.OPEN false z refl, at-kind t Kind.DIGITS Kind.LITERAL false z refl, at-kind t Kind.DIGITS Kind.NAME false z refl, at-kind t Kind.DIGITS Kind.DIGITS true z refl) refl
 
+    want-float : t .kind ≡ Kind.FLOAT → yard (y-want C P) t ≡ y-have C (sorted a-float, decimal (decimalAt s (t .start))) P
+    unfolding yard
+    want-float z =
+        rw (at-kind t Kind.FLOAT Kind.OPEN false z refl, at-kind t Kind.FLOAT Kind.LITERAL false z refl, at-kind t Kind.FLOAT Kind.NAME false z refl, at-kind t Kind.FLOAT Kind.DIGITS false z refl, at-kind t Kind.FLOAT Kind.FLOAT true z refl)
+        refl
+
     -- no operand begins with the mark and none is one
-    module _ (k : ℕ) (z : t .kind ≡ k) (a : eqb k Kind.OPEN ≡ false) (b : eqb k Kind.LITERAL ≡ false) (c : eqb k Kind.NAME ≡ false) (d : eqb k Kind.DIGITS ≡ false) where
+    module _ (k : ℕ) (z : t .kind ≡ k) (a : eqb k Kind.OPEN ≡ false) (b : eqb k Kind.LITERAL ≡ false) (c : eqb k Kind.NAME ≡ false) (d : eqb k Kind.DIGITS ≡ false) (e : eqb k Kind.FLOAT ≡ false) where
       want-mark : yard (y-want C P) t
           ≡ pick (eqb k Kind.OPEN-BRACE) (openBlock C)
           (pick (eqb k Kind.CLOSE-BRACE) (closeBlock C) (before C P k))
       unfolding yard
       want-mark =
-          rw (at-kind t k Kind.OPEN false z a, at-kind t k Kind.LITERAL false z b, at-kind t k Kind.NAME false z c, at-kind t k Kind.DIGITS false z d)
+          rw (at-kind t k Kind.OPEN false z a, at-kind t k Kind.LITERAL false z b, at-kind t k Kind.NAME false z c, at-kind t k Kind.DIGITS false z d, at-kind t k Kind.FLOAT false z e)
           (ap (λ (x : ℕ). pick (eqb x Kind.OPEN-BRACE) (openBlock C) (pick (eqb x Kind.CLOSE-BRACE) (closeBlock C) (before C P x))) z)
 
-  -- a prefix operator of level m
-  module _ (C : Context) (P : Waiting) (t : Token) (us : List Token) (m : ℕ) (op : Unary) (o r : Sort) (f : Expr) (takes : unaryTakes op ≡ o) (gives : unaryGives op ≡ r)
-      (w : Means r (unary op f) (sorted r, unary op f)) (led : yard (y-want C P) t ≡ y-want C (pending m (prefixed op) ∷ P)) where
-    made : (v : Value) → Means o f v → prefixed op v ≡ (sorted r, unary op f)
-    made v y = rw (takes, gives) (ap (λ (a : Expr). (sorted r, unary op a)) (means-settled o f v y))
+  -- a prefix operator of level m, that is op₁ of what follows it
+  module _ (C : Context) (P : Waiting) (t : Token) (us : List Token) (m : ℕ) (op op₁ : Unary) (o r : Sort) (f : Expr) (resolved : (v : Value) → Means o f v → Table.prefixOf op (v .0) ≡ op₁)
+      (takes : unaryTakes op₁ ≡ o) (gives : unaryGives op₁ ≡ r) (w : Means r (unary op₁ f) (sorted r, unary op₁ f)) (led : yard (y-want C P) t ≡ y-want C (pending m (prefixed op) ∷ P)) where
+    made : (v : Value) → Means o f v → prefixed op v ≡ (sorted r, unary op₁ f)
+    made v y = ap (λ (x : Unary). applied x v) (resolved v y) ∙ (rw (takes, gives) (ap (λ (a : Expr). (sorted r, unary op₁ a)) (means-settled o f v y)))
 
-    behind : (q : Yard) → Sim m C o f (pending m (prefixed op) ∷ P) q → Sim m C r (unary op f) P q
-    behind _ (sim w₁ Q₁ v y i) = sim w₁ Q₁ (sorted r, unary op f) w (i ∙ reduce-own m (prefixed op) v P ∙ ap (λ (a : Value). reduce m a P) (made v y))
+    behind : (q : Yard) → Sim m C o f (pending m (prefixed op) ∷ P) q → Sim m C r (unary op₁ f) P q
+    behind _ (sim w₁ Q₁ v y i) = sim w₁ Q₁ (sorted r, unary op₁ f) w (i ∙ reduce-own m (prefixed op) v P ∙ ap (λ (a : Value). reduce m a P) (made v y))
 
-    one : Sim m C o f (pending m (prefixed op) ∷ P) (runs (y-want C (pending m (prefixed op) ∷ P)) us) → Sim m C r (unary op f) P (runs (y-want C P) (t ∷ us))
-    one h = sim-at m C r (unary op f) P (runs (y-want C P) (t ∷ us)) (runs (y-want C (pending m (prefixed op) ∷ P)) us) (ap (λ (y : Yard). runs y us) led) (behind (runs (y-want C (pending m (prefixed op) ∷ P)) us) h)
+    one : Sim m C o f (pending m (prefixed op) ∷ P) (runs (y-want C (pending m (prefixed op) ∷ P)) us) → Sim m C r (unary op₁ f) P (runs (y-want C P) (t ∷ us))
+    one h = sim-at m C r (unary op₁ f) P (runs (y-want C P) (t ∷ us)) (runs (y-want C (pending m (prefixed op) ∷ P)) us) (ap (λ (y : Yard). runs y us) led) (behind (runs (y-want C (pending m (prefixed op) ∷ P)) us) h)
+
+  minus-number : (f : Expr) (v : Value) → Means an-integer f v → Table.minusOf (v .0) ≡ Operator.negate
+  minus-number _ _ (means-number e) = refl
+
+  minus-float : (f : Expr) (v : Value) → Means a-float f v → Table.minusOf (v .0) ≡ Operator.float-negate
+  minus-float _ _ (means-float e) = refl
 
   -- brackets
   have-close : (C : Context) (v₁ : Value) (P₁ : Waiting) (u : Token) → u .kind ≡ Kind.CLOSE → yard (y-have C v₁ P₁) u ≡ closedIn C (reduce 0 v₁ P₁)
@@ -354,7 +388,7 @@ module _ (s : List ℕ) where
   str-sim _ _ _ (literal-tree t z) C P h = leaf C a-string _ P t _ (want-literal C P t z) (means-text _)
   str-sim _ _ _ (name-tree t z) C P h = leaf C a-string _ P t _ (want-name C P t z) (name-means t _)
   str-sim _ _ _ (lookup-tree t ts e z d) C P h =
-      one C P t ts 6 Operator.lookup a-string a-string e refl refl (means-text _) (want-mark C P t Kind.DOLLAR z refl refl refl refl) (str-sim operand ts e d C (pending 6 (prefixed Operator.lookup) ∷ P) text-any)
+      one C P t ts 6 Operator.lookup Operator.lookup a-string a-string e (λ v x. refl) refl refl (means-text _) (want-mark C P t Kind.DOLLAR z refl refl refl refl refl) (str-sim operand ts e d C (pending 6 (prefixed Operator.lookup) ∷ P) text-any)
   str-sim _ _ _ (text-bracket t u ts e y z d) C P h = bracketed 3 a-string C P e t u ts y z (str-sim whole ts e d C (opening ∷ P) (text-room (stops-open P)))
   str-sim _ _ _ (text-one ts e d) C P h = sim-down 3 6 C a-string e P (runs (y-want C P) ts) (omega arith) (str-sim operand ts e d C P text-any)
   str-sim _ _ _ (join-tree t ts us e f z d g) C P (text-room st) =
@@ -380,9 +414,9 @@ module _ (s : List ℕ) where
   unfolding Table.prefixOperator
   int-sim _ _ _ (number-tree t z) C P h = leaf C an-integer _ P t _ (want-digits C P t z) (means-number _)
   int-sim _ _ _ (negate-tree t ts e z d) C P h =
-      one C P t ts 6 Operator.negate an-integer an-integer e refl refl (means-number _) (want-mark C P t Kind.MINUS z refl refl refl refl) (int-sim operand ts e d C (pending 6 (prefixed Operator.negate) ∷ P) number-any)
+      one C P t ts 6 Operator.negate Operator.negate an-integer an-integer e (minus-number e) refl refl (means-number _) (want-mark C P t Kind.MINUS z refl refl refl refl refl) (int-sim operand ts e d C (pending 6 (prefixed Operator.negate) ∷ P) number-any)
   int-sim _ _ _ (convert-tree t ts e z d) C P h =
-      one C P t ts 6 Operator.convert a-string an-integer e refl refl (means-number _) (want-mark C P t Kind.AT z refl refl refl refl) (str-sim operand ts e d C (pending 6 (prefixed Operator.convert) ∷ P) text-any)
+      one C P t ts 6 Operator.convert Operator.convert a-string an-integer e (λ v x. refl) refl refl (means-number _) (want-mark C P t Kind.AT z refl refl refl refl refl) (str-sim operand ts e d C (pending 6 (prefixed Operator.convert) ∷ P) text-any)
   int-sim _ _ _ (number-bracket t u ts e y z d) C P h = bracketed 3 an-integer C P e t u ts y z (int-sim whole ts e d C (opening ∷ P) (sum-room (stops-open P)))
   int-sim _ _ _ (number-one ts e d) C P h = sim-down 5 6 C an-integer e P (runs (y-want C P) ts) (omega arith) (int-sim operand ts e d C P number-any)
   int-sim _ _ _ (power-tree t ts us e f z d g) C P (power-room st) =
@@ -401,6 +435,33 @@ module _ (s : List ℕ) where
       sim-at 3 C an-integer _ P _ _ (run-append yard (y-want C P) ts (t ∷ us))
       (two (t .kind) o 3 an-integer an-integer C P e f t us 4 (runs (y-want C P) ts) (j-sum (t .kind) o k) (means-number _) refl st (omega arith) (int-sim whole ts e d C P (sum-room st))
       (λ Q sq. int-sim product us f g C Q (product-room sq)))
+
+  -- floats
+  float-sim : (c : Class) (ts : List Token) (e : Expr) → FloatTree s c ts e → (C : Context) (P : Waiting) → NumberRoom P c → Sim (numberLevel c) C a-float e P (runs (y-want C P) ts)
+  unfolding Table.prefixOperator
+  float-sim _ _ _ (decimal-tree t z) C P h = leaf C a-float _ P t _ (want-float C P t z) (means-float _)
+  float-sim _ _ _ (float-negate-tree t ts e z d) C P h =
+      one C P t ts 6 Operator.negate Operator.float-negate a-float a-float e (minus-float e) refl refl (means-float _) (want-mark C P t Kind.MINUS z refl refl refl refl refl) (float-sim operand ts e d C (pending 6 (prefixed Operator.negate) ∷ P) number-any)
+  float-sim _ _ _ (to-float-tree t ts e z d) C P h =
+      one C P t ts 6 Operator.to-float Operator.to-float a-string a-float e (λ v x. refl) refl refl (means-float _) (want-mark C P t Kind.AMPERSAND z refl refl refl refl refl) (str-sim operand ts e d C (pending 6 (prefixed Operator.to-float) ∷ P) text-any)
+  float-sim _ _ _ (decimal-bracket t u ts e y z d) C P h = bracketed 3 a-float C P e t u ts y z (float-sim whole ts e d C (opening ∷ P) (sum-room (stops-open P)))
+  float-sim _ _ _ (decimal-one ts e d) C P h = sim-down 5 6 C a-float e P (runs (y-want C P) ts) (omega arith) (float-sim operand ts e d C P number-any)
+  float-sim _ _ _ (float-power-tree t ts us e f z d g) C P (power-room st) =
+      sim-at 5 C a-float _ P _ _ (run-append yard (y-want C P) ts (t ∷ us))
+      (two Kind.POWER Operator.float-power 5 a-float a-float C P e f t us 6 (runs (y-want C P) ts) j-float-power (means-float _) z st (omega arith) (float-sim power ts e d C P (power-room st))
+      (λ Q sq. float-sim operand us f g C Q number-any))
+  float-sim _ _ _ (decimal-up ts e d) C P (product-room st) =
+      sim-down 4 5 C a-float e P (runs (y-want C P) ts) (omega arith) (float-sim power ts e d C P (power-room (stops-up 4 5 P (omega arith) st)))
+  float-sim _ _ _ (float-product-tree t ts us e f o k d g) C P (product-room st) =
+      sim-at 4 C a-float _ P _ _ (run-append yard (y-want C P) ts (t ∷ us))
+      (two (t .kind) o 4 a-float a-float C P e f t us 5 (runs (y-want C P) ts) (j-float-product (t .kind) o k) (means-float _) refl st (omega arith) (float-sim product ts e d C P (product-room st))
+      (λ Q sq. float-sim power us f g C Q (power-room sq)))
+  float-sim _ _ _ (decimal-term ts e d) C P (sum-room st) =
+      sim-down 3 4 C a-float e P (runs (y-want C P) ts) (omega arith) (float-sim product ts e d C P (product-room (stops-up 3 4 P (omega arith) st)))
+  float-sim _ _ _ (float-sum-tree t ts us e f o k d g) C P (sum-room st) =
+      sim-at 3 C a-float _ P _ _ (run-append yard (y-want C P) ts (t ∷ us))
+      (two (t .kind) o 3 a-float a-float C P e f t us 4 (runs (y-want C P) ts) (j-float-sum (t .kind) o k) (means-float _) refl st (omega arith) (float-sim whole ts e d C P (sum-room st))
+      (λ Q sq. float-sim product us f g C Q (product-room sq)))
 
   -- tests: "!" waits at the level of "&&"
   abbrev testLevel : Class → ℕ
@@ -424,6 +485,11 @@ module _ (s : List ℕ) where
       (sim-down 1 2 C a-test _ P _ (omega arith)
       (two (t .kind) (Operator.comparison Operator.integers o) 2 an-integer a-test C P e f t us 3 (runs (y-want C P) ts) (j-numbers (t .kind) o k) (means-test _) refl st (omega arith)
       (sim-down 2 3 C an-integer e P _ (omega arith) (int-sim whole ts e d C P (sum-room (stops-up 2 3 P (omega arith) st)))) (λ Q sq. int-sim whole us f g C Q (sum-room sq))))
+  test-sim _ _ _ (compare-floats t ts us e f o k d g) C P (test-room st) =
+      sim-at 1 C a-test _ P _ _ (run-append yard (y-want C P) ts (t ∷ us))
+      (sim-down 1 2 C a-test _ P _ (omega arith)
+      (two (t .kind) (Operator.float-order o) 2 a-float a-test C P e f t us 3 (runs (y-want C P) ts) (j-orders (t .kind) o k) (means-test _) refl st (omega arith)
+      (sim-down 2 3 C a-float e P _ (omega arith) (float-sim whole ts e d C P (sum-room (stops-up 2 3 P (omega arith) st)))) (λ Q sq. float-sim whole us f g C Q (sum-room sq))))
   test-sim _ _ _ (compare-texts t ts us e f o k d g) C P (test-room st) =
       sim-at 1 C a-test _ P _ _ (run-append yard (y-want C P) ts (t ∷ us))
       (sim-down 1 2 C a-test _ P _ (omega arith)
@@ -435,7 +501,7 @@ module _ (s : List ℕ) where
       (two Kind.MATCHES Operator.matches 2 a-string a-test C P e f t us 3 (runs (y-want C P) ts) j-match (means-test _) k st (omega arith)
       (sim-down 2 3 C a-string e P _ (omega arith) (str-sim whole ts e d C P (text-room (stops-up 2 3 P (omega arith) st)))) (λ Q sq. str-sim whole us f g C Q (text-room sq))))
   test-sim _ _ _ (not-tree t ts e z d) C P h =
-      one C P t ts 1 Operator.opposite a-test a-test e refl refl (means-test _) (want-mark C P t Kind.NOT z refl refl refl refl)
+      one C P t ts 1 Operator.opposite Operator.opposite a-test a-test e (λ v x. refl) refl refl (means-test _) (want-mark C P t Kind.NOT z refl refl refl refl refl)
       (test-sim operand ts e d C (pending 1 (prefixed Operator.opposite) ∷ P) (test-room (stops-low 1 (prefixed Operator.opposite) P (omega arith))))
   test-sim _ _ _ (test-bracket-tree t u ts e y z d) C P h =
       sim-down 1 6 C a-test e P _ (omega arith) (bracketed 0 a-test C P e t u ts y z (test-sim whole ts e d C (opening ∷ P) (or-room (stops-open P))))
@@ -501,11 +567,11 @@ module _ (s : List ℕ) where
   program-sim _ _ (nested-tree a u v ts us e p₁ x y w d g) =
       λ p B t z. ap (runs (y-want (context role-test p B) [])) (append-assoc ts (a ∷ u ∷ (us ++ v ∷ [])) (t ∷ []))
       ∙ tested p B ts (u ∷ ((us ++ v ∷ []) ++ t ∷ [])) e a (y-want (context (role-value e) p B) []) d (λ q h. have-arrow p B e a q x h)
-      ∙ ap (λ (q : Yard). runs q ((us ++ v ∷ []) ++ t ∷ [])) (want-mark (context (role-value e) p B) [] u Kind.OPEN-BRACE y refl refl refl refl)
+      ∙ ap (λ (q : Yard). runs q ((us ++ v ∷ []) ++ t ∷ [])) (want-mark (context (role-value e) p B) [] u Kind.OPEN-BRACE y refl refl refl refl refl)
       ∙ run-append yard (y-want (context role-test none (block p e B)) []) (us ++ v ∷ []) (t ∷ [])
       ∙ ap (λ (q : Yard). yard q t)
       (run-append yard (y-want (context role-test none (block p e B)) []) us (v ∷ []) ∙ ap (λ (q : Yard). yard q v) (program-sim us (a-program p₁) g (block p e B))
-      ∙ want-mark (context role-test p₁ (block p e B)) [] v Kind.CLOSE-BRACE w refl refl refl refl)
+      ∙ want-mark (context role-test p₁ (block p e B)) [] v Kind.CLOSE-BRACE w refl refl refl refl refl)
       ∙ closed-ends (context role-test p B) (nested e p₁) t
 
   programOf : Yard → Program

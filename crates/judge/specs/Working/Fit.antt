@@ -14,7 +14,7 @@ use Rattle.lexical.specs.Bounds.{chosen}
 use Rattle.lexical.specs.Literal.{decodedAt}
 use Rattle.lexical.specs.Number as Number
 use Rattle.lexical.specs.declared.token.Token.{Token}
-use Rattle.syntax.specs.Operator.{Unary, Binary, Sort, a-string, an-integer, a-test, unaryTakes, unaryGives, binaryTakes, binaryGives}
+use Rattle.syntax.specs.Operator.{Unary, Binary, Sort, a-string, an-integer, a-float, a-test, unaryTakes, unaryGives, binaryTakes, binaryGives}
 use Rattle.syntax.specs.Expr.{Expr, name, truth, unary, binary}
 use Rattle.syntax.specs.Code.{nameAt}
 use Rattle.syntax.specs.Parsed.{Parsed, ok, aside, andThen}
@@ -121,6 +121,7 @@ unfolding settledTree need
 settled-need wanted (sorted x) e n h = h
 settled-need a-string (word b) e n h = h
 settled-need an-integer (word b) e n h = omega (arith, h, need-some e)
+settled-need a-float (word b) e n h = omega (arith, h, need-some e)
 settled-need a-test (word b) e n h = omega (arith, h, need-some e)
 
 pub settled-room : (wanted : Sort) (x : PartSort) (e : Expr) (r : ℕ) → room e ≤ r → room (settledTree wanted x e) ≤ r
@@ -128,6 +129,7 @@ unfolding settledTree room
 settled-room wanted (sorted x) e r h = h
 settled-room a-string (word b) e r h = h
 settled-room an-integer (word b) e r h = omega arith
+settled-room a-float (word b) e r h = omega arith
 settled-room a-test (word b) e r h = omega arith
 
 -- operators
@@ -181,17 +183,18 @@ module _ (s : List ℕ) where
         chosen (Holds (Fits n r)) (leb Number.LIMIT (Number.numberAt s (t .start) (t .end))) _ _ (λ h. holds-aside _ _)
         (λ h. holds-ok _ _ (fit (sorted an-integer) _ some (omega arith) (bytes-plain an-integer _ refl)))
 
-    float-fits : (row : ℕ) → Holds (Fits n r) (readFloat row t)
-    unfolding readFloat
-    float-fits row =
-        chosen (Holds (Fits n r)) (eqb (t .kind) Kind.AMPERSAND) _ _ (λ h. chosen (Holds (Fits n r)) (leb 16 row) _ _ (λ k. holds-aside _ _) (λ k. holds-aside _ _)) (λ h. holds-aside _ _)
+    float-fits : Holds (Fits n r) (readFloat s t)
+    unfolding readFloat need room span
+    float-fits =
+        chosen (Holds (Fits n r)) (ltb 19 (t .end - t .start)) _ _ (λ h. holds-aside _ _)
+        (λ h. holds-ok _ _ (fit (sorted a-float) _ some (omega arith) (bytes-plain a-float _ refl)))
 
-    leaf-fits : (want : Want) (row : ℕ) → Holds (Fits n r) (readLeaf s want row t)
+    leaf-fits : (want : Want) → Holds (Fits n r) (readLeaf s want t)
     unfolding readLeaf
-    leaf-fits want row =
+    leaf-fits want =
         chosen (Holds (Fits n r)) (eqb (t .kind) Kind.LITERAL) _ _ (λ h. literal-fits)
         (λ h. chosen (Holds (Fits n r)) (eqb (t .kind) Kind.NAME) _ _ (λ k. name-fits want)
-        (λ k. chosen (Holds (Fits n r)) (eqb (t .kind) Kind.DIGITS) _ _ (λ l. digits-fit) (λ l. float-fits row)))
+        (λ k. chosen (Holds (Fits n r)) (eqb (t .kind) Kind.DIGITS) _ _ (λ l. digits-fit) (λ l. float-fits)))
 
   abbrev At : ℕ → ℕ → Parsed Part → Type 0
   At level nest = Holds (Fits (deep level nest) (wide level nest))
@@ -209,8 +212,8 @@ module _ (s : List ℕ) where
     prefixed-fits op want row nest t few h =
         chosen (At (inner want) nest) (leb 16 row) _ _ (λ k. holds-aside _ _)
         (λ k. on-holds (deep (Table.operandLevel op) nest) (wide (Table.operandLevel op) nest) (Fits (deep (inner want) nest) (wide (inner want) nest))
-        (readExpression d s (Table.operandLevel op) (Table.operandWant op want) (row + 1) nest (nextAt s (t .end))) (λ x e n. applied (unary op) (unaryTakes op) (unaryGives op) x e n)
-        (λ x e n i j p. unary-fits (deep (inner want) nest) (wide (inner want) nest) op x e n (omega (arith, i, deep-more nest (inner want) (Table.operandLevel op) h))
+        (readExpression d s (Table.operandLevel op) (Table.operandWant op want) (row + 1) nest (nextAt s (t .end))) (λ x e n. applied (unary (Table.prefixOf op x)) (unaryTakes (Table.prefixOf op x)) (unaryGives (Table.prefixOf op x)) x e n)
+        (λ x e n i j p. unary-fits (deep (inner want) nest) (wide (inner want) nest) (Table.prefixOf op x) x e n (omega (arith, i, deep-more nest (inner want) (Table.operandLevel op) h))
         (omega (arith, j, wide-more nest (inner want) (Table.operandLevel op) h)) (wide-least nest (inner want) few))
         (expression (Table.operandLevel op) (Table.operandWant op want) (row + 1) nest (nextAt s (t .end)) few (operand-level-most op) (operand-wanted op want)))
 
@@ -281,7 +284,7 @@ module _ (s : List ℕ) where
       chosen (At (inner want) nest) (Table.allows want (t .kind)) _ _
       (λ h. prefix-cases (At (inner want) nest) (Table.prefixOperator (t .kind)) _ _
       (λ k. chosen (At (inner want) nest) (eqb (t .kind) Kind.OPEN) _ _ (λ l. bracketed want nest t)
-      (λ l. leaf-fits (deep (inner want) nest) (wide (inner want) nest) (omega arith) (wide-least nest (inner want) few) t want row))
+      (λ l. leaf-fits (deep (inner want) nest) (wide (inner want) nest) (omega arith) (wide-least nest (inner want) few) t want))
       (λ op k. prefixed op want row nest t few (inner-prefix want (t .kind) op h k)))
       (λ h. holds-aside _ _)
 

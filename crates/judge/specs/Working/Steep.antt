@@ -7,7 +7,7 @@ use lib.Dec.{eqb}
 use Rattle.text.specs.Choice.{clash}
 use Rattle.lexical.specs.Kind
 use Rattle.lexical.specs.Bounds.{chosen}
-use Rattle.syntax.specs.Operator.{Unary, Binary, Sort, a-string, an-integer, a-test, binaryTakes, unaryGives, binaryGives, strings}
+use Rattle.syntax.specs.Operator.{Unary, Binary, Sort, a-string, an-integer, a-float, a-test, binaryTakes, unaryGives, binaryGives, strings}
 use Rattle.syntax.specs.Expr.{Expr, unary, binary}
 use Rattle.machine.specs.Need.{spanOf, span}
 use Rattle.machine.specs.Theorems.Bounds.{span-least}
@@ -23,11 +23,12 @@ lift level = min 2 (4 - level)
 abbrev Steep : Binary → Type 0
 Steep op = 1 + lift (Table.levelOf op + 1) ≤ lift (Table.levelOf op)
 
--- "Both sides of a comparison have one type": an operator on strings, on integers or on tests
+-- "Both sides of a comparison have one type": an operator on strings, on integers, on floats or on tests
 data Operates : PartSort → Infix → Type 0 where
   by-none : (sort : PartSort) → Operates sort no-infix
   by-text : (sort : PartSort) (op : Binary) → Steep op → Operates sort (between op)
   by-number : (i : Infix) → Operates (sorted an-integer) i
+  by-float : (i : Infix) → Operates (sorted a-float) i
   by-test : (op : Binary) → binaryTakes op ≡ a-test → Operates (sorted a-test) (between op)
   by-word : (b : Bool) (op : Binary) → binaryTakes op ≡ a-test → Operates (word b) (between op)
 
@@ -57,6 +58,7 @@ operates : (sort : PartSort) (k : ℕ) → Operates sort (Table.operator sort k)
 unfolding Table.operator
 operates (sorted a-string) k = text-operates (sorted a-string) k
 operates (sorted an-integer) k = by-number _
+operates (sorted a-float) k = by-float _
 operates (sorted a-test) k = test-operates (sorted a-test) k no-infix by-test (by-none _)
 operates (word b) k = test-operates (word b) k (Table.textOperator k) (by-word b) (text-operates (word b) k)
 
@@ -68,6 +70,9 @@ pub data Plain : PartSort → Expr → Type 0 where
 
 integer-none : (e : Expr) → Plain (sorted an-integer) e → span e ≡ 0
 integer-none _ (bytes-plain _ e h) = h
+
+float-none : (e : Expr) → Plain (sorted a-float) e → span e ≡ 0
+float-none _ (bytes-plain _ e h) = h
 
 test-none : (e : Expr) → Plain (sorted a-test) e → span e ≡ 0
 test-none _ (bytes-plain _ e h) = h
@@ -92,6 +97,7 @@ steep sort k e p op i = by sort p op (rw i at q)
         → span (settledTree (binaryTakes op) sort e) + 4096 * lift (Table.levelOf op + 1) ≤ 4096 * lift (Table.levelOf op)
     by sort p op (by-text _ _ h) = omega (arith, h, span-least (settledTree (binaryTakes op) sort e))
     by _ p op (by-number _) = omega (arith, settled-none (binaryTakes op) an-integer e (integer-none e p))
+    by _ p op (by-float _) = omega (arith, settled-none (binaryTakes op) a-float e (float-none e p))
     by _ p op (by-test _ h) = omega (arith, settled-none (binaryTakes op) a-test e (test-none e p))
     by _ p op (by-word b _ h) = omega (arith, word-none (binaryTakes op) b e h)
 
@@ -100,6 +106,7 @@ pub settled-test : (x : PartSort) (e : Expr) → Table.fits a-test x ≡ true �
 unfolding Table.fits
 settled-test (sorted a-string) e h p = clash h refl
 settled-test (sorted an-integer) e h p = clash h refl
+settled-test (sorted a-float) e h p = clash h refl
 settled-test (sorted a-test) e h p = settled-none a-test a-test e (test-none e p)
 settled-test (word b) e h p = word-none a-test b e refl
 
@@ -107,6 +114,7 @@ settled-test (word b) e h p = word-none a-test b e refl
 sort-plain : (x : Sort) (e : Expr) → span e ≡ spanOf x → Plain (sorted x) e
 sort-plain a-string e h = string-plain e
 sort-plain an-integer e h = bytes-plain an-integer e h
+sort-plain a-float e h = bytes-plain a-float e h
 sort-plain a-test e h = bytes-plain a-test e h
 
 pub unary-plain : (op : Unary) (e : Expr) → Plain (sorted (unaryGives op)) (unary op e)

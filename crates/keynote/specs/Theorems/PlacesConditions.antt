@@ -47,13 +47,13 @@ module _ (s : List ℕ) where
   nowhere : {A : Type 0} (t : Token) → In s t → Placed s 0 {A = A} (unexpected t)
   nowhere t i = at-token (refusal (t .kind)) t i zero-le (refusal-small (t .kind))
 
-  leaf-placed : (want : Want) (row : ℕ) (t : Token) → In s t → Placed s 0 (readLeaf s want row t)
+  leaf-placed : (want : Want) (t : Token) → In s t → Placed s 0 (readLeaf s want t)
   unfolding readLeaf readLiteral readName readDigits readFloat
-  leaf-placed want row t i =
+  leaf-placed want t i =
       placed-pick (eqb (t .kind) Kind.LITERAL) (placed-pick (ltb 2048 (length (decodedAt s (t .start)))) (at-token 7 t i zero-le (omega arith)) (p-ok _ _ (next-in (t .end))))
       (placed-pick (eqb (t .kind) Kind.NAME) (p-ok _ _ (next-in (t .end)))
       (placed-pick (eqb (t .kind) Kind.DIGITS) (placed-pick (leb Number.LIMIT (Number.numberAt s (t .start) (t .end))) (at-token 5 t i zero-le (omega arith)) (p-ok _ _ (next-in (t .end))))
-      (placed-pick (eqb (t .kind) Kind.AMPERSAND) (placed-pick (leb 16 row) (at-token 7 t i zero-le (omega arith)) (at-token 8 t i zero-le (omega arith))) (at-token 8 t i zero-le (omega arith)))))
+      (placed-pick (ltb 19 (t .end - t .start)) (at-token 7 t i zero-le (omega arith)) (p-ok _ _ (next-in (t .end))))))
 
   applied-placed : (f : Expr → Expr) (takes gives : Sort) (sort : PartSort) (e : Expr) (t : Token) → In s t → Placed s 0 (applied f takes gives sort e t)
   unfolding applied
@@ -90,7 +90,7 @@ module _ (s : List ℕ) where
     operand-placed (suc d) want row nest t i =
         placed-pick (Table.allows want (t .kind))
         (prefix-cases (Placed s 0) (Table.prefixOperator (t .kind)) _ _
-        (λ z. placed-pick (eqb (t .kind) Kind.OPEN) (bracketed-placed d want nest t i) (leaf-placed want row t i))
+        (λ z. placed-pick (eqb (t .kind) Kind.OPEN) (bracketed-placed d want nest t i) (leaf-placed want t i))
         (λ op z. prefixed-placed d op want row nest t i))
         (nowhere t i)
 
@@ -98,7 +98,7 @@ module _ (s : List ℕ) where
     prefixed-placed zero op want row nest t i = zero-at t i
     prefixed-placed (suc d) op want row nest t i =
         placed-pick (leb 16 row) (at-token 7 t i zero-le (omega arith))
-        (part-placed _ (expression-placed d (Table.operandLevel op) (Table.operandWant op want) (row + 1) nest (nextAt s (t .end)) (next-in (t .end))) (λ sort e n k. applied-placed (unary op) (unaryTakes op) (unaryGives op) sort e n k))
+        (part-placed _ (expression-placed d (Table.operandLevel op) (Table.operandWant op want) (row + 1) nest (nextAt s (t .end)) (next-in (t .end))) (λ sort e n k. applied-placed (unary (Table.prefixOf op sort)) (unaryTakes (Table.prefixOf op sort)) (unaryGives (Table.prefixOf op sort)) sort e n k))
 
     bracketed-placed : (d : ℕ) (want : Want) (nest : ℕ) (t : Token) → In s t → Placed s 0 (readBracketed d s want nest t)
     bracketed-placed zero want nest t i = zero-at t i

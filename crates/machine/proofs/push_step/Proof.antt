@@ -1,4 +1,4 @@
-use Rattle.machine.specs.Working.Running.{push-literal, push-name, push-number, push-test}
+use Rattle.machine.specs.Working.Running.{push-literal, push-name, push-number, push-decimal, push-test}
 use borrow.Author.Needs.{needs}
 use Rattle.machine.proofs.push_step.Statement.{statement}
 use Rattle.machine.proofs.push_step.Tie as tie
@@ -6,6 +6,7 @@ use Rattle.machine.proofs.push_step.Reads as reads
 use Rattle.machine.proofs.push_step.Lts as lts
 use Rattle.expression.proofs.integer.in_range.Reads as in-range-reads
 use Rattle.expression.proofs.name.lookup.Reads as lookup-reads
+use Rattle.machine.proofs.decimal_at.Reads as decimal-at-reads
 use Rattle.machine.proofs.is_true.Reads as is-true-reads
 use Rattle.machine.proofs.push_literal.Reads as push-literal-reads
 use Rattle.machine.proofs.push_text.Reads as push-text-reads
@@ -58,8 +59,8 @@ same-length-5 c = search needs
 returns-3 : tie.Need-returns-3
 returns-3 c = search push-number
 
-is-true-requires : tie.Need-is-true-requires
-is-true-requires c κs = search needs
+decimal-at-requires : tie.Need-decimal-at-requires
+decimal-at-requires c κs = search needs
 
 put-requires-2 : tie.Need-put-requires-2
 put-requires-2 c κs = search needs
@@ -68,7 +69,19 @@ same-length-6 : tie.Need-same-length-6
 same-length-6 c = search needs
 
 returns-4 : tie.Need-returns-4
-returns-4 c = search push-test
+returns-4 c = search push-decimal
+
+is-true-requires : tie.Need-is-true-requires
+is-true-requires c κs = search needs
+
+put-requires-3 : tie.Need-put-requires-3
+put-requires-3 c κs = search needs
+
+same-length-7 : tie.Need-same-length-7
+same-length-7 c = search needs
+
+returns-5 : tie.Need-returns-5
+returns-5 c = search push-test
 
 pub push-step-spec : {M : Type 1} → statement M
 push-step-spec =
@@ -89,7 +102,11 @@ push-step-spec =
     put-requires
     same-length-5
     returns-3
-    is-true-requires
+    decimal-at-requires
     put-requires-2
     same-length-6
-    returns-4)
+    returns-4
+    is-true-requires
+    put-requires-3
+    same-length-7
+    returns-5)

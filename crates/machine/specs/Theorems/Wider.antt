@@ -55,14 +55,14 @@ module _ (depth depth′ : ℕ) (d : depth ≤ depth′) where
   raised-kept : (vals : List (List ℕ)) (a b : State) → Kept a b → Kept (raised depth vals a) (raised depth′ vals b)
   unfolding raised
   raised-kept vals _ b lost = lost
-  raised-kept vals (on vs bs) _ same = binary-kept vals 35 vs bs
+  raised-kept vals (on vs bs) _ same = binary-kept vals 47 vs bs
   raised-kept vals stuck _ same = same
 
   clause-kept : (vals : List (List ℕ)) (op : ℕ) (vs bs : List ℕ) → Kept (clauseStep depth vals op vs bs) (clauseStep depth′ vals op vs bs)
   unfolding clauseStep
   clause-kept vals op vs bs =
-      kept-pick (eqb op 31) (placed-kept vs bs _)
-      (kept-pick (eqb op 32) (raised-kept vals _ _ (unary-kept vals op vs bs))
+      kept-pick (eqb op 43) (placed-kept vs bs _)
+      (kept-pick (eqb op 44) (raised-kept vals _ _ (unary-kept vals op vs bs))
       (kept-pick (isIdle vs) (same {a = on (below vs) bs}) (raised-kept vals _ _ (binary-kept vals op vs bs))))
 
 module _ (depth depth′ : ℕ) (d : depth ≤ depth′) (room room′ : ℕ) (h : room ≤ room′) (look : List ℕ → List ℕ) where
@@ -87,15 +87,16 @@ module _ (depth depth′ : ℕ) (d : depth ≤ depth′) (room room′ : ℕ) (h
     unfolding pushStep
     push-kept op at vs bs =
         kept-pick (eqb op 0) (text-kept _ vs bs)
-        (kept-pick (eqb op 1) (text-kept _ vs bs) (kept-pick (eqb op 2) (placed-kept depth depth′ d vs bs _) (placed-kept depth depth′ d vs bs _)))
+        (kept-pick (eqb op 1) (text-kept _ vs bs) (kept-pick (eqb op 2) (placed-kept depth depth′ d vs bs _)
+        (kept-pick (eqb op 5) (placed-kept depth depth′ d vs bs _) (placed-kept depth depth′ d vs bs _))))
 
     step-kept : (e : ℕ) (vs bs : List ℕ) → Kept (stepped depth room s look vals e vs bs) (stepped depth′ room′ s look vals e vs bs)
     unfolding stepped stepOf actOf
     step-kept e vs bs =
-        kept-pick (leb (e / 65536) 4) (push-kept (e / 65536) (e % 65536) vs bs)
-        (kept-pick (eqb (e / 65536) 5) (lookup-kept vs bs)
-        (kept-pick (leb (e / 65536) 8) (unary-kept depth depth′ d vals (e / 65536) vs bs)
-        (kept-pick (leb (e / 65536) 30) (binary-kept depth depth′ d vals (e / 65536) vs bs) (clause-kept depth depth′ d vals (e / 65536) vs bs))))
+        kept-pick (leb (e / 65536) 5) (push-kept (e / 65536) (e % 65536) vs bs)
+        (kept-pick (eqb (e / 65536) 6) (lookup-kept vs bs)
+        (kept-pick (leb (e / 65536) 11) (unary-kept depth depth′ d vals (e / 65536) vs bs)
+        (kept-pick (leb (e / 65536) 42) (binary-kept depth depth′ d vals (e / 65536) vs bs) (clause-kept depth depth′ d vals (e / 65536) vs bs))))
 
     -- over code of which it holds behind any number of entries
     after-kept : (op : ℕ) (c : List ℕ)

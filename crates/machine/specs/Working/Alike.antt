@@ -28,10 +28,10 @@ use Rattle.machine.specs.declared.Tops.the-variants.{At, Stuck}
 
 -- "==" or "!=" of strings, and the kinds of strings
 unfoldable pub isAlike : ℕ → ℕ → ℕ → Bool
-isAlike op x y = pick (eqb x 0) (pick (eqb y 0) (pick (eqb op 16) true (eqb op 17)) false) false
+isAlike op x y = pick (eqb x 0) (pick (eqb y 0) (pick (eqb op 19) true (eqb op 20)) false) false
 
 unfoldable pub agrees : ℕ → Bool → Bool
-agrees op same = pick (eqb op 16) same (not same)
+agrees op same = pick (eqb op 19) same (not same)
 
 -- two strings of so many bytes give way to a test
 unfoldable pub alikeOn : ℕ → ℕ → ℕ → ℕ → List ℕ → List ℕ → State
@@ -52,27 +52,27 @@ module _ (op x y : ℕ) where
     alike-second h = rw (eq-eqb x 0 x0, ne-eqb y 0 h)
 
     module _ (y0 : y ≡ 0) where
-      pub alike-equal : op ≡ 16 → true ≡ isAlike op x y
+      pub alike-equal : op ≡ 19 → true ≡ isAlike op x y
       unfolding isAlike
-      alike-equal h = rw (eq-eqb x 0 x0, eq-eqb y 0 y0, eq-eqb op 16 h)
+      alike-equal h = rw (eq-eqb x 0 x0, eq-eqb y 0 y0, eq-eqb op 19 h)
 
-      pub alike-unequal : (op ≡ 16 → ⊥) → (b : Bool) → b ≡ eqb op 17 → b ≡ isAlike op x y
+      pub alike-unequal : (op ≡ 19 → ⊥) → (b : Bool) → b ≡ eqb op 20 → b ≡ isAlike op x y
       unfolding isAlike
-      alike-unequal h b e = rw (eq-eqb x 0 x0, eq-eqb y 0 y0, ne-eqb op 16 h) e
+      alike-unequal h b e = rw (eq-eqb x 0 x0, eq-eqb y 0 y0, ne-eqb op 19 h) e
 
 module _ (op : ℕ) (s : Bool) where
-  pub agree-equal : op ≡ 16 → s ≡ agrees op s
+  pub agree-equal : op ≡ 19 → s ≡ agrees op s
   unfolding agrees
-  agree-equal h = rw (eq-eqb op 16 h)
+  agree-equal h = rw (eq-eqb op 19 h)
 
-  module _ (h : op ≡ 16 → ⊥) where
+  module _ (h : op ≡ 19 → ⊥) where
     pub agree-same : s ≡ true → false ≡ agrees op s
     unfolding agrees
-    agree-same e = rw (ne-eqb op 16 h, e)
+    agree-same e = rw (ne-eqb op 19 h, e)
 
     pub agree-other : s ≡ false → true ≡ agrees op s
     unfolding agrees
-    agree-other e = rw (ne-eqb op 16 h, e)
+    agree-other e = rw (ne-eqb op 19 h, e)
 
 -- the ways out of `texts_step`
 module _ (op : ℕ) (st m : List ℕ) (n t : ℕ) (two : n + 2 ≤ length st) (ht : t ≤ length m) (wx wy : ℕ) where
@@ -105,16 +105,16 @@ module _ (op : ℕ) (st m : List ℕ) (n t : ℕ) (two : n + 2 ≤ length st) (h
         (is ∙ ap (λ (k : Packed). putTwo st n (t - wy - wx) (k .kind) (k .size)) qe ∙ two-put st n (t - wy - wx) (Test z) two))
 
 -- what the operation gives
-told-texts : (vals : List (List ℕ)) (op : ℕ) (a b : List ℕ) → pick (eqb op 16) true (eqb op 17) ≡ true → operand (combined vals op (text a) (text b)) ≡ Test (agrees op (equal a b))
+told-texts : (vals : List (List ℕ)) (op : ℕ) (a b : List ℕ) → pick (eqb op 19) true (eqb op 20) ≡ true → operand (combined vals op (text a) (text b)) ≡ Test (agrees op (equal a b))
 unfolding combined binaryBy isTextual ofTexts agrees
 told-texts vals op a b h =
-    split (eqb op 16)
-    (λ e. let o : op ≡ 16 = eqb-true op 16 e in rw o (sym (does-equal 16 a b (λ z. omega (arith, z)) refl (equal a b) refl)))
-    (λ e. let f : eqb op 17 ≡ true = rw e at h in
-    let o : op ≡ 17 = eqb-true op 17 f in
-    rw o (sym (does-differ 17 a b (λ z. omega (arith, z)) (λ z. omega (arith, z)) refl (equal a b) refl (not (equal a b)) refl)))
+    split (eqb op 19)
+    (λ e. let o : op ≡ 19 = eqb-true op 19 e in rw o (sym (does-equal 19 a b (λ z. omega (arith, z)) refl (equal a b) refl)))
+    (λ e. let f : eqb op 20 ≡ true = rw e at h in
+    let o : op ≡ 20 = eqb-true op 20 f in
+    rw o (sym (does-differ 20 a b (λ z. omega (arith, z)) (λ z. omega (arith, z)) refl (equal a b) refl (not (equal a b)) refl)))
 
-alike-on : (vals : List (List ℕ)) (op : ℕ) → pick (eqb op 16) true (eqb op 17) ≡ true → (depth wx wy : ℕ) (vs bs : List ℕ)
+alike-on : (vals : List (List ℕ)) (op : ℕ) → pick (eqb op 19) true (eqb op 20) ≡ true → (depth wx wy : ℕ) (vs bs : List ℕ)
     → binaryOn depth vals op (Text wx) (Text wy) vs bs ≡ alikeOn depth op wx wy vs bs
 unfolding binaryOn alikeOn settledOn width valueOf
 alike-on vals op h depth wx wy vs bs =
@@ -131,7 +131,7 @@ pub alike-step : (vals : List (List ℕ)) (op : ℕ) (st m : List ℕ) (n t : �
     → Live r st′ m (alikeOn (length st) op wx wy (take (n - 4) st) (take t m)) → Live r st′ m (binaryStep (length st) vals op (take n st) (take t m))
 unfolding isAlike
 alike-step vals op st m n t hn four b be bt wx wxe wy wye r st′ l =
-    let p : (eqb (getD st (n - 4) 0) 0 ≡ true) × (pick (eqb (getD st (n - 2) 0) 0) (pick (eqb op 16) true (eqb op 17)) false ≡ true) = pick-both _ _ (sym be ∙ bt) in
-    let q : (eqb (getD st (n - 2) 0) 0 ≡ true) × (pick (eqb op 16) true (eqb op 17) ≡ true) = pick-both _ _ (p .1) in
+    let p : (eqb (getD st (n - 4) 0) 0 ≡ true) × (pick (eqb (getD st (n - 2) 0) 0) (pick (eqb op 19) true (eqb op 20)) false ≡ true) = pick-both _ _ (sym be ∙ bt) in
+    let q : (eqb (getD st (n - 2) 0) 0 ≡ true) × (pick (eqb op 19) true (eqb op 20) ≡ true) = pick-both _ _ (p .1) in
     binary-two (length st) vals op st m n t hn st′ four (Text wy) (top-first st n hn four (Text wy) (ap Text wye ∙ text-kind _ _ (eqb-true _ _ (q .0)))) (Text wx)
     (top-second st n hn four (Text wx) (ap Text wxe ∙ text-kind _ _ (eqb-true _ _ (p .0)))) r (rw (alike-on vals op (q .1) (length st) wx wy (take (n - 4) st) (take t m)) l)

@@ -13,7 +13,7 @@ use Rattle.text.specs.Choice.{pick, split}
 use Rattle.syntax.specs.Expr.{Expr, Program, none, also, Clause, plain, valued, nested}
 use Rattle.syntax.specs.Operation.{unaryNumber, binaryNumber}
 use Rattle.syntax.specs.Theorems.Numbers.{unary-between, binary-between}
-use Rattle.syntax.specs.Code.{entry, Codes, code-literal, code-name, code-number, code-true, code-false, code-unary, code-binary, ProgramCodes, code-none, code-also, ClauseCodes, code-plain, code-valued, code-nested}
+use Rattle.syntax.specs.Code.{entry, Codes, code-literal, code-name, code-number, code-true, code-false, code-decimal, code-unary, code-binary, ProgramCodes, code-none, code-also, ClauseCodes, code-plain, code-valued, code-nested}
 use Rattle.machine.specs.Machine.{isFalse, goOn, isHighest, closing, begun, ended, needless}
 use Rattle.machine.specs.Working.Passing.{entry-op, on-shift}
 
@@ -28,23 +28,23 @@ across k l n c d p q j rest =
 
 -- one entry, by its operation
 module _ (k op at : ℕ) (p : at < 65536) where
-  across-entry : (op ≡ 31 → ⊥) → (op ≡ 34 → ⊥) → Across k k (entry op at ∷ [])
+  across-entry : (op ≡ 43 → ⊥) → (op ≡ 46 → ⊥) → Across k k (entry op at ∷ [])
   unfolding ended closing begun
-  across-entry a b j rest = rw (entry-op op at p, ne-eqb op 34 b, ne-eqb op 31 a)
+  across-entry a b j rest = rw (entry-op op at p, ne-eqb op 46 b, ne-eqb op 43 a)
 
-across-begin : (k : ℕ) → Across k (k + 1) (entry 31 0 ∷ [])
+across-begin : (k : ℕ) → Across k (k + 1) (entry 43 0 ∷ [])
 unfolding ended closing begun
-across-begin k j rest = rw (entry-op 31 0 (omega arith))
+across-begin k j rest = rw (entry-op 43 0 (omega arith))
 
-across-end : (k : ℕ) → Across (k + 1) k (entry 34 0 ∷ [])
+across-end : (k : ℕ) → Across (k + 1) k (entry 46 0 ∷ [])
 unfolding ended closing begun
 across-end k j rest =
     let z : k + 1 - 1 ≡ k = omega arith in
-    rw (entry-op 34 0 (omega arith), ne-eqb (k + 1) 0 (λ y. omega arith), z)
+    rw (entry-op 46 0 (omega arith), ne-eqb (k + 1) 0 (λ y. omega arith), z)
 
-pub end-here : (rest : List ℕ) → ended 0 0 (entry 34 0 ∷ rest) ≡ 0
+pub end-here : (rest : List ℕ) → ended 0 0 (entry 46 0 ∷ rest) ≡ 0
 unfolding ended closing
-end-here rest = rw (entry-op 34 0 (omega arith))
+end-here rest = rw (entry-op 46 0 (omega arith))
 
 -- expressions, programs and clauses
 across-code : {s : List ℕ} {e : Expr} {c : List ℕ} → Codes s e c → (k : ℕ) → Across k k c
@@ -53,13 +53,14 @@ across-code (code-name at p) k = across-entry k 1 at p (λ z. omega arith) (λ z
 across-code (code-number at p) k = across-entry k 2 at p (λ z. omega arith) (λ z. omega arith)
 across-code code-true k = across-entry k 3 0 (omega arith) (λ z. omega arith) (λ z. omega arith)
 across-code code-false k = across-entry k 4 0 (omega arith) (λ z. omega arith) (λ z. omega arith)
+across-code (code-decimal at p) k = across-entry k 5 at p (λ z. omega arith) (λ z. omega arith)
 across-code (code-unary {op = o} {c = c} l) k =
     let op : ℕ = unaryNumber o in
-    let b : (5 ≤ op) × (op ≤ 8) = unary-between o in
+    let b : (6 ≤ op) × (op ≤ 11) = unary-between o in
     across k k k c (entry op 0 ∷ []) (across-code l k) (across-entry k op 0 (omega arith) (λ z. omega (arith, z, b .1)) (λ z. omega (arith, z, b .1)))
 across-code (code-binary {op = o} {c = c} {d = d} l m) k =
     let op : ℕ = binaryNumber o in
-    let b : (9 ≤ op) × (op ≤ 30) = binary-between o in
+    let b : (12 ≤ op) × (op ≤ 42) = binary-between o in
     across k k k (c ++ d) (entry op 0 ∷ []) (across k k k c d (across-code l k) (across-code m k)) (across-entry k op 0 (omega arith) (λ z. omega (arith, z, b .1)) (λ z. omega (arith, z, b .1)))
 
 mutual
@@ -69,11 +70,11 @@ mutual
 
   pub across-clause : {s : List ℕ} (q : Clause) {c : List ℕ} → ClauseCodes s q c → (k : ℕ) → Across k k c
   across-clause (plain e) (code-plain {c = c} l) k =
-      across k k k c (entry 32 0 ∷ []) (across-code l k) (across-entry k 32 0 (omega arith) (λ z. omega arith) (λ z. omega arith))
+      across k k k c (entry 44 0 ∷ []) (across-code l k) (across-entry k 44 0 (omega arith) (λ z. omega arith) (λ z. omega arith))
   across-clause (valued e f) (code-valued {c = c} {d = d} l m) k =
-      across k k k (c ++ d) (entry 33 0 ∷ []) (across k k k c d (across-code l k) (across-code m k)) (across-entry k 33 0 (omega arith) (λ z. omega arith) (λ z. omega arith))
+      across k k k (c ++ d) (entry 45 0 ∷ []) (across k k k c d (across-code l k) (across-code m k)) (across-entry k 45 0 (omega arith) (λ z. omega arith) (λ z. omega arith))
   across-clause (nested e p) (code-nested {c = c} {d = d} l m) k =
-      across k (k + 1) k (c ++ d) (entry 34 0 ∷ []) (across k k (k + 1) c d (across-code l k) (across-program p m k)) (across-end k)
+      across k (k + 1) k (c ++ d) (entry 46 0 ∷ []) (across k k (k + 1) c d (across-code l k) (across-program p m k)) (across-end k)
 
 -- places counted from n on
 pub end-shift : (n k j : ℕ) (es : List ℕ) → ended k (n + j) es ≡ n + ended k j es
@@ -104,34 +105,34 @@ module _ (code : List ℕ) (k j r : ℕ) (inv : ended k j (drop j code) ≡ r) w
 
 -- the ways out of `is_closing`, `begun_then` and `concluded`
 module _ (op k : ℕ) where
-  pub closing-none : (op ≡ 34 → ⊥) → false ≡ closing op k
+  pub closing-none : (op ≡ 46 → ⊥) → false ≡ closing op k
   unfolding closing
-  closing-none h = rw (ne-eqb op 34 h)
+  closing-none h = rw (ne-eqb op 46 h)
 
-  pub closing-nested : op ≡ 34 → (b : Bool) → b ≡ eqb k 0 → b ≡ closing op k
+  pub closing-nested : op ≡ 46 → (b : Bool) → b ≡ eqb k 0 → b ≡ closing op k
   unfolding closing
-  closing-nested h b e = rw (eq-eqb op 34 h) e
+  closing-nested h b e = rw (eq-eqb op 46 h) e
 
-  pub begun-more : op ≡ 31 → k + 1 ≡ begun op k
+  pub begun-more : op ≡ 43 → k + 1 ≡ begun op k
   unfolding begun
-  begun-more h = rw (eq-eqb op 31 h)
+  begun-more h = rw (eq-eqb op 43 h)
 
-  module _ (n31 : op ≡ 31 → ⊥) where
-    pub begun-same : (op ≡ 34 → ⊥) → k ≡ begun op k
+  module _ (n43 : op ≡ 43 → ⊥) where
+    pub begun-same : (op ≡ 46 → ⊥) → k ≡ begun op k
     unfolding begun
-    begun-same h = rw (ne-eqb op 31 n31, ne-eqb op 34 h)
+    begun-same h = rw (ne-eqb op 43 n43, ne-eqb op 46 h)
 
-    module _ (h : op ≡ 34) where
+    module _ (h : op ≡ 46) where
       pub begun-fewer : k - 1 ≡ begun op k
       unfolding begun
-      begun-fewer = rw (ne-eqb op 31 n31, eq-eqb op 34 h)
+      begun-fewer = rw (ne-eqb op 43 n43, eq-eqb op 46 h)
 
       pub begun-none : k ≡ 0 → 0 ≡ begun op k
       begun-none e = let z : k - 1 ≡ 0 = omega (arith, e) in sym z ∙ begun-fewer
 
   begun-most : begun op k ≤ k + 1
   unfolding begun
-  begun-most = split (eqb op 31) (λ a. rw a (omega arith)) (λ a. split (eqb op 34) (λ b. rw (a, b) (omega arith)) (λ b. rw (a, b) (omega arith)))
+  begun-most = split (eqb op 43) (λ a. rw a (omega arith)) (λ a. split (eqb op 46) (λ b. rw (a, b) (omega arith)) (λ b. rw (a, b) (omega arith)))
 
   pub begun-within : (j y : ℕ) → k ≤ j → y ≡ begun op k → y ≤ j + 1
   begun-within j y h e = omega (arith, h, e, begun-most)

@@ -28,7 +28,7 @@ use Rattle.machine.specs.declared.Tops.the-variants.{At, Stuck}
 
 -- ".", and the kinds of strings
 unfoldable pub isJoining : ℕ → ℕ → ℕ → Bool
-isJoining op x y = pick (eqb op 9) (pick (eqb x 0) (eqb y 0) false) false
+isJoining op x y = pick (eqb op 12) (pick (eqb x 0) (eqb y 0) false) false
 
 -- two strings of so many bytes give way to the one that they make where they lie
 unfoldable pub joinOn : ℕ → ℕ → ℕ → List ℕ → List ℕ → State
@@ -39,18 +39,18 @@ joinOn depth wx wy vs bs =
 
 -- the ways out of `is_joining`
 module _ (op x y : ℕ) where
-  pub joining-other : (op ≡ 9 → ⊥) → false ≡ isJoining op x y
+  pub joining-other : (op ≡ 12 → ⊥) → false ≡ isJoining op x y
   unfolding isJoining
-  joining-other h = rw (ne-eqb op 9 h)
+  joining-other h = rw (ne-eqb op 12 h)
 
-  module _ (h : op ≡ 9) where
+  module _ (h : op ≡ 12) where
     pub joining-first : (x ≡ 0 → ⊥) → false ≡ isJoining op x y
     unfolding isJoining
-    joining-first n = rw (eq-eqb op 9 h, ne-eqb x 0 n)
+    joining-first n = rw (eq-eqb op 12 h, ne-eqb x 0 n)
 
     pub joining-second : x ≡ 0 → (b : Bool) → b ≡ eqb y 0 → b ≡ isJoining op x y
     unfolding isJoining
-    joining-second e b be = rw (eq-eqb op 9 h, eq-eqb x 0 e) be
+    joining-second e b be = rw (eq-eqb op 12 h, eq-eqb x 0 e) be
 
 -- the ways out of `join_step`
 module _ (st m : List ℕ) (n t : ℕ) (two : n + 2 ≤ length st) (ht : t ≤ length m) (wx wy : ℕ) where
@@ -77,7 +77,7 @@ module _ (st m : List ℕ) (n t : ℕ) (two : n + 2 ≤ length st) (ht : t ≤ l
           (put-live st m n t (Text (wx + wy)) (omega (arith, two)) ht r st′ is)
 
 -- what the operation gives
-made : (vals : List (List ℕ)) (a b : List ℕ) (v : Operand) → v ≡ operand (held (a ++ b)) → operand (combined vals 9 (text a) (text b)) ≡ v
+made : (vals : List (List ℕ)) (a b : List ℕ) (v : Operand) → v ≡ operand (held (a ++ b)) → operand (combined vals 12 (text a) (text b)) ≡ v
 unfolding combined binaryBy isTextual ofTexts textual
 made vals a b v e = sym e
 
@@ -99,12 +99,12 @@ module _ (vals : List (List ℕ)) (depth wx wy : ℕ) (vs bs : List ℕ) (up : w
   unfolding second
   second-long = rw (length-drop (length bs - wy) bs) (omega (arith, up))
 
-  on-long : 4096 < wx + wy → settledOn depth vs bs base (operand (combined vals 9 (text first) (text second))) ≡ placed depth vs (take base bs) Fault
+  on-long : 4096 < wx + wy → settledOn depth vs bs base (operand (combined vals 12 (text first) (text second))) ≡ placed depth vs (take base bs) Fault
   unfolding settledOn width
   on-long h =
       rw (made vals first second Fault (join-over first second (omega (arith, h, first-long, second-long))), le-ltb (length bs - base) 0 (omega arith), add-zero base)
 
-  on-held : wx + wy ≤ 4096 → settledOn depth vs bs base (operand (combined vals 9 (text first) (text second))) ≡ placed depth vs bs (Text (wx + wy))
+  on-held : wx + wy ≤ 4096 → settledOn depth vs bs base (operand (combined vals 12 (text first) (text second))) ≡ placed depth vs bs (Text (wx + wy))
   unfolding settledOn width base
   on-held h =
       let k : length first + length second ≡ wx + wy = omega (arith, first-long, second-long) in
@@ -115,7 +115,7 @@ module _ (vals : List (List ℕ)) (depth wx wy : ℕ) (vs bs : List ℕ) (up : w
         take-all (length bs - wy - wx + (wx + wy)) bs (omega (arith, up, in-bytes)),
       )
 
-join-on : (vals : List (List ℕ)) (depth wx wy : ℕ) (vs bs : List ℕ) → binaryOn depth vals 9 (Text wx) (Text wy) vs bs ≡ joinOn depth wx wy vs bs
+join-on : (vals : List (List ℕ)) (depth wx wy : ℕ) (vs bs : List ℕ) → binaryOn depth vals 12 (Text wx) (Text wy) vs bs ≡ joinOn depth wx wy vs bs
 unfolding binaryOn joinOn width valueOf base first second
 join-on vals depth wx wy vs bs =
     split (ltb (length bs) wy) (λ e. rw e)
@@ -131,8 +131,8 @@ pub join-step : (vals : List (List ℕ)) (op : ℕ) (st m : List ℕ) (n t : ℕ
     → Live r st′ m (joinOn (length st) wx wy (take (n - 4) st) (take t m)) → Live r st′ m (binaryStep (length st) vals op (take n st) (take t m))
 unfolding isJoining
 join-step vals op st m n t hn four b be bt wx wxe wy wye r st′ l =
-    let p : (eqb op 9 ≡ true) × (pick (eqb (getD st (n - 4) 0) 0) (eqb (getD st (n - 2) 0) 0) false ≡ true) = pick-both _ _ (sym be ∙ bt) in
+    let p : (eqb op 12 ≡ true) × (pick (eqb (getD st (n - 4) 0) 0) (eqb (getD st (n - 2) 0) 0) false ≡ true) = pick-both _ _ (sym be ∙ bt) in
     let q : (eqb (getD st (n - 4) 0) 0 ≡ true) × (eqb (getD st (n - 2) 0) 0 ≡ true) = pick-both _ _ (p .1) in
-    rw (eqb-true op 9 (p .0))
-    (binary-two (length st) vals 9 st m n t hn st′ four (Text wy) (top-first st n hn four (Text wy) (ap Text wye ∙ text-kind _ _ (eqb-true _ _ (q .1)))) (Text wx)
+    rw (eqb-true op 12 (p .0))
+    (binary-two (length st) vals 12 st m n t hn st′ four (Text wy) (top-first st n hn four (Text wy) (ap Text wye ∙ text-kind _ _ (eqb-true _ _ (q .1)))) (Text wx)
     (top-second st n hn four (Text wx) (ap Text wxe ∙ text-kind _ _ (eqb-true _ _ (q .0)))) r (rw (join-on vals (length st) wx wy (take (n - 4) st) (take t m)) l))

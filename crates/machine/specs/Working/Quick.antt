@@ -35,7 +35,7 @@ putTwo st n t k m = landed (At (n + 2) t) (set (set st n k) (n + 1) m)
 
 -- an operation on integers, and the kinds of integers without a sign
 unfoldable pub isIntegral : ℕ → Bool
-isIntegral op = pick (ltb op 10) false (pick (leb op 15) true (pick (ltb op 23) false (leb op 28)))
+isIntegral op = pick (ltb op 13) false (pick (leb op 18) true (pick (ltb op 26) false (leb op 31)))
 
 unfoldable pub isNatural : ℕ → ℕ → ℕ → Bool
 isNatural op x y = pick (eqb x 1) (pick (eqb y 1) (isIntegral op) false) false
@@ -45,23 +45,23 @@ unfoldable pub isTold : ℕ → Bool
 isTold k = pick (eqb k 3) true (eqb k 4)
 
 unfoldable pub isLogical : ℕ → ℕ → ℕ → Bool
-isLogical op x y = pick (ltb op 29) false (pick (ltb 30 op) false (pick (isTold x) (isTold y) false))
+isLogical op x y = pick (ltb op 41) false (pick (ltb 42 op) false (pick (isTold x) (isTold y) false))
 
 unfoldable pub decides : ℕ → Bool → Bool → Bool
-decides op x y = pick (eqb op 29) (pick x y false) (pick x true y)
+decides op x y = pick (eqb op 41) (pick x y false) (pick x true y)
 
 -- the ways out of `is_logical`, `decided` and `rank_told`
-module _ (op x y : ℕ) (low : 29 ≤ op) (high : op ≤ 30) (a : Bool) (ae : a ≡ isTold x) where
+module _ (op x y : ℕ) (low : 41 ≤ op) (high : op ≤ 42) (a : Bool) (ae : a ≡ isTold x) where
   pub logical-both : a ≡ true → (b : Bool) → b ≡ isTold y → b ≡ isLogical op x y
   unfolding isLogical
-  logical-both at b be = rw (le-ltb op 29 low, le-ltb 30 op high, ← ae, at) be
+  logical-both at b be = rw (le-ltb op 41 low, le-ltb 42 op high, ← ae, at) be
 
   pub logical-none : a ≡ false → false ≡ isLogical op x y
   unfolding isLogical
-  logical-none af = rw (le-ltb op 29 low, le-ltb 30 op high, ← ae, af)
+  logical-none af = rw (le-ltb op 41 low, le-ltb 42 op high, ← ae, af)
 
 module _ (op : ℕ) (x y : Bool) where
-  module _ (h : op ≡ 29) where
+  module _ (h : op ≡ 41) where
     pub both-second : x ≡ true → y ≡ decides op x y
     unfolding decides
     both-second e = rw (h, e)
@@ -70,14 +70,14 @@ module _ (op : ℕ) (x y : Bool) where
     unfolding decides
     both-false e = rw (h, e)
 
-  module _ (h : op ≡ 29 → ⊥) where
+  module _ (h : op ≡ 41 → ⊥) where
     pub either-true : x ≡ true → true ≡ decides op x y
     unfolding decides
-    either-true e = rw (ne-eqb op 29 h, e)
+    either-true e = rw (ne-eqb op 41 h, e)
 
     pub either-second : x ≡ false → y ≡ decides op x y
     unfolding decides
-    either-second e = rw (ne-eqb op 29 h, e)
+    either-second e = rw (ne-eqb op 41 h, e)
 
 pub rank-held : (k n : ℕ) → k ≡ 4 → (m : ℕ) → m ≡ n → m ≡ pick (eqb k 4) n 0
 rank-held k n h m e = rw (eq-eqb k 4 h) e
@@ -191,23 +191,23 @@ pick-neither false b h = (refl, h)
 integral-is : (vals : List (List ℕ)) (op : ℕ) (a b : Integer) → isIntegral op ≡ true → combined vals op (integer a) (integer b) ≡ arithmetic op a b
 unfolding combined binaryBy isTextual ofIntegers isIntegral
 integral-is vals op a b h =
-    let p : (ltb op 10 ≡ false) × (pick (leb op 15) true (pick (ltb op 23) false (leb op 28)) ≡ true) = pick-neither _ _ h in
-    let low : 10 ≤ op = ltb-false op 10 (p .0) in
-    split (leb op 15)
-    (λ e. let high : op ≤ 15 = leb-true op 15 e in
-    rw (le-leb op 30 (omega (arith, high)), ne-eqb op 9 (λ z. omega (arith, low, z)), e, le-leb op 28 (omega (arith, high))))
-    (λ e. let q : (ltb op 23 ≡ false) × (leb op 28 ≡ true) = pick-neither _ _ (rw e at (p .1)) in
-    let up : 23 ≤ op = ltb-false op 23 (q .0) in
-    let high : op ≤ 28 = leb-true op 28 (q .1) in
-    rw (le-leb op 30 (omega (arith, high)), ne-eqb op 9 (λ z. omega (arith, low, z)), e, lt-leb op 22 (omega (arith, up)), q .1))
+    let p : (ltb op 13 ≡ false) × (pick (leb op 18) true (pick (ltb op 26) false (leb op 31)) ≡ true) = pick-neither _ _ h in
+    let low : 13 ≤ op = ltb-false op 13 (p .0) in
+    split (leb op 18)
+    (λ e. let high : op ≤ 18 = leb-true op 18 e in
+    rw (le-leb op 42 (omega (arith, high)), ne-eqb op 12 (λ z. omega (arith, low, z)), e, le-leb op 31 (omega (arith, high))))
+    (λ e. let q : (ltb op 26 ≡ false) × (leb op 31 ≡ true) = pick-neither _ _ (rw e at (p .1)) in
+    let up : 26 ≤ op = ltb-false op 26 (q .0) in
+    let high : op ≤ 31 = leb-true op 31 (q .1) in
+    rw (le-leb op 42 (omega (arith, high)), ne-eqb op 12 (λ z. omega (arith, low, z)), e, lt-leb op 25 (omega (arith, up)), q .1))
 
-logical-is : (vals : List (List ℕ)) (op : ℕ) (s u : Bool) → ltb op 29 ≡ false → ltb 30 op ≡ false → combined vals op (test s) (test u) ≡ test (decides op s u)
+logical-is : (vals : List (List ℕ)) (op : ℕ) (s u : Bool) → ltb op 41 ≡ false → ltb 42 op ≡ false → combined vals op (test s) (test u) ≡ test (decides op s u)
 unfolding combined binaryBy isTextual ofTests logical decides
 logical-is vals op s u f g =
-    let low : 29 ≤ op = ltb-false op 29 f in
-    let high : op ≤ 30 = ltb-false 30 op g in
-    rw (le-leb op 30 high, ne-eqb op 9 (λ z. omega (arith, low, z)), lt-leb op 15 (omega (arith, low)), lt-leb op 22 (omega (arith, low)), lt-leb op 28 (omega (arith, low)))
-    (split (eqb op 29) (λ e. rw e (both s)) (λ e. rw e (either s)))
+    let low : 41 ≤ op = ltb-false op 41 f in
+    let high : op ≤ 42 = ltb-false 42 op g in
+    rw (le-leb op 42 high, ne-eqb op 12 (λ z. omega (arith, low, z)), lt-leb op 18 (omega (arith, low)), lt-leb op 25 (omega (arith, low)), lt-leb op 31 (omega (arith, low)), lt-leb op 40 (omega (arith, low)))
+    (split (eqb op 41) (λ e. rw e (both s)) (λ e. rw e (either s)))
   where
     both : (s : Bool) → pick s (test u) (test false) ≡ test (pick s u false)
     both true = refl
@@ -218,11 +218,11 @@ logical-is vals op s u f g =
     either false = refl
 
 raise-pairs : (vals : List (List ℕ)) (depth : ℕ) (vs bs : List ℕ) → length vs + 2 ≤ depth → (a b : ℕ)
-    → binaryStep depth vals 35 ((vs ++ (5 ∷ a ∷ [])) ++ (5 ∷ b ∷ [])) bs ≡ placed depth vs bs (Rank (max a b))
+    → binaryStep depth vals 47 ((vs ++ (5 ∷ a ∷ [])) ++ (5 ∷ b ∷ [])) bs ≡ placed depth vs bs (Rank (max a b))
 unfolding pair bytesOf operand kindOf sizeOf combined rankIn
 raise-pairs vals depth vs bs h a b =
-    ap (λ (l : List ℕ). binaryStep depth vals 35 ((vs ++ pair (rank a)) ++ pair (rank b)) l) (sym (append-nil (bs ++ []) ∙ append-nil bs))
-    ∙ binary-is depth vs h vals 35 bs (rank a) (rank b) ∙ sym (place-is depth vs h bs (rank (max a b)) refl)
+    ap (λ (l : List ℕ). binaryStep depth vals 47 ((vs ++ pair (rank a)) ++ pair (rank b)) l) (sym (append-nil (bs ++ []) ∙ append-nil bs))
+    ∙ binary-is depth vs h vals 47 bs (rank a) (rank b) tt tt ∙ sym (place-is depth vs h bs (rank (max a b)) refl)
 
 -- the quick ways out of `operator_step` and `raise_step`
 module _ (vals : List (List ℕ)) (op : ℕ) (st m : List ℕ) (n t : ℕ) (hn : n ≤ length st) (ht : t ≤ length m) (four : 4 ≤ n) (r : Tops) (st′ : List ℕ) where
@@ -243,8 +243,8 @@ module _ (vals : List (List ℕ)) (op : ℕ) (st m : List ℕ) (n t : ℕ) (hn :
       → landed r st′ ≡ putTwo st (n - 4) t (q .kind) (q .size) → Live r st′ m (binaryStep (length st) vals op (take n st) (take t m))
   unfolding isLogical valueOf operand
   logical-step b be bt x xe y ye h he q qe is =
-      let p : (ltb op 29 ≡ false) × (pick (ltb 30 op) false (pick (isTold (getD st (n - 4) 0)) (isTold (getD st (n - 2) 0)) false) ≡ true) = pick-neither _ _ (sym be ∙ bt) in
-      let p′ : (ltb 30 op ≡ false) × (pick (isTold (getD st (n - 4) 0)) (isTold (getD st (n - 2) 0)) false ≡ true) = pick-neither _ _ (p .1) in
+      let p : (ltb op 41 ≡ false) × (pick (ltb 42 op) false (pick (isTold (getD st (n - 4) 0)) (isTold (getD st (n - 2) 0)) false) ≡ true) = pick-neither _ _ (sym be ∙ bt) in
+      let p′ : (ltb 42 op ≡ false) × (pick (isTold (getD st (n - 4) 0)) (isTold (getD st (n - 2) 0)) false ≡ true) = pick-neither _ _ (p .1) in
       let p″ : (isTold (getD st (n - 4) 0) ≡ true) × (isTold (getD st (n - 2) 0) ≡ true) = pick-both _ _ (p′ .1) in
       still-live vals op (Test x) (Test y) (still-test x) (still-test y) st m n t hn ht four
       (top-second st n hn four _ (ap Test xe ∙ told-kind _ _ (p″ .0))) (top-first st n hn four _ (ap Test ye ∙ told-kind _ _ (p″ .1)))
@@ -253,10 +253,10 @@ module _ (vals : List (List ℕ)) (op : ℕ) (st m : List ℕ) (n t : ℕ) (hn :
 
 module _ (vals : List (List ℕ)) (st m : List ℕ) (n t : ℕ) (hn : n ≤ length st) (ht : t ≤ length m) (four : 4 ≤ n) (r : Tops) (st′ : List ℕ) where
   pub raise-quick : getD st (n - 4) 0 ≡ 5 → getD st (n - 2) 0 ≡ 5 → (g : ℕ) → g ≡ max (getD st (n - 3) 0) (getD st (n - 1) 0)
-      → landed r st′ ≡ putTwo st (n - 4) t 5 g → Live r st′ m (binaryStep (length st) vals 35 (take n st) (take t m))
+      → landed r st′ ≡ putTwo st (n - 4) t 5 g → Live r st′ m (binaryStep (length st) vals 47 (take n st) (take t m))
   unfolding valueOf operand combined rankIn kindOf sizeOf
   raise-quick kx ky g ge is =
-      still-live vals 35 (Rank (getD st (n - 3) 0)) (Rank (getD st (n - 1) 0)) (still-rank _) (still-rank _) st m n t hn ht four
+      still-live vals 47 (Rank (getD st (n - 3) 0)) (Rank (getD st (n - 1) 0)) (still-rank _) (still-rank _) st m n t hn ht four
       (top-second st n hn four _ (rank-kind _ _ kx)) (top-first st n hn four _ (rank-kind _ _ ky)) (Rank g) (ap Rank ge) r st′ is
 
   -- the quick way out of `plain_step`
@@ -268,7 +268,7 @@ module _ (vals : List (List ℕ)) (st m : List ℕ) (n t : ℕ) (hn : n ≤ leng
       ∙ ap (λ (k : List ℕ). k ++ (getD st (n - 3) 0 ∷ [])) (ap (λ (k : ℕ). take k st) b ∙ take-suc st (n - 4) 0 (omega (arith, hn, four)))
       ∙ append-assoc (take (n - 4) st) (getD st (n - 4) 0 ∷ []) (getD st (n - 3) 0 ∷ [])
 
-  told-unary : (u : Bool) → Test u ≡ topOf (take n st) → unaryStep (length st) vals 32 (take n st) (take t m) ≡ placed (length st) (take (n - 2) st) (take t m) (operand (rank (gate (test u) (top vals))))
+  told-unary : (u : Bool) → Test u ≡ topOf (take n st) → unaryStep (length st) vals 44 (take n st) (take t m) ≡ placed (length st) (take (n - 2) st) (take t m) (operand (rank (gate (test u) (top vals))))
   unfolding unaryStep unaryOn width applied valueOf
   told-unary u e =
       let a : t - 0 ≡ t = omega arith in
@@ -276,7 +276,7 @@ module _ (vals : List (List ℕ)) (st m : List ℕ) (n t : ℕ) (hn : n ≤ leng
       (ap (λ (k : List ℕ). placed (length st) (take (n - 2) st) k (operand (rank (gate (test u) (top vals))))) (ap (λ (k : ℕ). take k (take t m)) (sym (length-take-le t m ht)) ∙ take-length (take t m)))
 
   quick-plain : getD st (n - 4) 0 ≡ 5 → (b : Bool) → b ≡ isTold (getD st (n - 2) 0) → b ≡ true → (g : ℕ) → g ≡ pick (eqb (getD st (n - 2) 0) 4) (length vals - 1) 0
-      → (k : ℕ) → k ≡ max (getD st (n - 3) 0) g → landed r st′ ≡ putTwo st (n - 4) t 5 k → Live r st′ m (raised (length st) vals (unaryStep (length st) vals 32 (take n st) (take t m)))
+      → (k : ℕ) → k ≡ max (getD st (n - 3) 0) g → landed r st′ ≡ putTwo st (n - 4) t 5 k → Live r st′ m (raised (length st) vals (unaryStep (length st) vals 44 (take n st) (take t m)))
   unfolding raised operand placed top kindOf sizeOf
   quick-plain kx b be bt g ge k ke is =
       let u : Bool = eqb (getD st (n - 2) 0) 4 in
@@ -296,7 +296,7 @@ module _ (vals : List (List ℕ)) (st m : List ℕ) (n t : ℕ) (hn : n ≤ leng
 pub plain-quick : (rec values st m : List ℕ) (n t : ℕ) → n ≤ length st → t ≤ length m → 4 ≤ n → (r : Tops) (st′ : List ℕ) → getD st (n - 4) 0 ≡ 5
     → (b : Bool) → b ≡ isTold (getD st (n - 2) 0) → b ≡ true → (g : ℕ) → g ≡ pick (eqb (getD st (n - 2) 0) 4) (length values - 1) 0
     → (k : ℕ) → k ≡ max (getD st (n - 3) 0) g → landed r st′ ≡ putTwo st (n - 4) t 5 k
-    → Live r st′ m (raised (length st) (map (counted rec) values) (unaryStep (length st) (map (counted rec) values) 32 (take n st) (take t m)))
+    → Live r st′ m (raised (length st) (map (counted rec) values) (unaryStep (length st) (map (counted rec) values) 44 (take n st) (take t m)))
 plain-quick rec values st m n t hn ht four r st′ kx b be bt g ge k ke is =
     quick-plain (map (counted rec) values) st m n t hn ht four r st′ kx b be bt g
     (ge ∙ ap (λ (j : ℕ). pick (eqb (getD st (n - 2) 0) 4) (j - 1) 0) (sym (length-map values (counted rec)))) k ke is

@@ -65,7 +65,7 @@ module _ (vals : List (List ℕ)) (kind w : ℕ) (st m : List ℕ) (n t : ℕ) (
       (put-live st m n (t - w) (Rank g) (omega (arith, two)) (omega (arith, ht)) r st′ (is ∙ two-put st n (t - w) (Rank g) two))
 
 -- what the operation gives
-valued-on : (vals : List (List ℕ)) (depth kind w : ℕ) (vs bs : List ℕ) → binaryOn depth vals 33 (Test (eqb kind 4)) (Text w) vs bs ≡ valuedOn depth vals kind w vs bs
+valued-on : (vals : List (List ℕ)) (depth kind w : ℕ) (vs bs : List ℕ) → binaryOn depth vals 45 (Test (eqb kind 4)) (Text w) vs bs ≡ valuedOn depth vals kind w vs bs
 unfolding binaryOn valuedOn settledOn width valueOf combined operand rankOf
 valued-on vals depth kind w vs bs =
     let base : ℕ = length bs - w in
@@ -74,25 +74,25 @@ valued-on vals depth kind w vs bs =
 
 -- the quick ways out of `binary_step`
 module _ (vals : List (List ℕ)) (op : ℕ) (st m : List ℕ) (n t : ℕ) (hn : n ≤ length st) (ht : t ≤ length m) (four : 4 ≤ n) (b : Bool) (bt : b ≡ true) (r : Tops) (st′ : List ℕ) where
-  pub valued-step : b ≡ isRating op 33 (getD st (n - 4) 0) (getD st (n - 2) 0) 0 → (w : ℕ) → w ≡ getD st (n - 1) 0
+  pub valued-step : b ≡ isRating op 45 (getD st (n - 4) 0) (getD st (n - 2) 0) 0 → (w : ℕ) → w ≡ getD st (n - 1) 0
       → Live r st′ m (valuedOn (length st) vals (getD st (n - 4) 0) w (take (n - 4) st) (take t m)) → Live r st′ m (binaryStep (length st) vals op (take n st) (take t m))
   unfolding isRating
   valued-step be w we l =
-      let p : (eqb op 33 ≡ true) × (pick (isTold (getD st (n - 4) 0)) (eqb (getD st (n - 2) 0) 0) false ≡ true) = pick-both _ _ (sym be ∙ bt) in
+      let p : (eqb op 45 ≡ true) × (pick (isTold (getD st (n - 4) 0)) (eqb (getD st (n - 2) 0) 0) false ≡ true) = pick-both _ _ (sym be ∙ bt) in
       let q : (isTold (getD st (n - 4) 0) ≡ true) × (eqb (getD st (n - 2) 0) 0 ≡ true) = pick-both _ _ (p .1) in
       let x : Operand = Test (eqb (getD st (n - 4) 0) 4) in
-      rw (eqb-true op 33 (p .0))
-      (binary-two (length st) vals 33 st m n t hn st′ four (Text w) (top-first st n hn four (Text w) (ap Text we ∙ text-kind _ _ (eqb-true _ _ (q .1)))) x
+      rw (eqb-true op 45 (p .0))
+      (binary-two (length st) vals 45 st m n t hn st′ four (Text w) (top-first st n hn four (Text w) (ap Text we ∙ text-kind _ _ (eqb-true _ _ (q .1)))) x
       (top-second st n hn four x (told-kind _ _ (q .0))) r (rw (valued-on vals (length st) (getD st (n - 4) 0) w (take (n - 4) st) (take t m)) l))
 
-  pub nested-step : b ≡ isRating op 34 (getD st (n - 4) 0) (getD st (n - 2) 0) 5 → (g : ℕ) → g ≡ pick (eqb (getD st (n - 4) 0) 4) (getD st (n - 1) 0) 0
+  pub nested-step : b ≡ isRating op 46 (getD st (n - 4) 0) (getD st (n - 2) 0) 5 → (g : ℕ) → g ≡ pick (eqb (getD st (n - 4) 0) 4) (getD st (n - 1) 0) 0
       → landed r st′ ≡ putTwo st (n - 4) t 5 g → Live r st′ m (binaryStep (length st) vals op (take n st) (take t m))
   unfolding isRating valueOf combined operand rankIn kindOf sizeOf
   nested-step be g ge is =
-      let p : (eqb op 34 ≡ true) × (pick (isTold (getD st (n - 4) 0)) (eqb (getD st (n - 2) 0) 5) false ≡ true) = pick-both _ _ (sym be ∙ bt) in
+      let p : (eqb op 46 ≡ true) × (pick (isTold (getD st (n - 4) 0)) (eqb (getD st (n - 2) 0) 5) false ≡ true) = pick-both _ _ (sym be ∙ bt) in
       let q : (isTold (getD st (n - 4) 0) ≡ true) × (eqb (getD st (n - 2) 0) 5 ≡ true) = pick-both _ _ (p .1) in
       let x : Operand = Test (eqb (getD st (n - 4) 0) 4) in
       let y : Operand = Rank (getD st (n - 1) 0) in
-      rw (eqb-true op 34 (p .0))
-      (still-live vals 34 x y (still-test _) (still-rank _) st m n t hn ht four (top-second st n hn four x (told-kind _ _ (q .0)))
+      rw (eqb-true op 46 (p .0))
+      (still-live vals 46 x y (still-test _) (still-rank _) st m n t hn ht four (top-second st n hn four x (told-kind _ _ (q .0)))
       (top-first st n hn four y (rank-kind _ _ (eqb-true _ _ (q .1)))) (Rank g) (ap Rank ge) r st′ is)

@@ -6,6 +6,7 @@ use Prim.Native.Nat.{ℕ, suc, _+_, _-_, _/_, _%_, _<_, _≤_, min}
 use native.Mathlib.Omega.{arith}
 use native.Mathlib.Numerals.{add-one}
 use lib.Dec.{eqb, leb, ltb}
+use lib.Ieee.{Float as Single}
 use lib.ListN.{length, getD, take, drop, drop-of-length-le, length-map}
 use lib.Seq.{drop-cons, drop-drop, getD-take, length-take-le}
 use borrow.Author.Tests.{le-leb, lt-leb, lt-ltb, le-ltb, ltb-false, eq-eqb, ne-eqb}
@@ -13,11 +14,13 @@ use Rattle.text.specs.Choice.{pick, split, clash}
 use Rattle.text.specs.Counted.{counted}
 use Rattle.text.specs.Digits.{digitsAt, value, limit}
 use Rattle.lexical.specs.Literal.{decodedAt}
+use Rattle.float.specs.Written.{floatOf}
+use Rattle.syntax.specs.Code.{decimalAt}
 use Rattle.expression.specs.Value.{operand}
 use Rattle.expression.specs.Integers.{ranged}
 use Rattle.expression.specs.Conditions.{top}
 use Rattle.expression.specs.declared.value.Operand.{Operand}
-use Rattle.expression.specs.declared.value.Operand.the-variants.{Test, Rank, Fault}
+use Rattle.expression.specs.declared.value.Operand.the-variants.{Test, Rank, Float, Fault}
 use Rattle.machine.specs.Machine.{State, on, stuck, textStep, topOf, unaryStep, lookupStep, binaryStep, raised, runAt, pushStep, isIdle, clauseStep, actOf, stepOf, stepped, needless, ahead, execBehind, exec, resultOf}
 use Rattle.machine.specs.Live.{Live, landed, putAt}
 use Rattle.machine.specs.Working.Passing.{exec-stuck, exec-drop}
@@ -53,18 +56,23 @@ module _ (s : List ℕ) (look : List ℕ → List ℕ) (op at : ℕ) where
         let q : v ≡ operand (ranged false (min (value (digitsAt s at)) limit)) = ve ∙ ap (λ (j : ℕ). operand (ranged false j)) ke in
         rw (ne-eqb op 0 n0, ne-eqb op 1 n1, eq-eqb op 2 h, ← q) (put-live st m n t v hn ht r st′ is)
 
-    pub push-test : (op ≡ 2 → ⊥) → (b : Bool) → b ≡ eqb op 3 → landed r st′ ≡ putAt st n t (Test b) → Live r st′ m (pushStep (length st) room s look op at (take n st) (take t m))
+    pub push-decimal : (op ≡ 2 → ⊥) → op ≡ 5 → (x : Single) → x ≡ floatOf (decimalAt s at) → landed r st′ ≡ putAt st n t (Float x)
+        → Live r st′ m (pushStep (length st) room s look op at (take n st) (take t m))
     unfolding pushStep
-    push-test n2 b be is = rw (ne-eqb op 0 n0, ne-eqb op 1 n1, ne-eqb op 2 n2, ← be) (put-live st m n t (Test b) hn ht r st′ is)
+    push-decimal n2 h x xe is = rw (ne-eqb op 0 n0, ne-eqb op 1 n1, ne-eqb op 2 n2, eq-eqb op 5 h, ← xe) (put-live st m n t (Float x) hn ht r st′ is)
+
+    pub push-test : (op ≡ 2 → ⊥) → (op ≡ 5 → ⊥) → (b : Bool) → b ≡ eqb op 3 → landed r st′ ≡ putAt st n t (Test b) → Live r st′ m (pushStep (length st) room s look op at (take n st) (take t m))
+    unfolding pushStep
+    push-test n2 n5 b be is = rw (ne-eqb op 0 n0, ne-eqb op 1 n1, ne-eqb op 2 n2, ne-eqb op 5 n5, ← be) (put-live st m n t (Test b) hn ht r st′ is)
 
 -- the ways out of `plain_step`
-module _ (vals : List (List ℕ)) (depth : ℕ) (vs bs m : List ℕ) (r : Tops) (st′ : List ℕ) (l : Live r st′ m (unaryStep depth vals 32 vs bs)) where
-  pub plain-stuck : r ≡ Stuck → Live Stuck st′ m (raised depth vals (unaryStep depth vals 32 vs bs))
+module _ (vals : List (List ℕ)) (depth : ℕ) (vs bs m : List ℕ) (r : Tops) (st′ : List ℕ) (l : Live r st′ m (unaryStep depth vals 44 vs bs)) where
+  pub plain-stuck : r ≡ Stuck → Live Stuck st′ m (raised depth vals (unaryStep depth vals 44 vs bs))
   unfolding raised
   plain-stuck re = rw (live-out r st′ m _ re l) (record { within = tt; holds = refl })
 
-  pub plain-raised : (n t : ℕ) → r ≡ At n t → length st′ ≡ depth → (r′ : Tops) (st″ : List ℕ) → Live r′ st″ m (binaryStep (length st′) vals 35 (take n st′) (take t m))
-      → Live r′ st″ m (raised depth vals (unaryStep depth vals 32 vs bs))
+  pub plain-raised : (n t : ℕ) → r ≡ At n t → length st′ ≡ depth → (r′ : Tops) (st″ : List ℕ) → Live r′ st″ m (binaryStep (length st′) vals 47 (take n st′) (take t m))
+      → Live r′ st″ m (raised depth vals (unaryStep depth vals 44 vs bs))
   unfolding raised
   plain-raised n t re de r′ st″ l′ = rw (live-in r st′ m _ n t re l .1 .1, ← de) l′
 
@@ -97,53 +105,53 @@ module _ (st : List ℕ) (n : ℕ) (hn : n ≤ length st) where
 
 -- the ways out of `clause_step`
 module _ (vals : List (List ℕ)) (op : ℕ) where
-  pub clause-begin : op ≡ 31 → (st m : List ℕ) (n t : ℕ) → n ≤ length st → t ≤ length m → (r : Tops) (st′ : List ℕ) → landed r st′ ≡ putAt st n t (Rank 0)
+  pub clause-begin : op ≡ 43 → (st m : List ℕ) (n t : ℕ) → n ≤ length st → t ≤ length m → (r : Tops) (st′ : List ℕ) → landed r st′ ≡ putAt st n t (Rank 0)
       → Live r st′ m (clauseStep (length st) vals op (take n st) (take t m))
   unfolding clauseStep
-  clause-begin h st m n t hn ht r st′ is = rw (eq-eqb op 31 h) (put-live st m n t (Rank 0) hn ht r st′ is)
+  clause-begin h st m n t hn ht r st′ is = rw (eq-eqb op 43 h) (put-live st m n t (Rank 0) hn ht r st′ is)
 
-  module _ (n31 : op ≡ 31 → ⊥) (depth : ℕ) (vs bs m : List ℕ) (r : Tops) (st′ : List ℕ) where
-    pub clause-plain : op ≡ 32 → Live r st′ m (raised depth vals (unaryStep depth vals 32 vs bs)) → Live r st′ m (clauseStep depth vals op vs bs)
+  module _ (n43 : op ≡ 43 → ⊥) (depth : ℕ) (vs bs m : List ℕ) (r : Tops) (st′ : List ℕ) where
+    pub clause-plain : op ≡ 44 → Live r st′ m (raised depth vals (unaryStep depth vals 44 vs bs)) → Live r st′ m (clauseStep depth vals op vs bs)
     unfolding clauseStep
     clause-plain h l = rw (h) l
 
-    module _ (n32 : op ≡ 32 → ⊥) (b : Bool) (be : b ≡ isIdle vs) (bf : b ≡ false) (l : Live r st′ m (binaryStep depth vals op vs bs)) where
+    module _ (n44 : op ≡ 44 → ⊥) (b : Bool) (be : b ≡ isIdle vs) (bf : b ≡ false) (l : Live r st′ m (binaryStep depth vals op vs bs)) where
       pub clause-stuck : r ≡ Stuck → Live Stuck st′ m (clauseStep depth vals op vs bs)
       unfolding clauseStep raised
-      clause-stuck re = rw (ne-eqb op 31 n31, ne-eqb op 32 n32, ← be, bf, live-out r st′ m _ re l) (record { within = tt; holds = refl })
+      clause-stuck re = rw (ne-eqb op 43 n43, ne-eqb op 44 n44, ← be, bf, live-out r st′ m _ re l) (record { within = tt; holds = refl })
 
-      pub clause-raised : (n t : ℕ) → r ≡ At n t → length st′ ≡ depth → (r′ : Tops) (st″ : List ℕ) → Live r′ st″ m (binaryStep (length st′) vals 35 (take n st′) (take t m))
+      pub clause-raised : (n t : ℕ) → r ≡ At n t → length st′ ≡ depth → (r′ : Tops) (st″ : List ℕ) → Live r′ st″ m (binaryStep (length st′) vals 47 (take n st′) (take t m))
           → Live r′ st″ m (clauseStep depth vals op vs bs)
       unfolding clauseStep raised
-      clause-raised n t re de r′ st″ l′ = rw (ne-eqb op 31 n31, ne-eqb op 32 n32, ← be, bf, live-in r st′ m _ n t re l .1 .1, ← de) l′
+      clause-raised n t re de r′ st″ l′ = rw (ne-eqb op 43 n43, ne-eqb op 44 n44, ← be, bf, live-in r st′ m _ n t re l .1 .1, ← de) l′
 
   -- a test that is idle
   module _ (st m : List ℕ) (n t : ℕ) (hn : n ≤ length st) (b : Bool) (be : b ≡ isIdle (take n st)) (bt : b ≡ true) where
-    pub clause-idle : t ≤ length m → (op ≡ 31 → ⊥) → (op ≡ 32 → ⊥) → Live (At (n - 2) t) st m (clauseStep (length st) vals op (take n st) (take t m))
+    pub clause-idle : t ≤ length m → (op ≡ 43 → ⊥) → (op ≡ 44 → ⊥) → Live (At (n - 2) t) st m (clauseStep (length st) vals op (take n st) (take t m))
     unfolding clauseStep
-    clause-idle ht n31 n32 =
-        rw (ne-eqb op 31 n31, ne-eqb op 32 n32, ← be, bt, below-is st n hn (idle-two st n hn b be bt))
+    clause-idle ht n43 n44 =
+        rw (ne-eqb op 43 n43, ne-eqb op 44 n44, ← be, bt, below-is st n hn (idle-two st n hn b be bt))
         (record { within = (omega (arith, hn), ht); holds = refl })
 
 -- the ways out of `act`
 module _ (depth room : ℕ) (look : List ℕ → List ℕ) (vals : List (List ℕ)) (op : ℕ) (vs bs : List ℕ) (r : Tops) (st m : List ℕ) where
-  pub act-lookup : op ≡ 5 → Live r st m (lookupStep depth room look vs bs) → Live r st m (actOf depth room look vals op vs bs)
+  pub act-lookup : op ≡ 6 → Live r st m (lookupStep depth room look vs bs) → Live r st m (actOf depth room look vals op vs bs)
   unfolding actOf
-  act-lookup h l = rw (eq-eqb op 5 h) l
+  act-lookup h l = rw (eq-eqb op 6 h) l
 
-  module _ (n5 : op ≡ 5 → ⊥) where
-    pub act-unary : op ≤ 8 → Live r st m (unaryStep depth vals op vs bs) → Live r st m (actOf depth room look vals op vs bs)
+  module _ (n6 : op ≡ 6 → ⊥) where
+    pub act-unary : op ≤ 11 → Live r st m (unaryStep depth vals op vs bs) → Live r st m (actOf depth room look vals op vs bs)
     unfolding actOf
-    act-unary h l = rw (ne-eqb op 5 n5, le-leb op 8 h) l
+    act-unary h l = rw (ne-eqb op 6 n6, le-leb op 11 h) l
 
-    module _ (n8 : 8 < op) where
-      pub act-binary : op ≤ 30 → Live r st m (binaryStep depth vals op vs bs) → Live r st m (actOf depth room look vals op vs bs)
+    module _ (n11 : 11 < op) where
+      pub act-binary : op ≤ 42 → Live r st m (binaryStep depth vals op vs bs) → Live r st m (actOf depth room look vals op vs bs)
       unfolding actOf
-      act-binary h l = rw (ne-eqb op 5 n5, lt-leb op 8 n8, le-leb op 30 h) l
+      act-binary h l = rw (ne-eqb op 6 n6, lt-leb op 11 n11, le-leb op 42 h) l
 
-      pub act-clause : 30 < op → Live r st m (clauseStep depth vals op vs bs) → Live r st m (actOf depth room look vals op vs bs)
+      pub act-clause : 42 < op → Live r st m (clauseStep depth vals op vs bs) → Live r st m (actOf depth room look vals op vs bs)
       unfolding actOf
-      act-clause h l = rw (ne-eqb op 5 n5, lt-leb op 8 n8, lt-leb op 30 h) l
+      act-clause h l = rw (ne-eqb op 6 n6, lt-leb op 11 n11, lt-leb op 42 h) l
 
 -- what is left of the code from i on
 unfoldable pub execFrom : ℕ → ℕ → List ℕ → (List ℕ → List ℕ) → List (List ℕ) → List ℕ → ℕ → List ℕ → List ℕ → State
@@ -176,7 +184,7 @@ module _ (depth room : ℕ) (s : List ℕ) (look : List ℕ → List ℕ) (vals 
         let z : stuck ≡ a = sym (exec-stuck depth room s look vals op (drop (suc i) code)) ∙ (rw q at step-is) in
         ap resultOf z
 
-    more-is : Live r st′ m′ made → (n′ t′ : ℕ) → r ≡ At n′ t′ → (x : ℕ) → x ≡ pick (leb op 4) 0 (needless (top vals) (take n′ st′) (drop (suc i) code))
+    more-is : Live r st′ m′ made → (n′ t′ : ℕ) → r ≡ At n′ t′ → (x : ℕ) → x ≡ pick (leb op 5) 0 (needless (top vals) (take n′ st′) (drop (suc i) code))
         → execFrom depth room s look vals code (suc i + x) (take n′ st′) (take t′ m′) ≡ a
     unfolding execFrom
     more-is l n′ t′ re x xe =
@@ -186,10 +194,10 @@ module _ (depth room : ℕ) (s : List ℕ) (look : List ℕ → List ℕ) (vals 
         rw (xe, ← drop-drop (ahead (top vals) op y c) (suc i) code) (sym (exec-drop depth room s look vals (ahead (top vals) op y c) c y) ∙ q)
 
     -- what is put on the stacks
-    module _ (h4 : op ≤ 4) (l : Live r st′ m′ (pushStep (length st) (length m) s look op p (take n st) (take t m))) where
+    module _ (h4 : op ≤ 5) (l : Live r st′ m′ (pushStep (length st) (length m) s look op p (take n st) (take t m))) where
       pushed : Live r st′ m′ made
       unfolding stepOf
-      pushed = rw (le-leb op 4 h4) l
+      pushed = rw (le-leb op 5 h4) l
 
       pub push-fault : r ≡ Stuck → Fault ≡ resultOf a
       push-fault = fault-is pushed
@@ -197,13 +205,13 @@ module _ (depth room : ℕ) (s : List ℕ) (look : List ℕ → List ℕ) (vals 
       pub push-more : (n′ t′ : ℕ) → r ≡ At n′ t′ → execFrom depth room s look vals code (i + 1) (take n′ st′) (take t′ m′) ≡ a
       push-more n′ t′ re =
           let z : suc i + 0 ≡ i + 1 = omega arith in
-          rw (sym z) (more-is pushed n′ t′ re 0 (rw (le-leb op 4 h4)))
+          rw (sym z) (more-is pushed n′ t′ re 0 (rw (le-leb op 5 h4)))
 
     -- an operation on what lies there
-    module _ (h4 : 4 < op) (l : Live r st′ m′ (actOf (length st) (length m) look vals op (take n st) (take t m))) where
+    module _ (h4 : 5 < op) (l : Live r st′ m′ (actOf (length st) (length m) look vals op (take n st) (take t m))) where
       acted : Live r st′ m′ made
       unfolding stepOf
-      acted = rw (lt-leb op 4 h4) l
+      acted = rw (lt-leb op 5 h4) l
 
       pub act-fault : r ≡ Stuck → Fault ≡ resultOf a
       act-fault = fault-is acted
@@ -212,13 +220,13 @@ module _ (depth room : ℕ) (s : List ℕ) (look : List ℕ → List ℕ) (vals 
           → execFrom depth room s look vals code j (take n′ st′) (take t′ m′) ≡ a
       act-on n′ t′ re j je =
           let je′ : j ≡ suc i + needless (top vals) (take n′ st′) (drop (suc i) code) = rw (add-one i) at je in
-          rw je′ (more-is acted n′ t′ re _ (rw (lt-leb op 4 h4)))
+          rw je′ (more-is acted n′ t′ re _ (rw (lt-leb op 5 h4)))
 
 -- the highest rank is that of the values shown
 pub act-more : (rec values : List ℕ) (depth room : ℕ) (s : List ℕ) (look : List ℕ → List ℕ) (code : List ℕ) (i : ℕ) (st m : List ℕ) (n t : ℕ) (a : State)
     → execFrom depth room s look (map (counted rec) values) code i (take n st) (take t m) ≡ a
     → i < length code → (e : ℕ) → e ≡ getD code i 0 → (op : ℕ) → op ≡ e / 65536 → (p : ℕ) → p ≡ e % 65536 → length st ≡ depth → length m ≡ room
-    → (r : Tops) (st′ m′ : List ℕ) → 4 < op → Live r st′ m′ (actOf (length st) (length m) look (map (counted rec) values) op (take n st) (take t m))
+    → (r : Tops) (st′ m′ : List ℕ) → 5 < op → Live r st′ m′ (actOf (length st) (length m) look (map (counted rec) values) op (take n st) (take t m))
     → (n′ t′ : ℕ) → r ≡ At n′ t′ → (j : ℕ) → j ≡ i + 1 + needless (length values - 1) (take n′ st′) (drop (i + 1) code)
     → execFrom depth room s look (map (counted rec) values) code j (take n′ st′) (take t′ m′) ≡ a
 unfolding top

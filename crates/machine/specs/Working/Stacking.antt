@@ -1,5 +1,5 @@
 -- Working laws: what each step makes of values on top of the stacks. Assumes nothing.
-use mathlib.Core.Path.{_≡_, refl, _∙_}
+use mathlib.Core.Path.{_≡_, refl, ap, _∙_}
 use mathlib.Core.Bool.{true, false}
 use mathlib.Core.List.{List, [], _∷_, _++_, append-assoc, append-nil}
 use Prim.Native.Nat.{ℕ, _+_, _-_, _≤_}
@@ -9,14 +9,16 @@ use lib.ListN.{length, take, drop, length-append}
 use lib.Seq.{take-at, drop-at, getD-append-add, take-append-add}
 use borrow.Author.Tests.{le-ltb, le-leb, ltb-false}
 use Rattle.text.specs.Choice.{pick, split}
+use Rattle.float.specs.Theorems.Held.{float-back}
 use Rattle.syntax.specs.Operator as Operator
-use Rattle.expression.specs.Value.{Value, text, integer, test, rank, fault, operand, bytesOf, onText}
+use Rattle.expression.specs.Value.{Value, text, integer, test, rank, float, fault, operand, bytesOf, onText}
 use Rattle.expression.specs.Operands.{kindOf, sizeOf, unpacked, width, valueOf, isText}
 use Rattle.expression.specs.Operations.{held, unaryOf}
 use Rattle.expression.specs.Working.Clauses.{applied, combined}
 use Rattle.expression.specs.declared.value.Operand.{Operand}
-use Rattle.expression.specs.declared.value.Operand.the-variants.{Text, Number, Test, Rank, Fault}
+use Rattle.expression.specs.declared.value.Operand.the-variants.{Text, Float, Fault}
 use Rattle.machine.specs.Machine.{State, on, placed, textStep, topOf, below, isFalse, isHighest, isIdle, unaryOn, unaryStep, lookupOn, lookupStep, settledOn, binaryOn, binaryStep}
+use Rattle.machine.specs.Working.Kinds.{Said}
 use Rattle.machine.specs.Working.Widths.{plain-applied, Front, front-combined}
 
 -- the numbers of a value's operand, and the stacks with a value on top
@@ -26,16 +28,16 @@ pair v = kindOf (operand v) ∷ sizeOf (operand v) ∷ []
 unfoldable pub topped : List ℕ → List ℕ → Value → State
 topped vs bs v = on (vs ++ pair v) (bs ++ bytesOf v)
 
--- an operand is what its two numbers say, and has as many bytes as its value
-unpack-is : (x : Operand) → unpacked (kindOf x) (sizeOf x) ≡ x
-unfolding unpacked kindOf sizeOf
-unpack-is (Text n) = refl
-unpack-is (Number true n) = refl
-unpack-is (Number false n) = refl
-unpack-is (Test true) = refl
-unpack-is (Test false) = refl
-unpack-is (Rank n) = refl
-unpack-is Fault = refl
+-- a value's operand is what its two numbers say, and has as many bytes as its value
+unpack-is : (v : Value) → Said v → unpacked (kindOf (operand v)) (sizeOf (operand v)) ≡ operand v
+unfolding unpacked kindOf sizeOf operand
+unpack-is (text b) h = refl
+unpack-is (integer i) h = split (i .negative) (λ f. rw f) (λ f. rw f)
+unpack-is (test true) h = refl
+unpack-is (test false) h = refl
+unpack-is (rank n) h = refl
+unpack-is (float x) h = ap Float (float-back x h)
+unpack-is fault h = refl
 
 pub width-is : (v : Value) → width (operand v) ≡ length (bytesOf v)
 unfolding width operand bytesOf
@@ -43,6 +45,7 @@ width-is (text b) = refl
 width-is (integer i) = refl
 width-is (test t) = refl
 width-is (rank n) = refl
+width-is (float x) = refl
 width-is fault = refl
 
 value-is : (v : Value) → valueOf (operand v) (bytesOf v) ≡ v
@@ -51,6 +54,7 @@ value-is (text b) = refl
 value-is (integer i) = refl
 value-is (test t) = refl
 value-is (rank n) = refl
+value-is (float x) = refl
 value-is fault = refl
 
 module _ (vs : List ℕ) (v : Value) where
@@ -58,9 +62,9 @@ module _ (vs : List ℕ) (v : Value) where
   unfolding pair
   count-is = length-append vs (pair v)
 
-  pub top-is : topOf (vs ++ pair v) ≡ operand v
+  pub top-is : Said v → topOf (vs ++ pair v) ≡ operand v
   unfolding topOf pair
-  top-is =
+  top-is z =
       let a : length vs + 2 - 2 ≡ length vs + 0 = omega arith in
       let b : length vs + 2 - 1 ≡ length vs + 1 = omega arith in
       rw (
@@ -71,7 +75,7 @@ module _ (vs : List ℕ) (v : Value) where
         getD-append-add vs (kindOf (operand v) ∷ sizeOf (operand v) ∷ []) 0 0,
         getD-append-add vs (kindOf (operand v) ∷ sizeOf (operand v) ∷ []) 1 0,
       )
-      (unpack-is (operand v))
+      (unpack-is v z)
 
   pub false-top : isFalse (vs ++ pair v) ≡ eqb (kindOf (operand v)) 3
   unfolding isFalse pair
@@ -151,10 +155,10 @@ module _ (depth : ℕ) (vs : List ℕ) (h : length vs + 2 ≤ depth) where
       (λ f. let l : length b ≤ 4096 = ltb-false _ _ f in rw (f, le-leb (length bs + length b) room (omega arith)) (place-text bs b))
 
   -- one operand
-  pub unary-is : (vals : List (List ℕ)) (op : ℕ) (bs : List ℕ) (v : Value) → unaryStep depth vals op (vs ++ pair v) (bs ++ bytesOf v) ≡ topped vs bs (applied vals op v)
+  pub unary-is : (vals : List (List ℕ)) (op : ℕ) (bs : List ℕ) (v : Value) → Said v → unaryStep depth vals op (vs ++ pair v) (bs ++ bytesOf v) ≡ topped vs bs (applied vals op v)
   unfolding unaryStep unaryOn
-  unary-is vals op bs v =
-      rw (count-is vs v, le-ltb (length vs + 2) 2 (omega arith), top-is vs v, below-is vs v, width-is v, long-is bs (bytesOf v), front-is bs (bytesOf v), back-is bs (bytesOf v), value-is v)
+  unary-is vals op bs v z =
+      rw (count-is vs v, le-ltb (length vs + 2) 2 (omega arith), top-is vs v z, below-is vs v, width-is v, long-is bs (bytesOf v), front-is bs (bytesOf v), back-is bs (bytesOf v), value-is v)
       (place-is bs (applied vals op v) (plain-applied vals op v .none))
 
   -- "$"
@@ -166,13 +170,14 @@ module _ (depth : ℕ) (vs : List ℕ) (h : length vs + 2 ≤ depth) where
     lookup-on bs (integer i) k = place-fault bs
     lookup-on bs (test t) k = place-fault bs
     lookup-on bs (rank n) k = place-fault bs
+    lookup-on bs (float x) k = place-fault bs
     lookup-on bs fault k = place-fault bs
 
-    pub lookup-is : (bs : List ℕ) (v : Value) → length bs + 4096 ≤ room
+    pub lookup-is : (bs : List ℕ) (v : Value) → Said v → length bs + 4096 ≤ room
         → lookupStep depth room look (vs ++ pair v) (bs ++ bytesOf v) ≡ topped vs bs (unaryOf look′ Operator.lookup v)
     unfolding lookupStep lookupOn unaryOf
-    lookup-is bs v k =
-        rw (count-is vs v, le-ltb (length vs + 2) 2 (omega arith), top-is vs v, below-is vs v, width-is v, long-is bs (bytesOf v), front-is bs (bytesOf v), back-is bs (bytesOf v))
+    lookup-is bs v z k =
+        rw (count-is vs v, le-ltb (length vs + 2) 2 (omega arith), top-is vs v z, below-is vs v, width-is v, long-is bs (bytesOf v), front-is bs (bytesOf v), back-is bs (bytesOf v))
         (lookup-on bs v k)
 
   -- two operands
@@ -182,16 +187,16 @@ module _ (depth : ℕ) (vs : List ℕ) (h : length vs + 2 ≤ depth) where
       let e : length (bs ++ l) - length bs ≡ length l = rw (length-append bs l) (omega arith) in
       rw (width-is v, e, le-ltb (length l) (length (bytesOf v)) (f .fits), take-append-add bs l (length (bytesOf v)), f .is, le-ltb (depth - length vs) 2 (omega arith))
 
-  pub binary-is : (vals : List (List ℕ)) (op : ℕ) (bs : List ℕ) (v w : Value)
+  pub binary-is : (vals : List (List ℕ)) (op : ℕ) (bs : List ℕ) (v w : Value) → Said v → Said w
       → binaryStep depth vals op ((vs ++ pair v) ++ pair w) ((bs ++ bytesOf v) ++ bytesOf w) ≡ topped vs bs (combined vals op v w)
   unfolding binaryStep binaryOn
-  binary-is vals op bs v w =
+  binary-is vals op bs v w z y =
       let four : 4 ≤ length ((vs ++ pair v) ++ pair w) = rw (count-is (vs ++ pair v) w, count-is vs v) (omega arith) in
       rw (
         le-ltb (length ((vs ++ pair v) ++ pair w)) 4 four,
-        top-is (vs ++ pair v) w,
+        top-is (vs ++ pair v) w y,
         below-is (vs ++ pair v) w,
-        top-is vs v,
+        top-is vs v z,
         below-is vs v,
         width-is w,
         width-is v,

@@ -27,7 +27,7 @@ use Rattle.conditions.proofs.expression.prefixed.Kinds as prefixed-kind
 use Rattle.conditions.proofs.expression.+bracketed+chain+expression+joined+operand+prefixed.Lts-prefixed as prefixed-lts
 use Rattle.conditions.proofs.emit.closed.Reads as closed-reads
 use Rattle.conditions.proofs.emit.finish.Reads as finish-reads
-use Rattle.conditions.proofs.emit.finish_any.Reads as finish-any-reads
+use Rattle.conditions.proofs.emit.finish_prefix.Reads as finish-prefix-reads
 use Rattle.conditions.proofs.emit.settle_for.Reads as settle-for-reads
 use Rattle.conditions.proofs.emit.unexpected.Reads as unexpected-reads
 use Rattle.conditions.proofs.leaf.leaf.Reads as leaf-reads
@@ -178,8 +178,8 @@ prefixed-claims t = (
   operand-want-reads.Learnt,
   expression-below t,
   expression.Post,
-  finish-any-reads.Asked,
-  finish-any-reads.Learnt,
+  finish-prefix-reads.Asked,
+  finish-prefix-reads.Learnt,
 )
 
 bracketed-returns : (t : ℕ) → bracketed-lts.Need-returns (bracketed-claims t) (bracketed-at t) bracketed.Post
@@ -438,8 +438,8 @@ prefixed-enum-known-reason t c = search needs
 prefixed-enum-known-sort : (t : ℕ) → prefixed-lts.Need-enum-known-sort (prefixed-claims t) (prefixed-at t) prefixed.Post
 prefixed-enum-known-sort t c = search needs
 
-prefixed-finish-any-requires : (t : ℕ) → prefixed-lts.Need-finish-any-requires (prefixed-claims t) (prefixed-at t) prefixed.Post
-prefixed-finish-any-requires t c κs = search needs
+prefixed-finish-prefix-requires : (t : ℕ) → prefixed-lts.Need-finish-prefix-requires (prefixed-claims t) (prefixed-at t) prefixed.Post
+prefixed-finish-prefix-requires t c κs = search needs
 
 prefixed-same-length : (t : ℕ) → prefixed-lts.Need-same-length (prefixed-claims t) (prefixed-at t) prefixed.Post
 prefixed-same-length t c = search needs
@@ -597,8 +597,8 @@ pub +bracketed+chain+expression+joined+operand+prefixed-spec : {M : Type 1} → 
       operand-want-reads.Learnt,
       expression-below t,
       expression.Post,
-      finish-any-reads.Asked,
-      finish-any-reads.Learnt,
+      finish-prefix-reads.Asked,
+      finish-prefix-reads.Learnt,
     )
     (prefixed-at t)
     prefixed.Post
@@ -612,7 +612,7 @@ pub +bracketed+chain+expression+joined+operand+prefixed-spec : {M : Type 1} → 
     (prefixed-expression-requires t)
     (prefixed-enum-known-reason t)
     (prefixed-enum-known-sort t)
-    (prefixed-finish-any-requires t)
+    (prefixed-finish-prefix-requires t)
     (prefixed-same-length t)
     (prefixed-returns-3 t)
     (prefixed-same-length-2 t)

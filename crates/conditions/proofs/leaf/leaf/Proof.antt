@@ -1,4 +1,4 @@
-use Rattle.conditions.proofs.LeafWays.{leaf-literal, leaf-name, leaf-digits, leaf-float}
+use Rattle.conditions.proofs.LeafWays.{leaf-digits, leaf-float, leaf-literal, leaf-name}
 use borrow.Author.Needs.{needs}
 use Rattle.conditions.proofs.leaf.leaf.Statement.{statement}
 use Rattle.conditions.proofs.leaf.leaf.Tie as tie
@@ -39,6 +39,9 @@ returns-3 c = search leaf-digits
 float-requires : tie.Need-float-requires
 float-requires c κs = search needs
 
+same-length-4 : tie.Need-same-length-4
+same-length-4 c = search needs
+
 returns-4 : tie.Need-returns-4
 returns-4 c = search leaf-float
 
@@ -56,4 +59,5 @@ leaf-spec =
     same-length-3
     returns-3
     float-requires
+    same-length-4
     returns-4)

@@ -18,9 +18,5 @@ returns-3 : tie.Need-returns-3
 unfolding fits
 returns-3 c = search (needs, tests)
 
-returns-4 : tie.Need-returns-4
-unfolding fits
-returns-4 c = search (needs, tests)
-
 pub is-fit-spec : {M : Type 1} → statement M
-is-fit-spec = tie.close (tie.spec returns returns-2 returns-3 returns-4)
+is-fit-spec = tie.close (tie.spec returns returns-2 returns-3)

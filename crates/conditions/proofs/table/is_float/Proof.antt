@@ -14,5 +14,9 @@ returns-2 : tie.Need-returns-2
 unfolding beginsFloat
 returns-2 c = search (needs, tests)
 
+returns-3 : tie.Need-returns-3
+unfolding beginsFloat
+returns-3 c = search (needs, tests)
+
 pub is-float-spec : {M : Type 1} → statement M
-is-float-spec = tie.close (tie.spec returns returns-2)
+is-float-spec = tie.close (tie.spec returns returns-2 returns-3)

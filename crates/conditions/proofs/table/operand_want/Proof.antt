@@ -22,5 +22,9 @@ returns-4 : tie.Need-returns-4
 unfolding operandWant
 returns-4 c = search (needs, tests)
 
+returns-5 : tie.Need-returns-5
+unfolding operandWant
+returns-5 c = search (needs, tests)
+
 pub operand-want-spec : {M : Type 1} → statement M
-operand-want-spec = tie.close (tie.spec returns returns-2 returns-3 returns-4)
+operand-want-spec = tie.close (tie.spec returns returns-2 returns-3 returns-4 returns-5)

@@ -26,5 +26,10 @@ returns-5 : tie.Need-returns-5
 unfolding prefixOperator
 returns-5 c = search (needs, tests)
 
+returns-6 : tie.Need-returns-6
+unfolding prefixOperator
+returns-6 c = search (needs, tests)
+
 pub prefix-operator-spec : {M : Type 1} → statement M
-prefix-operator-spec = tie.close (tie.spec returns returns-2 returns-3 returns-4 returns-5)
+prefix-operator-spec =
+    tie.close (tie.spec returns returns-2 returns-3 returns-4 returns-5 returns-6)

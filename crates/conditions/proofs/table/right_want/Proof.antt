@@ -1,4 +1,3 @@
-use Rattle.conditions.proofs.TableWays.{right-test, right-text, right-number}
 use Rattle.conditions.specs.Working.Numbered.{rightWant}
 use Rattle.text.specs.Choice.{tests}
 use borrow.Author.Needs.{needs}
@@ -12,13 +11,8 @@ operand-of-requires : tie.Need-operand-of-requires
 operand-of-requires c κs = search (needs, tests)
 
 returns : tie.Need-returns
-returns c = search right-test
-
-returns-2 : tie.Need-returns-2
-returns-2 c = search right-text
-
-returns-3 : tie.Need-returns-3
-returns-3 c = search right-number
+unfolding rightWant
+returns c = search (needs, tests)
 
 pub right-want-spec : {M : Type 1} → statement M
-right-want-spec = tie.close (tie.spec operand-of-requires returns returns-2 returns-3)
+right-want-spec = tie.close (tie.spec operand-of-requires returns)

@@ -1,9 +1,10 @@
-use Rattle.expression.specs.Working.Operating.{binary-texts, binary-integers, binary-tests, binary-none}
+use Rattle.expression.specs.Working.Operating.{binary-texts, binary-integers, binary-floats, binary-tests, binary-none}
 use borrow.Author.Needs.{needs}
 use Rattle.expression.proofs.operator.binary.Statement.{statement}
 use Rattle.expression.proofs.operator.binary.Tie as tie
 use Rattle.expression.proofs.operator.binary.Reads as reads
 use Rattle.expression.proofs.operator.binary.Lts as lts
+use Rattle.expression.proofs.operator.floats.Reads as floats-reads
 use Rattle.expression.proofs.operator.integers.Reads as integers-reads
 use Rattle.expression.proofs.operator.is_textual.Reads as is-textual-reads
 use Rattle.expression.proofs.operator.tests.Reads as tests-reads
@@ -24,14 +25,20 @@ integers-requires c κs = search needs
 returns-2 : tie.Need-returns-2
 returns-2 c = search binary-integers
 
+floats-requires : tie.Need-floats-requires
+floats-requires c κs = search needs
+
+returns-3 : tie.Need-returns-3
+returns-3 c = search binary-floats
+
 tests-requires : tie.Need-tests-requires
 tests-requires c κs = search needs
 
-returns-3 : tie.Need-returns-3
-returns-3 c = search binary-tests
-
 returns-4 : tie.Need-returns-4
-returns-4 c = search binary-none
+returns-4 c = search binary-tests
+
+returns-5 : tie.Need-returns-5
+returns-5 c = search binary-none
 
 pub binary-spec : {M : Type 1} → statement M
 binary-spec =
@@ -42,6 +49,8 @@ binary-spec =
     returns
     integers-requires
     returns-2
-    tests-requires
+    floats-requires
     returns-3
-    returns-4)
+    tests-requires
+    returns-4
+    returns-5)

@@ -21,6 +21,9 @@ enum-told-4 c = search (needs, tests)
 enum-told-5 : tie.Need-enum-told-5
 enum-told-5 c = search (needs, tests)
 
+enum-told-6 : tie.Need-enum-told-6
+enum-told-6 c = search (needs, tests)
+
 returns : tie.Need-returns
 unfolding isText
 returns c = search (needs, tests)
@@ -41,6 +44,10 @@ returns-5 : tie.Need-returns-5
 unfolding isText
 returns-5 c = search (needs, tests)
 
+returns-6 : tie.Need-returns-6
+unfolding isText
+returns-6 c = search (needs, tests)
+
 pub is-text-spec : {M : Type 1} → statement M
 is-text-spec =
     tie.close
@@ -50,8 +57,10 @@ is-text-spec =
     enum-told-3
     enum-told-4
     enum-told-5
+    enum-told-6
     returns
     returns-2
     returns-3
     returns-4
-    returns-5)
+    returns-5
+    returns-6)

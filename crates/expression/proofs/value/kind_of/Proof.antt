@@ -29,6 +29,9 @@ enum-told-2 c = search (needs, tests)
 enum-told-3 : tie.Need-enum-told-3
 enum-told-3 c = search (needs, tests)
 
+enum-told-4 : tie.Need-enum-told-4
+enum-told-4 c = search (needs, tests)
+
 returns-3 : tie.Need-returns-3
 unfolding kindOf
 returns-3 c = search (needs, tests)
@@ -49,6 +52,10 @@ returns-7 : tie.Need-returns-7
 unfolding kindOf
 returns-7 c = search (needs, tests)
 
+returns-8 : tie.Need-returns-8
+unfolding kindOf
+returns-8 c = search (needs, tests)
+
 pub kind-of-spec : {M : Type 1} → statement M
 kind-of-spec =
     tie.close
@@ -60,8 +67,10 @@ kind-of-spec =
     returns-2
     enum-told-2
     enum-told-3
+    enum-told-4
     returns-3
     returns-4
     returns-5
     returns-6
-    returns-7)
+    returns-7
+    returns-8)

@@ -1,3 +1,4 @@
+use Rattle.expression.specs.Working.Operating.{size-float}
 use Rattle.expression.specs.Operands.{sizeOf}
 use Rattle.text.specs.Choice.{tests}
 use borrow.Author.Needs.{needs}
@@ -5,6 +6,7 @@ use Rattle.expression.proofs.value.size_of.Statement.{statement}
 use Rattle.expression.proofs.value.size_of.Tie as tie
 use Rattle.expression.proofs.value.size_of.Reads as reads
 use Rattle.expression.proofs.value.size_of.Lts as lts
+use Rattle.float.proofs.bits.bits_of.Reads as bits-of-reads
 
 enum-known-v : tie.Need-enum-known-v
 enum-known-v c = search (needs, tests)
@@ -17,6 +19,12 @@ enum-told c = search (needs, tests)
 
 enum-known-v-3 : tie.Need-enum-known-v-3
 enum-known-v-3 c = search (needs, tests)
+
+enum-known-v-4 : tie.Need-enum-known-v-4
+enum-known-v-4 c = search (needs, tests)
+
+bits-of-requires : tie.Need-bits-of-requires
+bits-of-requires c κs = search (needs, tests)
 
 enum-told-2 : tie.Need-enum-told-2
 enum-told-2 c = search (needs, tests)
@@ -38,8 +46,11 @@ unfolding sizeOf
 returns-4 c = search (needs, tests)
 
 returns-5 : tie.Need-returns-5
+returns-5 c = search size-float
+
+returns-6 : tie.Need-returns-6
 unfolding sizeOf
-returns-5 c = search (needs, tests)
+returns-6 c = search (needs, tests)
 
 pub size-of-spec : {M : Type 1} → statement M
 size-of-spec =
@@ -49,9 +60,12 @@ size-of-spec =
     enum-known-v-2
     enum-told
     enum-known-v-3
+    enum-known-v-4
+    bits-of-requires
     enum-told-2
     returns
     returns-2
     returns-3
     returns-4
-    returns-5)
+    returns-5
+    returns-6)

@@ -1,10 +1,11 @@
 use Rattle.expression.specs.Operands.{unpacked}
-use borrow.Author.Needs.{needs}
 use Rattle.text.specs.Choice.{tests}
+use borrow.Author.Needs.{needs}
 use Rattle.expression.proofs.value.unpack.Statement.{statement}
 use Rattle.expression.proofs.value.unpack.Tie as tie
 use Rattle.expression.proofs.value.unpack.Reads as reads
 use Rattle.expression.proofs.value.unpack.Lts as lts
+use Rattle.float.proofs.bits.float_of.Reads as float-of-reads
 
 returns : tie.Need-returns
 unfolding unpacked
@@ -30,10 +31,27 @@ returns-6 : tie.Need-returns-6
 unfolding unpacked
 returns-6 c = search (needs, tests)
 
+float-of-requires : tie.Need-float-of-requires
+float-of-requires c κs = search (needs, tests)
+
 returns-7 : tie.Need-returns-7
 unfolding unpacked
 returns-7 c = search (needs, tests)
 
+returns-8 : tie.Need-returns-8
+unfolding unpacked
+returns-8 c = search (needs, tests)
+
 pub unpack-spec : {M : Type 1} → statement M
 unpack-spec =
-    tie.close (tie.spec returns returns-2 returns-3 returns-4 returns-5 returns-6 returns-7)
+    tie.close
+    (tie.spec
+    returns
+    returns-2
+    returns-3
+    returns-4
+    returns-5
+    returns-6
+    float-of-requires
+    returns-7
+    returns-8)

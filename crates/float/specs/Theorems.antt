@@ -1,0 +1,9 @@
+pub mod Only
+pub mod Rounded
+pub mod Converted
+pub mod Each
+pub mod Exponent
+pub mod Power
+pub mod Held
+pub mod Formed
+pub mod Examples
