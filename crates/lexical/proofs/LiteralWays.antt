@@ -18,7 +18,8 @@ use Rattle.lexical.specs.Unit.{GIVES, CLOSES, barred, unitAt}
 use Rattle.lexical.specs.UnitLaws.{unit-moves}
 use Rattle.lexical.specs.Literal.{units, unitsAt, given, literalEnd, decodedAt}
 use Rattle.lexical.specs.LiteralLaws.{units-more, units-last, units-end}
-use Rattle.lexical.specs.Decode.{Ran, ran, decodeInto}
+use Rattle.lexical.specs.Decode.{Ran, ran, decodeInto, within, decodeWithin}
+use Rattle.lexical.specs.declared.literal.Decoded.the-variants.{Put, Long, Full}
 use Rattle.text.specs.Scan.{past, past-end, past-from}
 use Rattle.text.specs.Copy.{Copied, copied, put, copyAt}
 use Rattle.lexical.specs.DecodeLaws.{decode-fits, decode-full}
@@ -182,6 +183,21 @@ module _ (s : List ℕ) (start : ℕ) (m : List ℕ) (at n : ℕ) (ne : n ≡ le
       pub into-all : (b : List ℕ) → b ≡ sets m at (given (unitsAt s (start + 1))) → ran true b ≡ decodeInto s start m at
       unfolding decodeInto decodedAt
       into-all b e = simp (le-ltb _ _ h, sym ne, le-ltb _ _ k, sym e)
+
+-- `decode_within`
+module _ (s : List ℕ) (start : ℕ) (m : List ℕ) (at most n : ℕ) (ne : n ≡ length (decodedAt s start)) where
+  pub within-long : most < n → within Long m ≡ decodeWithin s start m at most
+  unfolding decodeWithin
+  within-long h = rw (← ne, lt-ltb _ _ h)
+
+  module _ (h : n ≤ most) (c : Bool) (b : List ℕ) (ce : ran c b ≡ decodeInto s start m at) where
+    pub within-put : c ≡ true → within (Put n) b ≡ decodeWithin s start m at most
+    unfolding decodeWithin
+    within-put y = rw (← ne, le-ltb _ _ h, ← ce, y)
+
+    pub within-full : c ≡ false → within Full b ≡ decodeWithin s start m at most
+    unfolding decodeWithin
+    within-full y = rw (← ne, le-ltb _ _ h, ← ce, y)
 
 -- whether a byte stands as it is in a literal
 module _ (b : ℕ) where

@@ -12,7 +12,7 @@ ghost use lib.ListN.{length, getD};
 ghost use lib.Seq.{sets};
 ghost use Rattle.text.specs.Scan.{past};
 ghost use Rattle.lexical.specs.Literal.{literalEnd, decodedAt, unitsAt, given};
-ghost use Rattle.lexical.specs.Decode.{ran, decodeInto};
+ghost use Rattle.lexical.specs.Decode.{ran, decodeInto, within, decodeWithin};
 ghost use Rattle.lexical.specs.Plain.{plain, bareEnd};
 ghost use Rattle.lexical.specs.Short.{near, sized};
 
@@ -211,7 +211,7 @@ fn write(s: &[u8], from: usize, buf: &mut [u8], at: usize)
 }
 
 // Decodes unit by unit, where that gives n bytes.
-pub fn decode_units(s: &[u8], start: usize, buf: &mut [u8], at: usize, n: usize) -> bool
+fn decode_units(s: &[u8], start: usize, buf: &mut [u8], at: usize, n: usize) -> bool
     requires { ⌜ n ≡ length (decodedAt (now s) start) ⌝ }
     ensures { λ r. ⌜ ran r (now (buf .exit)) ≡ decodeInto (now (s .entry)) start (now (buf .entry)) at ⌝ }
 {
@@ -241,4 +241,25 @@ pub fn decode_into(s: &[u8], start: usize, buf: &mut [u8], at: usize) -> bool
     }
     let n = units_length(s, start);
     decode_units(s, start, buf, at, n)
+}
+
+// What came of a literal: how many bytes it gave, that it gives more than are allowed, or that there is no room for them.
+pub enum Decoded {
+    Put { count: usize },
+    Long,
+    Full,
+}
+
+// Writes what the literal at `start` gives into buf, from `at` on, if that is no more than `most` bytes and they fit; else writes nothing.
+pub fn decode_within(s: &[u8], start: usize, buf: &mut [u8], at: usize, most: usize) -> Decoded
+    ensures { λ r. ⌜ within r (now (buf .exit)) ≡ decodeWithin (now (s .entry)) start (now (buf .entry)) at most ⌝ }
+{
+    let n = literal_length(s, start);
+    if most < n {
+        return Decoded::Long;
+    }
+    if decode_units(s, start, buf, at, n) {
+        return Decoded::Put { count: n };
+    }
+    Decoded::Full
 }

@@ -17,9 +17,9 @@ use expression::value::size_of;
 use expression::value::told;
 use expression::value::unpack;
 use expression::value::width_of;
+use lexical::literal::Decoded;
 use lexical::literal::bare_end;
-use lexical::literal::decode_units;
-use lexical::literal::literal_length;
+use lexical::literal::decode_within;
 ghost use mathlib.Core.Path.{_≡_};
 ghost use mathlib.Core.List.{[], map};
 ghost use Prim.Native.Nat.{_+_, _-_, _≤_, _<_, max};
@@ -141,14 +141,11 @@ fn push_literal(
     if e != 0 {
         return push_text(stack, n, bytes, t, &s[at + 1..e]);
     }
-    let k = literal_length(s, at);
-    if LONGEST < k {
-        return put(stack, n, t, Operand::Fault);
+    match decode_within(s, at, bytes, t, LONGEST) {
+        Decoded::Long => put(stack, n, t, Operand::Fault),
+        Decoded::Full => Tops::Stuck,
+        Decoded::Put { count } => put(stack, n, t + count, Operand::Text { length: count }),
     }
-    if decode_units(s, at, bytes, t, k) {
-        return put(stack, n, t + k, Operand::Text { length: k });
-    }
-    Tops::Stuck
 }
 
 // The operand on top of n numbers.

@@ -2,6 +2,10 @@
 use mathlib.Core.Path.{_≡_, refl, sym, ap, _∙_}
 use mathlib.Core.Bool.{Bool, true, false}
 use mathlib.Core.List.{List, [], _∷_, _++_, append-assoc}
+use mir.Syntax.{w64}
+use mir.Val.{Fits}
+use native.Mathlib.Nat.{lt-of-le-of-lt}
+use Prim.Native.Nat.{_^_}
 use Prim.Native.Nat.{ℕ, zero, suc, _+_, _-_, _<_, _≤_}
 use native.Mathlib.Omega.{arith}
 use native.Mathlib.Numerals.{add-one}
@@ -15,7 +19,9 @@ use Rattle.text.specs.Class.{inClass, isWord, word}
 use Rattle.text.specs.Copy.{copied, put, copyAt}
 use Rattle.text.specs.CopyLaws.{put-length}
 use Rattle.lexical.specs.Literal.{decodedAt}
-use Rattle.lexical.specs.Decode.{ran, decodeInto}
+use Rattle.lexical.specs.Decode.{within, decodeInto, decodeWithin}
+use Rattle.lexical.specs.declared.literal.Decoded.{Decoded}
+use Rattle.lexical.specs.declared.literal.Decoded.the-variants.{Put, Long, Full}
 use Rattle.lexical.specs.Plain.{bareEnd, bare-given}
 use Rattle.expression.specs.Value.{operand}
 use Rattle.expression.specs.Operands.{kindOf, sizeOf, unpacked, width, valueOf, isText}
@@ -84,9 +90,6 @@ module _ (st m : List ℕ) (n t : ℕ) (v : Operand) (hn : n ≤ length st) (ht 
 copied-is : {c c′ : Bool} {m m′ : List ℕ} → copied c m ≡ copied c′ m′ → (c ≡ c′) × (m ≡ m′)
 copied-is e = (cc, cc)
 
-ran-is : {c c′ : Bool} {m m′ : List ℕ} → ran c m ≡ ran c′ m′ → (c ≡ c′) × (m ≡ m′)
-ran-is e = (cc, cc)
-
 put-front : (m : List ℕ) (t : ℕ) (b : List ℕ) → t ≤ length m → take (t + length b) (take t m ++ b ++ drop (t + length b) m) ≡ take t m ++ b
 put-front m t b h = take-at (take t m ++ b) (drop (t + length b) m) (t + length b) (length-append-is m t b h)
   where
@@ -133,34 +136,67 @@ module _ (st m : List ℕ) (n t : ℕ) (hn : n ≤ length st) (ht : t ≤ length
           (λ f. let q : copied c m′ ≡ copied true (put m t b) = rw f at ce in clash (copied-is q .0) cf)
           (λ f. text-stuck (leb-false _ _ f) st′ m′)
 
-module _ (s : List ℕ) (at : ℕ) (st m : List ℕ) (n t : ℕ) (hn : n ≤ length st) (ht : t ≤ length m) (k : ℕ) (ke : k ≡ length (decodedAt s at)) where
-  pub literal-over : 4096 < k → (r : Tops) (st′ : List ℕ) → landed r st′ ≡ putAt st n t Fault
-      → Live r st′ m (textStep (length st) (length m) (decodedAt s at) (take n st) (take t m))
-  literal-over h r st′ is = text-over st m n t hn ht (decodedAt s at) (rw ke at h) r st′ is
+-- what `decode_within` tells of a literal
+data Decoding (s : List ℕ) (at : ℕ) (m : List ℕ) (t : ℕ) : Decoded → List ℕ → Type 0 where
+  too-long : 4096 < length (decodedAt s at) → Decoding s at m t Long m
+  too-full : length (decodedAt s at) ≤ 4096 → length m < t + length (decodedAt s at) → Decoding s at m t Full m
+  put-there : length (decodedAt s at) ≤ 4096 → t + length (decodedAt s at) ≤ length m → Decoding s at m t (Put (length (decodedAt s at))) (sets m t (decodedAt s at))
 
-  module _ (short : k ≤ 4096) (c : Bool) (m′ : List ℕ) (ce : ran c m′ ≡ decodeInto s at m t) where
-    fits-is : ltb (length m - t) (length (decodedAt s at)) ≡ false → t + length (decodedAt s at) ≤ length m
-    fits-is f = let h : length (decodedAt s at) ≤ length m - t = ltb-false _ _ f in omega arith
+decodings : (s : List ℕ) (at : ℕ) (m : List ℕ) (t : ℕ) → t ≤ length m → (d : Decoded) (m′ : List ℕ) → within d m′ ≡ decodeWithin s at m t 4096 → Decoding s at m t d m′
+unfolding decodeWithin decodeInto
+decodings s at m t ht d m′ e =
+    split (ltb 4096 (length (decodedAt s at)))
+    (λ f. let q : within d m′ ≡ within Long m = rw f at e in rw (within-is q .0, within-is q .1) (too-long (ltb-true _ _ f)))
+    (λ f. split (ltb (length m - t) (length (decodedAt s at)))
+    (λ g. let q : within d m′ ≡ within Full m = rw (f, le-ltb (length m) t ht, g) at e in
+    let h : length m - t < length (decodedAt s at) = ltb-true _ _ g in
+    rw (within-is q .0, within-is q .1) (too-full (ltb-false _ _ f) (omega arith)))
+    (λ g. let q : within d m′ ≡ within (Put (length (decodedAt s at))) (sets m t (decodedAt s at)) = rw (f, le-ltb (length m) t ht, g) at e in
+    let h : length (decodedAt s at) ≤ length m - t = ltb-false _ _ g in
+    rw (within-is q .0, within-is q .1) (put-there (ltb-false _ _ f) (omega arith))))
+  where
+    within-is : {d d′ : Decoded} {m m′ : List ℕ} → within d m ≡ within d′ m′ → (d ≡ d′) × (m ≡ m′)
+    within-is e = (cc, cc)
 
-    pub literal-in : c ≡ true → (r : Tops) (st′ : List ℕ) → landed r st′ ≡ putAt st n (t + k) (Text k)
-        → Live r st′ m′ (textStep (length st) (length m) (decodedAt s at) (take n st) (take t m))
-    unfolding decodeInto
-    literal-in ct r st′ is =
-        split (ltb (length m - t) (length (decodedAt s at)))
-        (λ f. let q : ran c m′ ≡ ran false m = rw (le-ltb (length m) t ht, f) at ce in clash ct (ran-is q .0))
-        (λ f. let room : t + length (decodedAt s at) ≤ length m = fits-is f in
-        let q : ran c m′ ≡ ran true (sets m t (decodedAt s at)) = rw (le-ltb (length m) t ht, f) at ce in
-        let me : m′ ≡ sets m t (decodedAt s at) = ran-is q .1 in
-        text-in st m n t hn ht (decodedAt s at) (rw ke at short) m′ (ap length me ∙ length-sets m t (decodedAt s at)) room
-        (ap (take (t + length (decodedAt s at))) (me ∙ sets-eq (decodedAt s at) m t room) ∙ put-front m t (decodedAt s at) ht) r st′ (rw ke at is))
+module _ (s : List ℕ) (at : ℕ) (st m : List ℕ) (n t : ℕ) (hn : n ≤ length st) (ht : t ≤ length m) (d : Decoded) (m′ : List ℕ) (de : within d m′ ≡ decodeWithin s at m t 4096) where
+  abbrev step : State
+  step = textStep (length st) (length m) (decodedAt s at) (take n st) (take t m)
 
-    pub literal-none : c ≡ false → (st′ : List ℕ) → Live Stuck st′ m′ (textStep (length st) (length m) (decodedAt s at) (take n st) (take t m))
-    unfolding decodeInto
-    literal-none cf st′ =
-        split (ltb (length m - t) (length (decodedAt s at)))
-        (λ f. let h : length m - t < length (decodedAt s at) = ltb-true _ _ f in
-        text-stuck st m n t hn ht (decodedAt s at) (rw ke at short) (omega arith) st′ m′)
-        (λ f. let q : ran c m′ ≡ ran true (sets m t (decodedAt s at)) = rw (le-ltb (length m) t ht, f) at ce in clash (ran-is q .0) cf)
+  over-from : (b : Decoded) (w : List ℕ) → Decoding s at m t b w → b ≡ Long → (r : Tops) (st′ : List ℕ) → landed r st′ ≡ putAt st n t Fault → Live r st′ w step
+  over-from _ _ (too-long h) e r st′ is = text-over st m n t hn ht (decodedAt s at) h r st′ is
+  over-from _ _ (too-full h o) e r st′ is = absurd (let z : _≡_ {A = ℕ} 0 1 = cc e in omega (arith, z))
+  over-from _ _ (put-there h o) e r st′ is = absurd (let z : _≡_ {A = ℕ} 0 1 = cc e in omega (arith, z))
+
+  pub literal-over : d ≡ Long → (r : Tops) (st′ : List ℕ) → landed r st′ ≡ putAt st n t Fault → Live r st′ m′ step
+  literal-over = over-from d m′ (decodings s at m t ht d m′ de)
+
+  none-from : (b : Decoded) (w : List ℕ) → Decoding s at m t b w → b ≡ Full → (st′ : List ℕ) → Live Stuck st′ w step
+  none-from _ _ (too-long h) e st′ = absurd (let z : _≡_ {A = ℕ} 0 1 = cc e in omega (arith, z))
+  none-from _ _ (too-full h o) e st′ = text-stuck st m n t hn ht (decodedAt s at) h o st′ m
+  none-from _ _ (put-there h o) e st′ = absurd (let z : _≡_ {A = ℕ} 0 1 = cc e in omega (arith, z))
+
+  pub literal-none : d ≡ Full → (st′ : List ℕ) → Live Stuck st′ m′ step
+  literal-none = none-from d m′ (decodings s at m t ht d m′ de)
+
+  in-from : (b : Decoded) (w : List ℕ) → Decoding s at m t b w → (k : ℕ) → b ≡ Put k → (r : Tops) (st′ : List ℕ) → landed r st′ ≡ putAt st n (t + k) (Text k) → Live r st′ w step
+  in-from _ _ (too-long h) k e r st′ is = absurd (let z : _≡_ {A = ℕ} 0 1 = cc e in omega (arith, z))
+  in-from _ _ (too-full h o) k e r st′ is = absurd (let z : _≡_ {A = ℕ} 0 1 = cc e in omega (arith, z))
+  in-from _ _ (put-there h o) k e r st′ is =
+      let ke : k ≡ length (decodedAt s at) = cc e in
+      text-in st m n t hn ht (decodedAt s at) h (sets m t (decodedAt s at)) (length-sets m t (decodedAt s at)) o
+      (ap (take (t + length (decodedAt s at))) (sets-eq (decodedAt s at) m t o) ∙ put-front m t (decodedAt s at) ht) r st′ (rw ke at is)
+
+  pub literal-in : (k : ℕ) → d ≡ Put k → (r : Tops) (st′ : List ℕ) → landed r st′ ≡ putAt st n (t + k) (Text k) → Live r st′ m′ step
+  literal-in = in-from d m′ (decodings s at m t ht d m′ de)
+
+  -- what was put ends in the buffer
+  room-from : (b : Decoded) (w : List ℕ) → Decoding s at m t b w → (k : ℕ) → b ≡ Put k → t + k ≤ length m
+  room-from _ _ (too-long h) k e = absurd (let z : _≡_ {A = ℕ} 0 1 = cc e in omega (arith, z))
+  room-from _ _ (too-full h o) k e = absurd (let z : _≡_ {A = ℕ} 0 1 = cc e in omega (arith, z))
+  room-from _ _ (put-there h o) k e = let ke : k ≡ length (decodedAt s at) = cc e in rw ke o
+
+  pub literal-room : (k : ℕ) → d ≡ Put k → length m < 2 ^ 64 → Fits w64 (t + k)
+  literal-room k e l = record { fits = lt-of-le-of-lt (room-from d m′ (decodings s at m t ht d m′ de) k e) l }
 
 -- a literal of plain bytes
 pub literal-bare : (s : List ℕ) (at e : ℕ) → e ≡ bareEnd s at → (e ≡ 0 → ⊥) → (depth room : ℕ) (vs bs : List ℕ) (r : Tops) (st m : List ℕ)
