@@ -3,7 +3,7 @@
 
 Each edit makes the second evaluator wrong in one place; it is then compared with
 the right one on generated records, or its own answers to pairs of queries are
-held together. Prints what became of each, and fails where one isn't found. Takes
+held together: pairs with more paper, or alike but for what isn't read. Prints what became of each, and fails where one isn't found. Takes
 a few minutes; `tools/mutants.py [WORD...]` tries those whose names hold one of
 the words.
 """
@@ -132,21 +132,21 @@ EDITS = [
     ),
     (
         'local POLICY refused',
-        'check.rs',
-        'standing == CREDENTIAL && literal_is',
-        'standing >= 1 && literal_is',
+        'identify.rs',
+        'match standing == CREDENTIAL && policy {',
+        'match standing >= 1 && policy {',
     ),
     (
-        'POLICY by name in credential',
-        'check.rs',
-        'demand(!policy, STANDING, token)',
-        'demand(!(policy && token.kind == Kind::Literal), STANDING, token)',
+        'POLICY by reference in credential',
+        'identify.rs',
+        'match standing == CREDENTIAL && policy {',
+        'match standing == CREDENTIAL && policy && matches!(formed.authorizer.nodes.of(&self.store.nodes), [Node::Text(_)]) {',
     ),
     (
         'empty principal',
-        'check.rs',
-        'demand(limits::PRINCIPAL_BYTES.holds(literal.value as usize), LIMIT, token)?;',
-        'demand(literal.value as usize <= 256, LIMIT, token)?;',
+        'identify.rs',
+        'if !limits::PRINCIPAL_BYTES.holds(bytes.len()) {',
+        'if bytes.len() > 256 {',
     ),
     (
         'reserved constant',
@@ -157,8 +157,8 @@ EDITS = [
     (
         '4 before 7 at one place',
         'check.rs',
-        'demand(!reserved && settings.find(token).is_none(), NAME, token)?;\n                demand(settings.list.len() < limits::CONSTANTS, LIMIT, token)?;',
-        'demand(settings.list.len() < limits::CONSTANTS, LIMIT, token)?;\n                demand(!reserved && settings.find(token).is_none(), NAME, token)?;',
+        'demand(!reserved && !settings.has(token), NAME, token)?;\n                demand(settings.list.len() < limits::CONSTANTS, LIMIT, token)?;',
+        'demand(settings.list.len() < limits::CONSTANTS, LIMIT, token)?;\n                demand(!reserved && !settings.has(token), NAME, token)?;',
     ),
     (
         'version late',
@@ -439,7 +439,7 @@ EDITS = [
     (
         'constants not seen in Conditions',
         'assertion.rs',
-        '                    assertion.constants = constants;\n',
+        '                    seen = constants;\n',
         '',
     ),
     (
@@ -808,6 +808,222 @@ EDITS = [
         '        result.map(Value::Float)\n',
         '        Ok(Value::Float(result.unwrap_or(0.0)))\n',
     ),
+    (
+        'a long identifier by reference',
+        'identify.rs',
+        'if !limits::PRINCIPAL_BYTES.holds(bytes.len()) {',
+        'if bytes.is_empty() || (literal.is_some() && bytes.len() > 256) {',
+    ),
+    (
+        'reason 7 for a long identifier',
+        'identify.rs',
+        '            return Err(fault);\n',
+        '            return Err(Fault { reason: if bytes.is_empty() { IDENTIFIER } else { 7 }, ..fault });\n',
+    ),
+    (
+        'reason 4 for an unset name',
+        'identify.rs',
+        '            return Err(fault);\n',
+        '            let named = matches!(expression.nodes.of(&self.store.nodes), [Node::Name(_)]);\n            return Err(Fault { reason: if named && bytes.is_empty() { 4 } else { IDENTIFIER }, ..fault });\n',
+    ),
+    (
+        'an identifier that is an error kept',
+        'identify.rs',
+        '.map_err(|_| fault)?, None)',
+        '.unwrap_or(b"error"), None)',
+    ),
+    (
+        'an error inside an identifier is empty',
+        'eval.rs',
+        '            self.step(node)?;\n',
+        '            if self.step(node).is_err() {\n                self.built.clear();\n                self.stack.retain(|value| matches!(value, Value::Lent(_)));\n                self.stack.push(Value::Lent(b""));\n            }\n',
+    ),
+    (
+        'the later place first',
+        'identify.rs',
+        '.chain(licensees.err()).min()',
+        '.chain(licensees.err()).max()',
+    ),
+    (
+        'Authorizer first wherever it stands',
+        'identify.rs',
+        '.chain(licensees.err()).min()',
+        '.chain(licensees.err()).next()',
+    ),
+    (
+        'Licensees first wherever it stands',
+        'identify.rs',
+        'authorizer.err().into_iter().chain(licensees.err()).min()',
+        'licensees.err().into_iter().chain(authorizer.err()).next()',
+    ),
+    (
+        'later constants in Authorizer',
+        'identify.rs',
+        'self.identifier(&formed.authorizer, formed.authorizer_constants)?',
+        'self.identifier(&formed.authorizer, formed.constants)?',
+    ),
+    (
+        'no constants in Authorizer',
+        'identify.rs',
+        'self.identifier(&formed.authorizer, formed.authorizer_constants)?',
+        'self.identifier(&formed.authorizer, Row::default())?',
+    ),
+    (
+        'no constants in Licensees',
+        'identify.rs',
+        'self.identifier(expression, fields.constants)?',
+        'self.identifier(expression, Row::default())?',
+    ),
+    (
+        'no special names in identifiers',
+        'identify.rs',
+        '            _ => (self.evaluator',
+        "            ref nodes\n                if nodes.iter().any(|node| matches!(node, Node::Name(name) if self.store.show(self.query, *name)[0] == b'_')) =>\n            {\n                return Err(fault)\n            }\n            _ => (self.evaluator",
+    ),
+    (
+        'a bare name is a constant only',
+        'identify.rs',
+        '            _ => (self.evaluator',
+        '            [Node::Name(name)]\n                if !constants\n                    .of(&self.store.constants)\n                    .iter()\n                    .any(|one| self.store.show(self.query, one.name) == self.store.show(self.query, name)) =>\n            {\n                return Err(fault)\n            }\n            _ => (self.evaluator',
+    ),
+    (
+        'only the first licensee evaluated',
+        'identify.rs',
+        'let (piece, _) = self.identifier(expression, fields.constants)?;',
+        'let piece = match self.identifier(expression, fields.constants) {\n                Err(fault) if self.principals.len() == first => return Err(fault),\n                found => found.map_or(Piece::EMPTY, |(piece, _)| piece),\n            };',
+    ),
+    (
+        'nothing evaluated where Conditions are empty',
+        'identify.rs',
+        '            Err(found) => *fault',
+        '            Err(_) if formed.conditions.is_some_and(|row| row.first == row.last) => {}\n            Err(found) => *fault',
+    ),
+    (
+        'only reached identifiers evaluated',
+        'lib.rs',
+        '    write_report(&reading.faults, report);\n',
+        '    let reach = reach::of(&query, &reading);\n    let names = Environment::new(&query, &reading.store);\n    let mut evaluator = eval::Evaluator::new(&names);\n    let mut faults = reading.faults.to_vec();\n    for (formed, fault) in reading.formed.iter().zip(&mut faults) {\n        let Some(formed) = formed.filter(|formed| fault.is_some_and(|fault| fault.place != formed.authorizer.place)) else { continue };\n        let name = evaluator.string(formed.authorizer.nodes, formed.authorizer_constants);\n        if !reach.holds(name.unwrap_or_default()) {\n            *fault = None;\n        }\n    }\n    write_report(&faults, report);\n',
+    ),
+    (
+        '10 at Authorizer before reasons 1 to 8',
+        'check.rs',
+        '    tokens.iter().try_for_each(|token| string.count(token))\n',
+        '    tokens.iter().try_for_each(|token| string.count(token))?;\n    match tokens {\n        [token] if token.kind == Kind::Literal => demand(token.value > 0, IDENTIFIER, token),\n        _ => Ok(()),\n    }\n',
+    ),
+    (
+        '10 at a licensee before reasons 1 to 8',
+        'check.rs',
+        '                occurrences += 1;\n',
+        '                let next = tokens.iter().find(|next| next.start > token.start).map(|next| next.kind);\n                demand(token.kind != Kind::Literal || token.value > 0 || next == Some(Kind::Dot), IDENTIFIER, token)?;\n                occurrences += 1;\n',
+    ),
+    (
+        '9 before reasons 1 to 8',
+        'assertion.rs',
+        'let found = [listing.fault, checked].into_iter()',
+        'let root = listing.field(Label::Authorizer).map(|field| listing.tokens_of(field)).and_then(|tokens| match tokens {\n        [token] if statement.standing == 2 && token.spelling(statement.text) == b"\\"POLICY\\"" => {\n            Some(Fault { place: token.place(), reason: STANDING })\n        }\n        _ => None,\n    });\n    let found = [listing.fault, checked, root].into_iter()',
+    ),
+    (
+        'place at the bracket',
+        'licence.rs',
+        '                Some(inner)\n',
+        '                Some(match inner {\n                    Part::Text(expression) => Part::Text(Expression { place: token.place(), ..expression }),\n                    part => part,\n                })\n',
+    ),
+    (
+        'place behind "$"',
+        'licence.rs',
+        '            self.text(PREFIX)?;\n            self.store.nodes.push(Node::Dereference);\n            return Some(self.expression(begun));',
+        '            let inner = self.text(PREFIX)?;\n            self.store.nodes.push(Node::Dereference);\n            return Some(self.expression(Expression { place: inner.place, ..begun }));',
+    ),
+    (
+        'place at the last part',
+        'licence.rs',
+        '            self.text(least)?;\n            self.store.nodes.push(Node::Join);\n            return Some(self.expression(front));',
+        '            let back = self.text(least)?;\n            self.store.nodes.push(Node::Join);\n            return Some(self.expression(Expression { place: back.place, ..front }));',
+    ),
+    (
+        '"." before "$"',
+        'licence.rs',
+        'self.text(PREFIX)?;',
+        'self.text(JOIN)?;',
+    ),
+    (
+        'literals and names counted as licensees',
+        'check.rs',
+        'Kind::Literal | Kind::Name | Kind::Word | Kind::Dollar if !continued => {',
+        'Kind::Literal | Kind::Name | Kind::Word => {',
+    ),
+    (
+        '"$" and its name two licensees',
+        'check.rs',
+        'Kind::Dot | Kind::Dollar => true,',
+        'Kind::Dot => true,',
+    ),
+    (
+        'a bracket begins a licensee',
+        'check.rs',
+        '            Kind::Open => continued,\n',
+        '',
+    ),
+    (
+        '17th licensee at its bracket',
+        'check.rs',
+        '            Kind::Close if string.brackets.0 == around => {',
+        '            Kind::Open if !continued && occurrences == limits::LICENSEES && string.brackets.0 > around + 1 => {\n                return demand(false, LIMIT, token);\n            }\n            Kind::Close if string.brackets.0 == around => {',
+    ),
+    (
+        'K tested at a bracket inside',
+        'check.rs',
+        'Kind::Close if string.brackets.0 == around => {',
+        'Kind::Close => {',
+    ),
+    (
+        '15 "$" in a principal',
+        'check.rs',
+        '        self.prefixes = if token.kind == Kind::Dollar { self.prefixes + 1 } else { 0 };\n        demand(self.prefixes <= limits::PREFIXES',
+        '        self.prefixes = if token.kind == Kind::Dollar { self.prefixes + 1 } else { 0 };\n        demand(self.prefixes < limits::PREFIXES',
+    ),
+    (
+        'a bracket ends no row of "$"',
+        'check.rs',
+        '        self.prefixes = if token.kind == Kind::Dollar { self.prefixes + 1 } else { 0 };\n',
+        '        self.prefixes = match token.kind {\n            Kind::Dollar => self.prefixes + 1,\n            Kind::Open => self.prefixes,\n            _ => 0,\n        };\n',
+    ),
+    (
+        'a literal of 2,049 bytes in a principal',
+        'check.rs',
+        '        self.brackets.count(token)?;\n        literal_bytes(token)\n',
+        '        self.brackets.count(token)\n',
+    ),
+    (
+        'brackets in Authorizer not counted',
+        'check.rs',
+        '    tokens.iter().try_for_each(|token| string.count(token))\n',
+        '    tokens.iter().filter(|token| token.kind != Kind::Open).try_for_each(|token| string.count(token))\n',
+    ),
+    (
+        'no brackets in Authorizer',
+        'grammar.rs',
+        '    ("StrUnary", "( StrEx )"),\n',
+        '',
+    ),
+    (
+        'no joined strings in Licensees',
+        'grammar.rs',
+        '    ("PrincList", "PrincList , StrEx"),\n    ("StrEx", "StrEx . StrUnary"),\n',
+        '    ("PrincList", "PrincList , StrEx"),\n',
+    ),
+    (
+        'licensees in a K-of list',
+        'grammar.rs',
+        '    ("PrincList", "StrEx"),\n    ("PrincList", "PrincList , StrEx"),\n',
+        '    ("PrincList", "PrincOr"),\n    ("PrincList", "PrincList , StrEx"),\n',
+    ),
+    (
+        'identifiers in 65,536 bytes',
+        'store.rs',
+        'Self { start: start as u32,',
+        'Self { start: u32::from(start as u16),',
+    ),
 ]
 
 # Found by pairs with more paper alone, without the right evaluator.
@@ -844,6 +1060,58 @@ PAPER = [
     ),
 ]
 
+# Found by pairs alike but for what isn't read, made by a wrong notion of that.
+READ = [
+    (
+        "read: names in Authorizer aren't",
+        'unread.rs',
+        '        marks.mark(formed.authorizer.nodes, formed.authorizer_constants);\n',
+        '',
+    ),
+    (
+        "read: names in Licensees aren't",
+        'unread.rs',
+        '                marks.mark(expression.nodes, fields.constants);\n',
+        '',
+    ),
+    (
+        'read: "$" in a principal isn\'t',
+        'unread.rs',
+        '                marks.mark(expression.nodes, fields.constants);\n',
+        '                if !expression.nodes.of(&reading.store.nodes).contains(&Node::Dereference) {\n                    marks.mark(expression.nodes, fields.constants);\n                }\n',
+    ),
+    (
+        'read: "$" in Authorizer isn\'t',
+        'unread.rs',
+        '        marks.mark(formed.authorizer.nodes, formed.authorizer_constants);\n',
+        '        if !formed.authorizer.nodes.of(&reading.store.nodes).contains(&Node::Dereference) {\n            marks.mark(formed.authorizer.nodes, formed.authorizer_constants);\n        }\n',
+    ),
+    (
+        'read: only by assertions that are kept',
+        'unread.rs',
+        'reading.formed.iter().flatten()',
+        'reading.formed.iter().zip(&reading.faults).filter(|(_, fault)| fault.is_none()).filter_map(|(formed, _)| formed.as_ref())',
+    ),
+    (
+        'read: only by assertions that are reached',
+        'unread.rs',
+        '    for formed in reading.formed.iter().flatten() {\n',
+        '    let names = crate::environment::Environment::new(query, &reading.store);\n    let mut evaluator = crate::eval::Evaluator::new(&names);\n    for formed in reading.formed.iter().flatten() {\n        let name = evaluator.string(formed.authorizer.nodes, formed.authorizer_constants);\n        if !reach.holds(name.unwrap_or_default()) {\n            continue;\n        }\n',
+    ),
+    (
+        'read: later constants hide a name',
+        'unread.rs',
+        'marks.mark(formed.authorizer.nodes, formed.authorizer_constants);',
+        'marks.mark(formed.authorizer.nodes, formed.constants);',
+    ),
+    (
+        'read: "$" in Conditions isn\'t',
+        'unread.rs',
+        '            marks.mark(assertion.conditions.unwrap_or_default(), assertion.constants);\n',
+        '            let nodes = assertion.conditions.unwrap_or_default();\n            if !nodes.of(&reading.store.nodes).contains(&Node::Dereference) {\n                marks.mark(nodes, assertion.constants);\n            }\n',
+    ),
+]
+
 HARNESS = """
 fn wrong(record: &[u8], page: &mut [u8]) -> second::Outcome {
     let o = mutant::answer(record, page);
@@ -851,8 +1119,9 @@ fn wrong(record: &[u8], page: &mut [u8]) -> second::Outcome {
 }
 
 fn main() {
-    let found = match std::env::args().nth(1) {
-        Some(_) => second::paper::run(wrong, SEED, PAPER_COUNT).is_err(),
+    let found = match std::env::args().nth(1).as_deref() {
+        Some("paper") => second::paper::run(wrong, SEED, PAPER_COUNT).is_err(),
+        Some(_) => mutant::compare::run(mutant::answer, mutant::answer, SEED, COUNT).is_err(),
         None => second::compare::run(second::answer, wrong, SEED, COUNT).is_err(),
     };
     std::process::exit(if found { 0 } else { 3 });
@@ -909,6 +1178,7 @@ def main():
     with tempfile.TemporaryDirectory() as folder:
         prepare(folder)
         edits = [([], *edit) for edit in EDITS] + [(["paper"], *edit) for edit in PAPER]
+        edits += [(["read"], *edit) for edit in READ]
         for arguments, name, file, old, new in edits:
             if words and not any(word in name for word in words):
                 continue

@@ -240,8 +240,16 @@ foo = [(b'foo', b'bar'), (b'bar', b'xyz'), (b'xyz', b'qua')]
 test = b'foo == "bar" && $("foo") == "bar" && $foo == "xyz"\n && $(foo) == "xyz" && $$foo == "qua"'
 local('dereferences', [POLICY + b'Conditions: ' + test + b';'], answered(1, 2, 1, 1, KEPT), attributes=foo)
 
+# Principals by reference: what a query's attributes name. The master's key is reached by the ship, and asks.
+ship = b'Authorizer: "POLICY"\nLicensees: pilot && $("key_of_" . ship)\n'
+master = b'Authorizer: $("key_of_" . ship)\nLicensees: "RSA:" . (clerk) || master\n'
+port = [(b'ship', b'Ulla'), (b'key_of_Ulla', b'DSA:4401ff92'), (b'pilot', b'RSA:d1234f'), (b'clerk', b'abc123'), (b'master', b'm')]
+local('references', [ship, master], answered(1, 2, 3, 5, KEPT, KEPT), [b'rsa:d1234f', b'rsa:abc123'], attributes=port)
+local('reference-unset', [ship, master], answered(0, 2, 0, 1, (10, 41), (10, 12)), [b'RSA:d1234f', b'RSA:abc123'], attributes=port[2:])
+local('reference-long', [ship], answered(0, 2, 0, 1, (10, 32)), attributes=port[:2] + [(b'pilot', b'p' * 257)])
+
 # The open points of the rules, as they are ruled.
-for page in 'open-points.tsv', 'open-points-02.tsv', 'floats.tsv':
+for page in 'open-points.tsv', 'open-points-02.tsv', 'floats.tsv', 'references.tsv':
     with open(os.path.join(ROOT, 'second', 'data', page)) as f:
         for line in f:
             name, text, expected = line.rstrip('\n').split('\t')

@@ -16,7 +16,7 @@
 
 #define BLOCK 4096
 #define AROUND 3
-#define RECORD_ROOM (17 * BLOCK)
+#define RECORD_ROOM (32 * BLOCK)
 #define PAGE_ROOM BLOCK
 #define LINE_ROOM 2048
 

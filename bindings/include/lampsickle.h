@@ -3,7 +3,7 @@
  *
  * Link with -lkeynote from target/staticlib, which `rt staticlib keynote` writes, for Linux on x86-64. The library allocates nothing, reads
  * and writes no file, and keeps no state between calls, so it may be called from many threads at once. Its tables lie on the stack: a thread
- * that calls it needs 640 KiB (docs/ARCHITECTURE.md has what was measured).
+ * that calls it needs 2 MiB (docs/ARCHITECTURE.md has what was measured).
  */
 #ifndef LAMPSICKLE_H
 #define LAMPSICKLE_H
@@ -46,12 +46,13 @@ enum lampsickle_reason {
     LAMPSICKLE_NO_TOKEN = 1,     /* no token can be formed */
     LAMPSICKLE_GRAMMAR = 2,      /* the field's grammar allows no continuation after this token */
     LAMPSICKLE_LINE = 3,         /* a line's start, a label, a repetition or the order is wrong, or there is no Authorizer */
-    LAMPSICKLE_NAME = 4,         /* a constant repeated or reserved, or a name that isn't set */
+    LAMPSICKLE_NAME = 4,         /* a constant repeated or reserved */
     LAMPSICKLE_INTEGER = 5,      /* an integer or a threshold is out of range */
     LAMPSICKLE_NOT_2 = 6,        /* KeyNote-Version isn't 2 */
     LAMPSICKLE_LIMIT = 7,        /* a limit is passed */
     /* No reason is 8. */
-    LAMPSICKLE_UNVERIFIED = 9    /* standing 0, or a credential that speaks for POLICY */
+    LAMPSICKLE_UNVERIFIED = 9,   /* standing 0, or a credential whose Authorizer evaluates to POLICY */
+    LAMPSICKLE_IDENTIFIER = 10   /* a principal's expression is an error in this query, or not of 1 to 256 bytes */
 };
 
 /* The result of a query. */
@@ -78,8 +79,8 @@ struct lampsickle_outcome {
  * - number 1 to 10: the query is refused. `place` says where; `rank`, `rounds` and `reached` are 0; every byte of the page keeps its value.
  *
  * The record is never written. The same record gives the same outcome and the same report whatever the page held and whatever its size, as
- * long as the report fits; where it doesn't fit, the number is 9. Two queries that differ only in the values of attributes that no assertion
- * within POLICY's reach reads get the same outcome and report.
+ * long as the report fits; where it doesn't fit, the number is 9. Two queries that differ only in the values of attributes that aren't read, in
+ * Conditions of assertions within POLICY's reach or in Authorizer or Licensees of any well-formed text, get the same outcome and report.
  */
 struct lampsickle_outcome lampsickle_answer(const uint8_t *record, size_t record_length, uint8_t *page, size_t page_length);
 

@@ -69,7 +69,7 @@ fn tell(request: &Request, gathered: &Gathered, answer: &Answer) -> Result<End, 
     }
     answered(text.as_bytes())?;
     if !request.json {
-        aside(&all_set_aside(&gathered.sources, answer));
+        aside(&all_set_aside(&gathered.query, &gathered.sources, answer));
     }
     warn(request, gathered, answer);
     let (end, why) = request.demand.end(values, answer);
@@ -80,7 +80,8 @@ fn tell(request: &Request, gathered: &Gathered, answer: &Answer) -> Result<End, 
 fn warn(request: &Request, gathered: &Gathered, answer: &Answer) {
     let kinds: Vec<Kind> = Kind::ALL.into_iter().filter(|kind| !request.unsaid.contains(kind)).collect();
     let readings = warnings::readings(&gathered.query, &gathered.sources, answer);
-    for (kind, words) in warnings::found(&kinds, &gathered.query, &gathered.attributes, &readings) {
+    let aside = warnings::set_aside(&gathered.query, &gathered.sources, answer);
+    for (kind, words) in warnings::found(&kinds, &gathered.query, &gathered.attributes, &readings, &aside) {
         told(&format!("warning: {words} (--no-warn {})", kind.name()));
     }
 }
@@ -126,7 +127,8 @@ fn write_record(file: &[u8], record: &[u8]) -> Result<End, Trouble> {
 
 fn answer_json(gathered: &Gathered, answer: &Answer) -> String {
     let items = gathered.sources.iter().zip(&gathered.trusts).zip(&answer.entries);
+    let query = &gathered.query;
     let assertions: Vec<String> =
-        items.map(|((source, trust), entry)| entry_json(source, Some(trust.name()), *entry)).collect();
+        items.map(|((source, trust), entry)| entry_json(query, source, Some(trust.name()), *entry)).collect();
     class_json(&gathered.query.values, answer).list("assertions", &assertions).done() + "\n"
 }

@@ -16,6 +16,7 @@ pub const LICENSEES: usize = 16;
 pub const BRACKETS: usize = 16;
 pub const PREFIXES: usize = 16;
 pub const LITERAL_BYTES: usize = 2_048;
+pub const STRING_BYTES: usize = 4_096;
 pub const FLOAT_DIGITS: usize = 18;
 pub const PATTERN_BYTES: usize = 256;
 pub const PRINCIPAL_BYTES: Range = Range { least: 1, most: 256 };

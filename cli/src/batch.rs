@@ -107,7 +107,7 @@ impl Batch<'_> {
 
     fn record(&mut self, name: &str, record: &[u8]) -> Result<Reader, Trouble> {
         let asked = lampsickle::ask(record);
-        let values = explain::decode("", record).values;
+        let values = explain::decode("", record).query.values;
         let (end, why) = match &asked {
             Ok(answer) => self.request.demand.end(&values, answer),
             Err(_) => (End::Refused, None),

@@ -58,12 +58,13 @@ pub fn behind_float(text: &[u8], place: usize) -> bool {
 }
 
 /// Whether a token can follow: the library finds no fault in it, or one that isn't
-/// the grammar's (a name that isn't set, a threshold, another version).
+/// the grammar's (a constant's name, a threshold, another version, an identifier).
 fn follows(front: &[u8], token: &str) -> bool {
     // On a line of its own, so that no comment hides it.
     let start = front.len() + 2;
     match judged([front, b"\n ", token.as_bytes()].concat()) {
-        Some(Entry { reason: 0, .. }) => true,
+        // Reason 10 is given to texts that are otherwise well formed.
+        Some(Entry { reason: 0 | 10, .. }) => true,
         Some(Entry { reason, place }) => place > start || place == start && matches!(reason, 4..=6),
         None => false,
     }
@@ -98,15 +99,16 @@ mod tests {
 
     #[test]
     fn by_field() {
-        assert_eq!(of("Authorizer: 5"), "a string in quotes, a name");
-        assert_eq!(of("Authorizer: \"a\" \"b\""), "the end of the field");
-        assert_eq!(of("Authorizer: \"a\"\nLicensees: \"b\" ; \"c\""), "\"&&\" or \"||\", the end of the field");
+        assert_eq!(of("Authorizer: 5"), "a string in quotes, a name, \"(\", \"$\"");
+        assert_eq!(of("Authorizer: \"a\" \"b\""), "\".\", the end of the field");
+        assert_eq!(of("Authorizer: x . (y z"), "\")\", \".\"");
+        assert_eq!(of("Authorizer: \"a\"\nLicensees: \"b\" ; \"c\""), "\"&&\" or \"||\", \".\", the end of the field");
         assert_eq!(of("Authorizer: \"a\"\nLicensees: 2 (\"c\")"), "\"-of\"");
         for end in ["", " # c", "\n", "\n  # c\n", "\nComment: c", " # c \n\t)"] {
             let text = format!("Authorizer: \"a\"\nLicensees: \"b\" &&{end}");
-            assert_eq!(of(&text), "a string in quotes, a name, an integer, \"(\"", "{text}");
+            assert_eq!(of(&text), "a string in quotes, a name, an integer, \"(\", \"$\"", "{text}");
         }
-        assert_eq!(of("Authorizer: \"a\"\nLicensees: 2-of(\"c\""), "\")\", \",\"");
+        assert_eq!(of("Authorizer: \"a\"\nLicensees: 1-of(\"c\""), "\")\", \".\", \",\"");
         assert_eq!(of("Authorizer: \"a\"\nConditions: dollars < 100;"), "a string in quotes, a name, \"(\", \"$\"");
         assert_eq!(of("Authorizer: \"a\"\nConditions: x = \"y\";"), "a comparison such as \"==\", \".\"");
         assert_eq!(of("Authorizer: \"a\"\nConditions: &x < 1;"), "a float, \"(\", \"&\", \"-\"",);

@@ -30,7 +30,8 @@ pub struct Part {
 #[derive(Default)]
 pub struct Decoded {
     pub parts: Vec<Part>,
-    pub values: Vec<Vec<u8>>,
+    /// Its values, requesters and attributes.
+    pub query: Query,
     pub sources: Vec<Source>,
 }
 
@@ -77,9 +78,9 @@ fn in_words(front: &Front, decoded: &Decoded, asked: &Result<Answer, Refusal>) -
     }
     match asked {
         Ok(answer) => {
-            let aside = all_set_aside(&decoded.sources, answer);
+            let aside = all_set_aside(&decoded.query, &decoded.sources, answer);
             let flaws = flaws(&decoded.sources, answer).into_iter().map(|(source, flaw)| flaw_drawn(source, &flaw));
-            text + &class_text(&decoded.values, answer) + &aside + &flaws.collect::<String>()
+            text + &class_text(&decoded.query.values, answer) + &aside + &flaws.collect::<String>()
         }
         Err(refusal) => text + &drawn(&front.bytes, refusal.place) + &refusal_text(*refusal) + "\n",
     }
@@ -97,8 +98,9 @@ fn in_json(decoded: &Decoded, asked: &Result<Answer, Refusal>) -> String {
     let object = match asked {
         Ok(answer) => {
             let items = decoded.sources.iter().zip(&answer.entries);
-            let entries: Vec<String> = items.map(|(source, entry)| entry_json(source, None, *entry)).collect();
-            let object = class_json(&decoded.values, answer).list("assertions", &entries);
+            let entries: Vec<String> =
+                items.map(|(source, entry)| entry_json(&decoded.query, source, None, *entry)).collect();
+            let object = class_json(&decoded.query.values, answer).list("assertions", &entries);
             let flaws = flaws(&decoded.sources, answer);
             match flaws.is_empty() {
                 true => object,
@@ -166,12 +168,14 @@ impl<'a> Reader<'a> {
         self.part(0, format!("version {version}"));
         self.values()?;
         for index in 0..self.count("requester")? {
-            self.item(|content| format!("  {index} {}", quoted(content)))?;
+            let requester = self.item(|content| format!("  {index} {}", quoted(content)))?;
+            self.decoded.query.requesters.push(requester.to_vec());
         }
         for index in 0..self.count("attribute")? {
             let name = self.item(|content| format!("  {index} name {}", shown(content)))?;
-            let name = shown(name);
-            self.item(|content| format!("    value of {name} {}", quoted(content)))?;
+            let seen = shown(name);
+            let value = self.item(|content| format!("    value of {seen} {}", quoted(content)))?;
+            self.decoded.query.attributes.push((name.to_vec(), value.to_vec()));
         }
         for index in 0..self.count("assertion")? {
             self.assertion(file, index)?;
@@ -192,7 +196,7 @@ impl<'a> Reader<'a> {
                 _ => "",
             };
             let value = self.item(|content| format!("  {index} {}{mark}", quoted(content)))?;
-            self.decoded.values.push(value.to_vec());
+            self.decoded.query.values.push(value.to_vec());
         }
         Some(())
     }

@@ -1,10 +1,7 @@
 //! Which limit an assertion passes.
 
-use crate::assertion::reading::constants;
 use crate::assertion::tokens::{Field, Kind, Token, Tokens};
-use crate::assertion::{
-    literal, BRACKETS, CONSTANTS, FLOAT_DIGITS, LICENSEES, LITERAL_BYTES, PREFIXES, PRINCIPAL_BYTES,
-};
+use crate::assertion::{literal, BRACKETS, CONSTANTS, FLOAT_DIGITS, LICENSEES, LITERAL_BYTES, PREFIXES};
 use crate::text::counted;
 
 /// The limit that the token at a place passes, in words.
@@ -12,8 +9,9 @@ pub fn words(text: &[u8], place: usize) -> String {
     let tokens: Vec<Token> = Tokens::new(text).collect();
     let found = tokens.iter().find(|token| token.start == place);
     let told = found.and_then(|token| match token.kind {
-        Kind::Literal | Kind::Name => item(text, *token, &tokens),
+        Kind::Literal | Kind::Name => item(text, *token),
         Kind::Number => Some(number(token.of(text))),
+        Kind::Sign if begins_licensee(text, *token, &tokens) => Some(licensee()),
         Kind::Sign => Some(sign(token.of(text))),
         _ => None,
     });
@@ -33,32 +31,28 @@ fn number(number: &[u8]) -> String {
     format!("this float has {}, but a float has at most {FLOAT_DIGITS}", counted(digits, "digit"))
 }
 
-/// A literal that is too long, a principal, or one item too many.
-fn item(text: &[u8], token: Token, tokens: &[Token]) -> Option<String> {
-    let size = size(text, token, tokens);
+/// A literal that is too long, or one item too many.
+fn item(text: &[u8], token: Token) -> Option<String> {
+    let size = literal::read(text, token.start).ok().map_or(0, |literal| literal.value.len());
     match (token.kind, token.field?) {
-        (Kind::Literal, _) if size? > LITERAL_BYTES => {
-            Some(format!("this literal has {}, but a literal has at most {LITERAL_BYTES}", counted(size?, "byte")))
+        (Kind::Literal, _) if size > LITERAL_BYTES => {
+            Some(format!("this literal has {}, but a literal has at most {LITERAL_BYTES}", counted(size, "byte")))
         }
-        (_, Field::Authorizer | Field::Licensees) if !PRINCIPAL_BYTES.holds(size?) => {
-            let (bytes, range) = (counted(size?, "byte"), PRINCIPAL_BYTES);
-            Some(format!("this identifier has {bytes}, but a principal's has {} to {}", range.least, range.most))
-        }
-        (_, Field::Licensees) => Some(format!("with this licensee there are more than {LICENSEES}")),
+        (_, Field::Licensees) => Some(licensee()),
         (Kind::Name, Field::Constants) => Some(format!("with this constant there are more than {CONSTANTS}")),
         _ => None,
     }
 }
 
-/// How many bytes a literal, or the constant of a name, stands for.
-fn size(text: &[u8], token: Token, tokens: &[Token]) -> Option<usize> {
-    match token.kind {
-        Kind::Literal => literal::read(text, token.start).ok().map(|literal| literal.value.len()),
-        _ => {
-            let set = constants(text, token.start, tokens);
-            set.iter().find(|constant| constant.0 == token.of(text)).map(|constant| constant.1.len())
-        }
-    }
+fn licensee() -> String {
+    format!("with this licensee there are more than {LICENSEES}")
+}
+
+/// Whether a sign is the "$" with which a licensee begins, and not one "$" too many.
+fn begins_licensee(text: &[u8], token: Token, tokens: &[Token]) -> bool {
+    let row = tokens.iter().rev().skip_while(|other| other.start > token.start);
+    let prefixes = row.take_while(|other| other.is(text, b"$")).count();
+    token.field == Some(Field::Licensees) && (1..=PREFIXES).contains(&prefixes)
 }
 
 #[cfg(test)]
@@ -76,9 +70,6 @@ mod tests {
     #[test]
     fn every_limit() {
         let told = |text: &str, words: &str| assert!(of(text).contains(words), "{}", of(text));
-        told("Authorizer: \"\"", "0 bytes, but a principal's has 1 to 256");
-        told(&format!("Authorizer: \"{}\"", "x".repeat(257)), "257 bytes, but a principal's");
-        told(&format!("Local-Constants: c=\"{}\"\nAuthorizer: c", "x".repeat(300)), "300 bytes");
         told(
             &format!("Comment: x\nAuthorizer: \"{}\"", "x".repeat(2_049)),
             "2049 bytes, but a literal has at most 2048",
@@ -89,6 +80,12 @@ mod tests {
             &format!("Authorizer: \"a\"\nLicensees: \"x\"{}", " || \"x\"".repeat(16)),
             "licensee there are more than 16",
         );
+        let sixteen = format!("Authorizer: \"a\"\nLicensees: \"x\"{}", " || \"x\"".repeat(15));
+        told(&format!("{sixteen} || ($x)"), "licensee there are more than 16");
+        told(&format!("{sixteen} || x . \"y\""), "licensee there are more than 16");
+        told(&format!("Authorizer: {}x", "$".repeat(17)), "16 prefix operators");
+        told(&format!("Authorizer: \"a\"\nLicensees: {}x", "$".repeat(17)), "16 prefix operators");
+        told(&format!("Authorizer: {}x{}", "(".repeat(17), ")".repeat(17)), "more than 16 are open");
         told(&format!("Authorizer: \"a\"\nConditions: {}", "(".repeat(17)), "more than 16 are open");
         told(&format!("Authorizer: \"a\"\nConditions: {}", "!".repeat(17)), "16 prefix operators");
         told(&format!("Authorizer: \"a\"\nConditions: {}&x", "-".repeat(16)), "16 prefix operators");

@@ -1,6 +1,6 @@
 //! An answer, an assertion's entry and a refusal, in words and in JSON.
 
-use lampsickle::{Answer, Entry, Refusal};
+use lampsickle::{Answer, Entry, Query, Refusal};
 
 use crate::json::Object;
 use crate::place::spot;
@@ -47,20 +47,20 @@ pub fn class_json(values: &[Vec<u8>], answer: &Answer) -> Object {
 }
 
 /// Where and why assertions were set aside, each with the line and a caret.
-pub fn all_set_aside(sources: &[Source], answer: &Answer) -> String {
+pub fn all_set_aside(query: &Query, sources: &[Source], answer: &Answer) -> String {
     let items = sources.iter().zip(&answer.entries).filter(|(_, entry)| entry.reason != 0);
-    items.map(|(source, entry)| set_aside(source, *entry)).collect()
+    items.map(|(source, entry)| set_aside(query, source, *entry)).collect()
 }
 
-fn set_aside(source: &Source, entry: Entry) -> String {
+fn set_aside(query: &Query, source: &Source, entry: Entry) -> String {
     let Entry { reason, place } = entry;
     let spot = spot(&source.text, place);
     let drawn = spot.drawn(source.line + spot.line - 1, width());
-    let words = words::reason(entry, &source.text);
+    let words = words::reason(entry, &source.text, query);
     format!("{}: set aside: {words} (reason {reason} at {place})\n{drawn}", source.at(place))
 }
 
-pub fn entry_json(source: &Source, standing: Option<&str>, entry: Entry) -> String {
+pub fn entry_json(query: &Query, source: &Source, standing: Option<&str>, entry: Entry) -> String {
     let spot = spot(&source.text, entry.place);
     let object = Object::default().text("file", &source.file);
     let object = object.number("line", source.line + spot.line - 1).number("column", spot.column);
@@ -69,7 +69,7 @@ pub fn entry_json(source: &Source, standing: Option<&str>, entry: Entry) -> Stri
         None => object,
     };
     let object = object.number("reason", entry.reason.into()).number("place", entry.place);
-    object.text("words", words::reason(entry, &source.text)).done()
+    object.text("words", words::reason(entry, &source.text, query)).done()
 }
 
 pub fn refusal_text(refusal: Refusal) -> String {

@@ -1,11 +1,13 @@
 //! Numbers of refusals and reasons of assertions, in words.
 
-use lampsickle::Entry;
+use lampsickle::{Entry, Query};
 
 use crate::assertion::literal::{self, Flaw};
+use crate::assertion::reading::{identifier, Text};
 use crate::assertion::tokens::{label, LABELS};
+use crate::assertion::{PRINCIPAL_BYTES, STRING_BYTES};
 use crate::input::{byte_order_mark, RETURN};
-use crate::text::{quoted, shown};
+use crate::text::{brief, counted, quoted, shown};
 use crate::{could, limit};
 
 /// Why a record is refused.
@@ -25,22 +27,45 @@ pub fn refusal(number: u8) -> &'static str {
     }
 }
 
-/// What became of an assertion.
-pub fn reason(entry: Entry, text: &[u8]) -> String {
+/// What became of an assertion in a query.
+pub fn reason(entry: Entry, text: &[u8], query: &Query) -> String {
     let here = text.get(entry.place..).unwrap_or_default();
     match entry.reason {
         0 => "kept".into(),
         1 => no_token(here),
         2 => misfit(text, entry.place),
         3 => line(text, entry.place),
-        4 => "this name isn't set by an earlier Local-Constants field, is set twice, or begins with \"_\"".into(),
+        4 => "this constant stands twice, or its name begins with \"_\"".into(),
         5 if here.starts_with(b")") => "the threshold is above the number of licensees in its list".into(),
         5 => "this integer is above 2147483647, or this threshold isn't from 1 to 16".into(),
         6 => "KeyNote-Version isn't 2".into(),
         7 => limit::words(text, entry.place),
-        9 if entry.place > 0 => "a credential may not speak for POLICY; only a local assertion may".into(),
+        9 if entry.place > 0 => {
+            let root = if here.starts_with(b"\"POLICY\"") { "" } else { "this comes to \"POLICY\"; " };
+            format!("{root}a credential may not speak for POLICY; only a local assertion may")
+        }
         9 => "the credential isn't verified, so its text isn't read".into(),
+        10 => no_identifier(identifier(text, entry.place, query)),
         _ => "a reason that isn't known".into(),
+    }
+}
+
+/// Why an expression gives no identifier.
+fn no_identifier(found: Option<Text>) -> String {
+    let (least, most) = (PRINCIPAL_BYTES.least, PRINCIPAL_BYTES.most);
+    let rule = format!("a principal's identifier has {least} to {most} bytes");
+    match found {
+        Some(string) if string.error => {
+            format!("this is an error: a string in it is over {STRING_BYTES} bytes; {rule}")
+        }
+        Some(Text { set: false, name: Some(name), .. }) => {
+            format!("{} isn't set, so this is empty; {rule}", brief(&name))
+        }
+        Some(string) => {
+            let bytes = counted(string.value.len(), "byte");
+            format!("this comes to {}, which has {bytes}; {rule}", quoted(&string.value))
+        }
+        None => format!("this doesn't come to an identifier; {rule}"),
     }
 }
 
@@ -118,7 +143,7 @@ mod tests {
     use super::*;
 
     fn of(number: u8, place: usize, text: &str) -> String {
-        reason(Entry { reason: number, place }, text.as_bytes())
+        reason(Entry { reason: number, place }, text.as_bytes(), &Query::default())
     }
 
     #[test]
@@ -144,12 +169,25 @@ mod tests {
     }
 
     #[test]
+    fn reasons_of_identifiers() {
+        assert!(of(10, 13, "Authorizer: (x)").starts_with("x isn't set, so this is empty; "));
+        assert!(of(10, 12, "Authorizer: $\"y\"").starts_with("y isn't set"));
+        assert!(of(10, 12, "Authorizer: \"\" . x").starts_with("this comes to \"\", which has 0 bytes; "));
+        let long = format!("Authorizer: (\"{}\") . \"y\"", "x".repeat(256));
+        assert!(of(10, 13, &long).contains("xx…\", which has 257 bytes; a principal's identifier has 1 to 256 bytes"));
+        let error = format!("Authorizer: \"a\" . $(\"{0}\" . \"{0}\" . \"{0}\")", "x".repeat(2_000));
+        assert!(of(10, 12, &error).starts_with("this is an error: a string in it is over 4096 bytes; "));
+        assert!(of(9, 12, "Authorizer: \"POLICY\"").starts_with("a credential may not"));
+        assert!(of(9, 13, "Authorizer: (p)").starts_with("this comes to \"POLICY\"; a credential may not"));
+    }
+
+    #[test]
     fn every_one_has_words() {
         for number in 1..=10 {
             assert!(!refusal(number).contains("known"));
         }
         // No reason is 8.
-        for number in [1, 2, 3, 4, 5, 6, 7, 9] {
+        for number in [1, 2, 3, 4, 5, 6, 7, 9, 10] {
             assert!(!of(number, 0, "x").contains("known"));
         }
     }

@@ -86,7 +86,8 @@ pub fn one(task: &Task, number: u64, run: &mut Run) -> Result<(), Box<Difference
 }
 
 fn add(sum: &mut Run, run: &Run) {
-    let Coverage { numbers, reasons, ranks, rounds, reached, spellings, crowds, patterns, floats } = &run.coverage;
+    let Coverage { numbers, reasons, ranks, rounds, reached, spellings, crowds, patterns, floats, references } =
+        &run.coverage;
     merge(&mut sum.coverage.numbers, numbers);
     merge(&mut sum.coverage.reasons, reasons);
     merge(&mut sum.coverage.ranks, ranks);
@@ -96,6 +97,7 @@ fn add(sum: &mut Run, run: &Run) {
     merge(&mut sum.coverage.crowds, crowds);
     sum.coverage.patterns.merge(patterns);
     sum.coverage.floats.merge(floats);
+    sum.coverage.references.merge(references);
     sum.pairs += run.pairs;
     sum.differing_pairs += run.differing_pairs;
 }

@@ -1,31 +1,33 @@
-//! An assertion: kept with its contents, or set aside with reason and place.
+//! An assertion text, read without the query: formed, with its contents, or set
+//! aside with reason and place.
 
 use crate::check::{self, Settings, STANDING};
 use crate::earley;
 use crate::grammar;
+use crate::licence;
 use crate::line::{Fault, Field, Label, Listing, GRAMMAR};
 use crate::parse;
 use crate::record::Statement;
-use crate::store::{Assertion, Constant, Licensees, Piece, Row, Store};
+use crate::store::{Constant, Formed, FormedLicensees, Row, Store};
 use crate::token::{Kind, Token};
 
 /// The standing of an assertion that nobody verified.
 const UNVERIFIED: u8 = 0;
 
-/// Reads an assertion. The listing is room for its tokens.
-pub fn read(statement: &Statement, listing: &mut Listing, store: &mut Store) -> Result<Assertion, Fault> {
+/// Reads a text to its end. The listing is room for its tokens.
+pub fn read(statement: &Statement, listing: &mut Listing, store: &mut Store) -> Result<Formed, Fault> {
     if statement.standing == UNVERIFIED {
         return Err(Fault { place: 0, reason: STANDING });
     }
     listing.list(statement.text);
     let mut settings = Settings::new(statement.text);
-    let checked = check::first_fault(listing, statement.standing, &mut settings);
+    let checked = check::first_fault(listing, &mut settings);
     let found = [listing.fault, checked].into_iter().flatten().min();
     if found.is_none() {
         let mark = store.mark();
         let builder = Builder { statement, listing, settings: &settings };
-        if let Some(assertion) = builder.assertion(store) {
-            return Ok(assertion);
+        if let Some(formed) = builder.formed(store) {
+            return Ok(formed);
         }
         store.back(mark);
     }
@@ -58,9 +60,12 @@ struct Builder<'a> {
 }
 
 impl Builder<'_> {
-    fn assertion(&self, store: &mut Store) -> Option<Assertion> {
-        let mut assertion =
-            Assertion { authorizer: Piece::EMPTY, licensees: None, conditions: None, constants: Row::default() };
+    fn formed(&self, store: &mut Store) -> Option<Formed> {
+        let (text, base) = (self.statement.text, self.statement.start);
+        let mut authorizer = None;
+        let mut licensees = None;
+        let mut conditions = None;
+        let mut seen = Row::default();
         let mut constants = Row::default();
         for field in self.listing.fields.iter() {
             let tokens = self.listing.tokens_of(field);
@@ -73,20 +78,16 @@ impl Builder<'_> {
                     only(tokens, |token| token.kind == Kind::Literal)?;
                 }
                 Label::Constants => constants = self.constants(tokens, store)?,
-                Label::Authorizer => {
-                    let token = only(tokens, |token| is_name(token) || token.kind == Kind::Literal)?;
-                    assertion.authorizer = self.principal(token, constants, store)?;
-                }
-                Label::Licensees => {
-                    assertion.licensees = Some(self.licensees(tokens, constants, store)?);
-                }
+                Label::Authorizer => authorizer = Some((licence::authorizer(text, base, tokens, store)?, constants)),
+                Label::Licensees => licensees = Some(self.licensees(tokens, constants, store)?),
                 Label::Conditions => {
-                    assertion.constants = constants;
-                    assertion.conditions = Some(self.conditions(tokens, store)?);
+                    seen = constants;
+                    conditions = Some(self.conditions(tokens, store)?);
                 }
             }
         }
-        Some(assertion)
+        let (authorizer, authorizer_constants) = authorizer?;
+        Some(Formed { authorizer, authorizer_constants, licensees, conditions, constants: seen })
     }
 
     fn constants(&self, tokens: &[Token], store: &mut Store) -> Option<Row> {
@@ -103,35 +104,26 @@ impl Builder<'_> {
             let value = store.literal(self.statement.text, self.statement.start, &setting.value?);
             store.constants.push(Constant { name, value });
         }
-        Some(row(first, store.constants.len()))
+        Some(Row::new(first, store.constants.len()))
     }
 
-    fn licensees(&self, tokens: &[Token], constants: Row, store: &mut Store) -> Option<Licensees> {
+    fn licensees(&self, tokens: &[Token], constants: Row, store: &mut Store) -> Option<FormedLicensees> {
         let licences = store.licences.len();
-        let principals = store.principals.len();
+        let expressions = store.expressions.len();
         if !tokens.is_empty() {
-            let mut resolve = |token: &Token, store: &mut Store| self.principal(token, constants, store);
-            parse::licensees(tokens, store, &mut resolve)?;
+            licence::licensees(self.statement.text, self.statement.start, tokens, store)?;
         }
-        Some(Licensees {
-            licences: row(licences, store.licences.len()),
-            principals: row(principals, store.principals.len()),
+        Some(FormedLicensees {
+            licences: Row::new(licences, store.licences.len()),
+            expressions: Row::new(expressions, store.expressions.len()),
+            constants,
         })
-    }
-
-    /// The identifier that a literal gives or a constant holds.
-    fn principal(&self, token: &Token, constants: Row, store: &mut Store) -> Option<Piece> {
-        if token.kind == Kind::Literal {
-            return Some(store.literal(self.statement.text, self.statement.start, token));
-        }
-        let index = self.settings.find(token)?;
-        constants.of(&store.constants).get(index).map(|constant| constant.value)
     }
 
     fn conditions(&self, tokens: &[Token], store: &mut Store) -> Option<Row> {
         let first = store.nodes.len();
         parse::conditions(self.statement.text, self.statement.start, tokens, store)?;
-        Some(row(first, store.nodes.len()))
+        Some(Row::new(first, store.nodes.len()))
     }
 }
 
@@ -145,8 +137,4 @@ fn only(tokens: &[Token], permitted: fn(&Token) -> bool) -> Option<&Token> {
 
 fn is_name(token: &Token) -> bool {
     matches!(token.kind, Kind::Name | Kind::Word)
-}
-
-fn row(first: usize, last: usize) -> Row {
-    Row { first: first as u32, last: last as u32 }
 }

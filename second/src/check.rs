@@ -1,4 +1,4 @@
-//! Reasons 4 to 9: what single tokens of a field may not be. Each is told from
+//! Reasons 4 to 7: what single tokens of a field may not be. Each is told from
 //! the tokens up to its place, so the first one found is the earliest.
 
 use crate::bounded::Bounded;
@@ -12,12 +12,11 @@ pub const NUMBER: u8 = 5;
 pub const KEYNOTE_VERSION: u8 = 6;
 pub const LIMIT: u8 = 7;
 pub const STANDING: u8 = 9;
+pub const IDENTIFIER: u8 = 10;
 
 /// The reasons there are, 0 for a text that is kept. None is 8 any more.
-pub const REASONS: [u8; 9] = [0, NO_TOKEN, GRAMMAR, LINE, NAME, NUMBER, KEYNOTE_VERSION, LIMIT, STANDING];
+pub const REASONS: [u8; 10] = [0, NO_TOKEN, GRAMMAR, LINE, NAME, NUMBER, KEYNOTE_VERSION, LIMIT, STANDING, IDENTIFIER];
 
-/// The standing of a verified credential.
-const CREDENTIAL: u8 = 2;
 /// The root of trust.
 pub const POLICY: &[u8] = b"POLICY";
 
@@ -41,30 +40,21 @@ impl<'t> Settings<'t> {
         Self { text, list: Bounded::new(Setting { name: BLANK, value: None }) }
     }
 
-    /// The literal that a principal's token stands for.
-    pub fn literal(&self, token: &Token) -> Option<Token> {
-        if token.kind == Kind::Literal {
-            return Some(*token);
-        }
-        self.list[self.find(token)?].value
-    }
-
-    /// The place of a name among the constants.
-    pub fn find(&self, name: &Token) -> Option<usize> {
+    fn has(&self, name: &Token) -> bool {
         let wanted = name.spelling(self.text);
-        self.list.iter().position(|setting| setting.name.spelling(self.text) == wanted)
+        self.list.iter().any(|setting| setting.name.spelling(self.text) == wanted)
     }
 }
 
-/// The first fault of reasons 4 to 9. The constants are gathered on the way.
-pub fn first_fault(listing: &Listing, standing: u8, settings: &mut Settings) -> Option<Fault> {
+/// The first fault of reasons 4 to 7. The constants are gathered on the way.
+pub fn first_fault(listing: &Listing, settings: &mut Settings) -> Option<Fault> {
     let each = |field: &Field| {
         let tokens = listing.tokens_of(field);
         match field.label {
             Label::Version => version(tokens, settings.text),
             Label::Constants => constants(tokens, settings),
-            Label::Authorizer => authorizer(tokens, standing, settings),
-            Label::Licensees => licensees(tokens, settings),
+            Label::Authorizer => authorizer(tokens),
+            Label::Licensees => licensees(tokens),
             Label::Conditions => conditions(tokens),
             Label::Comment => Ok(()),
             Label::Signature => tokens.iter().try_for_each(literal_bytes),
@@ -90,7 +80,7 @@ fn constants(tokens: &[Token], settings: &mut Settings) -> Result<(), Fault> {
         match token.kind {
             Kind::Name | Kind::Word => {
                 let reserved = token.spelling(settings.text)[0] == b'_';
-                demand(!reserved && settings.find(token).is_none(), NAME, token)?;
+                demand(!reserved && !settings.has(token), NAME, token)?;
                 demand(settings.list.len() < limits::CONSTANTS, LIMIT, token)?;
                 settings.list.push(Setting { name: *token, value: None });
             }
@@ -106,45 +96,66 @@ fn constants(tokens: &[Token], settings: &mut Settings) -> Result<(), Fault> {
     Ok(())
 }
 
-fn authorizer(tokens: &[Token], standing: u8, settings: &Settings) -> Result<(), Fault> {
-    let Some(token) = tokens.first() else { return Ok(()) };
-    let Some(literal) = principal(token, settings)? else { return Ok(()) };
-    let policy = standing == CREDENTIAL && literal_is(settings.text, &literal, POLICY);
-    demand(!policy, STANDING, token)
+fn authorizer(tokens: &[Token]) -> Result<(), Fault> {
+    let mut string = StringLimits::default();
+    tokens.iter().try_for_each(|token| string.count(token))
 }
 
-fn licensees(tokens: &[Token], settings: &Settings) -> Result<(), Fault> {
-    let mut brackets = Brackets(0);
+fn licensees(tokens: &[Token]) -> Result<(), Fault> {
+    let mut string = StringLimits::default();
     let mut occurrences = 0;
-    // The threshold of the list that is open or announced, and its length.
+    // The list that is open or announced: its threshold, its length, and how
+    // many brackets are open around it.
     let mut threshold = 0;
     let mut listed = 0;
+    let mut around = 0;
+    // Whether the next operand continues a string expression.
+    let mut continued = false;
     for token in tokens {
-        brackets.count(token)?;
+        string.count(token)?;
         match token.kind {
             Kind::Digits => {
                 demand(limits::THRESHOLD.holds(token.value as usize), NUMBER, token)?;
-                threshold = token.value;
-                listed = 0;
+                (threshold, listed, around) = (token.value, 0, string.brackets.0);
             }
-            Kind::Literal | Kind::Name | Kind::Word => {
-                principal(token, settings)?;
+            Kind::Literal | Kind::Name | Kind::Word | Kind::Dollar if !continued => {
                 occurrences += 1;
                 listed += 1;
                 demand(occurrences <= limits::LICENSEES, LIMIT, token)?;
             }
-            Kind::Close => {
+            Kind::Close if string.brackets.0 == around => {
                 demand(threshold <= listed, NUMBER, token)?;
                 threshold = 0;
             }
             _ => {}
         }
+        continued = match token.kind {
+            Kind::Dot | Kind::Dollar => true,
+            Kind::Open => continued,
+            _ => false,
+        };
     }
     Ok(())
 }
 
+/// The limits on the tokens of string expressions outside Conditions.
+#[derive(Default)]
+struct StringLimits {
+    brackets: Brackets,
+    prefixes: usize,
+}
+
+impl StringLimits {
+    fn count(&mut self, token: &Token) -> Result<(), Fault> {
+        self.prefixes = if token.kind == Kind::Dollar { self.prefixes + 1 } else { 0 };
+        demand(self.prefixes <= limits::PREFIXES, LIMIT, token)?;
+        self.brackets.count(token)?;
+        literal_bytes(token)
+    }
+}
+
 fn conditions(tokens: &[Token]) -> Result<(), Fault> {
-    let mut brackets = Brackets(0);
+    let mut brackets = Brackets::default();
     let mut prefixes = 0;
     let mut behind_operand = false;
     for token in tokens {
@@ -166,21 +177,6 @@ fn conditions(tokens: &[Token]) -> Result<(), Fault> {
             matches!(token.kind, Kind::Digits | Kind::Literal | Kind::Name | Kind::Word | Kind::Float | Kind::Close);
     }
     Ok(())
-}
-
-/// A principal's literal, by its token or by the constant it names.
-fn principal(token: &Token, settings: &Settings) -> Result<Option<Token>, Fault> {
-    if matches!(token.kind, Kind::Name | Kind::Word) {
-        demand(settings.find(token).is_some(), NAME, token)?;
-    }
-    let literal = match token.kind {
-        Kind::Literal | Kind::Name | Kind::Word => settings.literal(token),
-        _ => None,
-    };
-    if let Some(literal) = literal {
-        demand(limits::PRINCIPAL_BYTES.holds(literal.value as usize), LIMIT, token)?;
-    }
-    Ok(literal)
 }
 
 fn integer(token: &Token) -> Result<(), Fault> {
@@ -218,6 +214,7 @@ fn demand(fine: bool, reason: u8, token: &Token) -> Result<(), Fault> {
 }
 
 /// The number of brackets open in a field.
+#[derive(Default)]
 struct Brackets(usize);
 
 impl Brackets {

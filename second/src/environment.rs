@@ -1,4 +1,4 @@
-//! What names stand for while an assertion's Conditions are evaluated.
+//! What names stand for while an assertion is evaluated.
 
 use std::cell::OnceCell;
 

@@ -1,4 +1,5 @@
-//! Conditions: the rank an assertion's clauses give in a query.
+//! Conditions: the rank an assertion's clauses give in a query, and the strings
+//! that expressions outside Conditions give.
 
 use std::cmp::Ordering;
 
@@ -85,6 +86,20 @@ impl<'a> Evaluator<'a> {
         let Some(row) = assertion.conditions else { return top };
         self.constants = assertion.constants;
         self.run(row, top)
+    }
+
+    /// The value of a string expression that stands outside Conditions.
+    pub fn string(&mut self, nodes: Row, constants: Row) -> Result<&[u8], Error> {
+        self.clear();
+        self.constants = constants;
+        for &node in nodes.of(&self.environment.store.nodes) {
+            self.step(node)?;
+        }
+        let value = self.stack.pop().expect("a string");
+        Ok(match value {
+            Value::Lent(bytes) => bytes,
+            _ => &self.built,
+        })
     }
 
     /// The maximum over all clauses whose tests hold, nested ones included.

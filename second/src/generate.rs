@@ -14,6 +14,8 @@ pub mod float_coverage;
 pub mod keys;
 pub mod pattern;
 pub mod pattern_coverage;
+pub mod reference;
+pub mod reference_coverage;
 pub mod scene;
 pub mod sketch;
 pub mod tally;
@@ -43,9 +45,11 @@ pub enum Sort {
     Keys,
     /// More assertions than most have.
     Crowd,
+    /// A web whose principals stand by reference.
+    Reference,
 }
 
-const SORTS: [Sort; 21] = [
+const SORTS: [Sort; 23] = [
     Sort::Web,
     Sort::DamagedText,
     Sort::Rich,
@@ -57,6 +61,7 @@ const SORTS: [Sort; 21] = [
     Sort::Tally,
     Sort::Keys,
     Sort::Crowd,
+    Sort::Reference,
     Sort::Web,
     Sort::DamagedText,
     Sort::Rich,
@@ -67,6 +72,7 @@ const SORTS: [Sort; 21] = [
     Sort::DamagedText,
     Sort::Tally,
     Sort::Keys,
+    Sort::Reference,
 ];
 
 /// The record of a number in the row that a seed begins.
@@ -89,6 +95,7 @@ pub fn of_sort(random: &mut Random, sort: Sort) -> Vec<u8> {
         Sort::Tally => tally::record(random),
         Sort::Keys => keys::draft(random).record(),
         Sort::Crowd => crowd::record(random),
+        Sort::Reference => reference::draft(random).record(),
         Sort::DamagedRecord => {
             let draft = if random.once_in(2) { web::draft(random) } else { rich(random, 4) };
             damage::record(random, draft)

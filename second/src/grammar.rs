@@ -1,9 +1,9 @@
 //! The grammars of the fields, as data.
 //!
-//! The productions are the RFC's, narrowed to literals and bare names where
-//! principals stand, with the precedence classes written into them. Tests,
-//! strings, integers and floats are nonterminals of their own. Lists recur to
-//! the left. LITERAL, NAME, WORD, DIGITS and FLOAT are terminals; other symbols
+//! The productions are the RFC's, with the precedence classes written into them.
+//! A principal is a string expression: its brackets may be the string's or, in
+//! Licensees, the licensees', which makes that grammar ambiguous. Tests, strings,
+//! integers and floats are nonterminals of their own. Lists recur to the left. LITERAL, NAME, WORD, DIGITS and FLOAT are terminals; other symbols
 //! that no production defines are tokens by their spelling.
 
 use std::sync::OnceLock;
@@ -18,7 +18,16 @@ const VERSION: &[Production] = &[("Version", "LITERAL"), ("Version", "DIGITS")];
 
 const SIGNATURE: &[Production] = &[("Signature", "LITERAL")];
 
-const AUTHORIZER: &[Production] = &[("Authorizer", "LITERAL"), ("Authorizer", "NAME"), ("Authorizer", "WORD")];
+const AUTHORIZER: &[Production] = &[
+    ("Authorizer", "StrEx"),
+    ("StrEx", "StrEx . StrUnary"),
+    ("StrEx", "StrUnary"),
+    ("StrUnary", "$ StrUnary"),
+    ("StrUnary", "( StrEx )"),
+    ("StrUnary", "LITERAL"),
+    ("StrUnary", "NAME"),
+    ("StrUnary", "WORD"),
+];
 
 const CONSTANTS: &[Production] = &[
     ("Assignments", ""),
@@ -36,12 +45,35 @@ const LICENSEES: &[Production] = &[
     ("PrincAnd", "PrincExpr"),
     ("PrincExpr", "( PrincOr )"),
     ("PrincExpr", "DIGITS -of ( PrincList )"),
-    ("PrincExpr", "Principal"),
-    ("PrincList", "Principal"),
-    ("PrincList", "PrincList , Principal"),
-    ("Principal", "LITERAL"),
-    ("Principal", "NAME"),
-    ("Principal", "WORD"),
+    ("PrincExpr", "StrEx"),
+    ("PrincList", "StrEx"),
+    ("PrincList", "PrincList , StrEx"),
+    ("StrEx", "StrEx . StrUnary"),
+    ("StrEx", "StrUnary"),
+    ("StrUnary", "$ StrUnary"),
+    ("StrUnary", "( StrEx )"),
+    ("StrUnary", "LITERAL"),
+    ("StrUnary", "NAME"),
+    ("StrUnary", "WORD"),
+];
+
+/// Licensees and strings as the RFC prints them, without precedence.
+pub const RFC_LICENSEES: &[Production] = &[
+    ("LicenseesExpr", ""),
+    ("LicenseesExpr", "PrincExpr"),
+    ("PrincExpr", "( PrincExpr )"),
+    ("PrincExpr", "PrincExpr && PrincExpr"),
+    ("PrincExpr", "PrincExpr || PrincExpr"),
+    ("PrincExpr", "DIGITS -of ( PrincList )"),
+    ("PrincExpr", "StrEx"),
+    ("PrincList", "StrEx"),
+    ("PrincList", "StrEx , PrincList"),
+    ("StrEx", "StrEx . StrEx"),
+    ("StrEx", "LITERAL"),
+    ("StrEx", "( StrEx )"),
+    ("StrEx", "NAME"),
+    ("StrEx", "WORD"),
+    ("StrEx", "$ StrEx"),
 ];
 
 const CONDITIONS: &[Production] = &[

@@ -15,8 +15,10 @@ pub mod eval;
 pub mod float;
 pub mod generate;
 pub mod grammar;
+pub mod identify;
 pub mod integer;
 pub mod journal;
+pub mod licence;
 pub mod limits;
 pub mod line;
 pub mod literal;
@@ -39,7 +41,7 @@ use compliance::Solution;
 use environment::Environment;
 use line::{Fault, Listing};
 use record::Query;
-use store::{Assertion, Store};
+use store::{Assertion, Formed, Store};
 
 /// The result of a query. A refusal has a number above 0 and gives no ranks.
 #[derive(Clone, Copy, Debug, Default, PartialEq, Eq)]
@@ -85,6 +87,9 @@ pub fn solution_by_bytes(record: &[u8]) -> Option<Solution> {
 /// The assertions of a query: those kept, and each one's fault or none.
 pub struct Reading {
     pub store: Store,
+    /// Each text that is well formed but for what its expressions for identifiers
+    /// give: all that are kept, and those set aside in this query.
+    pub formed: Vec<Option<Formed>>,
     pub kept: Vec<Assertion>,
     pub faults: Vec<Option<Fault>>,
 }
@@ -97,21 +102,27 @@ impl Reading {
     }
 }
 
+/// Reads every text to its end, then gives the formed ones their identifiers.
 pub fn read_assertions(query: &Query) -> Reading {
     let count = query.statements.len();
-    let mut reading =
-        Reading { store: Store::default(), kept: Vec::with_capacity(count), faults: Vec::with_capacity(count) };
+    let mut store = Store::default();
+    let mut formed = Vec::with_capacity(count);
+    let mut faults = Vec::with_capacity(count);
     let mut listing = Listing::new();
     for statement in query.statements.iter() {
-        match assertion::read(statement, &mut listing, &mut reading.store) {
-            Ok(assertion) => {
-                reading.kept.push(assertion);
-                reading.faults.push(None);
+        match assertion::read(statement, &mut listing, &mut store) {
+            Ok(text) => {
+                formed.push(Some(text));
+                faults.push(None);
             }
-            Err(fault) => reading.faults.push(Some(fault)),
+            Err(fault) => {
+                formed.push(None);
+                faults.push(Some(fault));
+            }
         }
     }
-    reading
+    let kept = identify::all(query, &formed, &mut store, &mut faults);
+    Reading { store, formed, kept, faults }
 }
 
 fn write_report(faults: &[Option<Fault>], report: &mut [u8]) {

@@ -1,9 +1,9 @@
-//! The trees of Licensees and Conditions, written in postfix order, by binding
-//! strength. No tree means that something in the field is wrong, not what.
+//! The trees of Conditions, written in postfix order, by binding strength. No
+//! tree means that something in the field is wrong, not what.
 
 use crate::float;
 use crate::limits;
-use crate::store::{Comparison, Licence, Node, Operation, Piece, Store};
+use crate::store::{Comparison, Node, Operation, Store};
 use crate::token::{Kind, Token};
 
 /// What an expression is.
@@ -337,102 +337,4 @@ fn float_operation(kind: Kind) -> Option<Operation> {
         Kind::Caret => Operation::Power,
         _ => return None,
     })
-}
-
-/// Writes the tree of a Licensees field that has tokens into the store.
-/// `resolve` gives the identifier that a literal or a name stands for.
-pub fn licensees(
-    tokens: &[Token],
-    store: &mut Store,
-    resolve: &mut dyn FnMut(&Token, &mut Store) -> Option<Piece>,
-) -> Option<()> {
-    let mut parser = Licences { tokens, at: 0, brackets: 0, store, resolve };
-    parser.expression(OR)?;
-    (parser.at == tokens.len()).then_some(())
-}
-
-struct Licences<'a> {
-    tokens: &'a [Token],
-    at: usize,
-    brackets: usize,
-    store: &'a mut Store,
-    resolve: &'a mut dyn FnMut(&Token, &mut Store) -> Option<Piece>,
-}
-
-impl Licences<'_> {
-    fn expression(&mut self, least: u8) -> Option<()> {
-        self.operand()?;
-        while let Some(token) = self.tokens.get(self.at) {
-            let (strength, licence) = match token.kind {
-                Kind::Or => (OR, Licence::Or),
-                Kind::And => (AND, Licence::And),
-                _ => break,
-            };
-            if strength < least {
-                break;
-            }
-            self.at += 1;
-            self.expression(strength + 1)?;
-            self.store.licences.push(licence);
-        }
-        Some(())
-    }
-
-    fn operand(&mut self) -> Option<()> {
-        let token = *self.tokens.get(self.at)?;
-        match token.kind {
-            Kind::Open => {
-                self.open()?;
-                self.expression(OR)?;
-                self.close()
-            }
-            Kind::Digits => self.threshold(u8::try_from(token.value).ok()?),
-            _ => self.principal(),
-        }
-    }
-
-    fn threshold(&mut self, least: u8) -> Option<()> {
-        self.at += 1;
-        self.expect(Kind::Of)?;
-        self.open()?;
-        self.principal()?;
-        let mut listed = 1;
-        while self.expect(Kind::Comma).is_some() {
-            self.principal()?;
-            listed += 1;
-        }
-        self.store.licences.push(Licence::Threshold { least, listed });
-        self.close()
-    }
-
-    fn principal(&mut self) -> Option<()> {
-        let token = *self.tokens.get(self.at)?;
-        if !matches!(token.kind, Kind::Literal | Kind::Name | Kind::Word) {
-            return None;
-        }
-        self.at += 1;
-        let piece = (self.resolve)(&token, self.store)?;
-        self.store.principals.push(piece);
-        self.store.licences.push(Licence::Principal);
-        Some(())
-    }
-
-    fn open(&mut self) -> Option<()> {
-        self.brackets += 1;
-        if self.brackets > limits::BRACKETS {
-            return None;
-        }
-        self.expect(Kind::Open)
-    }
-
-    fn close(&mut self) -> Option<()> {
-        self.brackets -= 1;
-        self.expect(Kind::Close)
-    }
-
-    fn expect(&mut self, kind: Kind) -> Option<()> {
-        let found = self.tokens.get(self.at)?.kind == kind;
-        self.at += usize::from(found);
-        found.then_some(())
-    }
 }

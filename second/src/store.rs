@@ -1,23 +1,32 @@
-//! What kept assertions hold, in postfix order, in rows shared by a query.
+//! What formed texts and kept assertions hold, in postfix order, in rows shared by a query.
 
 use crate::literal;
 use crate::record::Query;
 use crate::token::Token;
 
-/// Bytes that lie in the record or among the decoded literals.
+/// Where bytes lie.
+#[derive(Clone, Copy, Debug, PartialEq, Eq)]
+enum Room {
+    Record,
+    /// Among the decoded literals.
+    Decoded,
+    /// Among the identifiers that the query gives.
+    Identifiers,
+}
+
+/// Bytes that lie in one of the rooms.
 #[derive(Clone, Copy, Debug, PartialEq, Eq)]
 pub struct Piece {
-    // A record and all its decoded literals have at most 65,535 bytes.
-    start: u16,
+    start: u32,
     length: u16,
-    decoded: bool,
+    room: Room,
 }
 
 impl Piece {
-    pub const EMPTY: Piece = Piece { start: 0, length: 0, decoded: false };
+    pub const EMPTY: Piece = Piece { start: 0, length: 0, room: Room::Record };
 
-    fn new(start: usize, length: usize, decoded: bool) -> Self {
-        Self { start: start as u16, length: length as u16, decoded }
+    fn new(start: usize, length: usize, room: Room) -> Self {
+        Self { start: start as u32, length: length as u16, room }
     }
 }
 
@@ -41,7 +50,7 @@ pub enum Operation {
     Power,
 }
 
-/// A step of Conditions. Operands stand before their operator. The ends are
+/// A step of Conditions, or of an expression for an identifier. Operands stand before their operator. The ends are
 /// places among the nodes.
 #[derive(Clone, Copy, Debug, PartialEq)]
 pub enum Node {
@@ -113,9 +122,41 @@ pub struct Row {
 }
 
 impl Row {
+    pub fn new(first: usize, last: usize) -> Self {
+        Self { first: first as u32, last: last as u32 }
+    }
+
     pub fn of<T>(self, row: &[T]) -> &[T] {
         &row[self.first as usize..self.last as usize]
     }
+}
+
+/// A string expression where a principal stands.
+#[derive(Clone, Copy, Debug, PartialEq, Eq)]
+pub struct Expression {
+    pub nodes: Row,
+    /// Its first token that is no bracket.
+    pub place: usize,
+}
+
+/// A text that is well formed, whatever its expressions for identifiers give.
+#[derive(Clone, Copy, Debug)]
+pub struct Formed {
+    pub authorizer: Expression,
+    /// The constants that Authorizer sees.
+    pub authorizer_constants: Row,
+    pub licensees: Option<FormedLicensees>,
+    pub conditions: Option<Row>,
+    /// The constants that Conditions sees.
+    pub constants: Row,
+}
+
+#[derive(Clone, Copy, Debug)]
+pub struct FormedLicensees {
+    pub licences: Row,
+    pub expressions: Row,
+    /// The constants that Licensees sees.
+    pub constants: Row,
 }
 
 /// An assertion that is kept.
@@ -138,8 +179,13 @@ pub struct Store {
     pub decoded: Vec<u8>,
     pub nodes: Vec<Node>,
     pub licences: Vec<Licence>,
-    pub principals: Vec<Piece>,
+    /// The expressions of Licensees, of every text that is formed.
+    pub expressions: Vec<Expression>,
     pub constants: Vec<Constant>,
+    /// The identifiers of Licensees, of every assertion that is kept.
+    pub principals: Vec<Piece>,
+    /// Identifiers that lie neither in the record nor among the literals.
+    pub identifiers: Vec<u8>,
 }
 
 /// How far the rows are filled.
@@ -148,7 +194,7 @@ pub struct Mark {
     decoded: usize,
     nodes: usize,
     licences: usize,
-    principals: usize,
+    expressions: usize,
     constants: usize,
 }
 
@@ -159,8 +205,10 @@ impl Default for Store {
             decoded: Vec::new(),
             nodes: Vec::with_capacity(64),
             licences: Vec::with_capacity(16),
-            principals: Vec::with_capacity(16),
+            expressions: Vec::with_capacity(16),
             constants: Vec::new(),
+            principals: Vec::with_capacity(16),
+            identifiers: Vec::new(),
         }
     }
 }
@@ -171,7 +219,7 @@ impl Store {
             decoded: self.decoded.len(),
             nodes: self.nodes.len(),
             licences: self.licences.len(),
-            principals: self.principals.len(),
+            expressions: self.expressions.len(),
             constants: self.constants.len(),
         }
     }
@@ -181,7 +229,7 @@ impl Store {
         self.decoded.truncate(mark.decoded);
         self.nodes.truncate(mark.nodes);
         self.licences.truncate(mark.licences);
-        self.principals.truncate(mark.principals);
+        self.expressions.truncate(mark.expressions);
         self.constants.truncate(mark.constants);
     }
 
@@ -189,22 +237,31 @@ impl Store {
     pub fn literal(&mut self, text: &[u8], base: usize, token: &Token) -> Piece {
         let length = token.value as usize;
         if token.is_plain() {
-            return Piece::new(base + token.place() + 1, length, false);
+            return Piece::new(base + token.place() + 1, length, Room::Record);
         }
         let start = self.decoded.len();
         literal::decode(text, token.place(), &mut self.decoded);
-        Piece::new(start, length, true)
+        Piece::new(start, length, Room::Decoded)
+    }
+
+    /// An identifier by its place among those that the query gives.
+    pub fn identifier(start: usize, length: usize) -> Piece {
+        Piece::new(start, length, Room::Identifiers)
     }
 
     /// A name as it stands in the record.
     pub fn name(base: usize, token: &Token) -> Piece {
-        Piece::new(base + token.place(), usize::from(token.end - token.start), false)
+        Piece::new(base + token.place(), usize::from(token.end - token.start), Room::Record)
     }
 
     /// Shows a piece where it lies.
     pub fn show<'a>(&'a self, query: &Query<'a>, piece: Piece) -> &'a [u8] {
-        let room: &'a [u8] = if piece.decoded { &self.decoded } else { query.record };
-        let start = usize::from(piece.start);
+        let room: &'a [u8] = match piece.room {
+            Room::Record => query.record,
+            Room::Decoded => &self.decoded,
+            Room::Identifiers => &self.identifiers,
+        };
+        let start = piece.start as usize;
         &room[start..start + usize::from(piece.length)]
     }
 }

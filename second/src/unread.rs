@@ -1,5 +1,5 @@
-//! Demand 3: attributes that no assertion within the reach reads, and pairs of
-//! queries alike but for the values of such attributes.
+//! Demand 3: attributes that nothing reads which may, and pairs of queries alike
+//! but for the values of such attributes.
 
 use crate::draft::Draft;
 use crate::limits;
@@ -7,37 +7,54 @@ use crate::random::Random;
 use crate::reach;
 use crate::read_assertions;
 use crate::record::{self, Query};
-use crate::store::{Assertion, Node, Store};
+use crate::store::{Node, Row, Store};
 
-/// For each attribute of a query whether an assertion made within the reach
-/// dereferences it. A "$" may read any.
+/// For each attribute of a query whether it is read: by an assertion made within
+/// the reach in its Conditions, or in Authorizer or Licensees by any text that is
+/// formed, reached or not, set aside for an identifier or not. A "$" reads all.
 pub fn read_attributes(query: &Query) -> Vec<bool> {
     let reading = read_assertions(query);
     let reach = reach::of(query, &reading);
-    let mut read = vec![false; query.attributes.len()];
-    for assertion in reading.kept.iter() {
-        if reach.holds(reading.store.show(query, assertion.authorizer)) {
-            mark_read(query, &reading.store, assertion, &mut read);
+    let mut marks = Marks { query, store: &reading.store, read: vec![false; query.attributes.len()] };
+    for formed in reading.formed.iter().flatten() {
+        marks.mark(formed.authorizer.nodes, formed.authorizer_constants);
+        for fields in formed.licensees.iter() {
+            for expression in fields.expressions.of(&reading.store.expressions) {
+                marks.mark(expression.nodes, fields.constants);
+            }
         }
     }
-    read
+    for assertion in reading.kept.iter() {
+        if reach.holds(reading.store.show(query, assertion.authorizer)) {
+            marks.mark(assertion.conditions.unwrap_or_default(), assertion.constants);
+        }
+    }
+    marks.read
 }
 
-fn mark_read(query: &Query, store: &Store, assertion: &Assertion, read: &mut [bool]) {
-    let nodes = assertion.conditions.map_or(&[][..], |row| row.of(&store.nodes));
-    let constants = assertion.constants.of(&store.constants);
-    for node in nodes {
-        match node {
-            Node::Dereference => read.fill(true),
-            Node::Name(piece) => {
-                let name = store.show(query, *piece);
-                let hidden = constants.iter().any(|constant| store.show(query, constant.name) == name);
-                let place = query.attributes.iter().position(|attribute| attribute.name == name);
-                if let (false, Some(place)) = (hidden, place) {
-                    read[place] = true;
+struct Marks<'a> {
+    query: &'a Query<'a>,
+    store: &'a Store,
+    read: Vec<bool>,
+}
+
+impl Marks<'_> {
+    /// Marks what the nodes dereference from the query beside the constants.
+    fn mark(&mut self, nodes: Row, constants: Row) {
+        for node in nodes.of(&self.store.nodes) {
+            match node {
+                Node::Dereference => self.read.fill(true),
+                Node::Name(piece) => {
+                    let show = |piece| self.store.show(self.query, piece);
+                    let name = show(*piece);
+                    let hidden = constants.of(&self.store.constants).iter().any(|constant| show(constant.name) == name);
+                    let place = self.query.attributes.iter().position(|attribute| attribute.name == name);
+                    if let (false, Some(place)) = (hidden, place) {
+                        self.read[place] = true;
+                    }
                 }
+                _ => {}
             }
-            _ => {}
         }
     }
 }

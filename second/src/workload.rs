@@ -58,6 +58,9 @@ pub fn all() -> Vec<Workload> {
         workload("names alike at their ends", &alike_at_ends(3)),
         workload("long names alike at their ends", &alike_at_ends(8)),
     ];
+    for (name, draft) in references() {
+        all.push(workload(format!("by reference: {name}"), &draft));
+    }
     for count in DOUBLING {
         all.push(workload(format!("distinct {count}"), &distinct(count)));
     }
@@ -194,6 +197,51 @@ pub fn alike_at_ends(width: usize) -> Draft {
     let name = |number: usize| (0..width as u32).map(|place| digit(number, place)).chain("end".chars()).collect();
     let asked = Draft::default().value("hold").value("immediate").requester(name(1));
     (0..limits::ASSERTIONS.most).fold(asked, |draft, index| draft.local(delegation(index, &name)))
+}
+
+/// 200 assertions of 16 licensees, all of them by reference. The requester is
+/// licensed by POLICY.
+fn references() -> Vec<(&'static str, Draft)> {
+    let name = |number: usize| format!("n{}", number % 16);
+    let named = |prefix: usize| {
+        let asked = Draft::default().value("hold").value("immediate");
+        let key = |number: usize| format!("{}{number:02}", "k".repeat(prefix));
+        let asked = asked.requester(key(1)).attribute("p", "POLICY").attribute("r", "p");
+        let each = |draft: Draft, number| draft.attribute(name(number), key(number));
+        (0..16).fold(asked, each)
+    };
+    let twice =
+        |prefix| (0..12).fold(named(prefix), |draft, number| draft.attribute(format!("r{number}"), name(number)));
+    let joined = |prefix: usize| {
+        let front = "k".repeat(prefix);
+        let asked = Draft::default().value("hold").value("immediate").requester(format!("{front:.252}0001"));
+        asked.attribute("p", "POLICY").attribute("k", front)
+    };
+    let join = |number: usize| format!("k.\"{number:04}\"");
+    let bracketed = |number: usize| format!("((k).(\"{number:04}\"))");
+    let dereference = |number: usize| format!("$r{}", number % 12);
+    let literal = |number: usize| format!("$\"n{}\"", number % 16);
+    vec![
+        ("names", referring(named(4), "p", &name)),
+        ("names of 256 bytes", referring(named(254), "p", &name)),
+        ("\"$\" of a literal", referring(named(4), "$\"p\"", &literal)),
+        ("\"$\" of a name", referring(twice(4), "$r", &dereference)),
+        ("joined, 3,200 keys", referring(joined(4), "p", &join)),
+        ("joined, 3,200 keys of 256 bytes", referring(joined(252), "p", &join)),
+        ("joined in brackets", referring(joined(4), "((\"POL\").(\"ICY\"))", &bracketed)),
+        ("error in every one", referring(joined(300), "p", &join)),
+    ]
+}
+
+/// 200 assertions in which each principal, by its number, licenses sixteen.
+fn referring(asked: Draft, root: &str, refer: &dyn Fn(usize) -> String) -> Draft {
+    let text = |index: usize| {
+        let most = limits::LICENSEES;
+        let authorizer = if index == 0 { root.to_string() } else { refer(index) };
+        let listed: Vec<String> = (index * most + 1..=(index + 1) * most).map(refer).collect();
+        format!("Authorizer: {authorizer}\nLicensees: {}\n", listed.join("||"))
+    };
+    (0..limits::ASSERTIONS.most).fold(asked, |draft, index| draft.local(text(index)))
 }
 
 /// As many assertions of full length as fit, with the part repeated in

@@ -2,10 +2,10 @@
 
 use std::collections::HashSet;
 
-use lampsickle::{Answer, Query};
+use lampsickle::{Answer, Entry, Query};
 
 use super::attributes::Attribute;
-use crate::assertion::reading::{read, reserved, Conversion, Reading};
+use crate::assertion::reading::{principals, read, reserved, Conversion, Reading};
 use crate::report::Source;
 use crate::text::{brief, quoted};
 
@@ -44,12 +44,20 @@ pub fn readings<'a>(query: &Query, sources: &'a [Source], answer: &Answer) -> Ve
     kept.map(|(source, _)| (source, read(&source.text, query))).collect()
 }
 
+/// What those read for their identifiers that were set aside for one.
+pub fn set_aside(query: &Query, sources: &[Source], answer: &Answer) -> Vec<Reading> {
+    let one = |entry: &Entry| entry.reason == 10 || entry.reason == 9 && entry.place > 0;
+    let aside = sources.iter().zip(&answer.entries).filter(|(_, entry)| one(entry));
+    aside.map(|(source, _)| principals(&source.text, query)).collect()
+}
+
 /// The warnings of these kinds, in words.
 pub fn found(
     kinds: &[Kind],
     query: &Query,
     attributes: &[Attribute],
     readings: &[(&Source, Reading)],
+    aside: &[Reading],
 ) -> Vec<(Kind, String)> {
     let mut told = Told { query, names: HashSet::new(), warnings: Vec::new() };
     for kind in kinds {
@@ -57,7 +65,7 @@ pub fn found(
             Kind::Number => readings.iter().for_each(|(source, reading)| told.numbers(source, reading)),
             Kind::Pattern => readings.iter().for_each(|(source, reading)| told.patterns(source, reading)),
             Kind::Unset => readings.iter().for_each(|(source, reading)| told.unset_names(source, reading)),
-            Kind::Unread => told.unread(attributes, readings),
+            Kind::Unread => told.unread(attributes, readings.iter().map(|(_, reading)| reading).chain(aside).collect()),
         }
     }
     told.warnings
@@ -114,12 +122,12 @@ impl Told<'_> {
     }
 
     /// Where a name is computed any may be read, so that nothing can be said.
-    fn unread(&mut self, attributes: &[Attribute], readings: &[(&Source, Reading)]) {
-        if readings.iter().any(|(_, reading)| reading.computed) {
+    fn unread(&mut self, attributes: &[Attribute], readings: Vec<&Reading>) {
+        if readings.iter().any(|reading| reading.computed) {
             return;
         }
         let names: HashSet<&Vec<u8>> =
-            readings.iter().flat_map(|(_, reading)| &reading.names).map(|(name, _)| name).collect();
+            readings.iter().flat_map(|reading| &reading.names).map(|(name, _)| name).collect();
         for attribute in attributes.iter().filter(|attribute| !names.contains(&attribute.name)) {
             let (origin, name) = (attribute.origin.words(), brief(&attribute.name));
             self.warnings.push((Kind::Unread, format!("{origin}: no assertion that was kept reads {name}")));

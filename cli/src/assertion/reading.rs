@@ -1,14 +1,15 @@
-//! What the Conditions of an assertion that was kept read of a query.
+//! What an assertion reads of a query: in its Conditions, and where its principals
+//! stand as string expressions.
 
 use lampsickle::Query;
 
 use super::literal;
 use super::pattern;
 use super::tokens::{Field, Kind, Token, Tokens};
-use super::FLOAT_DIGITS;
+use super::{FLOAT_DIGITS, STRING_BYTES};
 use crate::text::quoted;
 
-/// What Conditions read.
+/// What an assertion reads.
 #[derive(Default)]
 pub struct Reading {
     /// Names that no constant sets, each with its place, as often as it stands.
@@ -93,21 +94,22 @@ pub struct Text {
     pub name: Option<Vec<u8>>,
     /// Whether that name is set; what isn't a name is.
     pub set: bool,
+    /// A string on the way is too long, which is an error.
+    pub error: bool,
 }
 
 /// A constant's name and value.
 type Constant = (Vec<u8>, Vec<u8>);
 
+/// What an assertion reads that was kept.
 pub fn read(text: &[u8], query: &Query) -> Reading {
+    let mut reading = principals(text, query);
     let all: Vec<Token> = Tokens::new(text).collect();
     let tokens: Vec<Token> = of(&all, Field::Conditions);
-    let start = tokens.first().map_or(0, |token| token.start);
-    let scope = Scope { text, tokens: &tokens, query, constants: constants(text, start, &all) };
-    let mut reading = Reading::default();
+    let scope = Scope::new(text, &tokens, &all, query);
+    scope.names(&mut reading);
     for (index, token) in tokens.iter().enumerate() {
         match (token.kind, token.of(text)) {
-            (Kind::Name, name) if scope.constant(name).is_none() => reading.names.push((name.to_vec(), token.start)),
-            (Kind::Sign, b"$") => reading.computed = true,
             (Kind::Sign, b"@") => reading.conversions.extend(scope.conversion(index, Number::Integer)),
             (Kind::Sign, b"&") => reading.conversions.extend(scope.conversion(index, Number::Float)),
             (Kind::Sign, b"~=") => reading.flaws.extend(scope.flawed(index)),
@@ -115,6 +117,30 @@ pub fn read(text: &[u8], query: &Query) -> Reading {
         }
     }
     reading
+}
+
+/// What Authorizer and Licensees read.
+pub fn principals(text: &[u8], query: &Query) -> Reading {
+    let all: Vec<Token> = Tokens::new(text).collect();
+    let mut reading = Reading::default();
+    for field in [Field::Authorizer, Field::Licensees] {
+        Scope::new(text, &of(&all, field), &all, query).names(&mut reading);
+    }
+    reading
+}
+
+/// What the expression for a principal comes to whose first token that is no bracket
+/// stands at a place.
+pub fn identifier(text: &[u8], place: usize, query: &Query) -> Option<Text> {
+    let all: Vec<Token> = Tokens::new(text).collect();
+    let field = all.iter().find(|token| token.start == place)?.field?;
+    let tokens = of(&all, field);
+    let scope = Scope::new(text, &tokens, &all, query);
+    let first = tokens.iter().position(|token| token.start == place)?;
+    let open = tokens[..first].iter().rev().take_while(|token| token.is(text, b"(")).count();
+    // The outermost bracket that is the string's; others are the licensees'.
+    let (string, _) = (first - open..=first).find_map(|start| scope.joined(start))?;
+    Some(string)
 }
 
 /// A field's tokens behind its label.
@@ -132,7 +158,7 @@ pub fn constants(text: &[u8], place: usize, tokens: &[Token]) -> Vec<Constant> {
     set.filter_map(|triple| Some((triple[0].of(text).to_vec(), value(triple[2])?))).collect()
 }
 
-/// What names stand for in a text's Conditions.
+/// What names stand for in a field of a text.
 struct Scope<'a> {
     text: &'a [u8],
     tokens: &'a [Token],
@@ -140,7 +166,24 @@ struct Scope<'a> {
     constants: Vec<Constant>,
 }
 
-impl Scope<'_> {
+impl<'a> Scope<'a> {
+    /// The names of a field, by the constants that stand before it.
+    fn new(text: &'a [u8], tokens: &'a [Token], all: &[Token], query: &'a Query) -> Self {
+        let start = tokens.first().map_or(0, |token| token.start);
+        Self { text, tokens, query, constants: constants(text, start, all) }
+    }
+
+    /// Adds the names that the field's tokens read.
+    fn names(&self, reading: &mut Reading) {
+        for token in self.tokens {
+            match (token.kind, token.of(self.text)) {
+                (Kind::Name, name) if self.constant(name).is_none() => reading.names.push((name.to_vec(), token.start)),
+                (Kind::Sign, b"$") => reading.computed = true,
+                _ => {}
+            }
+        }
+    }
+
     fn constant(&self, name: &[u8]) -> Option<&Vec<u8>> {
         self.constants.iter().find(|constant| constant.0 == name).map(|constant| &constant.1)
     }
@@ -156,7 +199,7 @@ impl Scope<'_> {
 
     fn named(&self, name: &[u8]) -> Text {
         let value = self.lookup(name);
-        Text { set: value.is_some(), value: value.unwrap_or_default(), name: Some(name.to_vec()) }
+        Text { set: value.is_some(), value: value.unwrap_or_default(), name: Some(name.to_vec()), error: false }
     }
 
     /// What a "@" or "&" converts.
@@ -171,10 +214,13 @@ impl Scope<'_> {
         match (token.kind, token.of(self.text)) {
             (Kind::Literal, _) => {
                 let value = literal::read(self.text, token.start).ok()?.value;
-                Some((Text { value, name: None, set: true }, index + 1))
+                Some((Text { value, name: None, set: true, error: false }, index + 1))
             }
             (Kind::Name, name) => Some((self.named(name), index + 1)),
-            (Kind::Sign, b"$") => self.operand(index + 1).map(|(text, next)| (self.named(&text.value), next)),
+            (Kind::Sign, b"$") => {
+                let (name, next) = self.operand(index + 1)?;
+                Some((Text { error: name.error, ..self.named(&name.value) }, next))
+            }
             (Kind::Sign, b"(") => {
                 let (text, next) = self.joined(index + 1)?;
                 self.tokens.get(next)?.is(self.text, b")").then_some((text, next + 1))
@@ -206,7 +252,9 @@ impl Scope<'_> {
         let (mut text, mut next) = self.operand(index)?;
         while self.tokens.get(next).is_some_and(|token| token.is(self.text, b".")) {
             let (right, behind) = self.operand(next + 1)?;
-            text = Text { value: [text.value, right.value].concat(), name: None, set: true };
+            let value = [text.value, right.value].concat();
+            let error = text.error || right.error || value.len() > STRING_BYTES;
+            text = Text { value, name: None, set: true, error };
             next = behind;
         }
         Some((text, next))
@@ -292,6 +340,37 @@ Conditions: @x<1 && @(c . (y))==2 && $z==\"w\" && &y<1.5 && -&(c)>&c;";
             (place("\\052", 0), true, b"*"),
         ];
         assert_eq!(found, expected);
+    }
+
+    #[test]
+    fn names_of_principals() {
+        let text = b"Authorizer: a . \"b\"\nLocal-Constants: c=\"5\"\nLicensees: c || (d) && 1-of(\"e\", f)";
+        let names = |reading: Reading| -> Vec<Vec<u8>> { reading.names.into_iter().map(|(name, _)| name).collect() };
+        assert_eq!(names(principals(text, &query(&[]))), [b"a", b"d", b"f"]);
+        assert_eq!(names(read(text, &query(&[]))), [b"a", b"d", b"f"]);
+        assert!(principals(b"Authorizer: $\"a\"", &query(&[])).computed);
+        assert!(!principals(b"Authorizer: \"$\"\nConditions: $x==\"\";", &query(&[])).computed);
+    }
+
+    #[test]
+    fn identifiers() {
+        let long = "v".repeat(2_048);
+        let query = query(&[("x", "y"), ("y", "k"), ("v", &long)]);
+        let of = |text: &str, part: &str| {
+            let place = text.find(part).expect("it stands there");
+            let found = identifier(text.as_bytes(), place, &query).expect("an expression");
+            (String::from_utf8(found.value).expect("text"), found.set, found.error)
+        };
+        let told = |value: &str| (value.to_string(), true, false);
+        assert_eq!(of("Authorizer: ((x) . (\"a\" . y))", "x"), told("yak"));
+        assert_eq!(of("Authorizer: \"b\"\nLicensees: ($x || (x . \"\"))", "$x"), told("k"));
+        assert_eq!(of("Authorizer: \"b\"\nLicensees: ($x || ((x) . \"\"))", "x)"), told("y"));
+        assert_eq!(of("Authorizer: \"b\"\nLicensees: 1-of(((z)), \"c\")", "z)"), (String::new(), false, false));
+        assert_eq!(of("Local-Constants: x=\"c\"\nAuthorizer: x . x", "x ."), told("cc"));
+        assert_eq!(of("Authorizer: _ACTION_AUTHORIZERS . _MIN_TRUST", "_A"), told("ano"));
+        assert_eq!(of("Authorizer: $(v . v) . x", "$"), told("y"));
+        assert_eq!(of("Authorizer: $(v . v . x) . x", "$"), ("y".into(), true, true));
+        assert_eq!(of("Authorizer: $$\"x\"", "$"), told("k"));
     }
 
     #[test]

@@ -9,10 +9,11 @@ use second::generate::coverage::Coverage;
 use second::print::PAGE;
 use second::random::Random;
 
-const OPEN_POINTS: [&str; 3] = [
+const OPEN_POINTS: [&str; 4] = [
     include_str!("../../../second/data/open-points.tsv"),
     include_str!("../../../second/data/open-points-02.tsv"),
     include_str!("../../../second/data/floats.tsv"),
+    include_str!("../../../second/data/references.tsv"),
 ];
 const BOTH: [(&str, Implementation); 2] = [("library", fenced), ("second", answer)];
 
@@ -39,7 +40,7 @@ fn open_points() {
         alike(&record);
         count += 1;
     }
-    assert_eq!(count, 472);
+    assert_eq!(count, 549);
 }
 
 fn holds(ruling: &Ruling, implementation: Implementation) -> bool {

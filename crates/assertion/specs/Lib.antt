@@ -1,5 +1,10 @@
 pub mod Assertion
-pub mod Draft
+pub mod Labels
 pub mod Read
+pub mod Said
+pub mod Sketch
+pub mod Form
+pub mod Resolved
+pub mod Evaluates
 pub mod Working
 pub mod Theorems

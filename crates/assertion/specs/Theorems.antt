@@ -4,3 +4,9 @@ pub mod Held
 pub mod Fielded
 pub mod Reads
 pub mod Exits
+pub mod OnePass
+pub mod StandIn
+pub mod Evaluated
+pub mod Earliest
+pub mod Agreed
+pub mod Instances

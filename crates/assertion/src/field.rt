@@ -1,10 +1,6 @@
 // One field of an assertion, read into the tables.
-use fields::authorizer::Author;
-use fields::authorizer::authorizer;
 use fields::constants::Settings;
 use fields::constants::constants as local_constants;
-use fields::licensees::licensees;
-use fields::list::Licensed;
 use fields::out::Out;
 use fields::out::ended;
 use fields::version::version;
@@ -12,16 +8,22 @@ use judge::Judged;
 use judge::judge_field;
 use lexical::kind;
 use lexical::token::Token;
+use naming::authorizer::Author;
+use naming::authorizer::authorizer;
+use naming::fault::Fault;
+use naming::licensees::licensees;
+use naming::list::Licensed;
 ghost use mathlib.Core.Path.{_≡_};
 ghost use lib.ListN.{take};
 ghost use Rattle.judge.specs.Working.Judging.{judgedHere};
 ghost use Rattle.fields.specs.Working.Setting.{constantsIn};
-ghost use Rattle.fields.specs.Working.Authorizing.{authorizerIn};
-ghost use Rattle.fields.specs.Working.Chain.{fieldIn};
+ghost use Rattle.naming.specs.Working.Identifying.{sight};
+ghost use Rattle.naming.specs.Working.Authorizing.{authorizerIn};
+ghost use Rattle.naming.specs.Working.Chain.{fieldIn};
 ghost use Rattle.assertion.specs.Working.Field.{given, tabled, moved, passedOn, settled, settledAs, madeAs, listed, listedAs, onJudged, fieldAt};
 
 // What is read so far: whether there was an Authorizer and its number, whether there were Licensees, the rank of Conditions, how many
-// constants are known, and the ends of the index and of the licensees' programs.
+// constants are known, the ends of the index and of the licensees' programs, and what is against the identifiers of either field.
 pub struct Partial {
     pub authored: bool,
     pub author: usize,
@@ -31,6 +33,8 @@ pub struct Partial {
     pub count: usize,
     pub end: usize,
     pub size: usize,
+    pub against: Fault,
+    pub besides: Fault,
 }
 
 // What is read with one field more and the token behind it, or the first fault.
@@ -69,6 +73,8 @@ fn constants_field(
 ) -> Went
     ensures { λ r. ⌜ settled r (now (consts .exit)) (now (constants .exit)) ≡ settledAs d (constantsIn (now (s .entry)) (now (consts .entry)) (now (constants .entry)) 0 start t) ⌝ }
 {
+    let against = d.against;
+    let besides = d.besides;
     match local_constants(s, consts, constants, start, t) {
         Settings::Aside { reason, place } => Went::Aside { reason, place },
         Settings::On {
@@ -85,28 +91,37 @@ fn constants_field(
                 count: d.count,
                 end: d.end,
                 size: d.size,
+                against,
+                besides,
             },
             next,
         },
     }
 }
 
-fn authorizer_field(
+fn authorizer_field<'a>(
     s: &[u8],
     standing: u8,
-    consts: &[u8],
+    query: &'a [u8],
+    values: &[usize],
+    names: &[usize],
+    consts: &'a [u8],
     constants: &[usize],
     pool: &mut [u8],
     places: &mut [usize],
     d: Partial,
     t: Token,
 ) -> Went
-    ensures { λ r. ⌜ settled r (now (pool .exit)) (now (places .exit)) ≡ madeAs d (authorizerIn (now (s .entry)) standing (now (consts .entry)) (take (d .known) (now (constants .entry))) (now (pool .entry)) (now (places .entry)) (d .count) (d .end) t) ⌝ }
+    ensures { λ r. ⌜ settled r (now (pool .exit)) (now (places .exit)) ≡ madeAs d (authorizerIn (now (s .entry)) standing (sight (now (query .entry)) (now (consts .entry)) (now (values .entry)) (now (names .entry)) (take (d .known) (now (constants .entry)))) (now (pool .entry)) (now (places .entry)) (d .count) (d .end) t) ⌝ }
 {
+    let besides = d.besides;
     match authorizer(
         s,
         standing,
+        query,
         consts,
+        values,
+        names,
         front(constants, d.known),
         pool,
         places,
@@ -119,6 +134,7 @@ fn authorizer_field(
             number,
             count,
             end,
+            fault,
             next,
         } => Went::On {
             partial: Partial {
@@ -130,15 +146,20 @@ fn authorizer_field(
                 count,
                 end,
                 size: d.size,
+                against: fault,
+                besides,
             },
             next,
         },
     }
 }
 
-fn licensees_field(
+fn licensees_field<'a>(
     s: &[u8],
-    consts: &[u8],
+    query: &'a [u8],
+    values: &[usize],
+    names: &[usize],
+    consts: &'a [u8],
     constants: &[usize],
     pool: &mut [u8],
     places: &mut [usize],
@@ -146,11 +167,15 @@ fn licensees_field(
     d: Partial,
     t: Token,
 ) -> Went
-    ensures { λ r. ⌜ listed r (now (pool .exit)) (now (places .exit)) (now (code .exit)) ≡ listedAs d (fieldIn (now (s .entry)) (now (consts .entry)) (take (d .known) (now (constants .entry))) (now (pool .entry)) (now (places .entry)) (now (code .entry)) (d .count) (d .end) (d .size) t) ⌝ }
+    ensures { λ r. ⌜ listed r (now (pool .exit)) (now (places .exit)) (now (code .exit)) ≡ listedAs d (fieldIn (now (s .entry)) (sight (now (query .entry)) (now (consts .entry)) (now (values .entry)) (now (names .entry)) (take (d .known) (now (constants .entry)))) (now (pool .entry)) (now (places .entry)) (now (code .entry)) (d .count) (d .end) (d .size) t) ⌝ }
 {
+    let against = d.against;
     match licensees(
         s,
+        query,
         consts,
+        values,
+        names,
         front(constants, d.known),
         pool,
         places,
@@ -161,19 +186,24 @@ fn licensees_field(
         t,
     ) {
         Licensed::Aside { reason, place } => Went::Aside { reason, place },
-        Licensed::On { state, next } => Went::On {
-            partial: Partial {
-                authored: d.authored,
-                author: d.author,
-                licensed: true,
-                rank: d.rank,
-                known: d.known,
-                count: state.count,
-                end: state.end,
-                size: state.size,
-            },
-            next,
-        },
+        Licensed::On { state, next } => {
+            let besides = state.fault;
+            Went::On {
+                partial: Partial {
+                    authored: d.authored,
+                    author: d.author,
+                    licensed: true,
+                    rank: d.rank,
+                    known: d.known,
+                    count: state.count,
+                    end: state.end,
+                    size: state.size,
+                    against,
+                    besides,
+                },
+                next,
+            }
+        }
     }
 }
 
@@ -189,6 +219,8 @@ fn conditions_field<'a>(
 ) -> Went
     ensures { λ r. ⌜ r ≡ onJudged d (judgedHere (now (s .entry)) t (now (query .entry)) (now (consts .entry)) (now (values .entry)) (now (names .entry)) (take (d .known) (now (constants .entry)))) ⌝ }
 {
+    let against = d.against;
+    let besides = d.besides;
     match judge_field(
         s,
         t,
@@ -209,6 +241,8 @@ fn conditions_field<'a>(
                 count: d.count,
                 end: d.end,
                 size: d.size,
+                against,
+                besides,
             },
             next,
         },
@@ -241,10 +275,34 @@ pub fn field(
         return constants_field(s, consts, start, constants, d, t);
     }
     if k == kind::AUTHORIZER {
-        return authorizer_field(s, standing, consts, constants, pool, places, d, t);
+        return authorizer_field(
+            s,
+            standing,
+            query,
+            values,
+            names,
+            consts,
+            constants,
+            pool,
+            places,
+            d,
+            t,
+        );
     }
     if k == kind::LICENSEES {
-        return licensees_field(s, consts, constants, pool, places, code, d, t);
+        return licensees_field(
+            s,
+            query,
+            values,
+            names,
+            consts,
+            constants,
+            pool,
+            places,
+            code,
+            d,
+            t,
+        );
     }
     if k == kind::CONDITIONS {
         return conditions_field(s, query, values, names, consts, constants, d, t);

@@ -3,7 +3,7 @@ use lexical::kind;
 ghost use mathlib.Core.Path.{_≡_};
 ghost use lib.Dec.{eqb};
 ghost use lib.ListN.{getD, set};
-ghost use Rattle.assertion.specs.Draft.{without};
+ghost use Rattle.assertion.specs.Labels.{without};
 
 pub fn is_free(free: &[u8], k: usize) -> bool
     ensures { λ r. ⌜ r ≡ eqb (getD (now (free .entry)) k 0) 1 ⌝ }

@@ -16,8 +16,10 @@ use fields::signature::signature;
 use lexical::kind;
 use lexical::line::token_at;
 use lexical::token::Token;
+use naming::fault::clear;
+use naming::fault::earlier;
 ghost use mathlib.Core.Path.{_≡_};
-ghost use Rattle.assertion.specs.Draft.{without};
+ghost use Rattle.assertion.specs.Labels.{without};
 ghost use Rattle.assertion.specs.Read.{first};
 ghost use Rattle.assertion.specs.Working.Field.{given, tabled, moved, fieldAt};
 ghost use Rattle.assertion.specs.Working.Reading.{readBy, finishedBy, keptIn, finishedIn, signedIn, lastAt, lastIn, fieldsIn, readIn};
@@ -61,11 +63,20 @@ fn kept(code: &mut [u16], d: Partial) -> Reading
     }
 }
 
-// The end of what is read.
+// The end of what is read. What is against the identifiers counts only here, in a text that is otherwise well formed.
 fn finished(code: &mut [u16], d: Partial, end: usize) -> Reading
     ensures { λ r. ⌜ finishedBy r (now (code .exit)) ≡ finishedIn (now (code .entry)) d end ⌝ }
 {
     if d.authored {
+        let against = d.against;
+        let besides = d.besides;
+        let f = earlier(against, besides);
+        if f.reason != 0 {
+            return Reading::Dropped {
+                reason: f.reason,
+                place: f.place,
+            };
+        }
         return kept(code, d);
     }
     Reading::Dropped {
@@ -252,6 +263,8 @@ pub fn read(
         count,
         end,
         size,
+        against: clear(),
+        besides: clear(),
     };
     let t = token_at(s, kind::BEFORE, 0);
     fields(

@@ -5,5 +5,7 @@ pub mod Spelled
 pub mod Trees
 pub mod Grouped
 pub mod Viable
+pub mod Naming
+pub mod Sourced
 pub mod Working
 pub mod Theorems

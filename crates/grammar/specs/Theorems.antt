@@ -11,3 +11,6 @@ pub mod Readers
 pub mod Convert
 pub mod Floats
 pub mod Decimals
+pub mod Authoring
+pub mod Naming
+pub mod Mixtures

@@ -10,6 +10,11 @@ pub mod Onward
 pub mod Openings
 pub mod Reading
 pub mod Known
+pub mod Modes
+pub mod Begun
+pub mod Strings
+pub mod Principals
+pub mod Sorting
 pub mod Pending
 pub mod Yard
 pub mod Shunt

@@ -3,3 +3,4 @@ pub mod Judging
 pub mod Steep
 pub mod Fit
 pub mod FitProgram
+pub mod Saying

@@ -1,4 +1,6 @@
 // A Conditions field read, compiled and run.
+pub mod string;
+
 use conditions::emit::Out;
 use conditions::program::bytes_left;
 use conditions::program::conditions;

@@ -7,8 +7,10 @@ use Rattle.compliance.specs.System.{Assertion, System}
 use Rattle.compliance.specs.Rounds.{rank, rounds, reached}
 use Rattle.expression.specs.Names.{environment}
 use Rattle.expression.specs.Conditions.{top, conditions}
-use Rattle.assertion.specs.Assertion.{Assertion as Said, Conditions, absent, stated}
-use Rattle.assertion.specs.Read.{Read, kept, dropped, readAssertion}
+use Rattle.assertion.specs.Assertion.{Assertion as Claim, Conditions, absent, stated}
+use Rattle.assertion.specs.Read.{Read, kept, dropped}
+use Rattle.assertion.specs.Form.{readAssertion}
+use Rattle.assertion.specs.Resolved.{resolved}
 
 -- the rank of a Conditions field: "A missing field is top, an empty one 0"
 unfoldable pub worth : Query → Conditions → ℕ
@@ -16,19 +18,19 @@ worth q absent = top (q .values)
 worth q (stated cs p) = conditions (environment q cs) p
 
 -- a kept assertion with its Conditions' rank
-unfoldable pub ranked : Query → Said → Assertion
+unfoldable pub ranked : Query → Claim → Assertion
 ranked q a = record { authorizer = a .authorizer; conditions = worth q (a .conditions); field = a .licensees }
 
--- an assertion as supplied is read under its standing
-unfoldable pub reading : Supplied → Read
-reading a = readAssertion (a .standing) (a .text)
+-- an assertion as supplied is read under its standing, and what it names is found in the query
+unfoldable pub reading : Query → Supplied → Read
+reading q a = resolved q (a .standing) (readAssertion (a .standing) (a .text))
 
 -- what is read of each assertion, in order
 unfoldable pub readings : Query → List Read
-readings q = map reading (q .assertions)
+readings q = map (reading q) (q .assertions)
 
 -- the "kept assertions"
-unfoldable pub keptOf : List Read → List Said
+unfoldable pub keptOf : List Read → List Claim
 keptOf [] = []
 keptOf (kept a ∷ l) = a ∷ keptOf l
 keptOf (dropped r p ∷ l) = keptOf l

@@ -6,4 +6,5 @@ pub mod Secrets
 pub mod Paper
 pub mod Theorems
 pub mod Rulings
+pub mod RulingsNaming
 pub mod Working

@@ -19,4 +19,4 @@ pub data ReadOutside (q : Query) : Read → Type 0 where
   unreached : (a : Assertion) → (Reachable (system q) (a .authorizer) → ⊥) → ReadOutside q (kept a)
 
 abbrev pub Outside : Query → Supplied → Type 0
-Outside q x = ReadOutside q (reading x)
+Outside q x = ReadOutside q (reading q x)

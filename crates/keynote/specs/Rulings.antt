@@ -19,9 +19,9 @@ use Rattle.compliance.specs.Highest.{highest}
 use Rattle.keynote.specs.Answer.{worth, ranked, reading, readings, keptOf, system, classOf, roundsOf, reachedOf}
 use Rattle.keynote.specs.Report.{reasonOf, placeOf, pairBytes, entryBytes, entriesBytes, report, reportSize}
 use Rattle.keynote.specs.Outcome.{refusal, answer, needed, judged, outcome, written, pageAfter}
-use Rattle.keynote.specs.Secrets.{dereferences}
-use Rattle.keynote.specs.Mission.{standing, computed}
-use Rattle.keynote.specs.Working.Hearing.{suchIn, heardSuch}
+use Rattle.keynote.specs.Secrets.{dereferences, anyReads, authorReads, licenseesRead, namingReads}
+use Rattle.keynote.specs.Mission.{standing, computed, anyNames, anyComputes, authorNames, licenseesName, licenseesCompute, naming, namingComputed}
+use Rattle.keynote.specs.Working.Hearing.{suchIn, heardSuch, anySuch, suppliedSuch}
 use Rattle.keynote.specs.Working.Outsiders.{isOutside}
 use Rattle.text.specs.Class as TextClass
 use Rattle.text.specs.Decimal as TextDecimal
@@ -42,13 +42,17 @@ use Rattle.lexical.specs.Run as LexicalRun
 use Rattle.lexical.specs.Token as LexicalToken
 use Rattle.lexical.specs.Unit as LexicalUnit
 use Rattle.lexical.specs.Word as LexicalWord
-use Rattle.fields.specs.Authorizer as FieldsAuthorizer
 use Rattle.fields.specs.Constants as FieldsConstants
-use Rattle.fields.specs.Identifier as FieldsIdentifier
-use Rattle.fields.specs.Licensees as FieldsLicensees
 use Rattle.fields.specs.Parsed as FieldsParsed
-use Rattle.assertion.specs.Draft as AssertionDraft
-use Rattle.assertion.specs.Read as AssertionRead
+use Rattle.naming.specs.Source as NamingSource
+use Rattle.naming.specs.String as NamingString
+use Rattle.naming.specs.Authorizer as NamingAuthorizer
+use Rattle.naming.specs.Licensees as NamingLicensees
+use Rattle.naming.specs.Naming as NamingNaming
+use Rattle.naming.specs.Fault as NamingFault
+use Rattle.assertion.specs.Labels as AssertionLabels
+use Rattle.assertion.specs.Form as AssertionForm
+use Rattle.assertion.specs.Resolved as AssertionResolved
 use Rattle.conditions.specs.Expression as ConditionsExpression
 use Rattle.conditions.specs.Operand as ConditionsOperand
 use Rattle.conditions.specs.Program as ConditionsProgram
@@ -65,6 +69,7 @@ use Rattle.principal.specs.Principal as PrincipalPrincipal
 use Rattle.expression.specs.Conditions as ExpressionConditions
 use Rattle.expression.specs.Integers as ExpressionIntegers
 use Rattle.expression.specs.Operations as ExpressionOperations
+use Rattle.expression.specs.Value.{bytesOf}
 use Rattle.expression.specs.Names as ExpressionNames
 use Rattle.expression.specs.Reads as ExpressionReads
 use Rattle.expression.specs.Standing as ExpressionStanding
@@ -138,32 +143,59 @@ five =
 unfoldable pub set : String → String → Attribute
 set n v = record { name = bytes n; value = bytes v }
 
--- POLICY licenses a; a licenses r, under Conditions in which a constant hides "hidden"; b, whom POLICY doesn't reach, reads "idle"
-unfoldable pub secretTexts : String → List (List ℕ)
-secretTexts test =
+-- POLICY licenses a; a licenses r, under Conditions in which a constant hides "hidden"; b, whom POLICY doesn't reach, reads "idle" in his Conditions
+-- and licenses somebody
+unfoldable pub secretTexts : String → String → List (List ℕ)
+secretTexts test somebody =
     bytes "Authorizer: \"POLICY\"\nLicensees: \"a\""
     ∷ (bytes "Local-Constants: hidden=\"x\"\nAuthorizer: \"a\"\nLicensees: \"r\"\nConditions: hidden==\"x\"&&" ++ bytes test ++ bytes ";")
-    ∷ bytes "Authorizer: \"b\"\nLicensees: \"r\"\nConditions: idle==\"x\";"
+    ∷ (bytes "Authorizer: \"b\"\nLicensees: " ++ bytes somebody ++ bytes "\nConditions: idle==\"x\";")
     ∷ []
 
-unfoldable pub secretQuery : String → Attribute → Attribute → Attribute → Attribute → Query
-secretQuery test i h u v = record { values = map bytes ("hold" ∷ "immediate" ∷ []); requesters = bytes "r" ∷ []; attributes = i ∷ h ∷ u ∷ v ∷ []; assertions = map supplied (secretTexts test) }
+unfoldable pub secretQuery : String → String → Attribute → Attribute → Attribute → Attribute → Query
+secretQuery test somebody i h u v = record {
+  values = map bytes ("hold" ∷ "immediate" ∷ []);
+  requesters = bytes "r" ∷ [];
+  attributes = i ∷ h ∷ u ∷ v ∷ [];
+  assertions = map supplied (secretTexts test somebody);
+}
 
 -- a reads "seen" itself
 abbrev pub one : Query
-one = secretQuery "seen==\"y\"" (set "idle" "x") (set "hidden" "x") (set "unread" "") (set "seen" "y")
+one = secretQuery "seen==\"y\"" "\"r\"" (set "idle" "x") (set "hidden" "x") (set "unread" "") (set "seen" "y")
 
--- other values, of other lengths, of the three that nobody who is reached reads
+-- other values, of other lengths, of the three that nobody who is reached reads and by which nobody is named
 abbrev pub other : Query
-other = secretQuery "seen==\"y\"" (set "idle" "longer") (set "hidden" "") (set "unread" "zz") (set "seen" "y")
+other = secretQuery "seen==\"y\"" "\"r\"" (set "idle" "longer") (set "hidden" "") (set "unread" "zz") (set "seen" "y")
 
 -- and another value of "seen"
 abbrev pub seen : Query
-seen = secretQuery "seen==\"y\"" (set "idle" "longer") (set "hidden" "") (set "unread" "zz") (set "seen" "")
+seen = secretQuery "seen==\"y\"" "\"r\"" (set "idle" "longer") (set "hidden" "") (set "unread" "zz") (set "seen" "")
 
 -- a computes the name
 abbrev pub computing : Query
-computing = secretQuery "$\"seen\"==\"y\"" (set "idle" "x") (set "hidden" "x") (set "unread" "") (set "seen" "y")
+computing = secretQuery "$\"seen\"==\"y\"" "\"r\"" (set "idle" "x") (set "hidden" "x") (set "unread" "") (set "seen" "y")
+
+-- b licenses whom "unread" says: first nobody, then zz
+abbrev pub naming-b : Query
+naming-b = secretQuery "seen==\"y\"" "unread" (set "idle" "x") (set "hidden" "x") (set "unread" "") (set "seen" "y")
+
+abbrev pub naming-other : Query
+naming-other = secretQuery "seen==\"y\"" "unread" (set "idle" "x") (set "hidden" "x") (set "unread" "zz") (set "seen" "y")
+
+-- b computes the name
+abbrev pub naming-computing : Query
+naming-computing = secretQuery "seen==\"y\"" "$\"seen\"" (set "idle" "x") (set "hidden" "x") (set "unread" "") (set "seen" "y")
+
+-- ---- one principal in many spellings, for W-203
+
+abbrev pub spelled : Query
+spelled = record {
+  values = map bytes ("hold" ∷ "immediate" ∷ []);
+  requesters = bytes "a" ∷ [];
+  attributes = set "x" "b" ∷ [];
+  assertions = map supplied (bytes "Authorizer: \"POLICY\"\nLicensees: x || \"b\" || \"\" . x" ∷ bytes "Authorizer: x\nLicensees: \"a\"" ∷ []);
+}
 
 -- ---- assertions for W-211
 
@@ -188,9 +220,17 @@ paperWeb = desk ("r" ∷ []) (byPolicy ∷ byA ∷ byB ∷ [])
 unfoldable pub isRead : Query → String → Bool
 isRead q n = heardSuch (λ c. dereferences c (bytes n)) q
 
+-- is it dereferenced in Authorizer or Licensees of a text?
+unfoldable pub isNamed : Query → String → Bool
+isNamed q n = suppliedSuch (λ a. namingReads a (bytes n)) q
+
 -- does it stand in the Conditions of one?
 unfoldable pub stands : Query → String → Bool
 stands q n = heardSuch (λ c. standing c (bytes n)) q
+
+-- does it stand in Authorizer or Licensees of a text?
+unfoldable pub standsNaming : Query → String → Bool
+standsNaming q n = suppliedSuch (λ a. naming a (bytes n)) q
 
 pub record Rulings : Type 0 where
   -- "POLICY licenses "a", requester a: rank 1, rounds 2, reached 2."
@@ -221,8 +261,8 @@ pub record Rulings : Type 0 where
   pub no-exponent : tested "@\"1e3\" == 0" ≡ holds
   pub out-of-range : tested "@\"2147483648\" == 0" ≡ holds
   -- not starred: "Text `Licensees: "a"`: reason 3 at 14. `Authorizer: "POLICY"`, newline, `Licensees: "a" &&`: reason 2 at 38."
-  pub no-authorizer : reading (supplied (bytes "Licensees: \"a\"")) ≡ dropped 3 14
-  pub no-licensee : reading (supplied (bytes "Authorizer: \"POLICY\"\nLicensees: \"a\" &&")) ≡ dropped 2 38
+  pub no-authorizer : reading first (supplied (bytes "Licensees: \"a\"")) ≡ dropped 3 14
+  pub no-licensee : reading first (supplied (bytes "Authorizer: \"POLICY\"\nLicensees: \"a\" &&")) ≡ dropped 2 38
   -- not starred: "The first ruling [..] is a record of 63 bytes", here with a page of 8 bytes that are 7
   pub first-long : length (encode first) ≡ 63
   pub first-outcome : outcome (encode first) 8 ≡ record { number = 0; place = 0; rank = 1; rounds = 2; reached = 2 }
@@ -234,6 +274,8 @@ pub record Rulings : Type 0 where
   -- W-205: one key in two spellings, as requester, authorizer and licensee; two keys
   pub one-key : told (desk ("DSA:ab" ∷ []) ("Authorizer: \"POLICY\"\nLicensees: \"dsa:ab\" || \"Dsa:ab\"" ∷ [])) ≡ (0 ∷ [], 1 ∷ 2 ∷ 2 ∷ [])
   pub two-keys : told (desk ("DSA:ab" ∷ []) ("Authorizer: \"POLICY\"\nLicensees: \"dsa:AB\"" ∷ [])) ≡ (0 ∷ [], 0 ∷ 0 ∷ 2 ∷ [])
+  -- W-203: "Principals are what the expressions evaluate to"
+  pub many-spellings : told spelled ≡ (0 ∷ 0 ∷ [], 1 ∷ 3 ∷ 3 ∷ [])
   -- instances of demand 3: read only outside the reach, hidden by a constant, or unread; and read within the reach, though not by POLICY
   pub idle-unread : isRead one "idle" ≡ false
   pub hidden-unread : isRead one "hidden" ≡ false
@@ -242,17 +284,32 @@ pub record Rulings : Type 0 where
   -- with "$" all are read but what is hidden
   pub computed-idle : isRead computing "idle" ≡ true
   pub computed-hidden : isRead computing "hidden" ≡ false
-  -- in the words of the two suppositions
+  -- in Authorizer or Licensees none of them stands; with another licensee "unread" does, outside the reach; with "$" all do
+  pub idle-unnamed : isNamed one "idle" ≡ false
+  pub hidden-unnamed : isNamed one "hidden" ≡ false
+  pub unread-unnamed : isNamed one "unread" ≡ false
+  pub unread-named : isNamed naming-b "unread" ≡ true
+  pub unread-still-unread : isRead naming-b "unread" ≡ false
+  pub computed-named : isNamed naming-computing "unread" ≡ true
+  -- in the words of the four suppositions
   pub idle-stands : stands one "idle" ≡ false
   pub hidden-stands : stands one "hidden" ≡ false
   pub unread-stands : stands one "unread" ≡ false
   pub seen-stands : stands one "seen" ≡ true
   pub none-computed : heardSuch computed one ≡ false
   pub one-computed : heardSuch computed computing ≡ true
+  pub idle-stands-naming : standsNaming one "idle" ≡ false
+  pub hidden-stands-naming : standsNaming one "hidden" ≡ false
+  pub unread-stands-naming : standsNaming one "unread" ≡ false
+  pub b-stands-naming : standsNaming naming-b "unread" ≡ true
+  pub none-naming-computed : suppliedSuch namingComputed one ≡ false
+  pub b-naming-computed : suppliedSuch namingComputed naming-computing ≡ true
   -- the answers: equal where only what isn't read differs, another where what is read does
   pub one-told : told one ≡ (0 ∷ 0 ∷ 0 ∷ [], 1 ∷ 3 ∷ 3 ∷ [])
   pub other-told : told other ≡ (0 ∷ 0 ∷ 0 ∷ [], 1 ∷ 3 ∷ 3 ∷ [])
   pub seen-told : told seen ≡ (0 ∷ 0 ∷ 0 ∷ [], 0 ∷ 1 ∷ 3 ∷ [])
+  pub naming-told : told naming-b ≡ (0 ∷ 0 ∷ 10 ∷ [], 1 ∷ 3 ∷ 3 ∷ [])
+  pub naming-other-told : told naming-other ≡ (0 ∷ 0 ∷ 0 ∷ [], 1 ∷ 3 ∷ 3 ∷ [])
   -- W-211: an assertion that raises the class, and one that changes nothing
   pub paper-less : told (desk ("r" ∷ []) (byPolicy ∷ [])) ≡ (0 ∷ [], 0 ∷ 0 ∷ 2 ∷ [])
   pub paper-raises : told (desk ("r" ∷ []) (byPolicy ∷ byA ∷ [])) ≡ (0 ∷ 0 ∷ [], 1 ∷ 3 ∷ 3 ∷ [])
@@ -262,12 +319,12 @@ pub record Rulings : Type 0 where
   pub paper-reordered : told (desk ("r" ∷ []) (byA ∷ broken ∷ byPolicy ∷ [])) ≡ (0 ∷ 3 ∷ 0 ∷ [], 1 ∷ 3 ∷ 3 ∷ [])
   -- one replaced outside the reach; it was outside, and what is in its place too
   pub paper-replaced : told (desk ("r" ∷ []) (byPolicy ∷ byA ∷ broken ∷ [])) ≡ (0 ∷ 0 ∷ 3 ∷ [], 1 ∷ 3 ∷ 3 ∷ [])
-  pub outside-b : isOutside paperWeb (reading (supplied (bytes byB))) ≡ true
-  pub outside-broken : isOutside paperWeb (reading (supplied (bytes broken))) ≡ true
-  pub inside-a : isOutside paperWeb (reading (supplied (bytes byA))) ≡ false
+  pub outside-b : isOutside paperWeb (reading paperWeb (supplied (bytes byB))) ≡ true
+  pub outside-broken : isOutside paperWeb (reading paperWeb (supplied (bytes broken))) ≡ true
+  pub inside-a : isOutside paperWeb (reading paperWeb (supplied (bytes byA))) ≡ false
 
 pub rulings : Rulings
-unfolding isOutside refusal SyntaxCode.nameAt TextClass.isLetter TextClass.isWord FieldsConstants.isSet FieldsConstants.reserved FieldsConstants.constantValue FieldsConstants.assigned FieldsConstants.nameFault FieldsConstants.constant FieldsConstants.constantsFrom FieldsParsed.wordOf FieldsIdentifier.nameFault TextOrder.order ExpressionNames.settingOr ExpressionNames.fromQuery ExpressionNames.lookup set secretTexts secretQuery isRead stands standing computed dereferences suchIn heardSuch ExpressionReads.reads ExpressionReads.programReads ExpressionReads.clauseReads ExpressionReads.isSet ExpressionStanding.names ExpressionStanding.programNames ExpressionStanding.clauseNames ExpressionStanding.computes ExpressionStanding.programComputes ExpressionStanding.clauseComputes bytes supplied query reasons told class tested worth ranked reading readings keptOf system classOf roundsOf reachedOf reasonOf highest TextClass.isDigit TextClass.inClass TextDecimal.inRange TextDecimal.roundedDown TextDecimal.withFraction TextDecimal.unsigned TextDecimal.decimal TextDigits.valueFrom TextDigits.value TextEqual.equal TextLoop.turns TextLoop.loop TextScan.past LexicalClass.classOf LexicalKind.opened LexicalLabel.labelKind LexicalLine.visible LexicalLine.inLine LexicalLine.blankTo LexicalLine.lineAt LexicalLine.linesFrom LexicalLine.tokenAt LexicalLiteral.units LexicalLiteral.unitsAt LexicalLiteral.literalEnd LexicalLiteral.decodedAt LexicalNumber.decimal LexicalNumber.held LexicalNumber.numberAt LexicalOperator.equalPair LexicalOperator.pairOf LexicalOperator.markKind LexicalOperator.isOf LexicalOperator.operatorKind LexicalRun.hasClass LexicalRun.inRun LexicalToken.widthOf LexicalToken.operatorAt LexicalToken.operatorToken LexicalToken.literalToken LexicalToken.floatEnd LexicalToken.numberToken LexicalToken.tokenFrom LexicalUnit.barred LexicalUnit.unitAt LexicalWord.lower LexicalWord.stands LexicalWord.spells FieldsAuthorizer.authorized FieldsAuthorizer.authorizer FieldsIdentifier.sizeFault FieldsIdentifier.identifierFault FieldsIdentifier.identified FieldsIdentifier.identifier FieldsLicensees.licensee FieldsLicensees.listed FieldsLicensees.listFrom FieldsLicensees.listOpened FieldsLicensees.ofRead FieldsLicensees.threshold FieldsLicensees.primary FieldsLicensees.expression FieldsLicensees.licensees FieldsParsed.ending AssertionDraft.without AssertionDraft.total AssertionRead.finished AssertionRead.field AssertionRead.fieldsFrom AssertionRead.readAssertion ConditionsExpression.readExpression ConditionsOperand.readLiteral ConditionsOperand.readName ConditionsOperand.readDigits ConditionsOperand.readLeaf ConditionsOperand.settledTree ConditionsOperand.applied ConditionsProgram.ending ConditionsProgram.valuing ConditionsProgram.stopping ConditionsProgram.readProgram ConditionsProgram.readBlock ConditionsTable.beginsString ConditionsTable.beginsNumber ConditionsTable.beginsFloat ConditionsTable.allows ConditionsTable.comparison ConditionsTable.numberOperator ConditionsTable.textOperator ConditionsTable.testOperator ConditionsTable.operator ConditionsTable.prefixOperator ConditionsTable.levelOf ConditionsTable.operandLevel ConditionsTable.operandWant ConditionsTable.rightWant ConditionsTable.rightLevel ConditionsTable.binds ConditionsTable.insideLevel ConditionsTable.fits ConditionsTable.stops ConditionsWord.wordSort SyntaxCode.numberAt ComplianceLicensees.value ComplianceLicensees.licensed ComplianceLicensees.named ComplianceLicensees.licensees ComplianceReach.licenseesOf ComplianceReach.reachFrom ComplianceReach.namings ComplianceReach.reach ComplianceRounds.equalOn ComplianceRounds.settled ComplianceRounds.reached ComplianceRounds.firstSettled ComplianceRounds.rounds ComplianceRounds.mentioned ComplianceRounds.rank ComplianceSystem.direct ComplianceSystem.asserted ComplianceSystem.delegated ComplianceSystem.equations ComplianceSystem.round PrincipalMembers.member PrincipalCanonical.fold PrincipalCanonical.folded PrincipalCanonical.front PrincipalCanonical.behind PrincipalCanonical.isHex PrincipalCanonical.canonicalWith PrincipalCanonical.canonical PrincipalPrincipal.same PrincipalPrincipal.policy ExpressionConditions.evaluate ExpressionConditions.indexFrom ExpressionConditions.rankOf ExpressionConditions.top ExpressionConditions.clause ExpressionIntegers.ranged ExpressionIntegers.negated ExpressionIntegers.differ ExpressionIntegers.over ExpressionIntegers.raisedTo ExpressionIntegers.odd ExpressionIntegers.signOfPower ExpressionIntegers.power ExpressionIntegers.sizes ExpressionIntegers.compared ExpressionOperations.held ExpressionOperations.relates ExpressionOperations.onTexts ExpressionOperations.onIntegers ExpressionOperations.binaryOf ExpressionOperations.converted ExpressionOperations.negative ExpressionOperations.opposite ExpressionOperations.unaryOf ExpressionNames.environment stringBytes assertionBytes itemsBytes groupBytes encode placeOf pairBytes entryBytes entriesBytes report reportSize answer needed judged outcome written pageAfter TextCounted.part TextCounted.pairAt SyntaxParsed.refusal LexicalReason.reasonOf TextClass.isPlain RecordField.countAt RecordField.lengthAt RecordField.contentAt RecordField.fieldAt RecordField.nameFront RecordField.among RecordItem.plainAt RecordItem.valueAt RecordItem.requesterAt RecordItem.nameAt RecordItem.attributeAt RecordItem.assertionAt RecordItem.itemsAt RecordItem.groupAt RecordRecord.queryAt RecordRecord.readRecord
+unfolding isOutside refusal SyntaxCode.nameAt TextClass.isLetter TextClass.isWord FieldsConstants.isSet FieldsConstants.reserved FieldsConstants.constantValue FieldsConstants.assigned FieldsConstants.nameFault FieldsConstants.constant FieldsConstants.constantsFrom FieldsParsed.wordOf TextOrder.order ExpressionNames.settingOr ExpressionNames.fromQuery ExpressionNames.lookup set secretTexts secretQuery isRead stands standing computed dereferences suchIn heardSuch ExpressionReads.reads ExpressionReads.programReads ExpressionReads.clauseReads ExpressionReads.isSet ExpressionStanding.names ExpressionStanding.programNames ExpressionStanding.clauseNames ExpressionStanding.computes ExpressionStanding.programComputes ExpressionStanding.clauseComputes bytes supplied query reasons told class tested worth ranked reading readings keptOf system classOf roundsOf reachedOf reasonOf highest TextClass.isDigit TextClass.inClass TextDecimal.inRange TextDecimal.roundedDown TextDecimal.withFraction TextDecimal.unsigned TextDecimal.decimal TextDigits.valueFrom TextDigits.value TextEqual.equal TextLoop.turns TextLoop.loop TextScan.past LexicalClass.classOf LexicalKind.opened LexicalLabel.labelKind LexicalLine.visible LexicalLine.inLine LexicalLine.blankTo LexicalLine.lineAt LexicalLine.linesFrom LexicalLine.tokenAt LexicalLiteral.units LexicalLiteral.unitsAt LexicalLiteral.literalEnd LexicalLiteral.decodedAt LexicalNumber.decimal LexicalNumber.held LexicalNumber.numberAt LexicalOperator.equalPair LexicalOperator.pairOf LexicalOperator.markKind LexicalOperator.isOf LexicalOperator.operatorKind LexicalRun.hasClass LexicalRun.inRun LexicalToken.widthOf LexicalToken.operatorAt LexicalToken.operatorToken LexicalToken.literalToken LexicalToken.floatEnd LexicalToken.numberToken LexicalToken.tokenFrom LexicalUnit.barred LexicalUnit.unitAt LexicalWord.lower LexicalWord.stands LexicalWord.spells FieldsParsed.ending AssertionLabels.without AssertionLabels.total ConditionsExpression.readExpression ConditionsOperand.readLiteral ConditionsOperand.readName ConditionsOperand.readDigits ConditionsOperand.readLeaf ConditionsOperand.settledTree ConditionsOperand.applied ConditionsProgram.ending ConditionsProgram.valuing ConditionsProgram.stopping ConditionsProgram.readProgram ConditionsProgram.readBlock ConditionsTable.beginsString ConditionsTable.beginsNumber ConditionsTable.beginsFloat ConditionsTable.allows ConditionsTable.comparison ConditionsTable.numberOperator ConditionsTable.textOperator ConditionsTable.testOperator ConditionsTable.operator ConditionsTable.prefixOperator ConditionsTable.levelOf ConditionsTable.operandLevel ConditionsTable.operandWant ConditionsTable.rightWant ConditionsTable.rightLevel ConditionsTable.binds ConditionsTable.insideLevel ConditionsTable.fits ConditionsTable.stops ConditionsWord.wordSort SyntaxCode.numberAt ComplianceLicensees.value ComplianceLicensees.licensed ComplianceLicensees.named ComplianceLicensees.licensees ComplianceReach.licenseesOf ComplianceReach.reachFrom ComplianceReach.namings ComplianceReach.reach ComplianceRounds.equalOn ComplianceRounds.settled ComplianceRounds.reached ComplianceRounds.firstSettled ComplianceRounds.rounds ComplianceRounds.mentioned ComplianceRounds.rank ComplianceSystem.direct ComplianceSystem.asserted ComplianceSystem.delegated ComplianceSystem.equations ComplianceSystem.round PrincipalMembers.member PrincipalCanonical.fold PrincipalCanonical.folded PrincipalCanonical.front PrincipalCanonical.behind PrincipalCanonical.isHex PrincipalCanonical.canonicalWith PrincipalCanonical.canonical PrincipalPrincipal.same PrincipalPrincipal.policy ExpressionConditions.evaluate ExpressionConditions.indexFrom ExpressionConditions.rankOf ExpressionConditions.top ExpressionConditions.clause ExpressionIntegers.ranged ExpressionIntegers.negated ExpressionIntegers.differ ExpressionIntegers.over ExpressionIntegers.raisedTo ExpressionIntegers.odd ExpressionIntegers.signOfPower ExpressionIntegers.power ExpressionIntegers.sizes ExpressionIntegers.compared ExpressionOperations.held ExpressionOperations.relates ExpressionOperations.onTexts ExpressionOperations.onIntegers ExpressionOperations.binaryOf ExpressionOperations.converted ExpressionOperations.negative ExpressionOperations.opposite ExpressionOperations.unaryOf ExpressionNames.environment stringBytes assertionBytes itemsBytes groupBytes encode placeOf pairBytes entryBytes entriesBytes report reportSize answer needed judged outcome written pageAfter TextCounted.part TextCounted.pairAt SyntaxParsed.refusal LexicalReason.reasonOf TextClass.isPlain RecordField.countAt RecordField.lengthAt RecordField.contentAt RecordField.fieldAt RecordField.nameFront RecordField.among RecordItem.plainAt RecordItem.valueAt RecordItem.requesterAt RecordItem.nameAt RecordItem.attributeAt RecordItem.assertionAt RecordItem.itemsAt RecordItem.groupAt RecordRecord.queryAt RecordRecord.readRecord NamingSource.sources NamingString.plainFrom NamingString.source NamingAuthorizer.authorizer NamingLicensees.licensee NamingLicensees.listed NamingLicensees.listFrom NamingLicensees.listOpened NamingLicensees.ofRead NamingLicensees.threshold NamingLicensees.closed NamingLicensees.primary NamingLicensees.expression NamingLicensees.licensees NamingNaming.identified NamingNaming.people NamingNaming.author NamingNaming.licensed NamingFault.sizeFault NamingFault.sourceFault NamingFault.policyFault NamingFault.authorFault NamingFault.firstFault NamingFault.licenseesFault AssertionForm.finished AssertionForm.field AssertionForm.fieldsFrom AssertionForm.readAssertion AssertionResolved.meant AssertionResolved.faultOf bytesOf anyReads authorReads licenseesRead namingReads anyNames anyComputes authorNames licenseesName licenseesCompute naming namingComputed anySuch suppliedSuch isNamed standsNaming
 rulings = record {
   licence = refl;
   ring-c = refl;
@@ -295,6 +352,38 @@ rulings = record {
   asked-as-policy = refl;
   asked-as-policy-last = refl;
   asked-in-small = refl;
+  one-key = refl;
+  two-keys = refl;
+  many-spellings = refl;
+  idle-unread = refl;
+  hidden-unread = refl;
+  unread-unread = refl;
+  seen-read = refl;
+  computed-idle = refl;
+  computed-hidden = refl;
+  idle-unnamed = refl;
+  hidden-unnamed = refl;
+  unread-unnamed = refl;
+  unread-named = refl;
+  unread-still-unread = refl;
+  computed-named = refl;
+  idle-stands = refl;
+  hidden-stands = refl;
+  unread-stands = refl;
+  seen-stands = refl;
+  none-computed = refl;
+  one-computed = refl;
+  idle-stands-naming = refl;
+  hidden-stands-naming = refl;
+  unread-stands-naming = refl;
+  b-stands-naming = refl;
+  none-naming-computed = refl;
+  b-naming-computed = refl;
+  one-told = refl;
+  other-told = refl;
+  seen-told = refl;
+  naming-told = refl;
+  naming-other-told = refl;
   paper-less = refl;
   paper-raises = refl;
   paper-idle = refl;
@@ -304,21 +393,4 @@ rulings = record {
   outside-b = refl;
   outside-broken = refl;
   inside-a = refl;
-  one-key = refl;
-  two-keys = refl;
-  idle-unread = refl;
-  hidden-unread = refl;
-  unread-unread = refl;
-  seen-read = refl;
-  computed-idle = refl;
-  computed-hidden = refl;
-  idle-stands = refl;
-  hidden-stands = refl;
-  unread-stands = refl;
-  seen-stands = refl;
-  none-computed = refl;
-  one-computed = refl;
-  one-told = refl;
-  other-told = refl;
-  seen-told = refl;
 }

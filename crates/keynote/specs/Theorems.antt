@@ -4,11 +4,13 @@ pub mod Numbers
 pub mod Asking
 pub mod Demand2
 pub mod Demand3
-pub mod Few
-pub mod Bounds
+pub mod Keeping
 pub mod Places
 pub mod PlacesConditions
+pub mod PlacesNaming
 pub mod PlacesAssertion
+pub mod Few
+pub mod Bounds
 pub mod Started
 pub mod Marked
 pub mod Starting

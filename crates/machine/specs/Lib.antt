@@ -1,4 +1,5 @@
 pub mod Machine
+pub mod Given
 pub mod Left
 pub mod Live
 pub mod Need

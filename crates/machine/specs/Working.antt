@@ -10,3 +10,4 @@ pub mod Kinds
 pub mod Decimals
 pub mod Widths
 pub mod Stacking
+pub mod Giving

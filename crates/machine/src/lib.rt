@@ -38,6 +38,7 @@ ghost use Rattle.expression.specs.Operands.{rankIn};
 ghost use Rattle.expression.specs.Tables.{lookupIn};
 ghost use Rattle.machine.specs.Machine.{runAt, textStep, topOf, unaryStep, lookupStep, binaryOn, binaryStep, raised, isIdle, clauseStep, pushStep, actOf, outer, above, behindOf, stopAt, goOn, closing, begun, ended, needless, exec, resultOf, on};
 ghost use Rattle.machine.specs.Left.{leftIn};
+ghost use Rattle.machine.specs.Given.{gave, stringOf, stringIn};
 ghost use Rattle.machine.specs.Live.{Live, landed, putAt, settled};
 ghost use Rattle.machine.specs.Working.Quick.{putTwo, isNatural, isTold, isLogical, decides};
 ghost use Rattle.machine.specs.Working.Alike.{isAlike, agrees, alikeOn};
@@ -47,6 +48,12 @@ ghost use Rattle.machine.specs.Working.Rating.{isRating, valuedOn};
 // How many numbers and bytes the stacks hold; or that the machine can't go on, the code being none or a buffer too small.
 pub enum Tops {
     At { numbers: usize, bytes: usize },
+    Stuck,
+}
+
+// How many bytes a string has that code gives; or that the machine can't go on.
+pub enum Given {
+    Bytes { count: usize },
     Stuck,
 }
 
@@ -898,9 +905,9 @@ fn onward(code: &[u32], i: usize, stack: &[u64], n: usize, values: &[usize]) -> 
     i
 }
 
-// Runs compiled Conditions over the assertion's text: the operand left on top, for a program its rank. Where the code is none or
-// a buffer is too small, a fault.
-fn run<'a>(
+// Runs code over the assertion's text: where its operands and their bytes end on the stacks. Where the code is none or a buffer is too small,
+// it is stuck.
+fn run_live<'a>(
     code: &[u32],
     s: &[u8],
     query: &'a [u8],
@@ -910,8 +917,8 @@ fn run<'a>(
     constants: &[usize],
     stack: &mut [u64],
     bytes: &mut [u8],
-) -> Operand
-    ensures { λ r. ⌜ r ≡ resultOf (exec (length (now (stack .entry))) (length (now (bytes .entry))) (now (s .entry)) (lookupIn (now (query .entry)) (now (consts .entry)) (now (values .entry)) (now (names .entry)) (now (constants .entry))) (map (counted (now (query .entry))) (now (values .entry))) (now (code .entry)) (on [] [])) ⌝ }
+) -> Tops
+    ensures { λ r. ⌜ Live r (now (stack .exit)) (now (bytes .exit)) (exec (length (now (stack .entry))) (length (now (bytes .entry))) (now (s .entry)) (lookupIn (now (query .entry)) (now (consts .entry)) (now (values .entry)) (now (names .entry)) (now (constants .entry))) (map (counted (now (query .entry))) (now (values .entry))) (now (code .entry)) (on [] [])) ⌝ }
 {
     let mut n: usize = 0;
     let mut t: usize = 0;
@@ -936,7 +943,7 @@ fn run<'a>(
                 t,
             ) {
                 Tops::Stuck => {
-                    return Operand::Fault;
+                    return Tops::Stuck;
                 }
                 Tops::At { numbers, bytes: b } => {
                     n = numbers;
@@ -958,7 +965,7 @@ fn run<'a>(
                 t,
             ) {
                 Tops::Stuck => {
-                    return Operand::Fault;
+                    return Tops::Stuck;
                 }
                 Tops::At { numbers, bytes: b } => {
                     n = numbers;
@@ -968,7 +975,41 @@ fn run<'a>(
             }
         }
     }
-    top(stack, n)
+    Tops::At {
+        numbers: n,
+        bytes: t,
+    }
+}
+
+// Runs compiled Conditions over the assertion's text: the operand left on top, for a program its rank. Where the code is none or
+// a buffer is too small, a fault.
+fn run<'a>(
+    code: &[u32],
+    s: &[u8],
+    query: &'a [u8],
+    consts: &'a [u8],
+    values: &[usize],
+    names: &[usize],
+    constants: &[usize],
+    stack: &mut [u64],
+    bytes: &mut [u8],
+) -> Operand
+    ensures { λ r. ⌜ r ≡ resultOf (exec (length (now (stack .entry))) (length (now (bytes .entry))) (now (s .entry)) (lookupIn (now (query .entry)) (now (consts .entry)) (now (values .entry)) (now (names .entry)) (now (constants .entry))) (map (counted (now (query .entry))) (now (values .entry))) (now (code .entry)) (on [] [])) ⌝ }
+{
+    match run_live(
+        code,
+        s,
+        query,
+        consts,
+        values,
+        names,
+        constants,
+        stack,
+        bytes,
+    ) {
+        Tops::Stuck => Operand::Fault,
+        Tops::At { numbers, bytes: _ } => top(stack, numbers),
+    }
 }
 
 // The machine on stacks of its own, with little room.
@@ -1096,4 +1137,142 @@ pub fn run_here<'a>(
     ensures { λ r. ⌜ r ≡ rankIn (leftIn 208 77824 (now (code .entry)) (now (s .entry)) (now (query .entry)) (now (consts .entry)) (now (values .entry)) (now (names .entry)) (now (constants .entry))) ⌝ }
 {
     run_on(0, code, s, query, consts, values, names, constants)
+}
+
+// The string that code gives, run on the stacks lent: how many bytes it has. They are put into `out` where they fit.
+fn string_in<'a>(
+    code: &[u32],
+    s: &[u8],
+    query: &'a [u8],
+    consts: &'a [u8],
+    values: &[usize],
+    names: &[usize],
+    constants: &[usize],
+    stack: &mut [u64],
+    bytes: &mut [u8],
+    out: &mut [u8],
+) -> Given
+    ensures { λ r. ⌜ gave r (now (out .exit)) ≡ stringOf (exec (length (now (stack .entry))) (length (now (bytes .entry))) (now (s .entry)) (lookupIn (now (query .entry)) (now (consts .entry)) (now (values .entry)) (now (names .entry)) (now (constants .entry))) (map (counted (now (query .entry))) (now (values .entry))) (now (code .entry)) (on [] [])) (now (out .entry)) ⌝ }
+{
+    match run_live(
+        code,
+        s,
+        query,
+        consts,
+        values,
+        names,
+        constants,
+        stack,
+        bytes,
+    ) {
+        Tops::Stuck => Given::Stuck,
+        Tops::At {
+            numbers: _,
+            bytes: t,
+        } => {
+            text::copy_at(out, 0, &bytes[..t]);
+            Given::Bytes { count: t }
+        }
+    }
+}
+
+// The same on stacks of its own, with little room.
+fn string_narrow<'a>(
+    code: &[u32],
+    s: &[u8],
+    query: &'a [u8],
+    consts: &'a [u8],
+    values: &[usize],
+    names: &[usize],
+    constants: &[usize],
+    out: &mut [u8],
+) -> Given
+    ensures { λ r. ⌜ gave r (now (out .exit)) ≡ stringIn 32 512 (now (code .entry)) (now (s .entry)) (now (query .entry)) (now (consts .entry)) (now (values .entry)) (now (names .entry)) (now (constants .entry)) (now (out .entry)) ⌝ }
+{
+    let mut stack = [0u64; 32];
+    let mut bytes = [0u8; 512];
+    string_in(
+        code,
+        s,
+        query,
+        consts,
+        values,
+        names,
+        constants,
+        &mut stack,
+        &mut bytes,
+        out,
+    )
+}
+
+// The same with all the room that a string may need.
+fn string_wide<'a>(
+    code: &[u32],
+    s: &[u8],
+    query: &'a [u8],
+    consts: &'a [u8],
+    values: &[usize],
+    names: &[usize],
+    constants: &[usize],
+    out: &mut [u8],
+) -> Given
+    ensures { λ r. ⌜ gave r (now (out .exit)) ≡ stringIn 208 77824 (now (code .entry)) (now (s .entry)) (now (query .entry)) (now (consts .entry)) (now (values .entry)) (now (names .entry)) (now (constants .entry)) (now (out .entry)) ⌝ }
+{
+    let mut stack = [0u64; 208];
+    let mut bytes = [0u8; 77824];
+    string_in(
+        code,
+        s,
+        query,
+        consts,
+        values,
+        names,
+        constants,
+        &mut stack,
+        &mut bytes,
+        out,
+    )
+}
+
+// The same with little room first. It calls itself so that the compiler keeps the large tables apart.
+fn string_on<'a>(
+    tier: usize,
+    code: &[u32],
+    s: &[u8],
+    query: &'a [u8],
+    consts: &'a [u8],
+    values: &[usize],
+    names: &[usize],
+    constants: &[usize],
+    out: &mut [u8],
+) -> Given
+    ensures { λ r. ⌜ gave r (now (out .exit)) ≡ stringIn 208 77824 (now (code .entry)) (now (s .entry)) (now (query .entry)) (now (consts .entry)) (now (values .entry)) (now (names .entry)) (now (constants .entry)) (now (out .entry)) ⌝ }
+{
+    if tier == 0 {
+        match string_narrow(code, s, query, consts, values, names, constants, out) {
+            Given::Bytes { count } => {
+                return Given::Bytes { count };
+            }
+            Given::Stuck => {
+                return string_on(1, code, s, query, consts, values, names, constants, out);
+            }
+        }
+    }
+    string_wide(code, s, query, consts, values, names, constants, out)
+}
+
+// The string that code gives, run on stacks of its own: how many bytes it has. They are put into `out` where they fit.
+pub fn string_here<'a>(
+    code: &[u32],
+    s: &[u8],
+    query: &'a [u8],
+    consts: &'a [u8],
+    values: &[usize],
+    names: &[usize],
+    constants: &[usize],
+    out: &mut [u8],
+) -> Given
+    ensures { λ r. ⌜ gave r (now (out .exit)) ≡ stringIn 208 77824 (now (code .entry)) (now (s .entry)) (now (query .entry)) (now (consts .entry)) (now (values .entry)) (now (names .entry)) (now (constants .entry)) (now (out .entry)) ⌝ }
+{
+    string_on(0, code, s, query, consts, values, names, constants, out)
 }

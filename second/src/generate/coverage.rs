@@ -6,6 +6,7 @@ use std::fmt;
 use super::crowd;
 use super::float_coverage::FloatCoverage;
 use super::pattern_coverage::PatternCoverage;
+use super::reference_coverage::ReferenceCoverage;
 use crate::environment::Environment;
 use crate::eval::Evaluator;
 use crate::{check, limits, read_assertions, record, solution_by_bytes, Outcome};
@@ -24,6 +25,7 @@ pub struct Coverage {
     pub crowds: BTreeMap<&'static str, u64>,
     pub patterns: PatternCoverage,
     pub floats: FloatCoverage,
+    pub references: ReferenceCoverage,
 }
 
 /// What equality of bytes may change.
@@ -74,6 +76,7 @@ impl Coverage {
     fn count_assertions(&mut self, record: &[u8]) {
         let Ok(query) = record::read(record) else { return };
         let reading = read_assertions(&query);
+        self.references.count(&query, &reading);
         let environment = Environment::new(&query, &reading.store);
         let mut evaluator = Evaluator::new(&environment);
         for assertion in reading.kept.iter() {
@@ -125,6 +128,7 @@ impl Coverage {
         }
         missing.extend(self.patterns.missing());
         missing.extend(self.floats.missing());
+        missing.extend(self.references.missing());
         missing
     }
 }
@@ -139,7 +143,8 @@ impl fmt::Display for Coverage {
         writeln!(formatter, "changed by spellings {:?}", self.spellings)?;
         writeln!(formatter, "large ones {:?}", self.crowds)?;
         writeln!(formatter, "{}", self.patterns)?;
-        write!(formatter, "{}", self.floats)
+        writeln!(formatter, "{}", self.floats)?;
+        write!(formatter, "{}", self.references)
     }
 }
 

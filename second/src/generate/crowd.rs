@@ -27,13 +27,28 @@ enum Names {
     AlikeInFront,
     /// Keys in any case.
     Keys,
+    /// 256 bytes, by an attribute and digits joined to it.
+    Joined,
 }
+
+/// What the attribute "k" holds.
+const FRONT: [u8; 252] = [b'k'; 252];
 
 pub fn record(random: &mut Random) -> Vec<u8> {
     let count = count(random);
     let edges = edges(random, count);
-    let names = *random.pick(&[Names::Plain, Names::AlikeAtEnds, Names::AlikeInFront, Names::Keys]);
+    let names = *random.pick(&[
+        Names::Plain,
+        Names::AlikeAtEnds,
+        Names::AlikeInFront,
+        Names::Keys,
+        Names::Joined,
+        Names::Joined,
+    ]);
     let mut draft = Draft { values: values(random), ..Draft::default() };
+    if let Names::Joined = names {
+        draft = draft.attribute("k", FRONT).attribute("p", POLICY).attribute("unread", "u");
+    }
     draft.requesters = requesters(random, &edges, names);
     // Long ways lead to their end only where nothing hinders.
     let smooth = random.once_in(2);
@@ -112,6 +127,7 @@ fn spelled(random: &mut Random, names: Names, number: usize) -> Vec<u8> {
         Names::AlikeAtEnds => digits.into_iter().rev().chain(*b"end").collect(),
         Names::AlikeInFront => [b"in front ", &digits[..]].concat(),
         Names::Keys => keys::spelling(random, &[b"dsa-hex:k", &digits[..]].concat()),
+        Names::Joined => [&FRONT, &digits[..]].concat(),
     }
 }
 
@@ -131,9 +147,13 @@ fn requesters(random: &mut Random, edges: &[Edge], names: Names) -> Vec<Vec<u8>>
 }
 
 fn delegation(random: &mut Random, edge: &Edge, names: Names, smooth: bool) -> Vec<u8> {
-    let quoted = |random: &mut Random, number: usize| {
-        let name = spelled(random, names, number);
-        [b"\"", &name[..], b"\""].concat()
+    let quoted = |random: &mut Random, number: usize| match (names, number) {
+        (Names::Joined, 0) => b"p".to_vec(),
+        (Names::Joined, _) => format!("k.\"{number:04}\"").into_bytes(),
+        _ => {
+            let name = spelled(random, names, number);
+            [b"\"", &name[..], b"\""].concat()
+        }
     };
     let authorizer = quoted(random, edge.from);
     let licensees: Vec<Vec<u8>> = edge.to.iter().map(|&number| quoted(random, number)).collect();

@@ -1,6 +1,7 @@
 //! Limits of texts and of evaluation, met or passed by one.
 
 use super::float;
+use super::reference;
 use crate::draft::Draft;
 use crate::limits;
 use crate::random::Random;
@@ -8,6 +9,9 @@ use crate::random::Random;
 const POLICY: &str = "Authorizer: \"POLICY\"\n";
 
 pub fn record(random: &mut Random) -> Vec<u8> {
+    if random.once_in(4) {
+        return by_reference(random);
+    }
     let text = text(random);
     // Most texts speak for POLICY, which a credential may not.
     let standing = if random.once_in(5) { 2 } else { 1 };
@@ -19,6 +23,21 @@ pub fn record(random: &mut Random) -> Vec<u8> {
     // A licence without conditions hides the rank that the text gives.
     let hidden = random.once_in(6);
     if hidden { draft.local(POLICY) } else { draft }.record()
+}
+
+/// A text whose principals are expressions, beside another that may need it.
+fn by_reference(random: &mut Random) -> Vec<u8> {
+    let standing = if random.once_in(2) { 2 } else { 1 };
+    let mut draft = Draft::plain();
+    // A value that names POLICY.
+    if random.once_in(4) {
+        draft.values[0] = b"POLICY".to_vec();
+    }
+    let draft = draft.attribute("p", "POLICY").attribute("k", "a").attribute("n", "k");
+    let draft = draft.attribute("h", "h".repeat(128)).attribute("e", "").attribute("unread", "u");
+    let draft = draft.attribute("v", vec![b'v'; limits::ATTRIBUTE_BYTES.most]);
+    let draft = draft.assertion(standing, reference::edge(random));
+    if random.once_in(6) { draft.local(POLICY) } else { draft }.record()
 }
 
 /// At a limit, one below or one above.

@@ -11,11 +11,11 @@ pub fn token(spelling: impl AsRef<[u8]>) -> Tokens {
     vec![spelling.as_ref().to_vec()]
 }
 
-fn joined(parts: impl IntoIterator<Item = Tokens>) -> Tokens {
+pub fn joined(parts: impl IntoIterator<Item = Tokens>) -> Tokens {
     parts.into_iter().flatten().collect()
 }
 
-fn bracketed(inner: Tokens) -> Tokens {
+pub fn bracketed(inner: Tokens) -> Tokens {
     joined([token("("), inner, token(")")])
 }
 
@@ -168,28 +168,31 @@ fn float_operand(random: &mut Random, scene: &Scene, depth: usize) -> Tokens {
 
 /// A Licensees expression over `principals`, with at most `most` occurrences.
 pub fn licensees(random: &mut Random, principals: &[Vec<u8>], most: usize) -> Tokens {
+    licensees_of(random, most, &mut |random| {
+        let chosen = random.pick(principals).clone();
+        vec![literal(random, &chosen)]
+    })
+}
+
+/// A Licensees expression with at most `most` occurrences of what `principal` gives.
+pub fn licensees_of(random: &mut Random, most: usize, principal: &mut dyn FnMut(&mut Random) -> Tokens) -> Tokens {
     match random.below(6) {
         0 if most >= 2 => {
             let listed = random.between(1, most.min(16));
             let k = random.between(1, listed);
-            let list = (0..listed).map(|_| principal(random, principals)).collect::<Vec<_>>();
+            let list = (0..listed).map(|_| principal(random)).collect::<Vec<_>>();
             let list = list.join(&b","[..].to_vec());
             joined([token(k.to_string()), token("-of"), bracketed(list)])
         }
         1 | 2 if most >= 2 => {
             let left = random.between(1, most - 1);
             let operator = *random.pick(&["&&", "||"]);
-            let first = licensees(random, principals, left);
-            joined([first, token(operator), licensees(random, principals, most - left)])
+            let first = licensees_of(random, left, principal);
+            joined([first, token(operator), licensees_of(random, most - left, principal)])
         }
-        3 => bracketed(licensees(random, principals, most)),
-        _ => principal(random, principals),
+        3 => bracketed(licensees_of(random, most, principal)),
+        _ => principal(random),
     }
-}
-
-fn principal(random: &mut Random, principals: &[Vec<u8>]) -> Tokens {
-    let chosen = random.pick(principals).clone();
-    vec![literal(random, &chosen)]
 }
 
 /// A spelling of a literal with this value, which has no NUL.

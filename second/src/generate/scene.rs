@@ -65,6 +65,11 @@ impl Scene {
                 scene.attributes.push((name.into(), value));
             }
         }
+        if random.once_in(3) {
+            let principal = random.pick(&scene.principals).clone();
+            scene.attributes.push((b"who".to_vec(), principal));
+            scene.attributes.push((b"which".to_vec(), b"who".to_vec()));
+        }
         scene
     }
 

@@ -1,7 +1,9 @@
 //! A sketch of an assertion: its fields as rows of tokens, and their layout.
 
 use super::expression::{self, literal, token, Tokens};
+use super::reference;
 use super::scene::Scene;
+use crate::limits;
 use crate::random::Random;
 
 #[derive(Clone, Debug)]
@@ -19,7 +21,7 @@ pub struct Sketch {
 pub fn sketch(random: &mut Random, scene: &Scene) -> Sketch {
     let authorizer = scene.authorizer(random);
     let constants = constants(random, scene);
-    // Principals may be named by constants that stand earlier.
+    // Principals may be named by constants that stand earlier, and by attributes.
     let named = !constants.is_empty() && random.once_in(2);
     let mut fields = Vec::new();
     let mut early = Vec::new();
@@ -28,9 +30,11 @@ pub fn sketch(random: &mut Random, scene: &Scene) -> Sketch {
     } else if !constants.is_empty() {
         fields.push(field("Local-Constants:", assignments(random, &constants)));
     }
-    fields.push(field("Authorizer:", vec![principal(random, &constants, named, &authorizer)]));
+    let mut names = if named { constants.clone() } else { Vec::new() };
+    names.extend(scene.attributes.iter().cloned());
+    fields.push(field("Authorizer:", principal(random, &names, &authorizer)));
     if !random.once_in(6) {
-        fields.push(field("Licensees:", licensees(random, scene, &constants, named)));
+        fields.push(field("Licensees:", licensees(random, scene, &names)));
     }
     if !random.once_in(5) {
         let depth = random.between(1, 5);
@@ -82,31 +86,27 @@ fn assignments(random: &mut Random, constants: &[(Vec<u8>, Vec<u8>)]) -> Tokens 
     constants.iter().flat_map(one).collect()
 }
 
-/// A principal by its literal, or by a constant that holds it.
-fn principal(random: &mut Random, constants: &[(Vec<u8>, Vec<u8>)], named: bool, identifier: &[u8]) -> Vec<u8> {
-    let holds = |(_, value): &&(Vec<u8>, Vec<u8>)| value == identifier;
-    match constants.iter().find(holds) {
-        Some((name, _)) if named && random.once_in(2) => name.clone(),
-        _ => literal(random, identifier),
-    }
+/// A principal by its literal, or by an expression that gives it unless a
+/// constant hides an attribute.
+fn principal(random: &mut Random, names: &reference::Names, identifier: &[u8]) -> Tokens {
+    let depth = random.below(4);
+    reference::expression(random, names, identifier, depth)
 }
 
-fn licensees(random: &mut Random, scene: &Scene, constants: &[(Vec<u8>, Vec<u8>)], named: bool) -> Tokens {
+fn licensees(random: &mut Random, scene: &Scene, names: &reference::Names) -> Tokens {
     if random.once_in(12) {
         return Vec::new();
     }
     let most = *random.pick(&[1, 2, 4, 16]);
-    let mut tokens = expression::licensees(random, &scene.principals, most);
-    let short = |value: &Vec<u8>| (1..=256).contains(&value.len());
-    let usable: Vec<&Vec<u8>> = constants.iter().filter(|(_, value)| short(value)).map(|(name, _)| name).collect();
-    if named && !usable.is_empty() {
-        for token in &mut tokens {
-            if token[0] == b'"' && random.once_in(3) {
-                *token = random.pick(&usable).to_vec();
-            }
-        }
-    }
-    tokens
+    expression::licensees_of(random, most, &mut |random| {
+        let usable = |value: &Vec<u8>| limits::PRINCIPAL_BYTES.holds(value.len());
+        // What a name stands for may be an identifier as well.
+        let identifier = match names.is_empty() || !random.once_in(8) {
+            true => random.pick(&scene.principals).clone(),
+            false => Some(random.pick(names).1.clone()).filter(usable).unwrap_or(b"b".to_vec()),
+        };
+        principal(random, names, &identifier)
+    })
 }
 
 fn conditions(random: &mut Random, scene: &Scene, depth: usize) -> Tokens {

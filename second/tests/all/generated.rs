@@ -111,7 +111,7 @@ fn sketches_are_well_formed() {
     use second::generate::{of_sort, Sort};
     use second::random::Random;
     let mut random = Random::new(5);
-    let mut reasons = [0; 10];
+    let mut reasons = [0; 11];
     for _ in 0..10_000 {
         let record = of_sort(&mut random, Sort::Rich);
         let mut page = [0; second::print::PAGE];

@@ -3,11 +3,12 @@
 //! parser accepts.
 
 use second::earley::{first_misfit, Recognizer};
-use second::grammar::{of, Grammar, RFC_CONDITIONS};
+use second::grammar::{of, Grammar, RFC_CONDITIONS, RFC_LICENSEES};
+use second::licence;
 use second::line::{Label, Listing};
 use second::parse;
 use second::random::Random;
-use second::store::{Piece, Store};
+use second::store::Store;
 use second::token::{Kind, SPELLINGS};
 
 /// The kinds that stand in a field's grammar.
@@ -33,19 +34,22 @@ fn spell(kinds: &[Kind]) -> String {
 
 /// Whether the tree parser accepts the tokens as the field's content.
 fn has_tree(label: Label, kinds: &[Kind]) -> bool {
-    let name = if label == Label::Licensees { "Licensees" } else { "Conditions" };
-    let text = format!("Authorizer:\"a\"\n{name}: {}", spell(kinds));
+    let text = match label {
+        Label::Authorizer => format!("Authorizer: {}", spell(kinds)),
+        Label::Licensees => format!("Authorizer:\"a\"\nLicensees: {}", spell(kinds)),
+        _ => format!("Authorizer:\"a\"\nConditions: {}", spell(kinds)),
+    };
     let mut listing = Listing::new();
     listing.list(text.as_bytes());
     assert_eq!(listing.fault, None, "{text}");
     let tokens = listing.tokens_of(listing.field(label).unwrap());
     assert!(tokens.iter().map(|token| token.kind).eq(kinds.iter().copied()), "{text}");
     let mut store = Store::default();
-    if label == Label::Licensees {
-        let mut resolve = |_: &_, _: &mut _| Some(Piece::EMPTY);
-        tokens.is_empty() || parse::licensees(tokens, &mut store, &mut resolve).is_some()
-    } else {
-        parse::conditions(text.as_bytes(), 0, tokens, &mut store).is_some()
+    let bytes = text.as_bytes();
+    match label {
+        Label::Authorizer => licence::authorizer(bytes, 0, tokens, &mut store).is_some(),
+        Label::Licensees => tokens.is_empty() || licence::licensees(bytes, 0, tokens, &mut store).is_some(),
+        _ => parse::conditions(bytes, 0, tokens, &mut store).is_some(),
     }
 }
 
@@ -74,6 +78,11 @@ fn exhaust(label: Label, longest: usize) -> usize {
     let mut sentences = 0;
     extend(label, &alphabet(label), &mut Vec::new(), longest, &mut sentences);
     sentences
+}
+
+#[test]
+fn short_authorizers() {
+    assert!(exhaust(Label::Authorizer, 6) > 100);
 }
 
 #[test]
@@ -194,6 +203,11 @@ fn damage(random: &mut Random, alphabet: &[Kind], kinds: &mut Vec<Kind>) {
 }
 
 #[test]
+fn walks_of_authorizers() {
+    walks(Label::Authorizer, 20_000);
+}
+
+#[test]
 fn walks_of_licensees() {
     walks(Label::Licensees, 20_000);
 }
@@ -207,20 +221,25 @@ fn walks_of_conditions() {
 /// same first misfits but for "@" and "&" before a concatenation.
 #[test]
 fn precedence_adds_nothing_else() {
-    let plain = Grammar::new(RFC_CONDITIONS);
+    without_precedence(Label::Conditions, RFC_CONDITIONS);
+    without_precedence(Label::Licensees, RFC_LICENSEES);
+}
+
+fn without_precedence(label: Label, productions: &[(&'static str, &'static str)]) {
+    let plain = Grammar::new(productions);
     let mut random = Random::new(11);
-    let alphabet = alphabet(Label::Conditions);
+    let alphabet = alphabet(label);
     let mut compared = 0;
     for _ in 0..20_000 {
         let length = random.between(1, 16);
-        let mut kinds = walk(&mut random, Label::Conditions, length);
+        let mut kinds = walk(&mut random, label, length);
         for _ in 0..random.below(3) {
             damage(&mut random, &alphabet, &mut kinds);
         }
         if kinds.len() > 40 {
             continue;
         }
-        let classes = first_misfit(of(Label::Conditions).unwrap(), kinds.iter().copied(), true);
+        let classes = first_misfit(of(label).unwrap(), kinds.iter().copied(), true);
         let without = first_misfit(&plain, kinds.iter().copied(), true);
         let converted = classes.is_some_and(|index| {
             kinds.get(index) == Some(&Kind::Dot)

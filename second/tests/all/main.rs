@@ -9,6 +9,7 @@ mod patterns;
 mod places;
 mod principals;
 mod records;
+mod references;
 mod register;
 mod rfc;
 mod rounds;

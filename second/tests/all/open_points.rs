@@ -15,6 +15,7 @@ fn every_example() {
         include_str!("../../data/open-points.tsv"),
         include_str!("../../data/open-points-02.tsv"),
         include_str!("../../data/floats.tsv"),
+        include_str!("../../data/references.tsv"),
     ];
     for line in pages.iter().flat_map(|page| page.lines()) {
         let columns: Vec<&str> = line.split('\t').collect();
@@ -26,5 +27,5 @@ fn every_example() {
         count += 1;
     }
     assert!(wrong.is_empty(), "{}", wrong.join("\n"));
-    assert_eq!(count, 472);
+    assert_eq!(count, 549);
 }

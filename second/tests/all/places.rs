@@ -1,7 +1,8 @@
-//! A reason is told from the text up to the token at its place: what stands
-//! behind that token may be anything.
+//! Reasons 1 to 8 are told from the text up to the token at their place: what
+//! stands behind that token may be anything. Reasons 9 and 10 give way to any of
+//! these, wherever it stands.
 
-use second::check::REASONS;
+use second::check::{IDENTIFIER, REASONS, STANDING};
 use second::draft::Draft;
 use second::generate::{of_sort, Sort};
 use second::line::{LABELS, LINE, NO_TOKEN};
@@ -31,12 +32,17 @@ fn token_end(text: &[u8], place: usize) -> Option<usize> {
 fn what_follows_changes_nothing() {
     const TAILS: [&[u8]; 6] = [b"", b"\n", b"\n\n", b"\n?", b"\nAuthorizer: \"q\"\n", b" \0 \"\\"];
     let mut random = Random::new(31);
-    let mut met = [0; 10];
+    let mut met = [0; 11];
     for _ in 0..20_000 {
         let record = of_sort(&mut random, Sort::DamagedText);
         for statement in record::read(&record).unwrap().statements.iter() {
             let (reason, place) = entry(statement.standing, statement.text);
             if reason == 0 || reason == NO_TOKEN || statement.standing == 0 {
+                continue;
+            }
+            if matches!(reason, STANDING | IDENTIFIER) {
+                gives_way(statement.standing, statement.text);
+                met[usize::from(reason)] += 1;
                 continue;
             }
             let Some(end) = token_end(statement.text, place) else { continue };
@@ -53,4 +59,18 @@ fn what_follows_changes_nothing() {
         }
     }
     assert!(REASONS[2..].iter().all(|&reason| met[usize::from(reason)] > 30), "{met:?}");
+}
+
+/// A fault behind everything, or before it, wins.
+fn gives_way(standing: u8, text: &[u8]) {
+    // A text with Signature is read no further than that.
+    let signed = text.to_ascii_lowercase().windows(10).any(|part| part == b"signature:");
+    let behind = [text, b"\n\n"].concat();
+    if !signed && !text.ends_with(b"\n") && limits::TEXT_BYTES.holds(behind.len()) {
+        assert_eq!(entry(standing, &behind), (LINE, text.len() + 1), "{}", behind.escape_ascii());
+    }
+    let before = [b"?\n", text].concat();
+    if limits::TEXT_BYTES.holds(before.len()) {
+        assert_eq!(entry(standing, &before), (LINE, 0), "{}", before.escape_ascii());
+    }
 }

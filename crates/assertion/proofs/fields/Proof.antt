@@ -3,7 +3,7 @@ use mathlib.Core.Path.{_≡_, _∙_, ap}
 use Prim.Native.Nat.{ℕ}
 use native.Mathlib.Omega.{arith}
 use lib.ListN.{length}
-use Rattle.assertion.specs.Draft.{total}
+use Rattle.assertion.specs.Labels.{total}
 use Rattle.assertion.specs.Working.Field.{given, tabled}
 use Rattle.assertion.specs.Working.Reading.{fieldsIn}
 use Rattle.assertion.specs.Working.ReadingWays.{fields-last, fields-aside, fields-more, fields-less}

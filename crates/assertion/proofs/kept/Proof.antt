@@ -1,10 +1,10 @@
+use Rattle.assertion.specs.Working.ReadingWays.{kept-given, kept-missing}
 use borrow.Author.Needs.{needs}
 use Rattle.assertion.proofs.kept.Statement.{statement}
 use Rattle.assertion.proofs.kept.Tie as tie
 use Rattle.assertion.proofs.kept.Reads as reads
 use Rattle.assertion.proofs.kept.Lts as lts
 use Rattle.fields.proofs.list.push.Reads as push-reads
-use Rattle.assertion.specs.Working.ReadingWays.{kept-given, kept-missing}
 
 returns : tie.Need-returns
 returns c = search kept-given

@@ -1,14 +1,21 @@
-use borrow.Author.Needs.{needs}
 use Rattle.assertion.specs.Working.ReadingWays.{read-unverified, read-on}
+use borrow.Author.Needs.{needs}
 use Rattle.assertion.proofs.read.Statement.{statement}
 use Rattle.assertion.proofs.read.Tie as tie
 use Rattle.assertion.proofs.read.Reads as reads
 use Rattle.assertion.proofs.read.Lts as lts
 use Rattle.assertion.proofs.fields.Reads as fields-reads
 use Rattle.lexical.proofs.token_at.Reads as token-at-reads
+use Rattle.naming.proofs.fault.clear.Reads as clear-reads
 
 returns : tie.Need-returns
 returns c = search read-unverified
+
+clear-requires : tie.Need-clear-requires
+clear-requires c κs = search needs
+
+clear-requires-2 : tie.Need-clear-requires-2
+clear-requires-2 c κs = search needs
 
 token-at-requires : tie.Need-token-at-requires
 token-at-requires c κs = search needs
@@ -42,6 +49,8 @@ read-spec =
     tie.close
     (tie.spec
     returns
+    clear-requires
+    clear-requires-2
     token-at-requires
     slice-aggregate-fields
     fields-requires

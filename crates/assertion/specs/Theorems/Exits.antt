@@ -16,10 +16,11 @@ use Rattle.conditions.specs.Program.{readProgram}
 use Rattle.fields.specs.Parsed.{ending}
 use Rattle.fields.specs.Version.{version}
 use Rattle.fields.specs.Constants.{constantsFrom}
-use Rattle.fields.specs.Authorizer.{authorizer}
-use Rattle.fields.specs.Licensees.{licensees}
-use Rattle.assertion.specs.Draft.{Draft, total, without, labelled, withConstants, withAuthorizer, withLicensees, withProgram}
-use Rattle.assertion.specs.Read.{Read, field, State, onField, turn, fieldsFrom}
+use Rattle.naming.specs.Authorizer.{authorizer}
+use Rattle.naming.specs.Licensees.{licensees}
+use Rattle.assertion.specs.Labels.{total, without}
+use Rattle.assertion.specs.Sketch.{Sketch, labelled, withConstants, withAuthor, withLicensees, withProgram}
+use Rattle.assertion.specs.Form.{Form, field, State, onField, turn, fieldsFrom}
 use Rattle.assertion.specs.Theorems.Left.{clear-none}
 
 -- ---- a label that is used up is one less
@@ -48,25 +49,25 @@ without-less free k h =
 
 -- ---- a field leaves the labels that may stand as they are
 
-data Keeps (free : List ℕ) : Parsed Draft → Type 0 where
-  k-ok : (d : Draft) (n : Token) → d .free ≡ free → Keeps free (ok d n)
+data Keeps (free : List ℕ) : Parsed Sketch → Type 0 where
+  k-ok : (d : Sketch) (n : Token) → d .free ≡ free → Keeps free (ok d n)
   k-aside : (r p : ℕ) → Keeps free (aside r p)
 
 module _ {free : List ℕ} where
-  keeps-pick : (b : Bool) {x y : Parsed Draft} → Keeps free x → Keeps free y → Keeps free (pick b x y)
+  keeps-pick : (b : Bool) {x y : Parsed Sketch} → Keeps free x → Keeps free y → Keeps free (pick b x y)
   keeps-pick true h k = h
   keeps-pick false h k = k
 
-  keeps-then : {A : Type 0} (p : Parsed A) {f : A → Token → Parsed Draft} → ((a : A) (n : Token) → Keeps free (f a n)) → Keeps free (andThen p f)
+  keeps-then : {A : Type 0} (p : Parsed A) {f : A → Token → Parsed Sketch} → ((a : A) (n : Token) → Keeps free (f a n)) → Keeps free (andThen p f)
   keeps-then (ok a n) h = h a n
   keeps-then (aside r p) h = k-aside r p
 
-field-keeps : (standing : ℕ) (s : List ℕ) (kind : ℕ) (d : Draft) (t : Token) → Keeps (d .free) (field standing s kind d t)
+field-keeps : (s : List ℕ) (kind : ℕ) (d : Sketch) (t : Token) → Keeps (d .free) (field s kind d t)
 unfolding field
-field-keeps standing s kind d t =
+field-keeps s kind d t =
     keeps-pick (eqb kind Kind.KEYNOTE-VERSION) (keeps-then (version s t) (λ v n. k-ok d n refl))
     (keeps-pick (eqb kind Kind.LOCAL-CONSTANTS) (keeps-then (constantsFrom s [] t) (λ cs n. k-ok (withConstants d cs) n refl))
-    (keeps-pick (eqb kind Kind.AUTHORIZER) (keeps-then (authorizer s standing (d .constants) t) (λ p n. k-ok (withAuthorizer d p) n refl))
+    (keeps-pick (eqb kind Kind.AUTHORIZER) (keeps-then (authorizer s (d .constants) t) (λ p n. k-ok (withAuthor d p) n refl))
     (keeps-pick (eqb kind Kind.LICENSEES) (keeps-then (licensees s (d .constants) t) (λ l n. k-ok (withLicensees d l) n refl))
     (keeps-pick (eqb kind Kind.CONDITIONS) (keeps-then (readProgram s t) (λ p n. k-ok (withProgram d p) n refl))
     (keeps-pick (ending (t .kind)) (k-ok d t refl) (k-aside (refusal (t .kind)) (t .start)))))))
@@ -99,21 +100,21 @@ module _ {X R : Type 0} (μ : X → ℕ) (o o′ : X → R) (f : X → Step X R)
 abbrev left : State → ℕ
 left x = total (x .0 .free)
 
-on-field-falls : (d : Draft) (t : Token) (k : ℕ) → getD (d .free) k 0 ≡ 1 → {r : Parsed Draft} → Keeps (without (d .free) k) r → Falls left (d, t) (onField r)
+on-field-falls : (d : Sketch) (t : Token) (k : ℕ) → getD (d .free) k 0 ≡ 1 → {r : Parsed Sketch} → Keeps (without (d .free) k) r → Falls left (d, t) (onField r)
 on-field-falls d t k h (k-ok e n z) = f-next (e, n) (omega (arith, ap total z, without-less (d .free) k h))
 on-field-falls d t k h (k-aside r p) = f-done _
 
-turn-falls : (standing : ℕ) (s : List ℕ) (x : State) → Falls left x (turn standing s x)
-turn-falls standing s (d, t) =
+turn-falls : (s : List ℕ) (x : State) → Falls left x (turn s x)
+turn-falls s (d, t) =
     falls-pick (eqb (t .kind) Kind.END) (λ _. f-done _)
     (falls-pick (ending (t .kind))
     (λ _. falls-pick (eqb (getD (d .free) (t .kind) 0) 1)
     (λ e. falls-pick (eqb (t .kind) Kind.SIGNATURE) (λ _. f-done _)
-    (on-field-falls d t (t .kind) (eqb-true _ _ e) (field-keeps standing s (t .kind) (labelled d (t .kind)) _)))
+    (on-field-falls d t (t .kind) (eqb-true _ _ e) (field-keeps s (t .kind) (labelled d (t .kind)) _)))
     (f-done _))
     (f-done _))
 
--- whatever the loop over labels would give on that exit, `fieldsFrom` is the same: its "dropped 3" there stands for nothing
-pub fields-exit : (o : State → Read) (standing : ℕ) (s : List ℕ) (d : Draft) (t : Token) → fieldsFrom standing s d t ≡ loop left o (turn standing s) (d, t)
+-- whatever the loop over labels would give on that exit, `fieldsFrom` is the same: its "unformed 3" there stands for nothing
+pub fields-exit : (o : State → Form) (s : List ℕ) (d : Sketch) (t : Token) → fieldsFrom s d t ≡ loop left o (turn s) (d, t)
 unfolding fieldsFrom
-fields-exit o standing s d t = loop-exit left _ o (turn standing s) (turn-falls standing s) (d, t)
+fields-exit o s d t = loop-exit left _ o (turn s) (turn-falls s) (d, t)

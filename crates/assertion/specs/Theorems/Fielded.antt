@@ -14,7 +14,7 @@ use Rattle.lexical.specs.Kind
 use Rattle.lexical.specs.Line.{tokenAt}
 use Rattle.lexical.specs.declared.token.Token.{Token}
 use Rattle.principal.specs.Principal.{Principal}
-use Rattle.compliance.specs.Licensees.{Licensees}
+use Rattle.compliance.specs.Licensees as Compliance
 use Rattle.compliance.specs.Licensees.{licensees as licenseesOf}
 use Rattle.index.specs.Index.{enter, enterAll, Holds}
 use Rattle.index.specs.EnterLaws.{fresh, freshAll, enter-is, enter-all-is, enter-all-append, enter-member, enter-all-member}
@@ -31,30 +31,33 @@ use Rattle.judge.specs.Theorems.Judges.{Judging, judged-aside, judged-on, judge
 use Rattle.judge.specs.declared.Judged.{Judged}
 use Rattle.fields.specs.Parsed.{ending, ended}
 use Rattle.fields.specs.Constants.{constantsFrom}
-use Rattle.fields.specs.Authorizer.{authorizer}
-use Rattle.fields.specs.Licensees.{licensees}
+use Rattle.naming.specs.Source.{Author, Licensees}
+use Rattle.naming.specs.Authorizer.{authorizer}
+use Rattle.naming.specs.Licensees.{licensees}
 use Rattle.fields.specs.Working.Outs.{outOf, endedOut}
 use Rattle.fields.specs.Working.Setting.{Stored}
-use Rattle.fields.specs.Working.Authorizing.{Made}
-use Rattle.fields.specs.Working.List.{Ran as Listing}
+use Rattle.naming.specs.Working.Authorizing.{Made}
+use Rattle.naming.specs.Working.List.{Ran as Listing}
 use Rattle.fields.specs.Theorems.Together.{both, refusal-some}
 use Rattle.fields.specs.Theorems.Versioned.{VersionRead, version-aside, version-on, version-read}
 use Rattle.fields.specs.Theorems.Constanted.{ConstantsRead, constants-aside, constants-on, constants-read}
-use Rattle.fields.specs.Theorems.Authorized.{AuthorRead, author-aside, author-on, author-read}
-use Rattle.fields.specs.Theorems.Licensed.{LicenseesRead, licensees-aside, licensees-on, licensees-read}
-use Rattle.assertion.specs.Draft.{Draft, without, labelled, withConstants, withAuthorizer, withLicensees, withProgram}
-use Rattle.assertion.specs.Read.{field}
-use Rattle.assertion.specs.Working.Field.{Given, Tables, tabled, Moved, moved, knowing, authoredBy, licensedTo, rankedAt, passedOn, settledAs, madeAs, listedAs, onJudged, intoConstants, intoIndex, intoCode, known, constantsAt, authorizerAt, licenseesAt, conditionsAt, fieldAt}
+use Rattle.naming.specs.Theorems.Authorized.{authorNow, AuthorRead, author-aside, author-on, author-read}
+use Rattle.naming.specs.Theorems.Licensed.{LicenseesRead, licensees-aside, licensees-on, licensees-read}
+use Rattle.assertion.specs.Labels.{without}
+use Rattle.assertion.specs.Sketch.{Sketch, labelled, withConstants, withAuthor, withLicensees, withProgram}
+use Rattle.assertion.specs.Form.{field}
+use Rattle.naming.specs.Theorems.StandIn.{licensedNow}
+use Rattle.assertion.specs.Working.Field.{Given, Tables, tabled, Moved, moved, knowing, authoredBy, licensedTo, rankedAt, passedOn, settledAs, madeAs, listedAs, onJudged, intoConstants, intoIndex, intoCode, known, seen, constantsAt, authorizerAt, licenseesAt, conditionsAt, fieldAt}
 use Rattle.assertion.specs.declared.field.Partial.{Partial}
 use Rattle.assertion.specs.declared.field.Went.the-variants.{On, Aside}
-use Rattle.assertion.specs.Theorems.Left.{without-most, without-none, enter-all-length}
+use Rattle.assertion.specs.Theorems.Left.{without-most, without-none, enter-all-length, First, first-more}
 use Rattle.assertion.specs.Theorems.Ready.{Ready, After, worth}
 use Rattle.assertion.specs.Theorems.Held.{authored, Listed, listed, Indexed, author-more, listed-more, listed-less, listed-none, index-less, names-before, Front, Held, held-front, held-used, held-count}
 
 -- the same fault; or the same draft and token behind, as the tables hold it
-pub data FieldRead (q : Query) (g : Given) (top : ℕ) (x : Tables) (names : List Principal) (count end size : ℕ) (free : List ℕ) : Parsed Draft → Moved → Type 0 where
+pub data FieldRead (q : Query) (g : Given) (top : ℕ) (x : Tables) (names : List Principal) (count end size : ℕ) (free : List ℕ) : Parsed Sketch → Moved → Type 0 where
   field-aside : (r p : ℕ) (y : Tables) → (r ≡ 0 → ⊥) → Front g x names count end size y → FieldRead q g top x names count end size free (aside r p) (moved (Aside r p) y)
-  field-on : (d : Draft) (u : Partial) (n : Token) (y : Tables) → d .free ≡ free → Held q g top x names end size free d u n y
+  field-on : (d : Sketch) (u : Partial) (n : Token) (y : Tables) → d .free ≡ free → Held q g top x names end size free d u n y
       → FieldRead q g top x names count end size free (ok d n) (moved (On u n) y)
 
 -- the tables with some that are as long
@@ -100,14 +103,14 @@ all-behind : (names ps fs : List Principal) → enterAll names (ps ++ fs) ≡ en
 all-behind names ps fs = enter-all-append names ps fs ∙ enter-all-is (enterAll names ps) fs
 
 module _ {q : Query} {g : Given} {top : ℕ} {x : Tables} {names : List Principal} {count end size : ℕ} (ready : Ready q g x names count end size)
-    {free : List ℕ} {d : Draft} (de : d .free ≡ free) {u : Partial} {t : Token} {y : Tables} (held : Held q g top x names end size free d u t y) where
-  abbrev Reads : ℕ → Parsed Draft → Moved → Type 0
+    {free : List ℕ} {d : Sketch} (de : d .free ≡ free) {u : Partial} {t : Token} {y : Tables} (held : Held q g top x names end size free d u t y) where
+  abbrev Reads : ℕ → Parsed Sketch → Moved → Type 0
   Reads k = FieldRead q g top x names count end size (without free k)
 
   left : (k : ℕ) → without (d .free) k ≡ without free k
   left k = ap (λ (f : List ℕ). without f k) de
 
-  less : (k : ℕ) → Listed (enterAll names (held .ps)) (take size (x .code)) size (getD (without free k) Kind.LICENSEES 0) (y .code) (d .licensees) (u .licensed) (u .size)
+  less : (k : ℕ) → Listed (enterAll names (held .ps)) (take size (x .code)) size (getD (without free k) Kind.LICENSEES 0) (y .code) (licensedNow q (d .licensees)) (u .licensed) (u .size)
   less k = listed-less (without-most free k Kind.LICENSEES) (held .list)
 
   front : Front g x names count end size y
@@ -140,7 +143,9 @@ module _ {q : Query} {g : Given} {top : ℕ} {x : Tables} {names : List Principa
         constants = lie;
         index = index-less free k (held .index);
         author = held .author;
+        against = held .against;
         list = less k;
+        besides = held .besides;
         rank = held .rank;
       })
 
@@ -156,14 +161,15 @@ module _ {q : Query} {g : Given} {top : ℕ} {x : Tables} {names : List Principa
         room = omega (arith, held .index .room, one, without-none free Kind.AUTHORIZER, without-most free Kind.AUTHORIZER Kind.LICENSEES);
       }
 
-  author-field : (k : ℕ) → k ≡ Kind.AUTHORIZER → getD free Kind.AUTHORIZER 0 ≡ 1 → (p : Parsed Principal) (r : Made)
-      → AuthorRead (g .text) (y .pool) (y .places) (u .count) (u .end) (enterAll names (held .ps)) p r
-      → Reads k (andThen p (λ p n. ok (withAuthorizer (labelled d k) p) n)) (intoIndex y (madeAs u r))
+  author-field : (k : ℕ) → k ≡ Kind.AUTHORIZER → getD free Kind.AUTHORIZER 0 ≡ 1 → (p : Parsed Author) (r : Made)
+      → AuthorRead (g .standing) q (g .text) (y .pool) (y .places) (u .count) (u .end) (enterAll names (held .ps)) p r
+      → Reads k (andThen p (λ a n. ok (withAuthor (labelled d k) a) n)) (intoIndex y (madeAs u r))
   author-field k ke one _ _ (author-aside r p pool places h hp hl holds) =
       field-aside r p (tabled (y .consts) (y .constants) pool places (y .code)) h
       (record { after = after-code (held .after) pool places (y .code) hp hl refl; holds = names-before ready (held .ps) holds; code = front .code })
-  author-field k ke one _ _ (author-on p i c e n pool places sn ie holds low near hp hl) =
-      field-on (withAuthorizer (labelled d k) p) (authoredBy u i c e) n (tabled (y .consts) (y .constants) pool places (y .code)) (left k)
+  author-field k ke one _ _ (author-on a i c e f n pool places sn ie holds low near fe hp hl) =
+      let p : Principal = authorNow q a in
+      field-on (withAuthor (labelled d k) a) (authoredBy u i c e f) n (tabled (y .consts) (y .constants) pool places (y .code)) (left k)
       (record {
         ps = held .ps ++ (p ∷ []);
         after = after-code (held .after) pool places (y .code) hp hl refl;
@@ -171,13 +177,15 @@ module _ {q : Query} {g : Given} {top : ℕ} {x : Tables} {names : List Principa
         constants = held .constants;
         index = rw ke (author-index one p c e pool places holds low near);
         author = rw (entered-one names (held .ps) p) (authored p i ie (enter-member (enterAll names (held .ps)) p));
+        against = fe;
         list = rw (one-behind names (held .ps) p) (listed-more (enterAll names (held .ps)) (fresh (enterAll names (held .ps)) p) (less k));
+        besides = held .besides;
         rank = held .rank;
       })
 
   -- Licensees
   list-field : (k : ℕ) → k ≡ Kind.LICENSEES → getD free Kind.LICENSEES 0 ≡ 1 → (p : Parsed Licensees) (r : Listing)
-      → LicenseesRead (g .text) (y .pool) (y .places) (y .code) (u .count) (u .end) (u .size) (enterAll names (held .ps)) p r
+      → LicenseesRead q (g .text) (y .pool) (y .places) (y .code) (u .count) (u .end) (u .size) (enterAll names (held .ps)) p r
       → Reads k (andThen p (λ l n. ok (withLicensees (labelled d k) l) n)) (intoCode y (listedAs u r))
   list-field k ke one _ _ (licensees-aside r p pool places code h hp hl hm holds same) =
       let z : u .size ≡ size = listed-none one (held .list) in
@@ -187,11 +195,12 @@ module _ {q : Query} {g : Given} {top : ℕ} {x : Tables} {names : List Principa
         holds = names-before ready (held .ps) holds;
         code = (rw z at same) ∙ front .code;
       })
-  list-field k ke one _ _ (licensees-on f st n pool places code sn holds low near wrote ends most few formed some hp hl hm) =
+  list-field k ke one _ _ (licensees-on l st n pool places code sn holds low near wrote ends most few formed some fe hp hl hm) =
+      let f : Compliance.Licensees = licensedNow q l in
       let z : u .size ≡ size = listed-none one (held .list) in
       let e : enterAll names (held .ps ++ licenseesOf f) ≡ enterAll (enterAll names (held .ps)) (licenseesOf f) = enter-all-append names (held .ps) (licenseesOf f) in
-      let l : length (held .ps ++ licenseesOf f) ≡ length (held .ps) + length (licenseesOf f) = length-append (held .ps) (licenseesOf f) in
-      field-on (withLicensees (labelled d k) f) (licensedTo u st) n (tabled (y .consts) (y .constants) pool places code) (left k)
+      let b : length (held .ps ++ licenseesOf f) ≡ length (held .ps) + length (licenseesOf f) = length-append (held .ps) (licenseesOf f) in
+      field-on (withLicensees (labelled d k) l) (licensedTo u st) n (tabled (y .consts) (y .constants) pool places code) (left k)
       (record {
         ps = held .ps ++ licenseesOf f;
         after = after-code (held .after) pool places code hp hl hm;
@@ -204,8 +213,10 @@ module _ {q : Query} {g : Given} {top : ℕ} {x : Tables} {names : List Principa
           room = rw ke (omega (arith, held .index .room, one, few, without-none free Kind.LICENSEES, without-most free Kind.LICENSEES Kind.AUTHORIZER));
         };
         author = rw (all-behind names (held .ps) (licenseesOf f)) (author-more (enterAll names (held .ps)) (freshAll (enterAll names (held .ps)) (licenseesOf f)) (held .author));
+        against = held .against;
         list = rw e (listed f (st .size) (rw ke (without-none free Kind.LICENSEES)) ((rw (z, front .code) at wrote)) (rw z at ends) (rw z at most)
             (enter-all-member (enterAll names (held .ps)) (licenseesOf f)) formed few);
+        besides = fe;
         rank = held .rank;
       })
 
@@ -229,7 +240,9 @@ module _ {q : Query} {g : Given} {top : ℕ} {x : Tables} {names : List Principa
         constants = held .constants;
         index = index-less free k (held .index);
         author = held .author;
+        against = held .against;
         list = less k;
+        besides = held .besides;
         rank = refl;
       })
 
@@ -254,11 +267,12 @@ module _ {q : Query} {g : Given} {top : ℕ} {x : Tables} {names : List Principa
       (omega (arith, held .after .constants, ready .constants-room)) (omega (arith, held .after .consts, ready .consts-room, ready .short)))
 
   author-here : (k : ℕ) → k ≡ Kind.AUTHORIZER → getD free Kind.AUTHORIZER 0 ≡ 1 → (n : Token) → Stood (g .text) n
-      → Reads k (andThen (authorizer (g .text) (g .standing) (d .constants) n) (λ p n. ok (withAuthorizer (labelled d k) p) n)) (authorizerAt g y u n)
+      → Reads k (andThen (authorizer (g .text) (d .constants) n) (λ a n. ok (withAuthor (labelled d k) a) n)) (authorizerAt g y u n)
   unfolding authorizerAt
   author-here k ke one n sn =
-      author-field k ke one _ _ (author-read (g .text) (g .standing) (y .consts) (known u y) (y .pool) (y .places) (u .count) (u .end) (d .constants) (enterAll names (held .ps)) n
-      (held .constants) sn (held .index .holds) (held .index .low)
+      let f : First (enterAll names (held .ps)) = first-more names (held .ps) (ready .first) in
+      author-field k ke one _ _ (author-read q (d .constants) shown (g .standing) (g .text) (ready .short) (y .pool) (y .places) (u .count) (u .end) (enterAll names (held .ps)) n
+      sn (held .index .holds) (f .known) (f .at) (held .index .low)
       (omega (arith, held .index .holds .counted, enter-all-length names (held .ps), held .index .room, one, ready .numbers))
       (omega (arith, held-count ready held, held .index .room, one, ready .places-room, held .after .places))
       (omega (arith, held .index .near, held .index .room, one, ready .pool-room, held .after .pool)))
@@ -267,8 +281,9 @@ module _ {q : Query} {g : Given} {top : ℕ} {x : Tables} {names : List Principa
       → Reads k (andThen (licensees (g .text) (d .constants) n) (λ l n. ok (withLicensees (labelled d k) l) n)) (licenseesAt g y u n)
   unfolding licenseesAt
   list-here k ke one n sn =
-      list-field k ke one _ _ (licensees-read (g .text) (y .consts) (known u y) (y .pool) (y .places) (y .code) (u .count) (u .end) (u .size) (d .constants) (enterAll names (held .ps)) n
-      (held .constants) sn (held .index .holds) (held .index .low)
+      let f : First (enterAll names (held .ps)) = first-more names (held .ps) (ready .first) in
+      list-field k ke one _ _ (licensees-read q (d .constants) shown (g .text) (ready .short) (y .pool) (y .places) (y .code) (u .count) (u .end) (u .size) (enterAll names (held .ps)) n
+      sn (held .index .holds) (f .known) (f .at) (held .index .low)
       (omega (arith, held-count ready held, held .index .room, one, ready .places-room, held .after .places))
       (omega (arith, enter-all-length names (held .ps), held .index .room, one, ready .numbers))
       (omega (arith, held .index .near, held .index .room, one, ready .pool-room, held .after .pool))
@@ -279,7 +294,7 @@ module _ {q : Query} {g : Given} {top : ℕ} {x : Tables} {names : List Principa
 
   -- the field whose label is of that kind
   field-from : (k at : ℕ) → eqb (getD free k 0) 1 ≡ true → (n : Token) → n ≡ tokenAt (g .text) (Kind.opened k) at → Stood (g .text) n
-      → Reads k (field (g .standing) (g .text) k (labelled d k) n) (fieldAt g k y u n)
+      → Reads k (field (g .text) k (labelled d k) n) (fieldAt g k y u n)
   unfolding field fieldAt
   field-from k at one n ne sn =
       both (Reads k) (eqb k Kind.KEYNOTE-VERSION) _ _ _ _ (λ f. version-field k _ (version-read (g .text) n))
@@ -289,6 +304,6 @@ module _ {q : Query} {g : Given} {top : ℕ} {x : Tables} {names : List Principa
       (λ j. both (Reads k) (eqb k Kind.CONDITIONS) _ _ _ _ (λ l. rw ne (conditions-here k (eqb-true _ _ l) at)) (λ l. comment-field k n sn)))))
 
   pub field-read : (k at : ℕ) → eqb (getD free k 0) 1 ≡ true
-      → FieldRead q g top x names count end size (without free k) (field (g .standing) (g .text) k (labelled d k) (tokenAt (g .text) (Kind.opened k) at))
+      → FieldRead q g top x names count end size (without free k) (field (g .text) k (labelled d k) (tokenAt (g .text) (Kind.opened k) at))
       (fieldAt g k y u (tokenAt (g .text) (Kind.opened k) at))
   field-read k at one = field-from k at one (tokenAt (g .text) (Kind.opened k) at) refl (stood-at (g .text) (Kind.opened k) at)

@@ -21,7 +21,14 @@ use Rattle.index.specs.Index.{enterAll, Holds}
 use Rattle.index.specs.EnterLaws.{freshAll, enter-all-is}
 use Rattle.syntax.specs.Stood.{Stood}
 use Rattle.fields.specs.Theorems.Identified.{holds-before}
-use Rattle.assertion.specs.Draft.{Draft, without, labelled}
+use Rattle.naming.specs.Source.{Author}
+use Rattle.naming.specs.Fault.{licenseesFault}
+use Rattle.naming.specs.Working.Faults.{meant}
+use Rattle.assertion.specs.Labels.{without}
+use Rattle.assertion.specs.Sketch.{Sketch, labelled}
+use Rattle.assertion.specs.Working.StandIn.{enteredBy}
+use Rattle.naming.specs.Theorems.StandIn.{licensedNow}
+use Rattle.assertion.specs.Working.OnePass.{againstOf}
 use Rattle.assertion.specs.Working.Field.{Given, Tables}
 use Rattle.assertion.specs.declared.field.Partial.{Partial}
 use Rattle.assertion.specs.Theorems.Left.{without-most, enter-all-length}
@@ -92,15 +99,17 @@ pub record Front (g : Given) (x : Tables) (names : List Principal) (count end si
   pub holds : Holds (y .pool) (y .places) count end names
   pub code : take size (y .code) ≡ take size (x .code)
 
--- the draft d is what u and the tables y say, and t is the token behind
-pub record Held (q : Query) (g : Given) (top : ℕ) (x : Tables) (names : List Principal) (end size : ℕ) (free : List ℕ) (d : Draft) (u : Partial) (t : Token) (y : Tables) : Type 0 where
+-- the sketch d is what u and the tables y say, POLICY standing in for nobody, and t is the token behind
+pub record Held (q : Query) (g : Given) (top : ℕ) (x : Tables) (names : List Principal) (end size : ℕ) (free : List ℕ) (d : Sketch) (u : Partial) (t : Token) (y : Tables) : Type 0 where
   pub ps : List Principal
   pub after : After g x y
   pub stood : Stood (g .text) t
   pub constants : Lie (AttributeAt (y .consts)) (take (u .known) (y .constants)) (d .constants)
   pub index : Indexed names end free ps (u .count) (u .end) (y .pool) (y .places)
-  pub author : Authored (enterAll names ps) (d .authorizer) (u .authored) (u .author)
-  pub list : Listed (enterAll names ps) (take size (x .code)) size (getD free Kind.LICENSEES 0) (y .code) (d .licensees) (u .licensed) (u .size)
+  pub author : Authored (enterAll names ps) (enteredBy q (d .author)) (u .authored) (u .author)
+  pub against : meant (u .against) ≡ againstOf q (g .standing) (d .author)
+  pub list : Listed (enterAll names ps) (take size (x .code)) size (getD free Kind.LICENSEES 0) (y .code) (licensedNow q (d .licensees)) (u .licensed) (u .size)
+  pub besides : meant (u .besides) ≡ licenseesFault q (d .licensees)
   pub rank : u .rank ≡ worth top q (d .conditions)
 
 -- an index with more principals holds the names
@@ -109,7 +118,7 @@ pub names-before : {q : Query} {g : Given} {x : Tables} {names : List Principal}
 names-before {names = names} ready ps holds = holds-before names (freshAll names ps) (ready .holds) (rw (enter-all-is names ps) at holds)
 
 module _ {q : Query} {g : Given} {top : ℕ} {x : Tables} {names : List Principal} {count end size : ℕ} (ready : Ready q g x names count end size)
-    {free : List ℕ} {d : Draft} {u : Partial} {t : Token} {y : Tables} (held : Held q g top x names end size free d u t y) where
+    {free : List ℕ} {d : Sketch} {u : Partial} {t : Token} {y : Tables} (held : Held q g top x names end size free d u t y) where
   pub held-front : Front g x names count end size y
   held-front = record {
     after = held .after;
@@ -126,7 +135,9 @@ module _ {q : Query} {g : Given} {top : ℕ} {x : Tables} {names : List Principa
     constants = held .constants;
     index = index-less free k (held .index);
     author = held .author;
+    against = held .against;
     list = listed-less (without-most free k Kind.LICENSEES) (held .list);
+    besides = held .besides;
     rank = held .rank;
   }
 

@@ -21,8 +21,9 @@ use Rattle.assertion.specs.Read.{Read, kept, dropped}
 use Rattle.assertion.specs.Working.Field.{Given, Tables}
 use Rattle.assertion.specs.Working.Reading.{Result, readBy}
 use Rattle.assertion.specs.declared.Reading.the-variants.{Kept, Dropped}
+use Rattle.assertion.specs.Theorems.Left.{First}
 
--- the query's record is at hand, the index holds the names, and there is room for one assertion more
+-- the query's record is at hand, the index holds the names, POLICY first, and there is room for one assertion more
 pub record Ready (q : Query) (g : Given) (x : Tables) (names : List Principal) (count end size : ℕ) : Type 0 where
   pub short : length (g .text) ≤ mostText
   pub values : Lie (StringAt (g .query)) (g .values) (q .values)
@@ -38,6 +39,7 @@ pub record Ready (q : Query) (g : Given) (x : Tables) (names : List Principal) (
   pub places-room : count + mostNamed ≤ length (x .places)
   pub pool-room : end + mostEntered ≤ length (x .pool)
   pub numbers : length names + mostNamed ≤ mostNumbers
+  pub first : First names
   pub code-room : size + mostCode ≤ length (x .code)
 
 -- the tables after an assertion: as long as before, and the two joined texts stand

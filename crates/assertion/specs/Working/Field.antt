@@ -13,15 +13,17 @@ use Rattle.judge.specs.declared.Judged.the-variants.{On as Ranked, Aside as Unr
 use Rattle.fields.specs.Version.{version}
 use Rattle.fields.specs.Working.Outs.{outOf, endedOut}
 use Rattle.fields.specs.Working.Setting.{Stored, stored, constantsIn}
-use Rattle.fields.specs.Working.Authorizing.{Made, made, authorizerIn}
-use Rattle.fields.specs.Working.List.{Ran, ran}
-use Rattle.fields.specs.Working.Chain.{fieldIn}
+use Rattle.naming.specs.Working.Identifying.{Sight, sight}
+use Rattle.naming.specs.Working.Authorizing.{Made, made, authorizerIn}
+use Rattle.naming.specs.Working.List.{Ran, ran}
+use Rattle.naming.specs.Working.Chain.{fieldIn}
 use Rattle.fields.specs.declared.out.Out.{Out}
 use Rattle.fields.specs.declared.out.Out.the-variants.{On as Passed, Aside as Refused}
 use Rattle.fields.specs.declared.constants.Settings.the-variants.{On as Set, Aside as Unset}
-use Rattle.fields.specs.declared.authorizer.Author.the-variants.{On as Authored, Aside as Unauthored}
-use Rattle.fields.specs.declared.list.State.{State}
-use Rattle.fields.specs.declared.list.Licensed.the-variants.{On as Listed, Aside as Unlisted}
+use Rattle.naming.specs.declared.fault.Fault.{Fault}
+use Rattle.naming.specs.declared.authorizer.Author.the-variants.{On as Authored, Aside as Unauthored}
+use Rattle.naming.specs.declared.list.State.{State}
+use Rattle.naming.specs.declared.list.Licensed.the-variants.{On as Listed, Aside as Unlisted}
 use Rattle.assertion.specs.declared.field.Partial.{Partial}
 use Rattle.assertion.specs.declared.field.Went.{Went}
 use Rattle.assertion.specs.declared.field.Went.the-variants.{On, Aside}
@@ -62,16 +64,17 @@ pub data Moved : Type 0 where
 
 -- what is read so far with one field more
 abbrev pub knowing : Partial → ℕ → Partial
-knowing d n = record { authored = d .authored; author = d .author; licensed = d .licensed; rank = d .rank; known = n; count = d .count; end = d .end; size = d .size }
+knowing d n = record { authored = d .authored; author = d .author; licensed = d .licensed; rank = d .rank; known = n; count = d .count; end = d .end; size = d .size; against = d .against; besides = d .besides }
 
-abbrev pub authoredBy : Partial → ℕ → ℕ → ℕ → Partial
-authoredBy d i c e = record { authored = true; author = i; licensed = d .licensed; rank = d .rank; known = d .known; count = c; end = e; size = d .size }
+abbrev pub authoredBy : Partial → ℕ → ℕ → ℕ → Fault → Partial
+authoredBy d i c e f =
+    record { authored = true; author = i; licensed = d .licensed; rank = d .rank; known = d .known; count = c; end = e; size = d .size; against = f; besides = d .besides }
 
 abbrev pub licensedTo : Partial → State → Partial
-licensedTo d u = record { authored = d .authored; author = d .author; licensed = true; rank = d .rank; known = d .known; count = u .count; end = u .end; size = u .size }
+licensedTo d u = record { authored = d .authored; author = d .author; licensed = true; rank = d .rank; known = d .known; count = u .count; end = u .end; size = u .size; against = d .against; besides = u .fault }
 
 abbrev pub rankedAt : Partial → ℕ → Partial
-rankedAt d k = record { authored = d .authored; author = d .author; licensed = d .licensed; rank = k; known = d .known; count = d .count; end = d .end; size = d .size }
+rankedAt d k = record { authored = d .authored; author = d .author; licensed = d .licensed; rank = k; known = d .known; count = d .count; end = d .end; size = d .size; against = d .against; besides = d .besides }
 
 -- a field that says nothing to the tables
 abbrev pub passedOn : Partial → Out → Went
@@ -90,7 +93,7 @@ settledAs d (stored (Set n e t) c q) = settled (On (knowing d n) t) c q
 settledAs d (stored (Unset r p) c q) = settled (Aside r p) c q
 
 abbrev pub madeAs : Partial → Made → Settled
-madeAs d (made (Authored i c e t) p l) = settled (On (authoredBy d i c e) t) p l
+madeAs d (made (Authored i c e f t) p l) = settled (On (authoredBy d i c e f) t) p l
 madeAs d (made (Unauthored r a) p l) = settled (Aside r a) p l
 
 abbrev pub listedAs : Partial → Ran → Listing
@@ -115,16 +118,20 @@ onJudged d (Unranked r p) = Aside r p
 abbrev pub known : Partial → Tables → List ℕ
 known d x = take (d .known) (x .constants)
 
+-- where names are looked up
+abbrev pub seen : Given → Tables → Partial → Sight
+seen g x d = sight (g .query) (x .consts) (g .values) (g .names) (known d x)
+
 unfoldable pub constantsAt : Given → Tables → Partial → Token → Moved
 constantsAt g x d t = intoConstants x (settledAs d (constantsIn (g .text) (x .consts) (x .constants) 0 (g .start) t))
 
 unfoldable pub authorizerAt : Given → Tables → Partial → Token → Moved
 authorizerAt g x d t =
-    intoIndex x (madeAs d (authorizerIn (g .text) (g .standing) (x .consts) (known d x) (x .pool) (x .places) (d .count) (d .end) t))
+    intoIndex x (madeAs d (authorizerIn (g .text) (g .standing) (seen g x d) (x .pool) (x .places) (d .count) (d .end) t))
 
 unfoldable pub licenseesAt : Given → Tables → Partial → Token → Moved
 licenseesAt g x d t =
-    intoCode x (listedAs d (fieldIn (g .text) (x .consts) (known d x) (x .pool) (x .places) (x .code) (d .count) (d .end) (d .size) t))
+    intoCode x (listedAs d (fieldIn (g .text) (seen g x d) (x .pool) (x .places) (x .code) (d .count) (d .end) (d .size) t))
 
 abbrev pub judgedBy : Given → Tables → Partial → Token → Judged
 judgedBy g x d t = judgedHere (g .text) t (g .query) (x .consts) (g .values) (g .names) (known d x)

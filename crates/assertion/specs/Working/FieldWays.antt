@@ -17,19 +17,21 @@ use Rattle.judge.specs.declared.Judged.the-variants.{On as Ranked, Aside as Unr
 use Rattle.fields.specs.Version.{version}
 use Rattle.fields.specs.Working.Outs.{outOf, endedOut}
 use Rattle.fields.specs.Working.Setting.{Stored, stored, constantsIn}
-use Rattle.fields.specs.Working.Authorizing.{Made, made, authorizerIn}
-use Rattle.fields.specs.Working.List.{Ran, ran}
-use Rattle.fields.specs.Working.Chain.{fieldIn}
+use Rattle.naming.specs.Working.Identifying.{Sight, sight}
+use Rattle.naming.specs.Working.Authorizing.{Made, made, authorizerIn}
+use Rattle.naming.specs.Working.List.{Ran, ran}
+use Rattle.naming.specs.Working.Chain.{fieldIn}
+use Rattle.naming.specs.declared.fault.Fault.{Fault}
 use Rattle.fields.specs.declared.out.Out.{Out}
 use Rattle.fields.specs.declared.out.Out.the-variants.{On as Passed, Aside as Refused}
 use Rattle.fields.specs.declared.constants.Settings.{Settings}
 use Rattle.fields.specs.declared.constants.Settings.the-variants.{On as Set, Aside as Unset}
-use Rattle.fields.specs.declared.authorizer.Author.{Author}
-use Rattle.fields.specs.declared.authorizer.Author.the-variants.{On as Authored, Aside as Unauthored}
-use Rattle.fields.specs.declared.list.State.{State}
-use Rattle.fields.specs.declared.list.Licensed.{Licensed}
-use Rattle.fields.specs.declared.list.Licensed.the-variants.{On as Listed, Aside as Unlisted}
-use Rattle.assertion.specs.Draft.{without}
+use Rattle.naming.specs.declared.authorizer.Author.{Author}
+use Rattle.naming.specs.declared.authorizer.Author.the-variants.{On as Authored, Aside as Unauthored}
+use Rattle.naming.specs.declared.list.State.{State}
+use Rattle.naming.specs.declared.list.Licensed.{Licensed}
+use Rattle.naming.specs.declared.list.Licensed.the-variants.{On as Listed, Aside as Unlisted}
+use Rattle.assertion.specs.Labels.{without}
 use Rattle.assertion.specs.Working.Field.{Given, given, Tables, tabled, Moved, moved, knowing, authoredBy, licensedTo, rankedAt, passedOn, Settled, settled, settledAs, madeAs, Listing, listed, listedAs, onJudged, constantsAt, authorizerAt, licenseesAt, conditionsAt, fieldAt}
 use Rattle.assertion.specs.declared.field.Partial.{Partial}
 use Rattle.assertion.specs.declared.field.Went.{Went}
@@ -70,22 +72,22 @@ module _ (d : Partial) (x : Stored) (r : Settings) (c q : List ℕ) (e : stored 
   settings-not a p k = rw (← e, k)
 
 -- `authorizer_field`
-module _ (d : Partial) (s : List ℕ) (standing : ℕ) (consts constants known pool places : List ℕ) (t : Token) (ke : known ≡ take (d .known) constants)
-    (r : Author) (p l : List ℕ) (e : made r p l ≡ authorizerIn s standing consts known pool places (d .count) (d .end) t) where
+module _ (d : Partial) (s : List ℕ) (standing : ℕ) (query consts values names constants known pool places : List ℕ) (t : Token) (ke : known ≡ take (d .known) constants)
+    (r : Author) (p l : List ℕ) (e : made r p l ≡ authorizerIn s standing (sight query consts values names known) pool places (d .count) (d .end) t) where
   abbrev meant : Settled
-  meant = madeAs d (authorizerIn s standing consts (take (d .known) constants) pool places (d .count) (d .end) t)
+  meant = madeAs d (authorizerIn s standing (sight query consts values names (take (d .known) constants)) pool places (d .count) (d .end) t)
 
-  pub author-on : (i c m : ℕ) (n : Token) → r ≡ Authored i c m n → settled (On (authoredBy d i c m) n) p l ≡ meant
-  author-on i c m n k = rw (← ke, ← e, k)
+  pub author-on : (i c m : ℕ) (f : Fault) (n : Token) → r ≡ Authored i c m f n → settled (On (authoredBy d i c m f) n) p l ≡ meant
+  author-on i c m f n k = rw (← ke, ← e, k)
 
   pub author-not : (a b : ℕ) → r ≡ Unauthored a b → settled (Aside a b) p l ≡ meant
   author-not a b k = rw (← ke, ← e, k)
 
 -- `licensees_field`
-module _ (d : Partial) (s consts constants known pool places code : List ℕ) (t : Token) (ke : known ≡ take (d .known) constants)
-    (r : Licensed) (p l m : List ℕ) (e : ran r p l m ≡ fieldIn s consts known pool places code (d .count) (d .end) (d .size) t) where
+module _ (d : Partial) (s query consts values names constants known pool places code : List ℕ) (t : Token) (ke : known ≡ take (d .known) constants)
+    (r : Licensed) (p l m : List ℕ) (e : ran r p l m ≡ fieldIn s (sight query consts values names known) pool places code (d .count) (d .end) (d .size) t) where
   abbrev listing : Listing
-  listing = listedAs d (fieldIn s consts (take (d .known) constants) pool places code (d .count) (d .end) (d .size) t)
+  listing = listedAs d (fieldIn s (sight query consts values names (take (d .known) constants)) pool places code (d .count) (d .end) (d .size) t)
 
   pub listed-on : (u : State) (n : Token) → r ≡ Listed u n → listed (On (licensedTo d u) n) p l m ≡ listing
   listed-on u n k = rw (← ke, ← e, k)
@@ -125,14 +127,14 @@ module _ (s : List ℕ) (standing : ℕ) (query values names : List ℕ) (start 
 
     module _ (n5 : k ≡ Kind.LOCAL-CONSTANTS → ⊥) where
       pub field-authorizer : (r : Went) (p l : List ℕ) → k ≡ Kind.AUTHORIZER
-          → settled r p l ≡ madeAs d (authorizerIn s standing consts (take (d .known) constants) pool places (d .count) (d .end) t)
+          → settled r p l ≡ madeAs d (authorizerIn s standing (sight query consts values names (take (d .known) constants)) pool places (d .count) (d .end) t)
           → moved r (tabled consts constants p l code) ≡ fieldAt g k x d t
       unfolding fieldAt authorizerAt
       field-authorizer r p l h e = rw (h, ← e)
 
       module _ (n6 : k ≡ Kind.AUTHORIZER → ⊥) where
         pub field-licensees : (r : Went) (p l m : List ℕ) → k ≡ Kind.LICENSEES
-            → listed r p l m ≡ listedAs d (fieldIn s consts (take (d .known) constants) pool places code (d .count) (d .end) (d .size) t)
+            → listed r p l m ≡ listedAs d (fieldIn s (sight query consts values names (take (d .known) constants)) pool places code (d .count) (d .end) (d .size) t)
             → moved r (tabled consts constants p l m) ≡ fieldAt g k x d t
         unfolding fieldAt licenseesAt
         field-licensees r p l m h e = rw (h, ← e)

@@ -17,7 +17,9 @@ use Rattle.fields.specs.Working.Outs.{outOf}
 use Rattle.fields.specs.Working.List.{above, pushed}
 use Rattle.fields.specs.declared.out.Out.{Out}
 use Rattle.fields.specs.declared.out.Out.the-variants.{On as Passed, Aside as Refused}
-use Rattle.assertion.specs.Draft.{labels, without, total}
+use Rattle.naming.specs.Working.Faults.{clearAt, firstOf}
+use Rattle.naming.specs.declared.fault.Fault.{Fault}
+use Rattle.assertion.specs.Labels.{labels, without, total}
 use Rattle.assertion.specs.Read.{first}
 use Rattle.assertion.specs.Working.Field.{Given, Tables, tabled, Moved, moved, fieldAt}
 use Rattle.assertion.specs.declared.Reading.{Reading}
@@ -40,8 +42,12 @@ unfoldable pub keptIn : List ℕ → Partial → Finished
 keptIn code d =
     pick (d .licensed) (finishedBy (keptAt d (d .size)) code) (finishedBy (keptAt d (above code (d .size))) (pushed code (d .size) topCode))
 
+-- what is against the identifiers sets the text aside
+abbrev pub faultedIn : List ℕ → Partial → Fault → Finished
+faultedIn code d f = pick (eqb (f .reason) 0) (keptIn code d) (finishedBy (Dropped (f .reason) (f .place)) code)
+
 unfoldable pub finishedIn : List ℕ → Partial → ℕ → Finished
-finishedIn code d end = pick (d .authored) (keptIn code d) (finishedBy (Dropped 3 end) code)
+finishedIn code d end = pick (d .authored) (faultedIn code d (firstOf (d .against) (d .besides))) (finishedBy (Dropped 3 end) code)
 
 abbrev pub onSigned : List ℕ → Partial → Out → Finished
 onSigned code d (Passed t) = finishedIn code d (t .end)
@@ -80,8 +86,11 @@ unfoldable pub fieldsIn : Given → List ℕ → Tables → Partial → Token �
 fieldsIn g free x d t = loop (λ y. total (y .0)) (λ y. readBy (Dropped 3 (y .2 .start)) (y .3)) (fieldsTurn g) (free, d, t, x)
 
 -- nothing read: the rank of missing Conditions, and the ends of the index and of the code
+abbrev pub begun : ℕ → ℕ → ℕ → ℕ → Fault → Fault → Partial
+begun top count end size a b = record { authored = false; author = 0; licensed = false; rank = top; known = 0; count = count; end = end; size = size; against = a; besides = b }
+
 abbrev pub fresh : ℕ → ℕ → ℕ → ℕ → Partial
-fresh top count end size = record { authored = false; author = 0; licensed = false; rank = top; known = 0; count = count; end = end; size = size }
+fresh top count end size = begun top count end size clearAt clearAt
 
 unfoldable pub readIn : Given → ℕ → Tables → ℕ → ℕ → ℕ → Result
 readIn g top x count end size =

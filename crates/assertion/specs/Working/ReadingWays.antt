@@ -21,10 +21,12 @@ use Rattle.fields.specs.Working.Outs.{outOf}
 use Rattle.fields.specs.Working.List.{above, pushed}
 use Rattle.fields.specs.declared.out.Out.{Out}
 use Rattle.fields.specs.declared.out.Out.the-variants.{On as Passed, Aside as Refused}
-use Rattle.assertion.specs.Draft.{labels, without, total}
+use Rattle.assertion.specs.Labels.{labels, without, total}
 use Rattle.assertion.specs.Read.{first}
 use Rattle.assertion.specs.Working.Field.{Given, given, Tables, tabled, Moved, moved, fieldAt}
-use Rattle.assertion.specs.Working.Reading.{Finished, finishedBy, Result, readBy, keptAt, keptIn, finishedIn, signedIn, lastAt, lastIn, fieldsIn, fresh, readIn}
+use Rattle.naming.specs.Working.Faults.{clearAt, firstOf}
+use Rattle.naming.specs.declared.fault.Fault.{Fault}
+use Rattle.assertion.specs.Working.Reading.{Finished, finishedBy, Result, readBy, keptAt, keptIn, finishedIn, signedIn, lastAt, lastIn, fieldsIn, begun, readIn}
 use Rattle.assertion.specs.declared.Reading.{Reading}
 use Rattle.assertion.specs.declared.Reading.the-variants.{Kept, Dropped}
 use Rattle.assertion.specs.declared.field.Partial.{Partial}
@@ -41,9 +43,14 @@ module _ (code : List ℕ) (d : Partial) where
   unfolding keptIn
   kept-missing k z m ze me = rw (k, ze, me)
 
-  pub finished-kept : (end : ℕ) (r : Finished) → d .authored ≡ true → r ≡ keptIn code d → r ≡ finishedIn code d end
-  unfolding finishedIn
-  finished-kept end r h e = e ∙ rw h
+  module _ (end : ℕ) (h : d .authored ≡ true) (f : Fault) (fe : f ≡ firstOf (d .against) (d .besides)) where
+    pub finished-faulty : (f .reason ≡ 0 → ⊥) → finishedBy (Dropped (f .reason) (f .place)) code ≡ finishedIn code d end
+    unfolding finishedIn
+    finished-faulty n = rw (h, ← fe, ne-eqb _ _ n)
+
+    pub finished-kept : f .reason ≡ 0 → (r : Finished) → r ≡ keptIn code d → r ≡ finishedIn code d end
+    unfolding finishedIn
+    finished-kept z r e = e ∙ rw (h, ← fe, eq-eqb _ _ z)
 
   pub finished-none : (end : ℕ) → d .authored ≡ false → finishedBy (Dropped 3 end) code ≡ finishedIn code d end
   unfolding finishedIn
@@ -170,7 +177,7 @@ module _ (g : Given) (top : ℕ) (x : Tables) (count end size : ℕ) where
   unfolding readIn
   read-unverified h = rw h
 
-  pub read-on : (g .standing ≡ 0 → ⊥) → (t : Token) → t ≡ tokenAt (g .text) Kind.BEFORE 0 → (r : Result) → r ≡ fieldsIn g labels x (fresh top count end size) t
-      → r ≡ readIn g top x count end size
+  pub read-on : (g .standing ≡ 0 → ⊥) → (t : Token) → t ≡ tokenAt (g .text) Kind.BEFORE 0 → (a b : Fault) → a ≡ clearAt → b ≡ clearAt → (r : Result)
+      → r ≡ fieldsIn g labels x (begun top count end size a b) t → r ≡ readIn g top x count end size
   unfolding readIn
-  read-on h t te r e = e ∙ rw (te, ne-eqb _ _ h)
+  read-on h t te a b ae be r e = e ∙ rw (te, ae, be, ne-eqb _ _ h)

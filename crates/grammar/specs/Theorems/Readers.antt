@@ -18,6 +18,12 @@ use Rattle.grammar.specs.Theorems.Licensing.{licensees-judged}
 use Rattle.grammar.specs.Working.Places.{licensees-whole}
 use Rattle.grammar.specs.Theorems.Conditioning.{conditions-judged, conditions-whole}
 use Rattle.grammar.specs.Conditions.{Conditions}
+use Rattle.naming.specs.Authorizer as Author
+use Rattle.naming.specs.Licensees as Names
+use Rattle.grammar.specs.Naming as New
+use Rattle.grammar.specs.Theorems.Authoring.{author-judged, author-whole}
+use Rattle.grammar.specs.Theorems.Naming.{names-judged}
+use Rattle.grammar.specs.Working.Principals.{names-whole}
 use Rattle.grammar.specs.Spelled.{kindIn}
 use Rattle.grammar.specs.Theorems.Exactly.{Refused, exactly, Passed, complete}
 
@@ -70,3 +76,29 @@ module _ (s : List ℕ) (at : ℕ) (n : Token) (ks : List ℕ) where
   pub conditions-complete : KindsBy (kindIn s) s Kind.IN-FIELD first ks n → Conditions (ks ++ kindIn s n ∷ [])
       → Passed (kindIn s) Conditions conditions-whole s Kind.IN-FIELD first n (readProgram s first)
   conditions-complete p g = complete (kindIn s) Conditions conditions-whole s Kind.IN-FIELD first (readProgram s first) (conditions-judged s at) n ks p g
+
+-- Authorizer and Licensees with string expressions, whose tokens are of the same kinds
+module _ (s : List ℕ) (constants : List Attribute) (at : ℕ) (n : Token) (ks : List ℕ) where
+  abbrev author-first : Token
+  author-first = tokenAt s Kind.IN-FIELD at
+
+  abbrev names-first : Token
+  names-first = tokenAt s Kind.IN-LICENSEES at
+
+  pub author-exactly : KindsBy (kindIn s) s Kind.IN-FIELD author-first ks n → Open (Field New.Author) ks → (Viable (Field New.Author) (ks ++ kindIn s n ∷ []) → ⊥)
+      → Refused (kindIn s) (Field New.Author) author-whole s Kind.IN-FIELD author-first n (Author.authorizer s constants author-first)
+  author-exactly p o nv =
+      exactly (kindIn s) (Field New.Author) author-whole s Kind.IN-FIELD author-first (Author.authorizer s constants author-first) (author-judged s constants at) n ks p o nv
+
+  pub author-complete : KindsBy (kindIn s) s Kind.IN-FIELD author-first ks n → Field New.Author (ks ++ kindIn s n ∷ [])
+      → Passed (kindIn s) (Field New.Author) author-whole s Kind.IN-FIELD author-first n (Author.authorizer s constants author-first)
+  author-complete p g = complete (kindIn s) (Field New.Author) author-whole s Kind.IN-FIELD author-first (Author.authorizer s constants author-first) (author-judged s constants at) n ks p g
+
+  pub names-exactly : KindsBy (kindIn s) s Kind.IN-LICENSEES names-first ks n → Open (Field New.Licensees) ks → (Viable (Field New.Licensees) (ks ++ kindIn s n ∷ []) → ⊥)
+      → Refused (kindIn s) (Field New.Licensees) names-whole s Kind.IN-LICENSEES names-first n (Names.licensees s constants names-first)
+  names-exactly p o nv =
+      exactly (kindIn s) (Field New.Licensees) names-whole s Kind.IN-LICENSEES names-first (Names.licensees s constants names-first) (names-judged s constants at) n ks p o nv
+
+  pub names-complete : KindsBy (kindIn s) s Kind.IN-LICENSEES names-first ks n → Field New.Licensees (ks ++ kindIn s n ∷ [])
+      → Passed (kindIn s) (Field New.Licensees) names-whole s Kind.IN-LICENSEES names-first n (Names.licensees s constants names-first)
+  names-complete p g = complete (kindIn s) (Field New.Licensees) names-whole s Kind.IN-LICENSEES names-first (Names.licensees s constants names-first) (names-judged s constants at) n ks p g

@@ -20,6 +20,8 @@ use Rattle.lexical.specs.Operator.{equalPair, pairOf, markKind, isOf, operatorK
 use Rattle.lexical.specs.Token.{endOf, operatorAt, operatorToken, literalToken, floatEnd, numberToken, tokenFrom}
 use Rattle.lexical.specs.Line.{restOfLine, visible, inLine, blankTo, indented, lineAt, lineTurn, linesFrom, tokenAt}
 use Rattle.lexical.specs.declared.token.Token.{Token}
+use Rattle.syntax.specs.Stood.{stood-at}
+use Rattle.naming.specs.Theorems.Says.{stood-sound}
 use Rattle.conditions.specs.Word.{nextAt}
 use Rattle.conditions.specs.Working.Pace.{next-sound}
 use Rattle.grammar.specs.Conditions.{TRUTH}
@@ -134,6 +136,11 @@ unfolding tokenAt
 token-known s mode at =
     chosen Known (eqb at 0) _ _ (λ e. lines-known s mode 0)
     (λ e. chosen Known (eqb (inLine s mode at .kind) Kind.NEXT) _ _ (λ f. lines-known s mode (inLine s mode at .end)) (λ f. in-line-known s mode at))
+
+-- in a field of any mode
+pub token-real : (s : List ℕ) (mode at : ℕ) → Real s (tokenAt s mode at)
+token-real s mode at =
+    real-token (stood-sound s (tokenAt s mode at) (stood-at s mode at)) (λ z. let k : tokenAt s mode at .kind < TRUTH = token-known s mode at in let bad : ⊥ = omega (arith, k, z) in bad)
 
 pub next-real : (s : List ℕ) (at : ℕ) → Real s (nextAt s at)
 next-real s at = real-token (next-sound s at) (λ z. let k : nextAt s at .kind < TRUTH = token-known s Kind.IN-FIELD at in let bad : ⊥ = omega (arith, k, z) in bad)

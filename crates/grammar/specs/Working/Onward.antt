@@ -12,7 +12,7 @@ use Rattle.syntax.specs.Operator.{Binary, Sort, a-string, an-integer, a-float, 
 use Rattle.conditions.specs.Table.{PartSort, sorted, word, Want, want-any, want-string, want-number, want-integer, want-float}
 use Rattle.conditions.specs.Table
 use Rattle.grammar.specs.Theorems.Shadow.{product-shadow, sum-shadow, float-product-shadow, float-sum-shadow, order-shadow, compare-shadow}
-use Rattle.grammar.specs.Working.Stations.{TEXT, NUMBER, FLOATING, TEST, TRUE, Spot, in-clause, in-bracket, Frame, tests, right, Place, p-dead, p-over, p-begin, p-arrow, p-block, p-any, p-text, p-number, p-have, strict, station, endAt}
+use Rattle.grammar.specs.Working.Stations.{TEXT, NUMBER, FLOATING, TEST, TRUE, Spot, in-clause, in-bracket, Frame, tests, right, Place, p-dead, p-over, p-begin, p-arrow, p-block, p-any, p-text, p-number, p-have, p-names, p-princ, p-people, p-count, p-of, strict, station, endAt}
 use Rattle.grammar.specs.Working.Stationed.{Words, w-text, w-word, Held, h-test, h-word, Junction, junction-and, junction-or, strict-strict, power-number, product-number, sum-number, power-float, times-float, sum-float, dot-text, words-dot, number-compare, float-compare, words-compare, words-match, held-junction}
 use Rattle.grammar.specs.Working.Joints.{Fits, fit-test, fit-text, fit-number, fit-float, fit-word, fit-name, Unfit, unfit-text, unfit-number, unfit-float, Joint, j-power, j-product, j-sum, j-float-power, j-float-product, j-float-sum, j-orders, j-join, j-numbers, j-texts, j-match, j-and, j-or, Tabled, tabled, joint-tabled, TestFit, test-fits, test-unfit, test-fit, Operated, no-operator, joins, operated, binds-less}
 use Rattle.grammar.specs.Working.Told.{aim, Suits, suits-any, suits-text, suits-number, suits-decimal, suits-integer, suits-float}
@@ -59,6 +59,11 @@ after (p-any S) sort = afterAny S sort
 after (p-text r F) sort = p-have r F
 after (p-number w F) sort = afterNumber F sort
 after (p-have sort′ F) sort = p-dead
+after p-names sort = p-dead
+after (p-princ u n) sort = p-dead
+after (p-people n) sort = p-dead
+after (p-count n) sort = p-dead
+after (p-of n) sort = p-dead
 
 -- at what levels a reader is asked for what
 pub data Asked (level : ℕ) : Want → Type 0 where

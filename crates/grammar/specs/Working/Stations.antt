@@ -1,5 +1,5 @@
--- Places in a Conditions field, with what stands around them: the automaton by which kinds are seen to begin no sentence. It goes by the tables of
--- crate conditions. Assumes nothing.
+-- Places in a Conditions, an Authorizer and a Licensees field, with what stands around them: the automaton by which kinds are seen to begin no
+-- sentence. It goes by the tables of crate conditions. Assumes nothing.
 use mathlib.Core.Bool.{Bool, true, false}
 use Prim.Native.Nat.{ℕ, zero, suc}
 use lib.Dec.{eqb}
@@ -8,6 +8,7 @@ use Rattle.lexical.specs.Kind
 use Rattle.syntax.specs.Operator.{a-string, an-integer, a-float, a-test}
 use Rattle.conditions.specs.Table.{PartSort, sorted, word, Want, want-any, want-string, want-number, want-integer, want-float}
 use Rattle.conditions.specs.Table
+use Rattle.fields.specs.Parsed.{ending}
 use Rattle.grammar.specs.Conditions.{TRUTH}
 
 -- what was read
@@ -31,13 +32,17 @@ pub data Spot : Type 0 where
   in-clause : ℕ → Spot
   in-bracket : Bool → Spot → Spot
 
--- what surrounds an operand: tests, the left side of a comparison, a clause's "->", brackets of a string that is then of that sort, brackets of a number
+-- what surrounds an operand: tests, the left side of a comparison, a clause's "->", brackets of a string that is then of that sort, brackets of a
+-- number; a field of its own; licensees in so many brackets, of which the first number may still turn out to be a string's; a list in so many brackets
 pub data Frame : Type 0 where
   tests : Spot → Frame
   right : Spot → Frame
   value : ℕ → Frame
   texts : PartSort → Frame → Frame
   numbers : Frame → Frame
+  alone : Frame
+  people : ℕ → ℕ → Frame
+  item : ℕ → Frame
 
 pub data Place : Type 0 where
   p-dead : Place
@@ -49,6 +54,11 @@ pub data Place : Type 0 where
   p-text : PartSort → Frame → Place
   p-number : Want → Frame → Place
   p-have : PartSort → Frame → Place
+  p-names : Place
+  p-princ : ℕ → ℕ → Place
+  p-people : ℕ → Place
+  p-count : ℕ → Place
+  p-of : ℕ → Place
 
 -- a test and nothing else
 abbrev pub strict : Spot → Spot
@@ -91,6 +101,24 @@ abbrev pub endAt : PartSort → Spot → ℕ → Place
 endAt sort (in-clause d) k = pick (isTest sort) (pick (eqb k Kind.ARROW) (p-arrow d) (pick (eqb k Kind.SEMICOLON) (p-begin d) p-dead)) p-dead
 endAt sort (in-bracket lone S) k = pick (eqb k Kind.CLOSE) (closeAt lone sort S) p-dead
 
+-- licensees: a closing bracket behind a string, one behind what is no string, and the end
+abbrev pub shutAt : ℕ → ℕ → Place
+shutAt u zero = p-dead
+shutAt zero (suc n) = p-people n
+shutAt (suc u) (suc n) = p-have TEXT (people u n)
+
+abbrev pub shutPeople : ℕ → Place
+shutPeople zero = p-dead
+shutPeople (suc n) = p-people n
+
+abbrev pub lastAt : ℕ → Place
+lastAt zero = p-over
+lastAt (suc n) = p-dead
+
+-- behind a licensee in n brackets
+abbrev pub peopleAt : Place → ℕ → ℕ → Place
+peopleAt shut n k = pick (eqb k Kind.AND) (p-princ 0 n) (pick (eqb k Kind.OR) (p-princ 0 n) (pick (eqb k Kind.CLOSE) shut (pick (ending k) (lastAt n) p-dead)))
+
 abbrev pub leaveAt : PartSort → Frame → ℕ → Place
 leaveAt sort (tests S) k =
     pick (Table.binds 2 (Table.operator sort k)) (rightOf sort (right (strict S))) (pick (Table.binds 0 (Table.operator sort k)) (p-any (strict S)) (endAt sort S k))
@@ -98,6 +126,9 @@ leaveAt sort (right S) k = pick (Table.binds 0 (Table.operator (sorted a-test) k
 leaveAt sort (value d) k = pick (eqb k Kind.SEMICOLON) (p-begin d) p-dead
 leaveAt sort (texts r F) k = pick (eqb k Kind.CLOSE) (p-have r F) p-dead
 leaveAt sort (numbers F) k = pick (eqb k Kind.CLOSE) (p-have sort F) p-dead
+leaveAt sort alone k = pick (ending k) p-over p-dead
+leaveAt sort (people u n) k = peopleAt (shutAt u n) n k
+leaveAt sort (item n) k = pick (eqb k Kind.COMMA) (p-text TEXT (item n)) (pick (eqb k Kind.CLOSE) (p-people n) p-dead)
 
 abbrev pub haveAt : PartSort → Frame → ℕ → Place
 haveAt sort F k = pick (Table.binds 3 (Table.operator sort k)) (rightOf sort F) (leaveAt sort F k)
@@ -121,6 +152,11 @@ goAny S k =
     (pick (eqb k TRUTH) (p-have TRUE (tests S))
     (pick (Table.beginsString k) (goText TEXT (tests S) k) (goNumber want-number (tests S) k))))
 
+-- a licensee, where one is wanted
+abbrev pub princAt : ℕ → ℕ → ℕ → Place
+princAt u n k =
+    pick (eqb k Kind.OPEN) (p-princ (suc u) (suc n)) (pick (eqb k Kind.DIGITS) (p-count n) (pick (Table.allows want-string (flat k)) (goText TEXT (people u n) k) p-dead))
+
 abbrev pub overAt : ℕ → Place
 overAt zero = p-over
 overAt (suc d) = p-block d
@@ -135,3 +171,8 @@ station (p-any S) k = pick (Table.allows want-any (flat k)) (goAny S k) p-dead
 station (p-text r F) k = pick (Table.allows want-string (flat k)) (goText r F k) p-dead
 station (p-number w F) k = pick (Table.allows w (flat k)) (goNumber w F k) p-dead
 station (p-have sort F) k = haveAt sort F k
+station p-names k = pick (ending k) p-over (princAt 0 0 k)
+station (p-princ u n) k = princAt u n k
+station (p-people n) k = peopleAt (shutPeople n) n k
+station (p-count n) k = pick (eqb k Kind.OF) (p-of n) p-dead
+station (p-of n) k = pick (eqb k Kind.OPEN) (p-text TEXT (item n)) p-dead

@@ -21,7 +21,7 @@ use Rattle.compliance.specs.Rounds.{rank, reached}
 use Rattle.compliance.specs.Theorems.Monotone.{round-le}
 use Rattle.compliance.specs.Theorems.Reach.{reach-sound, reach-distinct}
 use Rattle.expression.specs.Conditions.{top}
-use Rattle.assertion.specs.Assertion.{Assertion as Said}
+use Rattle.assertion.specs.Assertion.{Assertion as Claim}
 use Rattle.assertion.specs.Read.{Read, kept, dropped}
 use Rattle.keynote.specs.Answer.{ranked, reading, readings, keptOf, system, classOf, roundsOf, reachedOf}
 use Rattle.keynote.specs.Theorems.Few.{FewRead, few-kept, few-dropped, assertion-few}
@@ -59,21 +59,21 @@ reached-named s = omega (arith, distinct-le (reach-distinct s) (policy ∷ allNa
 -- ---- how many are named
 
 module _ (q : Query) where
-  said-few : (l : List Said) → ((a : Said) → Mem a l → length (licensees (a .licensees)) ≤ mostLicensees) → namings (map (ranked q) l) ≤ length l * mostLicensees
+  said-few : (l : List Claim) → ((a : Claim) → Mem a l → length (licensees (a .licensees)) ≤ mostLicensees) → namings (map (ranked q) l) ≤ length l * mostLicensees
   unfolding namings ranked
   said-few [] h = zero-le
   said-few (a ∷ l) h = omega (arith, h a (here refl), said-few l (λ b m. h b (there m)))
 
-one-few : {r : Read} → FewRead r → (l : List Read) (a : Said) → ((b : Said) → Mem b (keptOf l) → length (licensees (b .licensees)) ≤ mostLicensees)
+one-few : {r : Read} → FewRead r → (l : List Read) (a : Claim) → ((b : Claim) → Mem b (keptOf l) → length (licensees (b .licensees)) ≤ mostLicensees)
     → Mem a (keptOf (r ∷ l)) → length (licensees (a .licensees)) ≤ mostLicensees
 unfolding keptOf
 one-few (few-kept b h) l a g m = ⊎-elim (λ (e : a ≡ b). rw (← e) at h) (g a) (mem-∷ m)
 one-few (few-dropped r p) l a g m = g a m
 
-reads-few : (l : List Supplied) (a : Said) → Mem a (keptOf (map reading l)) → length (licensees (a .licensees)) ≤ mostLicensees
+reads-few : (q : Query) (l : List Supplied) (a : Claim) → Mem a (keptOf (map (reading q) l)) → length (licensees (a .licensees)) ≤ mostLicensees
 unfolding reading keptOf
-reads-few [] a m = elim m [ ]
-reads-few (x ∷ l) a m = one-few (assertion-few (x .standing) (x .text)) (map reading l) a (reads-few l) m
+reads-few q [] a m = elim m [ ]
+reads-few q (x ∷ l) a m = one-few (assertion-few q (x .standing) (x .text)) (map (reading q) l) a (reads-few q l) m
 
 kept-fewer : (l : List Read) → length (keptOf l) ≤ length l
 unfolding keptOf
@@ -85,10 +85,10 @@ kept-fewer (dropped r p ∷ l) = omega (arith, kept-fewer l)
 pub reached-few : (q : Query) → reachedOf q ≤ 1 + length (q .assertions) * mostLicensees
 unfolding reachedOf system readings
 reached-few q =
-    let l : List Said = keptOf (map reading (q .assertions)) in
+    let l : List Claim = keptOf (map (reading q) (q .assertions)) in
     let a : reached (system q) ≤ 1 + namings (map (ranked q) l) = reached-named (system q) in
-    let b : namings (map (ranked q) l) ≤ length l * mostLicensees = said-few q l (reads-few (q .assertions)) in
-    let c : length l ≤ length (q .assertions) = omega (arith, kept-fewer (map reading (q .assertions)), length-map (q .assertions) reading) in
+    let b : namings (map (ranked q) l) ≤ length l * mostLicensees = said-few q l (reads-few q (q .assertions)) in
+    let c : length l ≤ length (q .assertions) = omega (arith, kept-fewer (map (reading q) (q .assertions)), length-map (q .assertions) (reading q)) in
     omega (arith, a, b, c)
 
 -- no class is over the top

@@ -1,5 +1,6 @@
--- Demand 2, of the definition: an answer is the least solution, its rounds and reached are those of the rounds and of the reach; every
--- kept assertion takes part and no other does; every dropped one is named by a reason and a place in its text. Assumes nothing.
+-- Demand 2, of the definition: an answer is the least solution, its rounds and reached are those of the rounds and of the reach; every text otherwise
+-- well formed whose identifiers evaluate is kept and takes part, and no other does; every other is named by a reason and a place in its text.
+-- Assumes nothing.
 use mathlib.Core.Path.{_≡_, refl, sym, ap, _∙_, subst}
 use mathlib.Core.Bool.{true}
 use mathlib.Core.Option.{some}
@@ -26,8 +27,13 @@ use Rattle.compliance.specs.Rounds.{settled, mentioned, rank, rounds, reached}
 use Rattle.compliance.specs.Theorems.Reach.{reach-sound, reach-complete, reach-distinct}
 use Rattle.compliance.specs.Theorems.Settle.{rank-least, least-unique, settled-equal, equal-settled, rounds-settled, rounds-first, rounds-bound, rounds-times, rounds-rank, rounds-end}
 use Rattle.expression.specs.Conditions.{top}
-use Rattle.assertion.specs.Assertion.{Assertion as Said}
-use Rattle.assertion.specs.Read.{Read, kept, dropped, readAssertion}
+use Rattle.assertion.specs.Assertion.{Assertion as Claim}
+use Rattle.assertion.specs.Read.{Read, kept, dropped}
+use Rattle.assertion.specs.Said.{Said}
+use Rattle.assertion.specs.Form.{formed, readAssertion}
+use Rattle.assertion.specs.Resolved.{meant}
+use Rattle.assertion.specs.Evaluates.{Evaluates}
+use Rattle.assertion.specs.Theorems.Evaluated.{evaluates-kept, kept-evaluates, SetAside, dropped-why}
 use Rattle.keynote.specs.Answer.{ranked, reading, readings, keptOf, system, classOf, roundsOf, reachedOf}
 use Rattle.keynote.specs.Report.{reasonOf, report, reportSize}
 use Rattle.keynote.specs.Outcome.{answer, needed, outcome, pageAfter}
@@ -115,13 +121,13 @@ reached-only q n r =
 
 -- ---- kept and dropped assertions
 
-pub kept-in : (l : List Read) (a : Said) → Mem (kept a) l → Mem a (keptOf l)
+pub kept-in : (l : List Read) (a : Claim) → Mem (kept a) l → Mem a (keptOf l)
 unfolding keptOf
 kept-in [] a m = elim m [ ]
 kept-in (kept b ∷ l) a m = ⊎-elim (λ (e : kept a ≡ kept b). here cc) (λ n. there (kept-in l a n)) (mem-∷ m)
 kept-in (dropped r p ∷ l) a m = ⊎-elim (λ (e : kept a ≡ dropped r p). let z : _≡_ {A = ℕ} 0 1 = cc in absurd (omega arith)) (λ n. kept-in l a n) (mem-∷ m)
 
-pub kept-from : (l : List Read) (a : Said) → Mem a (keptOf l) → Mem (kept a) l
+pub kept-from : (l : List Read) (a : Claim) → Mem a (keptOf l) → Mem (kept a) l
 unfolding keptOf
 kept-from [] a m = elim m [ ]
 kept-from (kept b ∷ l) a m = ⊎-elim (λ e. here (ap kept e)) (λ n. there (kept-from l a n)) (mem-∷ m)
@@ -137,25 +143,42 @@ map-at f (x ∷ l) zero a e = let z : x ≡ a = cc in ap (λ y. some (f y)) z
 map-at f (x ∷ l) (suc i) a e = map-at f l i a e
 
 -- every kept assertion is in the system
-pub kept-takes-part : (q : Query) (a : Said) → Mem (kept a) (readings q) → Mem (ranked q a) (system q .assertions)
+pub kept-takes-part : (q : Query) (a : Claim) → Mem (kept a) (readings q) → Mem (ranked q a) (system q .assertions)
 unfolding system
 kept-takes-part q a m = Memᴰ·map (ranked q) (kept-in (readings q) a m)
 
 -- and nothing else is
-pub only-kept-take-part : (q : Query) (b : Assertion) → Mem b (system q .assertions) → (a : Said) × (Mem (kept a) (readings q) × (b ≡ ranked q a))
+pub only-kept-take-part : (q : Query) (b : Assertion) → Mem b (system q .assertions) → (a : Claim) × (Mem (kept a) (readings q) × (b ≡ ranked q a))
 unfolding system
 only-kept-take-part q b m =
     let (a, (n, e)) = from-map (ranked q) (keptOf (readings q)) b m in
     (a, (kept-from (readings q) a n, e))
 
 -- reading i is of assertion i
-pub reading-at : (q : Query) (i : ℕ) (a : Supplied) → getElem? (q .assertions) i ≡ some a → getElem? (readings q) i ≡ some (readAssertion (a .standing) (a .text))
-unfolding readings reading
-reading-at q i a e = map-at reading (q .assertions) i a e
+pub reading-at : (q : Query) (i : ℕ) (a : Supplied) → getElem? (q .assertions) i ≡ some a → getElem? (readings q) i ≡ some (reading q a)
+unfolding readings
+reading-at q i a e = map-at (reading q) (q .assertions) i a e
 
 -- every assertion stands in the report: 0 and 0 where it is kept, else the reason against it and its place
-pub reported : (q : Query) (i : ℕ) (a : Supplied) → getElem? (q .assertions) i ≡ some a → Entry (report (readings q)) i (readAssertion (a .standing) (a .text))
+pub reported : (q : Query) (i : ℕ) (a : Supplied) → getElem? (q .assertions) i ≡ some a → Entry (report (readings q)) i (reading q a)
 reported q i a e = report-entry (readings q) i _ (reading-at q i a e)
+
+-- "a text otherwise well formed" whose identifiers evaluate is kept
+pub well-formed-kept : (q : Query) (a : Supplied) (b : Said) → readAssertion (a .standing) (a .text) ≡ formed b → Evaluates q (a .standing) b
+    → reading q a ≡ kept (meant q b)
+unfolding reading
+well-formed-kept q a b e h = rw e (evaluates-kept q (a .standing) b h)
+
+-- and no other
+pub kept-well-formed : (q : Query) (a : Supplied) (c : Claim) → reading q a ≡ kept c
+    → (b : Said) × ((readAssertion (a .standing) (a .text) ≡ formed b) × (Evaluates q (a .standing) b × (c ≡ meant q b)))
+unfolding reading
+kept-well-formed q a c h = kept-evaluates q (a .standing) (readAssertion (a .standing) (a .text)) c h
+
+-- the others: for what is against the text, or for the first of what is against its identifiers
+pub set-aside-why : (q : Query) (a : Supplied) (r p : ℕ) → reading q a ≡ dropped r p → SetAside q (a .standing) r p (readAssertion (a .standing) (a .text))
+unfolding reading
+set-aside-why q a r p h = dropped-why q (a .standing) r p (readAssertion (a .standing) (a .text)) h
 
 text-short : (seen l : List Supplied) → Each SuppliedOk seen l → (i : ℕ) (a : Supplied) → getElem? l i ≡ some a → length (a .text) ≤ mostText
 text-short seen [] e i a g = let z : _≡_ {A = ℕ} 0 1 = cc in absurd (omega arith)
@@ -171,15 +194,15 @@ module _ (s : List ℕ) (bytes : Bytes s) (q : Query) (acc : readRecord s ≡ ac
   short : length (a .text) < 65536
   short = omega (arith, text-short [] (q .assertions) (read-back s bytes q acc .0 .assertions .1) i a at)
 
-  -- "Every other assertion is named by number and place": kept, or set aside with a reason from 1 to 9 and a place in its text or at its end
-  pub placed-at : PlacedRead (a .text) (readAssertion (a .standing) (a .text))
-  placed-at = assertion-placed (a .standing) (a .text) short
+  -- "Every other assertion is named by number and place": kept, or set aside with a reason from 1 to 10 and a place in its text or at its end
+  pub placed-at : PlacedRead (a .text) (reading q a)
+  unfolding reading
+  placed-at = assertion-placed q (a .standing) (a .text) short
 
   -- reason 0 is of an assertion that takes part
-  pub zero-takes-part : reasonOf (readAssertion (a .standing) (a .text)) ≡ 0
-      → (b : Said) × ((readAssertion (a .standing) (a .text) ≡ kept b) × Mem (ranked q b) (system q .assertions))
+  pub zero-takes-part : reasonOf (reading q a) ≡ 0 → (b : Claim) × ((reading q a ≡ kept b) × Mem (ranked q b) (system q .assertions))
   zero-takes-part z =
-      let (b, k) = zero-kept (a .standing) (a .text) short z in
+      let (b, k) = zero-kept q a short z in
       (b, (k, kept-takes-part q b (subst (λ (r : Read). Mem r (readings q)) k (found-in (readings q) i _ (reading-at q i a at)))))
 
 -- ---- the report at the front of a page
@@ -205,16 +228,16 @@ module _ (q : Query) (rest : List ℕ) where
 
   many : length (readings q) ≡ length (q .assertions)
   unfolding readings
-  many = length-map (q .assertions) reading
+  many = length-map (q .assertions) (reading q)
 
   page-head : (getD (report (readings q) ++ rest) 0 0 ≡ 1) × (pairAt (report (readings q) ++ rest) 1 ≡ 3 * length (q .assertions))
   page-head =
       let (f, g) = report-head (readings q) in
       (front-at (report (readings q)) rest 0 (omega (arith, long)) ∙ f, omega (arith, front-pair (report (readings q)) rest 1 (omega (arith, long)), g, many))
 
-  page-entry : (i : ℕ) (a : Supplied) → getElem? (q .assertions) i ≡ some a → Entry (report (readings q) ++ rest) i (readAssertion (a .standing) (a .text))
+  page-entry : (i : ℕ) (a : Supplied) → getElem? (q .assertions) i ≡ some a → Entry (report (readings q) ++ rest) i (reading q a)
   page-entry i a e =
-      let x : Entry (report (readings q)) i (readAssertion (a .standing) (a .text)) = reported q i a e in
+      let x : Entry (report (readings q)) i (reading q a) = reported q i a e in
       let b : i < length (q .assertions) = found-below (q .assertions) i a e in
       record {
         reason = front-at (report (readings q)) rest (3 + 3 * i) (omega (arith, long)) ∙ x .reason;
@@ -240,19 +263,28 @@ pub record Answered (q : Query) (o : Outcome) (page after : List ℕ) : Type 0 w
   pub product : o .rounds ≤ o .reached * (length (q .values) - 1)
   pub ends : RoundsEnd q
   pub reached : Reached q (o .reached)
-  pub each : (a : Said) → Mem (kept a) (readings q) → Mem (ranked q a) (system q .assertions)
-  pub only : (b : Assertion) → Mem b (system q .assertions) → (a : Said) × (Mem (kept a) (readings q) × (b ≡ ranked q a))
+  pub each : (a : Claim) → Mem (kept a) (readings q) → Mem (ranked q a) (system q .assertions)
+  pub only : (b : Assertion) → Mem b (system q .assertions) → (a : Claim) × (Mem (kept a) (readings q) × (b ≡ ranked q a))
   pub head : (getD after 0 0 ≡ 1) × (pairAt after 1 ≡ 3 * length (q .assertions))
-  pub entries : (i : ℕ) (a : Supplied) → getElem? (q .assertions) i ≡ some a → Entry after i (readAssertion (a .standing) (a .text))
-  pub placed : (i : ℕ) (a : Supplied) → getElem? (q .assertions) i ≡ some a → PlacedRead (a .text) (readAssertion (a .standing) (a .text))
+  pub well-formed : (x : Supplied) (a : Said) → Mem x (q .assertions) → readAssertion (x .standing) (x .text) ≡ formed a → Evaluates q (x .standing) a
+      → Mem (ranked q (meant q a)) (system q .assertions)
+  pub entries : (i : ℕ) (a : Supplied) → getElem? (q .assertions) i ≡ some a → Entry after i (reading q a)
+  pub placed : (i : ℕ) (a : Supplied) → getElem? (q .assertions) i ≡ some a → PlacedRead (a .text) (reading q a)
   pub zero-kept : (i : ℕ) (a : Supplied) → getElem? (q .assertions) i ≡ some a → getD after (3 + 3 * i) 0 ≡ 0
-      → (b : Said) × ((readAssertion (a .standing) (a .text) ≡ kept b) × Mem (ranked q b) (system q .assertions))
+      → (b : Claim) × ((reading q a ≡ kept b) × Mem (ranked q b) (system q .assertions))
   pub beyond : drop (needed q) after ≡ drop (needed q) page
   pub size : length after ≡ length page
 
+well-formed-takes-part : (q : Query) (x : Supplied) (a : Said) → Mem x (q .assertions) → readAssertion (x .standing) (x .text) ≡ formed a
+    → Evaluates q (x .standing) a → Mem (ranked q (meant q a)) (system q .assertions)
+unfolding readings
+well-formed-takes-part q x a m e h =
+    kept-takes-part q (meant q a)
+    (subst (λ (r : Read). Mem r (map (reading q) (q .assertions))) (well-formed-kept q x a e h) (Memᴰ·map (reading q) m))
+
 entry-told : (q : Query) (page after : List ℕ) → after ≡ report (readings q) ++ drop (needed q) page
-    → (i : ℕ) (a : Supplied) → getElem? (q .assertions) i ≡ some a → Entry after i (readAssertion (a .standing) (a .text))
-entry-told q page after ae i a g = subst (λ (x : List ℕ). Entry x i (readAssertion (a .standing) (a .text))) (sym ae) (page-entry q (drop (needed q) page) i a g)
+    → (i : ℕ) (a : Supplied) → getElem? (q .assertions) i ≡ some a → Entry after i (reading q a)
+entry-told q page after ae i a g = subst (λ (x : List ℕ). Entry x i (reading q a)) (sym ae) (page-entry q (drop (needed q) page) i a g)
 
 told : (s : List ℕ) → Bytes s → (q : Query) → readRecord s ≡ accepted q → (page : List ℕ) → needed q ≤ length page
     → (o : Outcome) (after : List ℕ) → o ≡ answer q → after ≡ report (readings q) ++ drop (needed q) page → Answered q o page after
@@ -269,6 +301,7 @@ told s bytes q acc page h o after oe ae = record {
   reached = subst (Reached q) (sym (ap (λ (x : Outcome). x .reached) oe)) (reached-is q);
   each = kept-takes-part q;
   only = only-kept-take-part q;
+  well-formed = well-formed-takes-part q;
   head = subst (λ (x : List ℕ). (getD x 0 0 ≡ 1) × (pairAt x 1 ≡ 3 * length (q .assertions))) (sym ae) (page-head q (drop (needed q) page));
   entries = entry-told q page after ae;
   placed = placed-at s bytes q acc;

@@ -31,9 +31,12 @@ use Rattle.compliance.specs.Theorems.Filling.{reading as systemOf}
 use Rattle.compliance.specs.Theorems.Represent.{represented}
 use Rattle.compliance.specs.declared.Solution.{Solution}
 use Rattle.expression.specs.Conditions.{top}
-use Rattle.assertion.specs.Read.{Read, readAssertion}
+use Rattle.assertion.specs.Read.{Read}
+use Rattle.assertion.specs.Form.{readAssertion}
+use Rattle.assertion.specs.Resolved.{resolved}
 use Rattle.assertion.specs.Working.Field.{Given, given}
 use Rattle.assertion.specs.Working.Reading.{readIn}
+use Rattle.assertion.specs.Theorems.Left.{first-alone, first-more}
 use Rattle.assertion.specs.Theorems.Ready.{Ready, ReadAs}
 use Rattle.assertion.specs.Theorems.Reads.{read-as}
 use Rattle.system.specs.Working.Noting.{endsOf, headerInto}
@@ -158,30 +161,32 @@ module _ {s : List ℕ} {q : Query} {values names : List ℕ} {start t : ℕ} {s
         consts-room = free .0;
         holds = made .holds;
         tight = made .tight;
+        first = made .first;
         places-room = free .2;
         pool-room = free .1;
         numbers = omega (arith, made .holds .counted, made .few, h, fit .all);
         code-room = omega (arith, made .low, h, made .code-long);
       }
 
-  same-reading : (v : ℕ) (u : Supplied) → AssertionAt s v u → readAssertion (getD s (v - 3) 0) (counted s v) ≡ reading u
+  same-reading : (v : ℕ) (u : Supplied) → AssertionAt s v u → resolved q (getD s (v - 3) 0) (readAssertion (getD s (v - 3) 0) (counted s v)) ≡ reading q u
   unfolding reading
-  same-reading v u at = ap (λ (n : ℕ). readAssertion n (counted s v)) (at .1) ∙ ap (readAssertion (u .standing)) (at .0)
+  same-reading v u at =
+      ap (λ (n : ℕ). resolved q n (readAssertion n (counted s v))) (at .1) ∙ ap (λ (t : List ℕ). resolved q (u .standing) (readAssertion (u .standing) t)) (at .0)
 
   -- one assertion more
   step : {size : Size} {direct : List ℕ} {l : List Assertion} {i : ℕ} {e : Ends} {x : Store} {a c d : List ℕ} (made : Made size room q start direct l i e x a c d) → i < most → (v : ℕ) (u : Supplied) → AssertionAt s v u
-      → fullAt all v e x ≡ false → length (u .text) ≤ mostText → Small (reading u) → (front page : List ℕ) → length front ≡ 3 + 3 * i → page ≡ front ++ drop (3 + 3 * i) sheet
-      → Reached size room q start direct sheet (joining q l (reading u)) (suc i) (front ++ entryBytes (reading u)) (onOne a c d page i e (oneIn all v x (e .count) (e .end) (e .size)))
+      → fullAt all v e x ≡ false → length (u .text) ≤ mostText → Small (reading q u) → (front page : List ℕ) → length front ≡ 3 + 3 * i → page ≡ front ++ drop (3 + 3 * i) sheet
+      → Reached size room q start direct sheet (joining q l (reading q u)) (suc i) (front ++ entryBytes (reading q u)) (onOne a c d page i e (oneIn all v x (e .count) (e .end) (e .size)))
   unfolding oneIn
   step {size = size} {i = i} {e = e} {x = x} made h v u at not short few front page fe pe =
       let less : i < room = omega (arith, h, fit .at-most) in
       let free = full-not (length (x .consts)) start (length (counted s v)) (length (x .pool)) (e .end) (length (x .places)) (e .count) not in
       let wide : e .count + mostNamed ≤ size .places = omega (arith, free .2, made .places-long) in
       let b : length (counted s v) ≤ mostText = omega (arith, short, ap length (at .0)) in
-      let r : ReadAs q (givenAt v) t (before x) (made .names) (e .count) (e .end) (e .size) (reading u) (readIn (givenAt v) t (before x) (e .count) (e .end) (e .size))
+      let r : ReadAs q (givenAt v) t (before x) (made .names) (e .count) (e .end) (e .size) (reading q u) (readIn (givenAt v) t (before x) (e .count) (e .end) (e .size))
       = subst (λ (w : Read). ReadAs q (givenAt v) t (before x) (made .names) (e .count) (e .end) (e .size) w (readIn (givenAt v) t (before x) (e .count) (e .end) (e .size)))
       (same-reading v u at) (read-as t (ready made less v b not)) in
-      noted-made made less (fit .all) wide (givenAt v) refl t (fit .top-is) front sheet page fe pe (omega (arith, h, fit .paper)) (reading u)
+      noted-made made less (fit .all) wide (givenAt v) refl t (fit .top-is) front sheet page fe pe (omega (arith, h, fit .paper)) (reading q u)
       (readIn (givenAt v) t (before x) (e .count) (e .end) (e .size)) few r
 
   at-short : (v : ℕ) (u : Supplied) → AssertionAt s v u → length (u .text) ≤ mostText → length (counted s v) ≤ mostText
@@ -201,26 +206,26 @@ module _ {s : List ℕ} {q : Query} {values names : List ℕ} {start t : ℕ} {s
   -- that the assertions from the one with the number i on, read into tables of a size and then of the sizes behind it, give the answer
   abbrev Solves : Size → List Size → Type 0
   Solves size sizes =
-      (texts ps : List ℕ) (m seen : List Supplied) → Lie (AssertionAt s) ps m → All SuppliedOk seen m → AllSmall (map reading m)
+      (texts ps : List ℕ) (m seen : List Supplied) → Lie (AssertionAt s) ps m → All SuppliedOk seen m → AllSmall (map (reading q) m)
       → (direct : List ℕ) (l : List Assertion) (i : ℕ) (front : List ℕ) (z : Each) → i + length m ≤ most → i + length m ≡ length texts → drop i texts ≡ ps
       → Reached size room q start direct sheet l i front z
       → onStretch sizes all texts direct (eachFrom all ps i z)
-      ≡ gives q (l ++ map (ranked q) (keptOf (map reading m))) ((front ++ entriesBytes (map reading m)) ++ drop (3 + 3 * (i + length m)) sheet)
+      ≡ gives q (l ++ map (ranked q) (keptOf (map (reading q) m))) ((front ++ entriesBytes (map (reading q) m)) ++ drop (3 + 3 * (i + length m)) sheet)
 
   -- one is read, and the others as supposed
   next-same : (m : List Supplied) (l : List Assertion) (i : ℕ) (front : List ℕ) (u : Supplied)
-      → gives q (joining q l (reading u) ++ map (ranked q) (keptOf (map reading m)))
-      (((front ++ entryBytes (reading u)) ++ entriesBytes (map reading m)) ++ drop (3 + 3 * (suc i + length m)) sheet)
-      ≡ gives q (l ++ map (ranked q) (keptOf (map reading (u ∷ m)))) ((front ++ entriesBytes (map reading (u ∷ m))) ++ drop (3 + 3 * (i + length (u ∷ m))) sheet)
+      → gives q (joining q l (reading q u) ++ map (ranked q) (keptOf (map (reading q) m)))
+      (((front ++ entryBytes (reading q u)) ++ entriesBytes (map (reading q) m)) ++ drop (3 + 3 * (suc i + length m)) sheet)
+      ≡ gives q (l ++ map (ranked q) (keptOf (map (reading q) (u ∷ m)))) ((front ++ entriesBytes (map (reading q) (u ∷ m))) ++ drop (3 + 3 * (i + length (u ∷ m))) sheet)
   unfolding entriesBytes
   next-same m l i front u =
       let k : suc i + length m ≡ i + suc (length m) = omega arith in
-      gives-same q sheet (joining-is q l (reading u) (map reading m)) (append-assoc front (entryBytes (reading u)) (entriesBytes (map reading m))) k
+      gives-same q sheet (joining-is q l (reading q u) (map (reading q) m)) (append-assoc front (entryBytes (reading q u)) (entriesBytes (map (reading q) m))) k
 
   -- none is left
   solved-all : {size : Size} (direct : List ℕ) (l : List Assertion) (i : ℕ) (front : List ℕ) {e : Ends} {x : Store} {a c d page : List ℕ} → Made size room q start direct l i e x a c d
       → page ≡ front ++ drop (3 + 3 * i) sheet
-      → solvedBy (rowsGive a c d (x .code) direct e t) page ≡ gives q (l ++ map (ranked q) (keptOf (map reading []))) ((front ++ entriesBytes (map reading [])) ++ drop (3 + 3 * (i + 0)) sheet)
+      → solvedBy (rowsGive a c d (x .code) direct e t) page ≡ gives q (l ++ map (ranked q) (keptOf (map (reading q) []))) ((front ++ entriesBytes (map (reading q) [])) ++ drop (3 + 3 * (i + 0)) sheet)
   unfolding keptOf entriesBytes
   solved-all direct l i front made pe = rw (append-nil l, append-nil front, add-zero i) (solved-at t (fit .top-is) made front sheet pe)
 
@@ -232,7 +237,7 @@ module _ {s : List ℕ} {q : Query} {values names : List ℕ} {start t : ℕ} {s
       let not : fullAt all v e x ≡ false = never-full made (omega (arith, h, fit .at-most)) v (at-short v u at (ok .1 .1)) in
       let k : suc i + length m ≡ i + suc (length m) = omega arith in
       rw not
-      (each-last texts vs m _ lies oks (small-tail smalls) direct (joining q l (reading u)) (suc i) (front ++ entryBytes (reading u))
+      (each-last texts vs m _ lies oks (small-tail smalls) direct (joining q l (reading q u)) (suc i) (front ++ entryBytes (reading q u))
       (onOne a c d page i e (oneIn all v x (e .count) (e .end) (e .size))) (omega (arith, h)) (k ∙ n) (drop-next texts i v vs de)
       (step made (omega (arith, h)) v u at not (ok .1 .1) (small-head smalls) front page fe pe)
       ∙ next-same m l i front u)
@@ -250,7 +255,7 @@ module _ {s : List ℕ} {q : Query} {values names : List ℕ} {start t : ℕ} {s
         (reached-at e _ a c d page (made-larger made next within (fit .start-low)) fe pe)))
         (λ f. let k : suc i + length m ≡ i + suc (length m) = omega arith in
         rw f
-        (each-more texts vs m _ lies oks (small-tail smalls) direct (joining q l (reading u)) (suc i) (front ++ entryBytes (reading u))
+        (each-more texts vs m _ lies oks (small-tail smalls) direct (joining q l (reading q u)) (suc i) (front ++ entryBytes (reading q u))
         (onOne a c d page i e (oneIn all v x (e .count) (e .end) (e .size))) (omega (arith, h)) (k ∙ n) (drop-next texts i v vs de)
         (step made (omega (arith, h)) v u at f (ok .1 .1) (small-head smalls) front page fe pe)
         ∙ next-same m l i front u))
@@ -274,6 +279,7 @@ start-made s q start consts x pool places direct st room code a c d ke ae ce de 
     marks = st .marks ∙ ap (λ (n : ℕ). map (asking (q .requesters)) (startNames q) ++ replicate (small .places - n) 0) (st .holds .counted);
   };
   tight = st .tight;
+  first = first-more (policy ∷ []) (q .requesters) first-alone;
   few = omega (arith, st .few);
   low = omega arith;
   rows = omega arith;
@@ -293,11 +299,11 @@ front-start n = refl
 
 -- the page at the end is the report, and the rest as it was
 page-end : (q : Query) (n : ℕ) (page : List ℕ) → n ≡ length (q .assertions)
-    → ((1 ∷ pairBytes (3 * n)) ++ entriesBytes (map reading (q .assertions))) ++ drop (3 + 3 * (0 + length (q .assertions))) page ≡ report (readings q) ++ drop (needed q) page
+    → ((1 ∷ pairBytes (3 * n)) ++ entriesBytes (map (reading q) (q .assertions))) ++ drop (3 + 3 * (0 + length (q .assertions))) page ≡ report (readings q) ++ drop (needed q) page
 unfolding report readings needed reportSize
 page-end q n page e =
     let z : 0 + length (q .assertions) ≡ length (q .assertions) = omega arith in
-    let w : 3 * n ≡ 3 * length (map reading (q .assertions)) = omega (arith, e, length-map (q .assertions) reading) in
+    let w : 3 * n ≡ 3 * length (map (reading q) (q .assertions)) = omega (arith, e, length-map (q .assertions) (reading q)) in
     rw (z, w)
 
 top-same : (q : Query) (values : List ℕ) → length values ≡ length (q .values) → length (q .values) ≤ 256 → topOf values ≡ top (q .values)
@@ -307,7 +313,7 @@ top-same q values e h = omega (arith, e, h)
 module _ (s : List ℕ) (q : Query) (page : List ℕ) (start : ℕ) (consts : List ℕ) (x : Index) (pool places direct : List ℕ) (st : Started s q start consts x pool places direct)
     (values names texts : List ℕ) where
   module _ (vl : Lie (StringAt s) values (q .values)) (nl : Lie (AttributeAt s) names (q .attributes)) (tl : Lie (AssertionAt s) texts (q .assertions))
-      (oks : All SuppliedOk [] (q .assertions)) (smalls : AllSmall (map reading (q .assertions))) (low : length (q .values) ≤ 256)
+      (oks : All SuppliedOk [] (q .assertions)) (smalls : AllSmall (map (reading q) (q .assertions))) (low : length (q .values) ≤ 256)
       (paper : 3 + 3 * length (q .assertions) ≤ length page) where
     n : length texts ≡ length (q .assertions)
     n = lie-length tl
@@ -315,7 +321,7 @@ module _ (s : List ℕ) (q : Query) (page : List ℕ) (start : ℕ) (consts : Li
     te : topOf values ≡ top (q .values)
     te = top-same q values (lie-length vl) low
 
-    page-is : _≡_ {A = Solved} (gives q (map (ranked q) (keptOf (map reading (q .assertions)))) (((1 ∷ pairBytes (3 * length texts)) ++ entriesBytes (map reading (q .assertions))) ++ drop (3 + 3 * (0 + length (q .assertions))) page))
+    page-is : _≡_ {A = Solved} (gives q (map (ranked q) (keptOf (map (reading q) (q .assertions)))) (((1 ∷ pairBytes (3 * length texts)) ++ entriesBytes (map (reading q) (q .assertions))) ++ drop (3 + 3 * (0 + length (q .assertions))) page))
         (solvedAs q page)
     unfolding classOf roundsOf reachedOf system readings
     page-is = ap (solvedBy (record { rank = rank (system q) policy; rounds = rounds (system q); reached = reached (system q) })) (page-end q (length texts) page n)
@@ -373,7 +379,7 @@ module _ (s : List ℕ) (q : Query) (page : List ℕ) (start : ℕ) (consts : Li
           (λ h. rw h (grown-from large [] small-large (each-last (fit mostAssertions few (omega arith)))))
           (λ h. rw h (grown-from middle (large ∷ []) small-middle (each-middle (fit mostAssertions few (omega arith)))))
 
-small-readings : (s : List ℕ) (q : Query) → Bytes s → readRecord s ≡ accepted q → AllSmall (map reading (q .assertions))
+small-readings : (s : List ℕ) (q : Query) → Bytes s → readRecord s ≡ accepted q → AllSmall (map (reading q) (q .assertions))
 unfolding readings
 small-readings s q b e = readings-small s b q e
 

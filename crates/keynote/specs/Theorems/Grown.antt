@@ -108,6 +108,7 @@ module _ {size : Size} {room : ℕ} {q : Query} {start : ℕ} {direct : List ℕ
     holds = holds;
     stock = record { filling = made .stock .filling; covers = made .stock .covers; marks = again };
     tight = made .tight;
+    first = made .first;
     few = made .few;
     low = made .low;
     rows = made .rows;

@@ -1,20 +1,22 @@
--- The test `heardSuch` tells what it should. Assumes nothing.
+-- The tests `heardSuch` and `suppliedSuch` tell what they should. Assumes nothing.
 use mathlib.Core.Path.{_≡_, refl, sym, ap, _∙_}
-use mathlib.Core.Bool.{Bool, true, false, _||_}
+use mathlib.Core.Bool.{Bool, true, false}
 use mathlib.Core.Logic.{⊎-elim}
 use mathlib.Core.List.{List, [], _∷_, List·Memᴰ as Mem, List·Memᴰ·head as here, List·Memᴰ·tail as there, List·Memᴰ·cases-cons as mem-∷}
 use Prim.Native.Nat.{ℕ}
 use Rattle.text.specs.Choice.{pick, split, clash}
-use Rattle.record.specs.Query.{Query}
+use Rattle.record.specs.Query.{Query, Supplied}
 use Rattle.principal.specs.Principal.{Principal}
 use Rattle.principal.specs.Members.{member}
-use Rattle.compliance.specs.Reach.{InReach, reach, Reachable}
+use Rattle.compliance.specs.Reach.{reach}
 use Rattle.compliance.specs.Theorems.Reach.{reach-complete}
 use Rattle.assertion.specs.Assertion.{Assertion, Conditions}
+use Rattle.assertion.specs.Said.{Said}
+use Rattle.assertion.specs.Form.{Form, formed, unformed, readAssertion}
 use Rattle.keynote.specs.Answer.{readings, keptOf, system}
 use Rattle.keynote.specs.Mission.{Heard}
-use Rattle.keynote.specs.Secrets.{dereferences, Dereferenced}
-use Rattle.keynote.specs.Working.Hearing.{suchIn, heardSuch}
+use Rattle.keynote.specs.Secrets.{dereferences, namingReads, Supplies, Dereferenced, in-conditions, in-naming}
+use Rattle.keynote.specs.Working.Hearing.{suchIn, heardSuch, formedSuch, anySuch, suppliedSuch}
 
 module _ (ps : List Principal) (f : Conditions → Bool) where
   such-none : (l : List Assertion) → suchIn ps f l ≡ false → (a : Assertion) → Mem a l → member (a .authorizer) ps ≡ true → f (a .conditions) ≡ false
@@ -50,13 +52,57 @@ pub none-heard : (f : Conditions → Bool) (q : Query) → heardSuch f q ≡ fal
 unfolding heardSuch
 none-heard f q h a k = such-none (reach (system q)) f (keptOf (readings q)) h a (k .kept) (reach-complete (system q) (k .reached))
 
+-- the same of the texts
+module _ (f : Said → Bool) where
+  any-none : (l : List Supplied) → anySuch f l ≡ false → (x : Supplied) → Mem x l → (a : Said) → readAssertion (x .standing) (x .text) ≡ formed a → f a ≡ false
+  unfolding anySuch
+  any-none [] h x m a e = elim m [ ]
+  any-none (y ∷ l) h x m a e = split (formedSuch f (readAssertion (y .standing) (y .text)))
+      (λ g. clash (rw g) h)
+      (λ g. ⊎-elim
+      (λ (z : x ≡ y). ap (formedSuch f) (sym e) ∙ ap (λ (u : Supplied). formedSuch f (readAssertion (u .standing) (u .text))) z ∙ g)
+      (λ n. any-none l (rw g at h) x n a e) (mem-∷ m))
+
+  pub record SuchText (l : List Supplied) : Type 0 where
+    pub what : Said
+    pub by : Supplied
+    pub among : Mem by l
+    pub says : readAssertion (by .standing) (by .text) ≡ formed what
+    pub does : f what ≡ true
+
+  text-later : {y : Supplied} {l : List Supplied} → SuchText l → SuchText (y ∷ l)
+  text-later s = record { what = s .what; by = s .by; among = there (s .among); says = s .says; does = s .does }
+
+  text-here : (y : Supplied) (l : List Supplied) (r : Form) → readAssertion (y .standing) (y .text) ≡ r → formedSuch f r ≡ true → SuchText (y ∷ l)
+  text-here y l (formed a) e h = record { what = a; by = y; among = here refl; says = e; does = h }
+  text-here y l (unformed r p) e h = clash h refl
+
+  any-some : (l : List Supplied) → anySuch f l ≡ true → SuchText l
+  unfolding anySuch
+  any-some [] h = clash h refl
+  any-some (y ∷ l) h = split (formedSuch f (readAssertion (y .standing) (y .text)))
+      (λ g. text-here y l (readAssertion (y .standing) (y .text)) refl g)
+      (λ g. text-later (any-some l (rw g at h)))
+
+pub none-supplied : (f : Said → Bool) (q : Query) → suppliedSuch f q ≡ false → (a : Said) → Supplies q a → f a ≡ false
+unfolding suppliedSuch
+none-supplied f q h a s = any-none f (q .assertions) h (s .by) (s .among) a (s .says)
+
 -- the same of the names that are dereferenced, both ways
-pub none-dereferenced : (q : Query) (n : List ℕ) → heardSuch (λ c. dereferences c n) q ≡ false → Dereferenced q n → ⊥
+pub none-dereferenced : (q : Query) (n : List ℕ) → heardSuch (λ c. dereferences c n) q ≡ false → suppliedSuch (λ a. namingReads a n) q ≡ false
+    → Dereferenced q n → ⊥
 unfolding heardSuch
-none-dereferenced q n h d = clash (d .does) (such-none (reach (system q)) (λ c. dereferences c n) (keptOf (readings q)) h (d .by) (d .kept) (d .reached))
+none-dereferenced q n h k (in-conditions a m i d) = clash d (such-none (reach (system q)) (λ c. dereferences c n) (keptOf (readings q)) h a m i)
+none-dereferenced q n h k (in-naming a s d) = clash d (none-supplied (λ a. namingReads a n) q k a s)
 
 pub is-dereferenced : (q : Query) (n : List ℕ) → heardSuch (λ c. dereferences c n) q ≡ true → Dereferenced q n
 unfolding heardSuch
 is-dereferenced q n h =
     let s : Such (reach (system q)) (λ c. dereferences c n) (keptOf (readings q)) = such-some (reach (system q)) (λ c. dereferences c n) (keptOf (readings q)) h in
-    record { by = s .by; kept = s .among; reached = s .reached; does = s .does }
+    in-conditions (s .by) (s .among) (s .reached) (s .does)
+
+pub is-named : (q : Query) (n : List ℕ) → suppliedSuch (λ a. namingReads a n) q ≡ true → Dereferenced q n
+unfolding suppliedSuch
+is-named q n h =
+    let s : SuchText (λ a. namingReads a n) (q .assertions) = any-some (λ a. namingReads a n) (q .assertions) h in
+    in-naming (s .what) (record { by = s .by; among = s .among; says = s .says }) (s .does)

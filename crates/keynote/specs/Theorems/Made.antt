@@ -28,7 +28,7 @@ use Rattle.assertion.specs.Working.Field.{Given, Tables, tabled}
 use Rattle.assertion.specs.Working.Reading.{Result}
 use Rattle.assertion.specs.Theorems.Ready.{After, ReadAs, as-dropped, as-kept}
 use Rattle.assertion.specs.Theorems.Ready.{worth as rankOf}
-use Rattle.assertion.specs.Theorems.Left.{enter-all-length}
+use Rattle.assertion.specs.Theorems.Left.{enter-all-length, First, first-more}
 use Rattle.system.specs.Working.Noting.{entryInto, rowed, rowInto, endsOf, noteIn}
 use Rattle.system.specs.Working.Each.{Store, store, oneOf, Each, eachBy, onOne}
 use Rattle.system.specs.Working.Sizes.{Size}
@@ -45,6 +45,7 @@ pub record Made (size : Size) (room : ℕ) (q : Query) (start : ℕ) (direct : L
   pub holds : Holds (x .pool) (x .places) (e .count) (e .end) names
   pub stock : Stock (size .places) (q .requesters) (top (q .values)) direct (take (e .kept) a) (take (e .kept) c) (take (e .kept) d) (take (e .size) (x .code)) l names
   pub tight : e .end ≤ mostCounted * e .count
+  pub first : First names
   pub few : e .count ≤ mostAsking + mostNamed * i
   pub low : e .size ≤ mostCode * i
   pub rows : e .kept ≤ i
@@ -108,6 +109,7 @@ module _ {size : Size} {room : ℕ} {q : Query} {start : ℕ} {direct : List ℕ
     holds = holds;
     stock = subst (λ (m : List ℕ). Stock (size .places) (q .requesters) (top (q .values)) direct (take (e .kept) a) (take (e .kept) c) (take (e .kept) d) m l (made .names)) (sym code) (made .stock);
     tight = made .tight;
+    first = made .first;
     few = omega (arith, made .few);
     low = omega (arith, made .low);
     rows = omega (arith, made .rows);
@@ -171,6 +173,7 @@ module _ {size : Size} {room : ℕ} {q : Query} {start : ℕ} {direct : List ℕ
       holds = holds;
       stock = kept-stock;
       tight = tight;
+      first = first-more (made .names) ps (made .first);
       few = omega (arith, holds .counted, counts);
       low = omega (arith, most, made .low);
       rows = omega (arith, made .rows);

@@ -1,6 +1,6 @@
--- A reason against Conditions is at most 9, and its place lies in the text or at its end. Assumes nothing.
-use mathlib.Core.Path.{_≡_, refl}
-use mathlib.Core.List.{List}
+-- A reason against Conditions, or against an expression, is at most 8, and its place lies in the text or at its end. Assumes nothing.
+use mathlib.Core.Path.{_≡_, refl, ap, _∙_}
+use mathlib.Core.List.{List, []}
 use Prim.Native.Nat.{ℕ, zero, suc, _+_, _-_, _≤_, _<_, zero-le}
 use native.Mathlib.Omega.{arith}
 use lib.Dec.{eqb, leb, ltb}
@@ -13,7 +13,7 @@ use Rattle.lexical.specs.declared.token.Token.{Token}
 use Rattle.syntax.specs.Operator.{Unary, Binary, Sort, a-string, a-test, unaryTakes, unaryGives, binaryTakes, binaryGives}
 use Rattle.syntax.specs.Expr.{Expr, Program, none, also, Clause, nested, unary, binary}
 use Rattle.syntax.specs.Parsed.{Parsed, ok, aside, refusal, unexpected}
-use Rattle.conditions.specs.Table.{PartSort, Want, want-any, want-string}
+use Rattle.conditions.specs.Table.{PartSort, Want, want-any, want-string, isAny}
 use Rattle.conditions.specs.Table
 use Rattle.conditions.specs.Working.Cases.{infix-cases, prefix-cases}
 use Rattle.conditions.specs.Word.{nextAt}
@@ -24,13 +24,19 @@ use Rattle.conditions.specs.Expression.{readExpression, readOperand, readPrefix
 use Rattle.conditions.specs.Program as P
 use Rattle.conditions.specs.Program.{ending, valuing, stopping, onClause, clausesTurn, DEPTH, readClause, readTested, readValue, readNested, readBlock, readClauses, readProgram}
 use Rattle.syntax.specs.Code.{ProgramCodes}
-use Rattle.conditions.specs.Working.Emit.{Ran}
-use Rattle.conditions.specs.Working.Same.{SameAs, as-aside, as-ok, start-within}
+use Rattle.syntax.specs.Stood.{Stood}
+use Rattle.text.specs.Choice.{clash}
+use Rattle.conditions.specs.Working.Emit.{Ran, ran}
+use Rattle.conditions.specs.declared.emit.Out.the-variants.{Aside as Refused}
+use Rattle.conditions.specs.Working.Same.{Same, same-aside, same-part, SameAs, as-aside, as-ok, start-within}
+use Rattle.conditions.specs.Working.TieExpression.{expression-same}
 use Rattle.conditions.specs.Working.TieProgram.{conditions-same}
-use Rattle.conditions.specs.Working.Pace.{next-sound}
+use Rattle.conditions.specs.Working.Pace.{within, next-sound, Paced, paced-aside, paced-found}
+use Rattle.conditions.specs.Working.PaceExpression.{expression-paced}
 use Rattle.conditions.specs.Working.PaceProgram.{Blocked, blocked-aside, blocked-found, block-paced}
 use Rattle.conditions.specs.Working.Program.{conditionsAt}
-use Rattle.keynote.specs.Theorems.Few.{Keeps, k-next, k-done, keeps-pick, loop-keeps}
+use Rattle.naming.specs.Theorems.Says.{stood-sound}
+use Rattle.keynote.specs.Theorems.Keeping.{Keeps, k-next, k-done, keeps-pick, loop-keeps}
 use Rattle.keynote.specs.Theorems.Places.{In, token-in, Placed, p-ok, p-aside, placed-pick, placed-then, at-token, refusal-small}
 
 module _ (s : List ℕ) where
@@ -209,3 +215,20 @@ program-reasoned s short at =
     (conditions-same s short m 0 (nextAt s at) (start-within s at) zero-le (omega arith))
     (blocked-in s m at (omega arith))
     (program-placed s (nextAt s at) (token-in s Kind.IN-FIELD at))
+
+-- ---- the same of a string expression by itself
+
+not-none : (s : List ℕ) (a b c r p : ℕ) (m : List ℕ) (x : Ran) → Paced s a b c x → x ≡ ran (Refused r p) m → r ≡ 0 → ⊥
+not-none s a b c r p m _ (paced-aside r′ p′ b′ h) e z = h (let q : r′ ≡ r = cc e in q ∙ z)
+not-none s a b c r p m _ (paced-found _ _ _ _ _ _ _ _) e z = absurd (let q : _≡_ {A = ℕ} 0 1 = cc e in omega (arith, q))
+
+raised-part : (s m : List ℕ) (top a b c : ℕ) (q : Parsed Part) (x : Ran) → Same s m top q x → Paced s a b c x → Placed s 0 q → Placed s 1 q
+raised-part s m top a b c _ _ (same-aside r p k i) g h = raised s r p (not-none s a b c r p k _ g refl) h
+raised-part s m top a b c _ _ (same-part x p u e n k w i j) g h = raised-ok s (part x e) n h
+
+pub string-reasoned : (s : List ℕ) → length s < 65536 → (nest : ℕ) (t : Token) → Stood s t → In s t → Placed s 1 (readExpression DEPTH s 3 want-string 0 nest t)
+string-reasoned s short nest t st i =
+    raised-part s [] 0 0 (t .start) (t .start) (readExpression DEPTH s 3 want-string 0 nest t) _
+    (expression-same s short DEPTH [] 0 3 want-string 0 nest t (within s t (stood-sound s t st)))
+    (expression-paced s DEPTH [] 0 3 want-string 0 nest t (stood-sound s t st) (omega arith) (λ z. clash (ap isAny z) refl) (omega arith))
+    (expression-placed s DEPTH 3 want-string 0 nest t i)

@@ -24,7 +24,7 @@ report-length l = omega (arith, entries-length l)
 
 pub report-needed : (q : Query) → length (report (readings q)) ≡ needed q
 unfolding needed readings
-report-needed q = report-length (map reading (q .assertions)) ∙ ap reportSize (length-map (q .assertions) reading)
+report-needed q = report-length (map (reading q) (q .assertions)) ∙ ap reportSize (length-map (q .assertions) (reading q))
 
 -- the reason and the place that stand behind a head
 getD-behind : (a b c i : ℕ) (l : List ℕ) → getD (a ∷ b ∷ c ∷ l) (3 + i) 0 ≡ getD l i 0

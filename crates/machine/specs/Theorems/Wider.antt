@@ -17,6 +17,8 @@ use Rattle.expression.specs.declared.value.Operand.the-variants.{Fault}
 use Rattle.machine.specs.Machine.{State, on, stuck, placed, textStep, topOf, below, unaryOn, unaryStep, lookupOn, lookupStep, settledOn, binaryOn, binaryStep, raised, pushStep, isIdle, clauseStep, actOf, stepOf, stepped, ahead, execBehind, exec, resultOf}
 use Rattle.machine.specs.Working.Passing.{exec-stuck}
 use Rattle.machine.specs.Left.{leftIn}
+use Rattle.machine.specs.Given.{gave, stringOf, stringIn}
+use Rattle.machine.specs.declared.Given.the-variants.{Bytes}
 
 -- the machine could not go on, or is where it is with more room
 data Kept : State → State → Type 0 where
@@ -151,3 +153,17 @@ module _ (code s rec consts values names constants : List ℕ) where
 
     pub rank-wide : v ≡ leftIn 208 77824 code s rec consts values names constants → k ≡ rankIn (leftIn 208 77824 code s rec consts values names constants)
     rank-wide ve = ke ∙ ap rankIn ve
+
+-- a string that is given is given with more room too
+kept-string : (a b : State) → Kept a b → (out : List ℕ) (n : ℕ) (to : List ℕ) → gave (Bytes n) to ≡ stringOf a out → gave (Bytes n) to ≡ stringOf b out
+unfolding stringOf
+kept-string _ _ lost out n to h = absurd (let z : _≡_ {A = ℕ} 0 1 = cc in omega arith)
+kept-string _ _ same out n to h = h
+
+pub string-wider : (depth depth′ room room′ : ℕ) (code s rec consts values names constants out : List ℕ) → depth ≤ depth′ → room ≤ room′ → (n : ℕ) (to : List ℕ)
+    → gave (Bytes n) to ≡ stringIn depth room code s rec consts values names constants out
+    → gave (Bytes n) to ≡ stringIn depth′ room′ code s rec consts values names constants out
+unfolding stringIn
+string-wider depth depth′ room room′ code s rec consts values names constants out d h n to e =
+    kept-string _ _
+    (exec-kept depth depth′ d room room′ h (lookupIn rec consts values names constants) s (map (counted rec) values) 0 code (on [] []) (on [] []) same) out n to e

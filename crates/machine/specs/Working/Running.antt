@@ -33,7 +33,7 @@ live-in r st m x n t re l =
     let l′ : Live (At n t) st m x = rw re at l in
     (l′ .within .0, (l′ .within .1, sym (l′ .holds)))
 
-live-out : (r : Tops) (st m : List ℕ) (x : State) → r ≡ Stuck → Live r st m x → x ≡ stuck
+pub live-out : (r : Tops) (st m : List ℕ) (x : State) → r ≡ Stuck → Live r st m x → x ≡ stuck
 live-out r st m x re l = let l′ : Live Stuck st m x = rw re at l in sym (l′ .holds)
 
 -- the ways out of `push_step`
@@ -164,9 +164,10 @@ exec-start depth room s look vals code st m = refl
 
 module _ (depth room : ℕ) (s : List ℕ) (look : List ℕ → List ℕ) (vals : List (List ℕ)) (code : List ℕ) (i : ℕ) (st m : List ℕ) (n t : ℕ) (a : State)
     (inv : execFrom depth room s look vals code i (take n st) (take t m) ≡ a) where
-  pub exec-end : length code ≤ i → (v : Operand) → v ≡ topOf (take n st) → v ≡ resultOf a
-  unfolding execFrom execBehind resultOf
-  exec-end h v ve = let q : on (take n st) (take t m) ≡ a = rw (drop-of-length-le code h) at inv in ve ∙ ap resultOf q
+  -- the end of the code: what lies on the stacks
+  pub exec-live : length code ≤ i → n ≤ length st → t ≤ length m → Live (At n t) st m a
+  unfolding execFrom execBehind
+  exec-live h w v = record { within = (w, v); holds = rw (drop-of-length-le code h) at inv }
 
   module _ (h : i < length code) (e : ℕ) (ee : e ≡ getD code i 0) (op : ℕ) (oe : op ≡ e / 65536) (p : ℕ) (pe : p ≡ e % 65536) (de : length st ≡ depth) (me : length m ≡ room)
       (r : Tops) (st′ m′ : List ℕ) where
@@ -177,12 +178,10 @@ module _ (depth room : ℕ) (s : List ℕ) (look : List ℕ → List ℕ) (vals 
     unfolding execFrom execBehind stepped
     step-is = rw (de, me, pe, oe, ee) (rw (drop-cons code i 0 h) at inv)
 
-    fault-is : Live r st′ m′ made → r ≡ Stuck → Fault ≡ resultOf a
-    unfolding resultOf
-    fault-is l re =
+    stuck-is : Live r st′ m′ made → r ≡ Stuck → Live Stuck st′ m′ a
+    stuck-is l re =
         let q : made ≡ stuck = live-out r st′ m′ _ re l in
-        let z : stuck ≡ a = sym (exec-stuck depth room s look vals op (drop (suc i) code)) ∙ (rw q at step-is) in
-        ap resultOf z
+        record { within = tt; holds = sym (exec-stuck depth room s look vals op (drop (suc i) code)) ∙ (rw q at step-is) }
 
     more-is : Live r st′ m′ made → (n′ t′ : ℕ) → r ≡ At n′ t′ → (x : ℕ) → x ≡ pick (leb op 5) 0 (needless (top vals) (take n′ st′) (drop (suc i) code))
         → execFrom depth room s look vals code (suc i + x) (take n′ st′) (take t′ m′) ≡ a
@@ -199,8 +198,8 @@ module _ (depth room : ℕ) (s : List ℕ) (look : List ℕ → List ℕ) (vals 
       unfolding stepOf
       pushed = rw (le-leb op 5 h4) l
 
-      pub push-fault : r ≡ Stuck → Fault ≡ resultOf a
-      push-fault = fault-is pushed
+      pub push-stuck : r ≡ Stuck → Live Stuck st′ m′ a
+      push-stuck = stuck-is pushed
 
       pub push-more : (n′ t′ : ℕ) → r ≡ At n′ t′ → execFrom depth room s look vals code (i + 1) (take n′ st′) (take t′ m′) ≡ a
       push-more n′ t′ re =
@@ -213,8 +212,8 @@ module _ (depth room : ℕ) (s : List ℕ) (look : List ℕ → List ℕ) (vals 
       unfolding stepOf
       acted = rw (lt-leb op 5 h4) l
 
-      pub act-fault : r ≡ Stuck → Fault ≡ resultOf a
-      act-fault = fault-is acted
+      pub act-stuck : r ≡ Stuck → Live Stuck st′ m′ a
+      act-stuck = stuck-is acted
 
       act-on : (n′ t′ : ℕ) → r ≡ At n′ t′ → (j : ℕ) → j ≡ i + 1 + needless (top vals) (take n′ st′) (drop (i + 1) code)
           → execFrom depth room s look vals code j (take n′ st′) (take t′ m′) ≡ a
@@ -244,3 +243,12 @@ numbers-within r st m x n t re l = live-in r st m x n t re l .0
 
 pub bytes-within : (r : Tops) (st m : List ℕ) (x : State) (n t : ℕ) → r ≡ At n t → Live r st m x → t ≤ length m
 bytes-within r st m x n t re l = live-in r st m x n t re l .1 .0
+
+-- the operand that lies on top where the code ends, or the fault of a machine that is stuck
+pub live-fault : (r : Tops) (st m : List ℕ) (x : State) → Live r st m x → r ≡ Stuck → Fault ≡ resultOf x
+unfolding resultOf
+live-fault r st m x l re = ap resultOf (sym (live-out r st m x re l))
+
+pub live-top : (r : Tops) (st m : List ℕ) (x : State) → Live r st m x → (n t : ℕ) → r ≡ At n t → (v : Operand) → v ≡ topOf (take n st) → v ≡ resultOf x
+unfolding resultOf
+live-top r st m x l n t re v ve = ve ∙ ap resultOf (sym (live-in r st m x n t re l .1 .1))

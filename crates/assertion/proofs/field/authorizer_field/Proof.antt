@@ -1,11 +1,11 @@
+use Rattle.assertion.specs.Working.FieldWays.{author-on, author-not}
 use borrow.Author.Needs.{needs}
 use Rattle.assertion.proofs.field.authorizer_field.Statement.{statement}
 use Rattle.assertion.proofs.field.authorizer_field.Tie as tie
 use Rattle.assertion.proofs.field.authorizer_field.Reads as reads
 use Rattle.assertion.proofs.field.authorizer_field.Lts as lts
 use Rattle.assertion.proofs.field.front.Reads as front-reads
-use Rattle.fields.proofs.authorizer.authorizer.Reads as authorizer-reads
-use Rattle.assertion.specs.Working.FieldWays.{author-on, author-not}
+use Rattle.naming.proofs.authorizer.authorizer.Reads as authorizer-reads
 
 front-requires : tie.Need-front-requires
 front-requires c κs = search needs

@@ -1,5 +1,5 @@
-use borrow.Author.Needs.{needs}
 use Rattle.assertion.specs.Working.FieldWays.{judged-on, judged-not}
+use borrow.Author.Needs.{needs}
 use Rattle.assertion.proofs.field.conditions_field.Statement.{statement}
 use Rattle.assertion.proofs.field.conditions_field.Tie as tie
 use Rattle.assertion.proofs.field.conditions_field.Reads as reads

@@ -1,10 +1,10 @@
+use Rattle.assertion.specs.Working.FieldWays.{settings-on, settings-not}
 use borrow.Author.Needs.{needs}
 use Rattle.assertion.proofs.field.constants_field.Statement.{statement}
 use Rattle.assertion.proofs.field.constants_field.Tie as tie
 use Rattle.assertion.proofs.field.constants_field.Reads as reads
 use Rattle.assertion.proofs.field.constants_field.Lts as lts
 use Rattle.fields.proofs.constants.constants.Reads as constants-reads
-use Rattle.assertion.specs.Working.FieldWays.{settings-on, settings-not}
 
 constants-requires : tie.Need-constants-requires
 constants-requires c κs = search needs

@@ -1,5 +1,5 @@
-use borrow.Author.Needs.{needs}
 use Rattle.assertion.specs.Working.FieldWays.{field-version, field-constants, field-authorizer, field-licensees, field-conditions, field-comment}
+use borrow.Author.Needs.{needs}
 use Rattle.assertion.proofs.field.field.Statement.{statement}
 use Rattle.assertion.proofs.field.field.Tie as tie
 use Rattle.assertion.proofs.field.field.Reads as reads

@@ -1,11 +1,11 @@
+use Rattle.assertion.specs.Working.FieldWays.{listed-on, listed-not}
 use borrow.Author.Needs.{needs}
 use Rattle.assertion.proofs.field.licensees_field.Statement.{statement}
 use Rattle.assertion.proofs.field.licensees_field.Tie as tie
 use Rattle.assertion.proofs.field.licensees_field.Reads as reads
 use Rattle.assertion.proofs.field.licensees_field.Lts as lts
 use Rattle.assertion.proofs.field.front.Reads as front-reads
-use Rattle.fields.proofs.licensees.licensees.Reads as licensees-reads
-use Rattle.assertion.specs.Working.FieldWays.{listed-on, listed-not}
+use Rattle.naming.proofs.licensees.licensees.Reads as licensees-reads
 
 front-requires : tie.Need-front-requires
 front-requires c κs = search needs

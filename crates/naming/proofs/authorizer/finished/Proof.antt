@@ -1,0 +1,23 @@
+use Rattle.naming.specs.Working.Authorizing.{finished-on, finished-not}
+use borrow.Author.Needs.{needs}
+use Rattle.naming.proofs.authorizer.finished.Statement.{statement}
+use Rattle.naming.proofs.authorizer.finished.Tie as tie
+use Rattle.naming.proofs.authorizer.finished.Reads as reads
+use Rattle.naming.proofs.authorizer.finished.Lts as lts
+use Rattle.fields.proofs.out.is_ending.Reads as is-ending-reads
+use Rattle.fields.proofs.out.refusal_of.Reads as refusal-of-reads
+
+is-ending-requires : tie.Need-is-ending-requires
+is-ending-requires c κs = search needs
+
+returns : tie.Need-returns
+returns c = search finished-on
+
+refusal-of-requires : tie.Need-refusal-of-requires
+refusal-of-requires c κs = search needs
+
+returns-2 : tie.Need-returns-2
+returns-2 c = search finished-not
+
+pub finished-spec : {M : Type 1} → statement M
+finished-spec = tie.close (tie.spec is-ending-requires returns refusal-of-requires returns-2)

@@ -1,0 +1,8 @@
+pub mod Source
+pub mod String
+pub mod Authorizer
+pub mod Licensees
+pub mod Naming
+pub mod Fault
+pub mod Working
+pub mod Theorems

@@ -1,0 +1,12 @@
+pub mod Strings
+pub mod Says
+pub mod Begun
+pub mod Words
+pub mod StandIn
+pub mod Growing
+pub mod Entered
+pub mod Listed
+pub mod Chained
+pub mod Licensed
+pub mod Authorized
+pub mod Examples

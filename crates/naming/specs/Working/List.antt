@@ -1,0 +1,135 @@
+-- Working definitions: licensees one by one and in lists, written as instructions. Assumes nothing.
+use mathlib.Core.Bool.{Bool, true, false}
+use mathlib.Core.List.{List, [], _∷_}
+use Prim.Native.Nat.{ℕ, _+_, _-_}
+use lib.Dec.{eqb, leb, ltb}
+use lib.ListN.{length, set}
+use Rattle.text.specs.Choice.{pick}
+use Rattle.text.specs.Loop.{Step, next, done, loop}
+use Rattle.limits.specs.Limits.{mostLicensees}
+use Rattle.lexical.specs.Kind
+use Rattle.lexical.specs.Number.{numberAt}
+use Rattle.lexical.specs.declared.token.Token.{Token}
+use Rattle.compliance.specs.Codes.{kOfCode}
+use Rattle.syntax.specs.Parsed.{refusal}
+use Rattle.conditions.specs.Table.{beginsString}
+use Rattle.conditions.specs.Word.{nextAt}
+use Rattle.fields.specs.Working.List.{above, pushed}
+use Rattle.naming.specs.String.{plainFrom, nestOf}
+use Rattle.naming.specs.Licensees.{after}
+use Rattle.naming.specs.Working.Faults.{against, firstOf}
+use Rattle.naming.specs.Working.Identifying.{Sight, Done, named, stringNamed, isPlain, plainNamed}
+use Rattle.naming.specs.declared.fault.Fault.{Fault}
+use Rattle.naming.specs.declared.identifier.Named.{Named}
+use Rattle.naming.specs.declared.identifier.Named.the-variants.{At, Nobody, Aside as Refused}
+use Rattle.naming.specs.declared.list.State.{State}
+use Rattle.naming.specs.declared.list.Licensed.{Licensed}
+use Rattle.naming.specs.declared.list.Licensed.the-variants.{On, Aside}
+
+-- an answer, the pool, the table and the code
+pub data Ran : Type 0 where
+  ran : Licensed → List ℕ → List ℕ → List ℕ → Ran
+
+-- an answer and the code
+pub data Wrote : Type 0 where
+  wrote : Licensed → List ℕ → Wrote
+
+abbrev pub refusedLicensed : Token → Licensed
+refusedLicensed t = Aside (refusal (t .kind)) (t .start)
+
+-- a state whose code ends elsewhere
+abbrev pub sized : State → ℕ → State
+sized st size = record { count = st .count; end = st .end; size = size; listed = st .listed; fault = st .fault }
+
+-- the index's count and end, the code's end, the number of licensees and the first fault
+abbrev pub stateOf : ℕ → ℕ → ℕ → ℕ → Fault → State
+stateOf c e z n f = record { count = c; end = e; size = z; listed = n; fault = f }
+
+-- a licensee whose first token that is no bracket stands at that place; where it is nobody, POLICY stands in, whose number is 0
+unfoldable pub placedIn : List ℕ → State → ℕ → Named → Wrote
+placedIn code st place (Refused r p) = wrote (Aside r p) code
+placedIn code st place (Nobody n) =
+    pick (leb mostLicensees (st .listed)) (wrote (Aside 0 0) code)
+    (wrote (On (stateOf (st .count) (st .end) (above code (st .size)) (st .listed + 1) (firstOf (st .fault) (against 10 place))) n) (pushed code (st .size) 0))
+placedIn code st place (At i c e n) =
+    pick (leb mostLicensees (st .listed)) (wrote (Aside 0 0) code)
+    (pick (leb 32768 i) (wrote (Aside 0 0) code) (wrote (On (stateOf c e (above code (st .size)) (st .listed + 1) (st .fault)) n) (pushed code (st .size) i)))
+
+abbrev pub onWrote : List ℕ → List ℕ → Wrote → Ran
+onWrote pool places (wrote r code) = ran r pool places code
+
+abbrev pub onNamed : List ℕ → State → ℕ → Done → Ran
+onNamed code st place (named e pool places) = onWrote pool places (placedIn code st place e)
+
+-- a name or a clear literal alone, before the token n
+unfoldable pub beforeIn : List ℕ → Sight → List ℕ → List ℕ → List ℕ → State → Token → Token → Ran
+beforeIn s look pool places code st t n =
+    pick (leb mostLicensees (st .listed)) (ran (Aside 7 (t .start)) pool places code)
+    (onNamed code st (t .start) (plainNamed s look pool places (st .count) (st .end) t n))
+
+-- is a licensee with its first token at p one too many?
+unfoldable pub isOver : ℕ → ℕ → Bool
+isOver listed k = pick (leb mostLicensees listed) (beginsString k) false
+
+-- any string
+unfoldable pub stringIn : List ℕ → Sight → List ℕ → List ℕ → List ℕ → State → ℕ → Token → Ran
+stringIn s look pool places code st left t =
+    pick (isOver (st .listed) (plainFrom left s t .kind)) (ran (Aside 7 (plainFrom left s t .start)) pool places code)
+    (onNamed code st (plainFrom left s t .start) (stringNamed s look pool places (st .count) (st .end) (nestOf left) t))
+
+unfoldable pub licenseeIn : List ℕ → Sight → List ℕ → List ℕ → List ℕ → State → ℕ → Token → Ran
+licenseeIn s look pool places code st left t =
+    pick (isPlain s t)
+    (pick (eqb (nextAt s (t .end) .kind) Kind.DOT) (stringIn s look pool places code st left t)
+    (beforeIn s look pool places code st t (nextAt s (t .end))))
+    (stringIn s look pool places code st left t)
+
+-- how many licensees were read since there were `before`
+unfoldable pub itemsOf : ℕ → ℕ → ℕ
+itemsOf before listed = pick (ltb listed before) 0 (pick (ltb mostLicensees (listed - before)) 0 (listed - before))
+
+-- the end of a list
+abbrev pub listedWith : List ℕ → List ℕ → ℕ → State → Token → ℕ → Wrote
+listedWith s code k st t n =
+    pick (ltb n k) (wrote (Aside 5 (t .start)) code) (wrote (On (sized st (above code (st .size))) (after s t)) (pushed code (st .size) (kOfCode k n)))
+
+unfoldable pub listedIn : List ℕ → List ℕ → ℕ → ℕ → State → Token → Wrote
+listedIn s code k before st t = listedWith s code k st t (itemsOf before (st .listed))
+
+-- the state, the token, the pool, the table and the code
+abbrev pub Loop : Type 0
+Loop = State × Token × List ℕ × List ℕ × List ℕ
+
+abbrev pub onItem : List ℕ → ℕ → ℕ → State → Ran → Step Loop Ran
+onItem s k before st (ran (Aside r p) pool places code) = done (ran (Aside r p) pool places code)
+onItem s k before st (ran (On u t) pool places code) =
+    pick (eqb (t .kind) Kind.CLOSE) (done (onWrote pool places (listedIn s code k before u t)))
+    (pick (eqb (t .kind) Kind.COMMA)
+    (pick (leb (mostLicensees - st .listed) (mostLicensees - u .listed)) (done (ran (Aside 0 0) pool places code)) (next (u, after s t, pool, places, code)))
+    (done (ran (refusedLicensed t) pool places code)))
+
+abbrev pub listTurn : List ℕ → Sight → ℕ → ℕ → ℕ → Loop → Step Loop Ran
+listTurn s look left k before (st, t, pool, places, code) = onItem s k before st (licenseeIn s look pool places code st left t)
+
+unfoldable pub listIn : List ℕ → Sight → ℕ → ℕ → ℕ → List ℕ → List ℕ → List ℕ → State → Token → Ran
+listIn s look left k before pool places code st t =
+    loop (λ x. mostLicensees - x .0 .listed) (λ x. ran (Aside 0 0) (x .2) (x .3) (x .4)) (listTurn s look left k before) (st, t, pool, places, code)
+
+unfoldable pub openedIn : ℕ → List ℕ → Sight → ℕ → List ℕ → List ℕ → List ℕ → State → Token → Ran
+openedIn left s look k pool places code st t =
+    pick (eqb (t .kind) Kind.OPEN)
+    (pick (eqb left 0) (ran (Aside 7 (t .start)) pool places code) (listIn s look (left - 1) k (st .listed) pool places code st (after s t)))
+    (ran (refusedLicensed t) pool places code)
+
+abbrev pub ofIn : ℕ → List ℕ → Sight → ℕ → List ℕ → List ℕ → List ℕ → State → Token → Ran
+ofIn left s look k pool places code st t =
+    pick (eqb (t .kind) Kind.OF) (openedIn left s look k pool places code st (after s t)) (ran (refusedLicensed t) pool places code)
+
+abbrev pub thresholdOf : ℕ → List ℕ → Sight → List ℕ → List ℕ → List ℕ → State → Token → ℕ → Ran
+thresholdOf left s look pool places code st t k =
+    pick (eqb k 0) (ran (Aside 5 (t .start)) pool places code)
+    (pick (ltb mostLicensees k) (ran (Aside 5 (t .start)) pool places code) (ofIn left s look k pool places code st (after s t)))
+
+unfoldable pub thresholdIn : ℕ → List ℕ → Sight → List ℕ → List ℕ → List ℕ → State → Token → Ran
+thresholdIn left s look pool places code st t =
+    thresholdOf left s look pool places code st t (numberAt s (t .start) (t .end))

@@ -1,0 +1,322 @@
+-- The ways out of the functions that write licensees and lists. Assumes nothing.
+use mathlib.Core.Path.{_≡_, refl, sym, ap, _∙_}
+use mathlib.Core.Bool.{Bool, true, false}
+use mathlib.Core.List.{List, []}
+use Prim.Native.Nat.{ℕ, zero, suc, _+_, _-_, _<_, _≤_}
+use native.Mathlib.Omega.{arith}
+use lib.Dec.{eqb, leb, ltb}
+use lib.ListN.{length, set, take, drop, length-drop}
+use lib.Seq.{length-take-le}
+use borrow.Author.Tests.{lt-ltb, le-ltb, le-leb, lt-leb, eq-eqb, ne-eqb}
+use Rattle.text.specs.Choice.{split}
+use Rattle.text.specs.Loop.{loop-next, loop-done}
+use Rattle.limits.specs.Limits.{mostLicensees}
+use Rattle.lexical.specs.Kind
+use Rattle.lexical.specs.Line.{tokenAt}
+use Rattle.lexical.specs.Number.{numberAt}
+use Rattle.lexical.specs.Token.{token}
+use Rattle.lexical.specs.declared.token.Token.{Token}
+use Rattle.compliance.specs.Codes.{kOfCode}
+use Rattle.syntax.specs.Parsed.{refusal}
+use Rattle.fields.specs.Working.List.{above, pushed}
+use Rattle.conditions.specs.Table.{beginsString}
+use Rattle.conditions.specs.Word.{nextAt}
+use Rattle.naming.specs.String.{plainFrom, nestOf}
+use Rattle.naming.specs.Working.Faults.{against, firstOf}
+use Rattle.naming.specs.Working.Identifying.{Sight, Done, named, ofNumber, enteredIn, stringNamed, isPlain, plainNamed, plain-at, plain-nobody}
+use Rattle.limits.specs.Limits.{mostIdentifier}
+use Rattle.fields.specs.Working.Whole.{whole, inner, Whole, whole-is}
+use Rattle.index.specs.Working.Entering.{numbered, enterIn}
+use Rattle.index.specs.declared.Numbered.{Numbered}
+use Rattle.index.specs.declared.Numbered.the-variants.{At as Known, Full}
+use Rattle.naming.specs.Working.List.{Ran, ran, Wrote, wrote, refusedLicensed, sized, stateOf, placedIn, onNamed, beforeIn, isOver, stringIn, licenseeIn, itemsOf, listedIn, onWrote, listIn, openedIn, thresholdIn}
+use Rattle.naming.specs.declared.fault.Fault.{Fault}
+use Rattle.naming.specs.declared.identifier.Named.{Named}
+use Rattle.naming.specs.declared.identifier.Named.the-variants.{At, Nobody, Aside as Refused}
+use Rattle.naming.specs.declared.list.State.{State}
+use Rattle.naming.specs.declared.list.Licensed.{Licensed}
+use Rattle.naming.specs.declared.list.Licensed.the-variants.{On, Aside}
+
+-- `plain_from`
+module _ (s : List ℕ) where
+  pub plain-here : (left : ℕ) (t : Token) → left ≡ 0 → t ≡ plainFrom left s t
+  unfolding plainFrom
+  plain-here left t h = rw h
+
+  pub plain-not : (left : ℕ) (t : Token) → (t .kind ≡ Kind.OPEN → ⊥) → t ≡ plainFrom left s t
+  unfolding plainFrom
+  plain-not zero t h = refl
+  plain-not (suc left) t h = rw (ne-eqb _ _ h)
+
+  pub plain-more : (left : ℕ) (t n : Token) → (left ≡ 0 → ⊥) → t .kind ≡ Kind.OPEN → n ≡ tokenAt s Kind.IN-FIELD (t .end) → plainFrom (left - 1) s n ≡ plainFrom left s t
+  unfolding plainFrom
+  plain-more zero t n z h ne = absurd (z refl)
+  plain-more (suc left) t n z h ne = let e : suc left - 1 ≡ left = omega arith in rw (eq-eqb _ _ h, e, ne)
+
+  -- its loop, with the invariant `plainFrom .. ≡ a`
+  module _ (left : ℕ) (t a : Token) (inv : plainFrom left s t ≡ a) where
+    pub plain-end : left ≡ 0 → t ≡ a
+    plain-end h = plain-here left t h ∙ inv
+
+    pub plain-stop : (t .kind ≡ Kind.OPEN → ⊥) → t ≡ a
+    plain-stop h = plain-not left t h ∙ inv
+
+    pub plain-again : (n : Token) → (left ≡ 0 → ⊥) → t .kind ≡ Kind.OPEN → n ≡ tokenAt s Kind.IN-FIELD (t .end) → plainFrom (left - 1) s n ≡ a
+    plain-again n z h ne = plain-more left t n z h ne ∙ inv
+
+-- `nest_of`
+pub nest-none : (left : ℕ) → 16 ≤ left → 0 ≡ nestOf left
+nest-none left h = omega (arith, h)
+
+-- `is_over`
+module _ (listed k : ℕ) where
+  pub over-not : listed < mostLicensees → false ≡ isOver listed k
+  unfolding isOver
+  over-not h = rw (lt-leb _ _ h)
+
+  pub over-string : mostLicensees ≤ listed → (b : Bool) → b ≡ beginsString k → b ≡ isOver listed k
+  unfolding isOver
+  over-string h b be = rw (le-leb _ _ h) be
+
+-- `placed`
+module _ (code : List ℕ) (st : State) (place : ℕ) (e : Named) where
+  pub placed-aside : (r p : ℕ) → e ≡ Refused r p → wrote (Aside r p) code ≡ placedIn code st place e
+  unfolding placedIn
+  placed-aside r p k = rw k
+
+  module _ (n : Token) (k : e ≡ Nobody n) where
+    pub nobody-most : mostLicensees ≤ st .listed → wrote (Aside 0 0) code ≡ placedIn code st place e
+    unfolding placedIn
+    nobody-most h = rw k (rw (le-leb _ _ h))
+
+    pub nobody-on : st .listed < mostLicensees → (y : ℕ) (b : List ℕ) (g f : Fault) → y ≡ above code (st .size) → b ≡ pushed code (st .size) 0
+        → g ≡ against 10 place → f ≡ firstOf (st .fault) g → wrote (On (stateOf (st .count) (st .end) y (st .listed + 1) f) n) b ≡ placedIn code st place e
+    unfolding placedIn
+    nobody-on h y b g f ye be ge fe = rw (k, ye, be, fe, ge) (rw (lt-leb _ _ h))
+
+  module _ (i c m : ℕ) (n : Token) (k : e ≡ At i c m n) where
+    pub number-most : mostLicensees ≤ st .listed → wrote (Aside 0 0) code ≡ placedIn code st place e
+    unfolding placedIn
+    number-most h = rw k (rw (le-leb _ _ h))
+
+    module _ (few : st .listed < mostLicensees) where
+      pub placed-high : 32768 ≤ i → wrote (Aside 0 0) code ≡ placedIn code st place e
+      unfolding placedIn
+      placed-high g = rw k (rw (lt-leb _ _ few, le-leb _ _ g))
+
+      pub placed-on : (x y : ℕ) (b : List ℕ) → i < 32768 → x ≡ i → y ≡ above code (st .size) → b ≡ pushed code (st .size) x
+          → wrote (On (stateOf c m y (st .listed + 1) (st .fault)) n) b ≡ placedIn code st place e
+      unfolding placedIn
+      placed-on x y b g xe ye be = rw (k, ye, be, xe) (rw (lt-leb _ _ few, lt-leb _ _ g))
+
+-- `placed_number`
+module _ (code : List ℕ) (st : State) (n : Token) (e : Numbered) where
+  pub number-none : e ≡ Full → wrote (Aside 0 0) code ≡ placedIn code st 0 (ofNumber n e)
+  unfolding ofNumber placedIn
+  number-none k = rw k
+
+  module _ (i c m : ℕ) (k : e ≡ Known i c m) (few : st .listed < 16) where
+    pub number-high : 32768 ≤ i → wrote (Aside 0 0) code ≡ placedIn code st 0 (ofNumber n e)
+    unfolding ofNumber placedIn
+    number-high g = rw k (rw (lt-leb _ _ few, le-leb _ _ g))
+
+    pub number-on : (x y : ℕ) (b : List ℕ) → i < 32768 → x ≡ i → y ≡ above code (st .size) → b ≡ pushed code (st .size) x
+        → wrote (On (stateOf c m y (st .listed + 1) (st .fault)) n) b ≡ placedIn code st 0 (ofNumber n e)
+    unfolding ofNumber placedIn
+    number-on x y b g xe ye be = rw (k, ye, be, xe) (rw (lt-leb _ _ few, lt-leb _ _ g))
+
+-- the place doesn't matter to a principal that was entered
+any-place : (code : List ℕ) (st : State) (a b : ℕ) (n : Token) (e : Numbered) → placedIn code st a (ofNumber n e) ≡ placedIn code st b (ofNumber n e)
+unfolding ofNumber placedIn
+any-place code st a b n Full = refl
+any-place code st a b n (Known i c m) = refl
+
+-- `licensee_before`
+module _ (s : List ℕ) (look : Sight) (pool places code : List ℕ) (st : State) (t n : Token) where
+  pub before-most : mostLicensees ≤ st .listed → ran (Aside 7 (t .start)) pool places code ≡ beforeIn s look pool places code st t n
+  unfolding beforeIn
+  before-most h = rw (le-leb _ _ h)
+
+  pub before-placed : st .listed < mostLicensees → (e : Named) (p q : List ℕ) → named e p q ≡ plainNamed s look pool places (st .count) (st .end) t n
+      → (x : Licensed) (m : List ℕ) → wrote x m ≡ placedIn code st (t .start) e → ran x p q m ≡ beforeIn s look pool places code st t n
+  unfolding beforeIn
+  before-placed h e p q ee x m we = rw (lt-leb _ _ h, ← ee, ← we)
+
+-- a literal that gives its bytes as they stand has 1 to 256 of them
+inner-long : (s : List ℕ) (t : Token) → whole s t ≡ true → (length (inner s (t .start) (t .end)) ≡ 0 → ⊥) × (length (inner s (t .start) (t .end)) ≤ mostIdentifier)
+inner-long s t h =
+    let is : Whole s t = whole-is s t h in
+    let long : length (inner s (t .start) (t .end)) ≡ t .end - 1 - (t .start + 1)
+    = length-take-le (t .end - 1 - (t .start + 1)) (drop (t .start + 1) s) (rw (length-drop (t .start + 1) s) (omega (arith, is .inText))) in
+    ((λ z. let no : ⊥ = omega (arith, z, long, is .some) in no), omega (arith, long, is .few))
+
+module _ (s : List ℕ) (look : Sight) (pool places code : List ℕ) (st : State) (t n : Token) where
+  pub before-literal : st .listed < mostLicensees → (t .kind ≡ Kind.NAME → ⊥) → isPlain s t ≡ true → (e : Numbered) (p q : List ℕ)
+      → numbered e p q ≡ enterIn pool places (st .count) (st .end) (inner s (t .start) (t .end))
+      → (x : Licensed) (m : List ℕ) → wrote x m ≡ placedIn code st 0 (ofNumber n e) → ran x p q m ≡ beforeIn s look pool places code st t n
+  unfolding beforeIn plainNamed enteredIn isPlain
+  before-literal h nn is e p q ee x m we =
+      let w : whole s t ≡ true = rw (ne-eqb _ _ nn) at is in
+      let l : _ = inner-long s t w in
+      rw (lt-leb _ _ h, ne-eqb _ _ nn, ne-eqb _ _ (l .0), le-ltb _ _ (l .1), ← ee, any-place code st (t .start) 0 n e, ← we)
+
+-- the token behind such a licensee
+behind-placed : (code : List ℕ) (st : State) (place : ℕ) (n : Token) (e : Named) (u : State) (v : Token) (m : List ℕ) → ((i c d : ℕ) (o : Token) → e ≡ At i c d o → o ≡ n) → ((o : Token) → e ≡ Nobody o → o ≡ n)
+    → wrote (On u v) m ≡ placedIn code st place e → v ≡ n
+unfolding placedIn
+behind-placed code st place n (Refused r p) u v m f g h = absurd (let z : _≡_ {A = ℕ} 0 1 = cc h in omega (arith, z))
+behind-placed code st place n (Nobody o) u v m f g h =
+    split (leb mostLicensees (st .listed)) (λ e. let k : wrote (On u v) m ≡ wrote (Aside 0 0) code = rw e at h in absurd (let z : _≡_ {A = ℕ} 0 1 = cc k in omega (arith, z)))
+    (λ e. let k : wrote (On u v) m ≡ _ = rw e at h in let w : v ≡ o = cc k in w ∙ g o refl)
+behind-placed code st place n (At i c d o) u v m f g h =
+    split (leb mostLicensees (st .listed)) (λ e. let k : wrote (On u v) m ≡ wrote (Aside 0 0) code = rw e at h in absurd (let z : _≡_ {A = ℕ} 0 1 = cc k in omega (arith, z)))
+    (λ e. split (leb 32768 i) (λ l. let k : wrote (On u v) m ≡ wrote (Aside 0 0) code = rw (e, l) at h in absurd (let z : _≡_ {A = ℕ} 0 1 = cc k in omega (arith, z)))
+    (λ l. let k : wrote (On u v) m ≡ _ = rw (e, l) at h in let w : v ≡ o = cc k in w ∙ f i c d o refl))
+
+before-from : (code : List ℕ) (st : State) (place : ℕ) (n : Token) (d : Done) (u : State) (v : Token) (p q m : List ℕ)
+    → ((i c e : ℕ) (o : Token) (a b : List ℕ) → d ≡ named (At i c e o) a b → o ≡ n) → ((o : Token) (a b : List ℕ) → d ≡ named (Nobody o) a b → o ≡ n)
+    → ran (On u v) p q m ≡ onNamed code st place d → v ≡ n
+before-from code st place n (named e a b) u v p q m f g h =
+    from (placedIn code st place e) refl h
+  where
+    from : (w : Wrote) → placedIn code st place e ≡ w → ran (On u v) p q m ≡ onWrote a b w → v ≡ n
+    from (wrote x k) we i =
+        let j : wrote (On u v) k ≡ placedIn code st place e = (let z : x ≡ On u v = cc i in rw (sym z) (sym we)) in
+        behind-placed code st place n e u v k (λ i c d o z. f i c d o a b (rw z)) (λ o z. g o a b (rw z)) j
+
+pub before-next : (s : List ℕ) (look : Sight) (pool places code : List ℕ) (st : State) (t n : Token) (u : State) (v : Token) (p q m : List ℕ)
+    → ran (On u v) p q m ≡ beforeIn s look pool places code st t n → v ≡ n
+unfolding beforeIn
+before-next s look pool places code st t n u v p q m h =
+    split (leb mostLicensees (st .listed))
+    (λ e. let k : ran (On u v) p q m ≡ ran (Aside 7 (t .start)) pool places code = rw e at h in absurd (let z : _≡_ {A = ℕ} 0 1 = cc k in omega (arith, z)))
+    (λ e. let k : ran (On u v) p q m ≡ onNamed code st (t .start) (plainNamed s look pool places (st .count) (st .end) t n) = rw e at h in
+    before-from code st (t .start) n (plainNamed s look pool places (st .count) (st .end) t n) u v p q m
+    (λ i c e o a b z. plain-at s look pool places (st .count) (st .end) t n a b i c e o (sym z))
+    (λ o a b z. plain-nobody s look pool places (st .count) (st .end) t n a b o (sym z)) k)
+
+-- `string_licensee`
+module _ (s : List ℕ) (look : Sight) (pool places code : List ℕ) (st : State) (left : ℕ) (t p : Token) (pe : p ≡ plainFrom left s t) (b : Bool) (be : b ≡ isOver (st .listed) (p .kind)) where
+  pub string-most : b ≡ true → ran (Aside 7 (p .start)) pool places code ≡ stringIn s look pool places code st left t
+  unfolding stringIn
+  string-most y = rw (← pe, ← be, y)
+
+  pub string-placed : b ≡ false → (nest : ℕ) → nest ≡ nestOf left → (e : Named) (p′ q : List ℕ) → named e p′ q ≡ stringNamed s look pool places (st .count) (st .end) nest t
+      → (x : Licensed) (m : List ℕ) → wrote x m ≡ placedIn code st (p .start) e → ran x p′ q m ≡ stringIn s look pool places code st left t
+  unfolding stringIn
+  string-placed y nest ne e p′ q ee x m we = rw (← pe, ← be, y, ← ne, ← ee, ← we)
+
+-- `licensee`
+module _ (s : List ℕ) (look : Sight) (pool places code : List ℕ) (st : State) (left : ℕ) (t : Token) (r : Ran) (b : Bool) (be : b ≡ isPlain s t) where
+  pub licensee-string : b ≡ false → r ≡ stringIn s look pool places code st left t → r ≡ licenseeIn s look pool places code st left t
+  unfolding licenseeIn
+  licensee-string y re = rw (← be, y) re
+
+  module _ (y : b ≡ true) (n : Token) (ne : n ≡ tokenAt s Kind.IN-FIELD (t .end)) where
+    pub licensee-longer : n .kind ≡ Kind.DOT → r ≡ stringIn s look pool places code st left t → r ≡ licenseeIn s look pool places code st left t
+    unfolding licenseeIn
+    licensee-longer h re = rw (← be, y, ← ne, eq-eqb _ _ h) re
+
+    pub licensee-plain : (n .kind ≡ Kind.DOT → ⊥) → r ≡ beforeIn s look pool places code st t n → r ≡ licenseeIn s look pool places code st left t
+    unfolding licenseeIn
+    licensee-plain h re = rw (← be, y, ← ne, ne-eqb _ _ h) re
+
+-- `items`
+module _ (before listed : ℕ) where
+  pub items-less : listed < before → 0 ≡ itemsOf before listed
+  unfolding itemsOf
+  items-less h = simp (lt-ltb _ _ h)
+
+  module _ (h : before ≤ listed) where
+    pub items-many : mostLicensees < listed - before → 0 ≡ itemsOf before listed
+    unfolding itemsOf
+    items-many k = simp (le-ltb _ _ h, lt-ltb _ _ k)
+
+    pub items-are : listed - before ≤ mostLicensees → listed - before ≡ itemsOf before listed
+    unfolding itemsOf
+    items-are k = simp (le-ltb _ _ h, le-ltb _ _ k)
+
+-- `list_end`
+module _ (s code : List ℕ) (k before : ℕ) (st : State) (t : Token) (m : ℕ) (me : m ≡ itemsOf before (st .listed)) (n : ℕ) (ne : n ≡ m) where
+  nm : itemsOf before (st .listed) ≡ n
+  nm = sym me ∙ sym ne
+
+  pub list-few : n < k → wrote (Aside 5 (t .start)) code ≡ listedIn s code k before st t
+  unfolding listedIn
+  list-few h = rw nm (simp (lt-ltb _ _ h))
+
+  pub list-enough : (x y : ℕ) (b : List ℕ) (u : Token) → k ≤ n → x ≡ kOfCode k n → y ≡ above code (st .size) → b ≡ pushed code (st .size) x → u ≡ tokenAt s Kind.IN-LICENSEES (t .end)
+      → wrote (On (sized st y) u) b ≡ listedIn s code k before st t
+  unfolding listedIn
+  list-enough x y b u h xe ye be ue = rw (ye, be, xe, ue, nm) (simp (le-ltb _ _ h))
+
+-- the loop of `list`, with the invariant `listIn .. ≡ a`
+module _ (s : List ℕ) (look : Sight) (left k before : ℕ) (pool places code : List ℕ) (st : State) (t : Token) (a : Ran)
+    (inv : listIn s look left k before pool places code st t ≡ a) (r : Licensed) (p q m : List ℕ) (re : ran r p q m ≡ licenseeIn s look pool places code st left t) where
+  pub item-aside : (x y : ℕ) → r ≡ Aside x y → ran (Aside x y) p q m ≡ a
+  unfolding listIn
+  item-aside x y h = sym (loop-done _ _ _ (st, t, pool, places, code) (ran (Aside x y) p q m) (simp (sym re, h))) ∙ inv
+
+  module _ (u : State) (n : Token) (rv : r ≡ On u n) where
+    pub item-close : (w : Licensed) (b : List ℕ) → n .kind ≡ Kind.CLOSE → wrote w b ≡ listedIn s m k before u n → ran w p q b ≡ a
+    unfolding listIn
+    item-close w b h we =
+        ap (onWrote p q) we ∙ sym (loop-done _ _ _ (st, t, pool, places, code) (onWrote p q (listedIn s m k before u n)) (simp (sym re, rv, eq-eqb _ _ h))) ∙ inv
+
+    module _ (nc : n .kind ≡ Kind.CLOSE → ⊥) where
+      pub item-other : (w : Licensed) → (n .kind ≡ Kind.COMMA → ⊥) → w ≡ refusedLicensed n → ran w p q m ≡ a
+      unfolding listIn
+      item-other w h we =
+          rw we (sym (loop-done _ _ _ (st, t, pool, places, code) (ran (refusedLicensed n) p q m) (simp (sym re, rv, ne-eqb _ _ nc, ne-eqb _ _ h))) ∙ inv)
+
+      module _ (h : n .kind ≡ Kind.COMMA) (x y : ℕ) (xe : x ≡ 16 - st .listed) (ye : y ≡ 16 - u .listed) where
+        pub item-stuck : x ≤ y → ran (Aside 0 0) p q m ≡ a
+        unfolding listIn
+        item-stuck g =
+            sym (loop-done _ _ _ (st, t, pool, places, code) (ran (Aside 0 0) p q m) (simp (sym re, rv, ne-eqb _ _ nc, eq-eqb _ _ h, sym xe, sym ye, le-leb _ _ g))) ∙ inv
+
+        pub item-more : (v : Token) → y < x → v ≡ tokenAt s Kind.IN-LICENSEES (n .end) → listIn s look left k before p q m u v ≡ a
+        unfolding listIn
+        item-more v g ve =
+            rw ve (sym (loop-next _ _ _ (st, t, pool, places, code) (u, tokenAt s Kind.IN-LICENSEES (n .end), p, q, m)
+            (simp (sym re, rv, ne-eqb _ _ nc, eq-eqb _ _ h, sym xe, sym ye, lt-leb _ _ g)) (omega (arith, xe, ye))) ∙ inv)
+
+        pub item-less : y < x → 16 - u .listed < 16 - st .listed
+        item-less g = omega (arith, xe, ye)
+
+-- `opened`
+module _ (left : ℕ) (s : List ℕ) (look : Sight) (k : ℕ) (pool places code : List ℕ) (st : State) (t : Token) where
+  pub opened-not : (r : Licensed) → (t .kind ≡ Kind.OPEN → ⊥) → r ≡ refusedLicensed t → ran r pool places code ≡ openedIn left s look k pool places code st t
+  unfolding openedIn
+  opened-not r h re = rw re (simp (ne-eqb _ _ h))
+
+  module _ (h : t .kind ≡ Kind.OPEN) where
+    pub opened-most : left ≡ 0 → ran (Aside 7 (t .start)) pool places code ≡ openedIn left s look k pool places code st t
+    unfolding openedIn
+    opened-most z = simp (eq-eqb _ _ h, eq-eqb _ _ z)
+
+    pub opened-list : (n : Token) (r : Ran) → (left ≡ 0 → ⊥) → n ≡ tokenAt s Kind.IN-LICENSEES (t .end) → r ≡ listIn s look (left - 1) k (st .listed) pool places code st n
+        → r ≡ openedIn left s look k pool places code st t
+    unfolding openedIn
+    opened-list n r z ne re = re ∙ simp (eq-eqb _ _ h, ne-eqb _ _ z, ne)
+
+-- `threshold`
+module _ (left : ℕ) (s : List ℕ) (look : Sight) (pool places code : List ℕ) (st : State) (t : Token) (k : ℕ) (ke : k ≡ numberAt s (t .start) (t .end)) where
+  pub threshold-none : k ≡ 0 → ran (Aside 5 (t .start)) pool places code ≡ thresholdIn left s look pool places code st t
+  unfolding thresholdIn
+  threshold-none z = simp (sym ke, eq-eqb _ _ z)
+
+  module _ (nz : k ≡ 0 → ⊥) where
+    pub threshold-high : 16 < k → ran (Aside 5 (t .start)) pool places code ≡ thresholdIn left s look pool places code st t
+    unfolding thresholdIn
+    threshold-high h = simp (sym ke, ne-eqb _ _ nz, lt-ltb _ _ h)
+
+    module _ (low : k ≤ 16) (o : Token) (oe : o ≡ tokenAt s Kind.IN-LICENSEES (t .end)) where
+      pub threshold-not : (r : Licensed) → (o .kind ≡ Kind.OF → ⊥) → r ≡ refusedLicensed o → ran r pool places code ≡ thresholdIn left s look pool places code st t
+      unfolding thresholdIn
+      threshold-not r h re = rw re (simp (sym ke, ne-eqb _ _ nz, le-ltb _ _ low, sym oe, ne-eqb _ _ h))
+
+      pub threshold-of : (n : Token) (x : ℕ) (r : Ran) → o .kind ≡ Kind.OF → n ≡ tokenAt s Kind.IN-LICENSEES (o .end) → x ≡ k → r ≡ openedIn left s look x pool places code st n
+          → r ≡ thresholdIn left s look pool places code st t
+      unfolding thresholdIn
+      threshold-of n x r h ne xe re = re ∙ rw xe (simp (sym ke, ne-eqb _ _ nz, le-ltb _ _ low, sym oe, eq-eqb _ _ h, ne))

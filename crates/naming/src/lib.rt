@@ -1,0 +1,6 @@
+// Whom an assertion names: Authorizer and Licensees, whose string expressions are read, run and entered into the index of principals.
+pub mod authorizer;
+pub mod fault;
+pub mod identifier;
+pub mod licensees;
+pub mod list;
