@@ -119,6 +119,9 @@ module _ (s : List ℕ) (t : Token) where
   unfolding isPlain
   plain-kind h = rw (eq-eqb _ _ h)
 
+  pub plain-kind-yes : t .kind ≡ Kind.NAME → isPlain s t ≡ true
+  plain-kind-yes h = sym (plain-kind h)
+
   pub plain-yes : (b : Bool) → b ≡ isPlain s t → b ≡ true → isPlain s t ≡ true
   plain-yes b be y = sym be ∙ y
 
