@@ -18,6 +18,7 @@ use lexical::line::token_at;
 use lexical::token::Token;
 use naming::fault::clear;
 use naming::fault::earlier;
+use naming::fault::reason_of;
 ghost use mathlib.Core.Path.{_≡_};
 ghost use Rattle.assertion.specs.Labels.{without};
 ghost use Rattle.assertion.specs.Read.{first};
@@ -73,7 +74,7 @@ fn finished(code: &mut [u16], d: Partial, end: usize) -> Reading
         let f = earlier(against, besides);
         if f.reason != 0 {
             return Reading::Dropped {
-                reason: f.reason,
+                reason: reason_of(f),
                 place: f.place,
             };
         }

@@ -2,6 +2,7 @@
 use mathlib.Core.Path.{_≡_, refl}
 use mathlib.Core.Bool.{Bool, true, false}
 use Prim.Native.Nat.{ℕ, _<_, _≤_}
+use native.Mathlib.Omega.{arith}
 use lib.Dec.{eqb, leb}
 use borrow.Author.Tests.{le-leb, lt-leb, eq-eqb, ne-eqb}
 use Rattle.text.specs.Choice.{pick, split}
@@ -34,6 +35,10 @@ module _ (f : Fault) where
   pub reason-nobody : (f .reason ≡ 9 → ⊥) → 10 ≡ reasonOf f
   unfolding reasonOf
   reason-nobody h = rw (ne-eqb _ _ h)
+
+pub reason-some : (f : Fault) → reasonOf f ≡ 0 → ⊥
+unfolding reasonOf
+reason-some f = split (eqb (f .reason) 9) (λ e. rw e (λ z. omega (arith, z))) (λ e. rw e (λ z. omega (arith, z)))
 
 -- `earlier`
 module _ (a b : Fault) where
