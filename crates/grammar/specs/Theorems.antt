@@ -3,9 +3,7 @@ pub mod Decoding
 pub mod Unique
 pub mod OneToken
 pub mod Assigning
-pub mod Licensing
 pub mod Conditioning
-pub mod Grouping
 pub mod Exactly
 pub mod Readers
 pub mod Convert

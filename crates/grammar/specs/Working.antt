@@ -1,7 +1,6 @@
 pub mod Automaton
 pub mod Looping
 pub mod Marks
-pub mod Places
 pub mod Stations
 pub mod Stationed
 pub mod Joints
@@ -17,4 +16,3 @@ pub mod Principals
 pub mod Sorting
 pub mod Pending
 pub mod Yard
-pub mod Shunt

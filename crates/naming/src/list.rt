@@ -1,4 +1,6 @@
 // Licensees one by one and in lists, written as instructions.
+use crate::code::push;
+use crate::code::rest;
 use crate::fault::Fault;
 use crate::fault::NOBODY;
 use crate::fault::earlier;
@@ -9,8 +11,6 @@ use crate::identifier::plain_named;
 use crate::identifier::string_named;
 use compliance::machine as instruction;
 use conditions::table::is_string;
-use fields::list::push;
-use fields::list::rest;
 use fields::out::NO_ROOM;
 use fields::out::refusal_of;
 use index::Numbered;

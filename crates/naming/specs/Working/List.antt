@@ -14,7 +14,7 @@ use Rattle.compliance.specs.Codes.{kOfCode}
 use Rattle.syntax.specs.Parsed.{refusal}
 use Rattle.conditions.specs.Table.{beginsString}
 use Rattle.conditions.specs.Word.{nextAt}
-use Rattle.fields.specs.Working.List.{above, pushed}
+use Rattle.naming.specs.Working.Code.{above, pushed}
 use Rattle.naming.specs.String.{plainFrom, nestOf}
 use Rattle.naming.specs.Licensees.{after}
 use Rattle.naming.specs.Working.Faults.{against, firstOf}

@@ -18,14 +18,14 @@ use Rattle.lexical.specs.Token.{token}
 use Rattle.lexical.specs.declared.token.Token.{Token}
 use Rattle.compliance.specs.Codes.{kOfCode}
 use Rattle.syntax.specs.Parsed.{refusal}
-use Rattle.fields.specs.Working.List.{above, pushed}
+use Rattle.naming.specs.Working.Code.{above, pushed}
 use Rattle.conditions.specs.Table.{beginsString}
 use Rattle.conditions.specs.Word.{nextAt}
 use Rattle.naming.specs.String.{plainFrom, nestOf}
 use Rattle.naming.specs.Working.Faults.{against, firstOf}
 use Rattle.naming.specs.Working.Identifying.{Sight, Done, named, ofNumber, enteredIn, stringNamed, isPlain, plainNamed, plain-at, plain-nobody}
 use Rattle.limits.specs.Limits.{mostIdentifier}
-use Rattle.fields.specs.Working.Whole.{whole, inner, Whole, whole-is}
+use Rattle.naming.specs.Working.Whole.{whole, inner, Whole, whole-is}
 use Rattle.index.specs.Working.Entering.{numbered, enterIn}
 use Rattle.index.specs.declared.Numbered.{Numbered}
 use Rattle.index.specs.declared.Numbered.the-variants.{At as Known, Full}
