@@ -12,3 +12,4 @@ pub mod Decimals
 pub mod Authoring
 pub mod Naming
 pub mod Mixtures
+pub mod Spoken

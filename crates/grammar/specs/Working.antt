@@ -9,6 +9,7 @@ pub mod Onward
 pub mod Openings
 pub mod Reading
 pub mod Known
+pub mod Cuts
 pub mod Modes
 pub mod Begun
 pub mod Strings
