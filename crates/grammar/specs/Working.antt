@@ -1,8 +1,8 @@
 pub mod Automaton
 pub mod Looping
 pub mod Marks
-pub mod Stations
-pub mod Stationed
+pub mod States
+pub mod Accepts
 pub mod Joints
 pub mod Told
 pub mod Onward
@@ -14,6 +14,6 @@ pub mod Modes
 pub mod Begun
 pub mod Strings
 pub mod Principals
-pub mod Sorting
+pub mod LicenseesStack
 pub mod Pending
-pub mod Yard
+pub mod ProgramStack

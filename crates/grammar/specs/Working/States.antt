@@ -1,4 +1,4 @@
--- Places in a Conditions, an Authorizer and a Licensees field, with what stands around them: the automaton by which kinds are seen to begin no
+-- States in a Conditions, an Authorizer and a Licensees field, with what stands around them: the automaton by which kinds are seen to begin no
 -- sentence. It goes by the tables of crate conditions. Assumes nothing.
 use mathlib.Core.Bool.{Bool, true, false}
 use Prim.Native.Nat.{ℕ, zero, suc}
@@ -44,21 +44,22 @@ pub data Frame : Type 0 where
   people : ℕ → ℕ → Frame
   item : ℕ → Frame
 
-pub data Place : Type 0 where
-  p-dead : Place
-  p-over : Place
-  p-begin : ℕ → Place
-  p-arrow : ℕ → Place
-  p-block : ℕ → Place
-  p-any : Spot → Place
-  p-text : PartSort → Frame → Place
-  p-number : Want → Frame → Place
-  p-have : PartSort → Frame → Place
-  p-names : Place
-  p-princ : ℕ → ℕ → Place
-  p-people : ℕ → Place
-  p-count : ℕ → Place
-  p-of : ℕ → Place
+-- the automaton's states: what may come next, and in which frame
+pub data State : Type 0 where
+  p-dead : State
+  p-over : State
+  p-begin : ℕ → State
+  p-arrow : ℕ → State
+  p-block : ℕ → State
+  p-any : Spot → State
+  p-text : PartSort → Frame → State
+  p-number : Want → Frame → State
+  p-have : PartSort → Frame → State
+  p-names : State
+  p-princ : ℕ → ℕ → State
+  p-people : ℕ → State
+  p-count : ℕ → State
+  p-of : ℕ → State
 
 -- a test and nothing else
 abbrev pub strict : Spot → Spot
@@ -85,41 +86,41 @@ isTest (sorted a-test) = true
 isTest (word b) = true
 
 -- where the right operand of a sort is wanted
-abbrev pub rightOf : PartSort → Frame → Place
+abbrev pub rightOf : PartSort → Frame → State
 rightOf (sorted a-string) F = p-text TEXT F
 rightOf (sorted an-integer) F = p-number want-integer F
 rightOf (sorted a-float) F = p-number want-float F
 rightOf (sorted a-test) F = p-text TEXT F
 rightOf (word b) F = p-text TEXT F
 
-abbrev pub closeAt : Bool → PartSort → Spot → Place
+abbrev pub closeAt : Bool → PartSort → Spot → State
 closeAt lone sort S =
     pick (settledTest sort) (p-have TEST (tests (strict S)))
     (pick lone (p-have sort (tests S)) (pick (isTest sort) (p-have TEST (tests (strict S))) p-dead))
 
-abbrev pub endAt : PartSort → Spot → ℕ → Place
+abbrev pub endAt : PartSort → Spot → ℕ → State
 endAt sort (in-clause d) k = pick (isTest sort) (pick (eqb k Kind.ARROW) (p-arrow d) (pick (eqb k Kind.SEMICOLON) (p-begin d) p-dead)) p-dead
 endAt sort (in-bracket lone S) k = pick (eqb k Kind.CLOSE) (closeAt lone sort S) p-dead
 
 -- licensees: a closing bracket behind a string, one behind what is no string, and the end
-abbrev pub shutAt : ℕ → ℕ → Place
+abbrev pub shutAt : ℕ → ℕ → State
 shutAt u zero = p-dead
 shutAt zero (suc n) = p-people n
 shutAt (suc u) (suc n) = p-have TEXT (people u n)
 
-abbrev pub shutPeople : ℕ → Place
+abbrev pub shutPeople : ℕ → State
 shutPeople zero = p-dead
 shutPeople (suc n) = p-people n
 
-abbrev pub lastAt : ℕ → Place
+abbrev pub lastAt : ℕ → State
 lastAt zero = p-over
 lastAt (suc n) = p-dead
 
 -- behind a licensee in n brackets
-abbrev pub peopleAt : Place → ℕ → ℕ → Place
+abbrev pub peopleAt : State → ℕ → ℕ → State
 peopleAt shut n k = pick (eqb k Kind.AND) (p-princ 0 n) (pick (eqb k Kind.OR) (p-princ 0 n) (pick (eqb k Kind.CLOSE) shut (pick (ending k) (lastAt n) p-dead)))
 
-abbrev pub leaveAt : PartSort → Frame → ℕ → Place
+abbrev pub leaveAt : PartSort → Frame → ℕ → State
 leaveAt sort (tests S) k =
     pick (Table.binds 2 (Table.operator sort k)) (rightOf sort (right (strict S))) (pick (Table.binds 0 (Table.operator sort k)) (p-any (strict S)) (endAt sort S k))
 leaveAt sort (right S) k = pick (Table.binds 0 (Table.operator (sorted a-test) k)) (p-any (strict S)) (endAt TEST S k)
@@ -130,14 +131,14 @@ leaveAt sort alone k = pick (ending k) p-over p-dead
 leaveAt sort (people u n) k = peopleAt (shutAt u n) n k
 leaveAt sort (item n) k = pick (eqb k Kind.COMMA) (p-text TEXT (item n)) (pick (eqb k Kind.CLOSE) (p-people n) p-dead)
 
-abbrev pub haveAt : PartSort → Frame → ℕ → Place
+abbrev pub haveAt : PartSort → Frame → ℕ → State
 haveAt sort F k = pick (Table.binds 3 (Table.operator sort k)) (rightOf sort F) (leaveAt sort F k)
 
 -- operands, where they are allowed
-abbrev pub goText : PartSort → Frame → ℕ → Place
+abbrev pub goText : PartSort → Frame → ℕ → State
 goText r F k = pick (eqb k Kind.OPEN) (p-text TEXT (texts r F)) (pick (eqb k Kind.DOLLAR) (p-text r F) (p-have r F))
 
-abbrev pub goNumber : Want → Frame → ℕ → Place
+abbrev pub goNumber : Want → Frame → ℕ → State
 goNumber w F k =
     pick (eqb k Kind.OPEN) (p-number w (numbers F))
     (pick (eqb k Kind.MINUS) (p-number w F)
@@ -145,7 +146,7 @@ goNumber w F k =
     (pick (eqb k Kind.AMPERSAND) (p-text FLOATING F)
     (pick (eqb k Kind.AT) (p-text NUMBER F) (p-have NUMBER F)))))
 
-abbrev pub goAny : Spot → ℕ → Place
+abbrev pub goAny : Spot → ℕ → State
 goAny S k =
     pick (eqb k Kind.OPEN) (p-any (in-bracket true S))
     (pick (eqb k Kind.NOT) (p-any (strict S))
@@ -153,26 +154,27 @@ goAny S k =
     (pick (Table.beginsString k) (goText TEXT (tests S) k) (goNumber want-number (tests S) k))))
 
 -- a licensee, where one is wanted
-abbrev pub princAt : ℕ → ℕ → ℕ → Place
+abbrev pub princAt : ℕ → ℕ → ℕ → State
 princAt u n k =
     pick (eqb k Kind.OPEN) (p-princ (suc u) (suc n)) (pick (eqb k Kind.DIGITS) (p-count n) (pick (Table.allows want-string (flat k)) (goText TEXT (people u n) k) p-dead))
 
-abbrev pub overAt : ℕ → Place
+abbrev pub overAt : ℕ → State
 overAt zero = p-over
 overAt (suc d) = p-block d
 
-unfoldable pub station : Place → ℕ → Place
-station p-dead k = p-dead
-station p-over k = p-dead
-station (p-begin d) k = pick (Table.allows want-any (flat k)) (goAny (in-clause d) k) (pick (Table.stops d k) (overAt d) p-dead)
-station (p-arrow d) k = pick (Table.allows want-string (flat k)) (goText TEXT (value d) k) (pick (eqb k Kind.OPEN-BRACE) (p-begin (suc d)) p-dead)
-station (p-block d) k = pick (eqb k Kind.SEMICOLON) (p-begin d) p-dead
-station (p-any S) k = pick (Table.allows want-any (flat k)) (goAny S k) p-dead
-station (p-text r F) k = pick (Table.allows want-string (flat k)) (goText r F k) p-dead
-station (p-number w F) k = pick (Table.allows w (flat k)) (goNumber w F k) p-dead
-station (p-have sort F) k = haveAt sort F k
-station p-names k = pick (ending k) p-over (princAt 0 0 k)
-station (p-princ u n) k = princAt u n k
-station (p-people n) k = peopleAt (shutPeople n) n k
-station (p-count n) k = pick (eqb k Kind.OF) (p-of n) p-dead
-station (p-of n) k = pick (eqb k Kind.OPEN) (p-text TEXT (item n)) p-dead
+-- the state behind a token of kind k
+unfoldable pub step : State → ℕ → State
+step p-dead k = p-dead
+step p-over k = p-dead
+step (p-begin d) k = pick (Table.allows want-any (flat k)) (goAny (in-clause d) k) (pick (Table.stops d k) (overAt d) p-dead)
+step (p-arrow d) k = pick (Table.allows want-string (flat k)) (goText TEXT (value d) k) (pick (eqb k Kind.OPEN-BRACE) (p-begin (suc d)) p-dead)
+step (p-block d) k = pick (eqb k Kind.SEMICOLON) (p-begin d) p-dead
+step (p-any S) k = pick (Table.allows want-any (flat k)) (goAny S k) p-dead
+step (p-text r F) k = pick (Table.allows want-string (flat k)) (goText r F k) p-dead
+step (p-number w F) k = pick (Table.allows w (flat k)) (goNumber w F k) p-dead
+step (p-have sort F) k = haveAt sort F k
+step p-names k = pick (ending k) p-over (princAt 0 0 k)
+step (p-princ u n) k = princAt u n k
+step (p-people n) k = peopleAt (shutPeople n) n k
+step (p-count n) k = pick (eqb k Kind.OF) (p-of n) p-dead
+step (p-of n) k = pick (eqb k Kind.OPEN) (p-text TEXT (item n)) p-dead
