@@ -13,3 +13,4 @@ pub mod Authoring
 pub mod Naming
 pub mod Mixtures
 pub mod Spoken
+pub mod Examples
