@@ -1,4 +1,6 @@
 // Licensees, written as a postfix program over the index of principals.
+use crate::code::push;
+use crate::code::rest;
 use crate::fault::clear;
 use crate::identifier::is_plain;
 use crate::list::Licensed;
@@ -9,8 +11,6 @@ use crate::list::name_before;
 use crate::list::refused;
 use crate::list::threshold;
 use compliance::machine as instruction;
-use fields::list::push;
-use fields::list::rest;
 use fields::out::NO_ROOM;
 use fields::out::is_ending;
 use lexical::kind;

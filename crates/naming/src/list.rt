@@ -1,4 +1,6 @@
 // Licensees one by one and in lists, written as instructions.
+use crate::code::push;
+use crate::code::rest;
 use crate::fault::Fault;
 use crate::fault::NOBODY;
 use crate::fault::earlier;
@@ -7,11 +9,9 @@ use crate::identifier::Named;
 use crate::identifier::is_plain;
 use crate::identifier::plain_named;
 use crate::identifier::string_named;
+use crate::whole::is_whole;
 use compliance::machine as instruction;
 use conditions::table::is_string;
-use fields::identifier::is_whole;
-use fields::list::push;
-use fields::list::rest;
 use fields::out::NO_ROOM;
 use fields::out::refusal_of;
 use index::Numbered;
@@ -27,7 +27,7 @@ ghost use mathlib.Core.Bool.{true};
 ghost use Prim.Native.Nat.{_-_, _<_};
 ghost use Rattle.lexical.specs.Kind;
 ghost use Rattle.lexical.specs.Token.{token};
-ghost use Rattle.fields.specs.Working.Whole.{wholeAt};
+ghost use Rattle.naming.specs.Working.Whole.{wholeAt};
 ghost use Rattle.naming.specs.String.{plainFrom, nestOf};
 ghost use Rattle.naming.specs.Working.Identifying.{sight, ofNumber};
 ghost use Rattle.naming.specs.Working.List.{ran, refusedLicensed, itemsOf, listedIn, placedIn, beforeIn, literalIn, Leads, isOver, stringIn, licenseeIn, listIn, openedIn, thresholdIn, wrote};

@@ -28,9 +28,9 @@ use Rattle.syntax.specs.Stood.{Stood, stood-at}
 use Rattle.fields.specs.Parsed.{ending}
 use Rattle.fields.specs.Signature.{signature}
 use Rattle.fields.specs.Working.Outs.{outOf}
-use Rattle.fields.specs.Working.List.{above, pushed}
+use Rattle.naming.specs.Working.Code.{above, pushed}
 use Rattle.fields.specs.Theorems.Together.{both, Steps, both-next, both-done, loop-same, refusal-some}
-use Rattle.fields.specs.Theorems.Growing.{above-is, pushed-length, pushed-is}
+use Rattle.naming.specs.Theorems.Code.{above-is, pushed-length, pushed-is}
 use Rattle.fields.specs.Theorems.Versioned.{SignatureRead, signature-aside, signature-on, signature-read}
 use Rattle.naming.specs.Source.{Author}
 use Rattle.naming.specs.Fault.{clear, faulty, licenseesFault}

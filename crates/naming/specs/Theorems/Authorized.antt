@@ -28,7 +28,7 @@ use Rattle.syntax.specs.Stood.{Stood}
 use Rattle.conditions.specs.Word.{nextAt}
 use Rattle.fields.specs.Parsed.{ending, ended}
 use Rattle.fields.specs.Theorems.Together.{refusal-some}
-use Rattle.fields.specs.Theorems.Identified.{holds-before, EntryRead, entry-at}
+use Rattle.naming.specs.Theorems.Entry.{holds-before, EntryRead, entry-at}
 use Rattle.naming.specs.Source.{Source, Author}
 use Rattle.naming.specs.String.{plainFrom, source}
 use Rattle.naming.specs.Authorizer.{authorizer}

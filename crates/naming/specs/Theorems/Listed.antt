@@ -27,9 +27,9 @@ use Rattle.syntax.specs.Parsed.{Parsed, ok, aside, refusal, unexpected}
 use Rattle.syntax.specs.Stood.{Stood, stood-at}
 use Rattle.conditions.specs.Table.{beginsString}
 use Rattle.conditions.specs.Word.{nextAt}
-use Rattle.fields.specs.Working.List.{above, pushed}
+use Rattle.naming.specs.Working.Code.{above, pushed}
 use Rattle.fields.specs.Theorems.Together.{both, Steps, both-next, both-done, loop-same, refusal-some}
-use Rattle.fields.specs.Theorems.Identified.{holds-before, EntryRead, entry-at}
+use Rattle.naming.specs.Theorems.Entry.{holds-before, EntryRead, entry-at}
 use Rattle.naming.specs.Source.{Source, Sources, kOf, sources}
 use Rattle.naming.specs.String.{plainFrom}
 use Rattle.naming.specs.Licensees.{after, licensee, listed, onListed, listTurn, listFrom, listOpened, ofRead, threshold}

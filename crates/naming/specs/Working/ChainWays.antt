@@ -17,7 +17,7 @@ use Rattle.lexical.specs.Token.{token}
 use Rattle.lexical.specs.declared.token.Token.{Token}
 use Rattle.compliance.specs.Codes.{andCode, orCode, zeroCode}
 use Rattle.fields.specs.Parsed.{ending}
-use Rattle.fields.specs.Working.List.{above, pushed}
+use Rattle.naming.specs.Working.Code.{above, pushed}
 use Rattle.conditions.specs.Word.{nextAt}
 use Rattle.naming.specs.String.{nestOf}
 use Rattle.naming.specs.Working.Faults.{clearAt}

@@ -11,7 +11,7 @@ use borrow.Author.Tests.{lt-ltb, le-ltb, le-leb, lt-leb, eq-eqb, ne-eqb, eqb-tru
 use mir.Syntax.{w64}
 use mir.Val.{Fits}
 use Rattle.text.specs.Choice.{pick, split, clash}
-use Rattle.fields.specs.Working.Identifying.{whole-some, whole-fits, whole-from, whole-within}
+use Rattle.naming.specs.Working.Whole.{whole-some, whole-fits, whole-from, whole-within}
 use Rattle.text.specs.Loop.{loop-next, loop-done}
 use Rattle.limits.specs.Limits.{mostLicensees}
 use Rattle.lexical.specs.Kind
@@ -21,14 +21,14 @@ use Rattle.lexical.specs.Token.{token}
 use Rattle.lexical.specs.declared.token.Token.{Token}
 use Rattle.compliance.specs.Codes.{kOfCode}
 use Rattle.syntax.specs.Parsed.{refusal}
-use Rattle.fields.specs.Working.List.{above, pushed}
+use Rattle.naming.specs.Working.Code.{above, pushed}
 use Rattle.conditions.specs.Table.{beginsString}
 use Rattle.conditions.specs.Word.{nextAt}
 use Rattle.naming.specs.String.{plainFrom, nestOf}
 use Rattle.naming.specs.Working.Faults.{against, firstOf}
 use Rattle.naming.specs.Working.Identifying.{Sight, sight, Done, named, ofNumber, ofKept, enteredIn, stringNamed, isPlain, plainNamed, plain-at, plain-nobody}
 use Rattle.limits.specs.Limits.{mostIdentifier}
-use Rattle.fields.specs.Working.Whole.{whole, wholeAt, inner, Whole, whole-is}
+use Rattle.naming.specs.Working.Whole.{whole, wholeAt, inner, Whole, whole-is}
 use Rattle.index.specs.Working.Entering.{Kept, numbered, enterIn}
 use Rattle.index.specs.declared.Numbered.{Numbered}
 use Rattle.index.specs.declared.Numbered.the-variants.{At as Known, Full}

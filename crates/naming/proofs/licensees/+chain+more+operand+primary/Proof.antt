@@ -20,8 +20,8 @@ use Rattle.naming.proofs.licensees.+chain+more+operand+primary.Lts-oper
 use Rattle.naming.proofs.licensees.primary.Reads as primary
 use Rattle.naming.proofs.licensees.primary.Kinds as primary-kinds
 use Rattle.naming.proofs.licensees.+chain+more+operand+primary.Lts-primary as primary-lts
-use Rattle.fields.proofs.list.push.Reads as push-reads
-use Rattle.fields.proofs.list.rest.Reads as rest-reads
+use Rattle.naming.proofs.code.push.Reads as push-reads
+use Rattle.naming.proofs.code.rest.Reads as rest-reads
 use Rattle.lexical.proofs.token_at.Reads as token-at-reads
 use Rattle.naming.proofs.identifier.is_plain.Reads as is-plain-reads
 use Rattle.naming.proofs.licensees.closed.Reads as closed-reads

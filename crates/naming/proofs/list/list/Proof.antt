@@ -9,7 +9,7 @@ use Rattle.naming.proofs.list.list.Statement.{statement}
 use Rattle.naming.proofs.list.list.Tie as tie
 use Rattle.naming.proofs.list.list.Reads as reads
 use Rattle.naming.proofs.list.list.Lts as lts
-use Rattle.fields.proofs.list.rest.Reads as rest-reads
+use Rattle.naming.proofs.code.rest.Reads as rest-reads
 use Rattle.lexical.proofs.token_at.Reads as token-at-reads
 use Rattle.naming.proofs.list.licensee.Reads as licensee-reads
 use Rattle.naming.proofs.list.list_end.Reads as list-end-reads

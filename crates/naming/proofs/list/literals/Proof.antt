@@ -9,8 +9,8 @@ use Rattle.naming.proofs.list.literals.Statement.{statement}
 use Rattle.naming.proofs.list.literals.Tie as tie
 use Rattle.naming.proofs.list.literals.Reads as reads
 use Rattle.naming.proofs.list.literals.Lts as lts
-use Rattle.fields.proofs.identifier.is_whole.Reads as is-whole-reads
-use Rattle.fields.proofs.list.rest.Reads as rest-reads
+use Rattle.naming.proofs.whole.is_whole.Reads as is-whole-reads
+use Rattle.naming.proofs.code.rest.Reads as rest-reads
 use Rattle.lexical.proofs.token_at.Reads as token-at-reads
 use Rattle.naming.proofs.list.literal_before.Reads as literal-before-reads
 
