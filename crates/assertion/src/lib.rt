@@ -8,7 +8,6 @@ use crate::field::field;
 use crate::label::is_free;
 use crate::label::use_label;
 use compliance::machine::TOP;
-use fields::list::push;
 use fields::out::Out;
 use fields::out::is_ending;
 use fields::out::refusal_of;
@@ -16,8 +15,10 @@ use fields::signature::signature;
 use lexical::kind;
 use lexical::line::token_at;
 use lexical::token::Token;
+use naming::code::push;
 use naming::fault::clear;
 use naming::fault::earlier;
+use naming::fault::reason_of;
 ghost use mathlib.Core.Path.{_≡_};
 ghost use Rattle.assertion.specs.Labels.{without};
 ghost use Rattle.assertion.specs.Read.{first};
@@ -73,7 +74,7 @@ fn finished(code: &mut [u16], d: Partial, end: usize) -> Reading
         let f = earlier(against, besides);
         if f.reason != 0 {
             return Reading::Dropped {
-                reason: f.reason,
+                reason: reason_of(f),
                 place: f.place,
             };
         }

@@ -1,9 +1,6 @@
 pub mod Parsed
 pub mod Version
 pub mod Constants
-pub mod Identifier
-pub mod Authorizer
-pub mod Licensees
 pub mod Signature
 pub mod Working
 pub mod Theorems

@@ -1,9 +1,2 @@
 pub mod Outs
-pub mod Whole
-pub mod Identifying
-pub mod Authorizing
 pub mod Setting
-pub mod List
-pub mod ListWays
-pub mod Chain
-pub mod ChainWays

@@ -1,10 +1,6 @@
-// The fields KeyNote-Version, Local-Constants, Authorizer, Licensees and Signature of an assertion. Each reader is given the token behind
+// The fields KeyNote-Version, Local-Constants and Signature of an assertion. Each reader is given the token behind
 // the field's label and reads from left to right up to the first fault, or hands back the token that ends the field.
-pub mod authorizer;
 pub mod constants;
-pub mod identifier;
-pub mod licensees;
-pub mod list;
 pub mod out;
 pub mod signature;
 pub mod version;

@@ -1,4 +1,5 @@
--- The grammars of the fields over kinds of token, production by production: no reader in sight. Conditions has a file of its own.
+-- The grammars of the fields over kinds of token, production by production: no reader in sight. Conditions has a file of its own, and so have
+-- Authorizer and Licensees (Naming).
 -- Limits are no part of a grammar: a sentence may be as long as it likes. Assumes nothing.
 use mathlib.Core.List.{List, [], _∷_, _++_}
 use Prim.Native.Nat.{ℕ}
@@ -28,34 +29,6 @@ pub data Version : List ℕ → Type 0 where
 pub data Assignments : List ℕ → Type 0 where
   no-assignment : Assignments []
   assignment : (ks : List ℕ) → Assignments ks → Assignments (Kind.NAME ∷ Kind.ASSIGN ∷ Kind.LITERAL ∷ ks)
-
--- <PrincipalIdentifier> | <DerefAttribute>; 01: "a literal, or a bare name"
-pub data Principal : ℕ → Type 0 where
-  principal-literal : Principal Kind.LITERAL
-  principal-name : Principal Kind.NAME
-
--- <AuthID>:: <PrincipalIdentifier> | <DerefAttribute>
-pub data Authorizer : List ℕ → Type 0 where
-  authorizer : (k : ℕ) → Principal k → Authorizer (k ∷ [])
-
--- <PrincList>:: <PrincipalIdentifier> | <DerefAttribute> | <PrincList> "," <PrincList>
-pub data PrincList : List ℕ → Type 0 where
-  one : (k : ℕ) → Principal k → PrincList (k ∷ [])
-  comma : (ks ls : List ℕ) → PrincList ks → PrincList ls → PrincList (ks ++ Kind.COMMA ∷ ls)
-
--- <PrincExpr>:: "(" <PrincExpr> ")" | <PrincExpr> "&&" <PrincExpr> | <PrincExpr> "||" <PrincExpr> | <K>"-of(" <PrincList> ")"
--- | <PrincipalIdentifier> | <DerefAttribute>
-pub data PrincExpr : List ℕ → Type 0 where
-  bracket : (ks : List ℕ) → PrincExpr ks → PrincExpr (Kind.OPEN ∷ ks ++ Kind.CLOSE ∷ [])
-  both : (ks ls : List ℕ) → PrincExpr ks → PrincExpr ls → PrincExpr (ks ++ Kind.AND ∷ ls)
-  either : (ks ls : List ℕ) → PrincExpr ks → PrincExpr ls → PrincExpr (ks ++ Kind.OR ∷ ls)
-  threshold : (ks : List ℕ) → PrincList ks → PrincExpr (Kind.DIGITS ∷ Kind.OF ∷ Kind.OPEN ∷ ks ++ Kind.CLOSE ∷ [])
-  principal : (k : ℕ) → Principal k → PrincExpr (k ∷ [])
-
--- <LicenseesExpr>:: "" | <PrincExpr>
-pub data Licensees : List ℕ → Type 0 where
-  nobody : Licensees []
-  somebody : (ks : List ℕ) → PrincExpr ks → Licensees ks
 
 -- <Signature>; 01: "one string literal; nothing after it is read", so no token ends it
 pub data Signature : List ℕ → Type 0 where

@@ -3,7 +3,6 @@ pub mod Fields
 pub mod Conditions
 pub mod Spelled
 pub mod Trees
-pub mod Grouped
 pub mod Viable
 pub mod Naming
 pub mod Sourced

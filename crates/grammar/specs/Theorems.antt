@@ -3,9 +3,7 @@ pub mod Decoding
 pub mod Unique
 pub mod OneToken
 pub mod Assigning
-pub mod Licensing
 pub mod Conditioning
-pub mod Grouping
 pub mod Exactly
 pub mod Readers
 pub mod Convert
@@ -14,3 +12,5 @@ pub mod Decimals
 pub mod Authoring
 pub mod Naming
 pub mod Mixtures
+pub mod Spoken
+pub mod Examples

@@ -3,6 +3,8 @@ pub mod Says
 pub mod Begun
 pub mod Words
 pub mod StandIn
+pub mod Code
+pub mod Entry
 pub mod Growing
 pub mod Entered
 pub mod Listed

@@ -1,3 +1,5 @@
+pub mod Whole
+pub mod Code
 pub mod Faults
 pub mod Identifying
 pub mod List

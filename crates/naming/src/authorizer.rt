@@ -1,4 +1,5 @@
 // Authorizer, a string expression.
+use crate::fault::BARRED;
 use crate::fault::Fault;
 use crate::fault::NOBODY;
 use crate::fault::clear;
@@ -20,9 +21,6 @@ ghost use Rattle.naming.specs.Working.Authorizing.{policyAt, barredAt, b
 
 // The standing of a verified credential.
 pub const VERIFIED: u8 = 2;
-
-// The reason against a verified credential whose authorizer is POLICY.
-pub const BARRED: u8 = 9;
 
 // The authorizer's number, the index's count and end, what is against the identifier, and the token that ends the field; or the first fault of the text.
 pub enum Author {

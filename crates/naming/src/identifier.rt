@@ -1,6 +1,6 @@
 // An identifier: a string expression, run and entered into the index of principals.
+use crate::whole::is_whole;
 use expression::name::lookup;
-use fields::identifier::is_whole;
 use fields::out::NO_ROOM;
 use fields::out::word;
 use index::Numbered;

@@ -1,15 +1,16 @@
 // Licensees, written as a postfix program over the index of principals.
+use crate::code::push;
+use crate::code::rest;
 use crate::fault::clear;
 use crate::identifier::is_plain;
 use crate::list::Licensed;
 use crate::list::State;
 use crate::list::licensee;
-use crate::list::licensee_before;
+use crate::list::literal_before;
+use crate::list::name_before;
 use crate::list::refused;
 use crate::list::threshold;
 use compliance::machine as instruction;
-use fields::list::push;
-use fields::list::rest;
 use fields::out::NO_ROOM;
 use fields::out::is_ending;
 use lexical::kind;
@@ -122,7 +123,21 @@ fn operand<'a>(
         let n = token_at(s, kind::IN_FIELD, t.end);
         if is_lone(n.kind) {
             if is_plain(s, t) {
-                return licensee_before(
+                if t.kind != kind::NAME {
+                    return literal_before(
+                        s,
+                        pool,
+                        places,
+                        code,
+                        st,
+                        t.start,
+                        t.end,
+                        n.kind,
+                        n.start,
+                        n.end,
+                    );
+                }
+                return name_before(
                     s,
                     query,
                     consts,
@@ -133,8 +148,11 @@ fn operand<'a>(
                     places,
                     code,
                     st,
-                    t,
-                    n,
+                    t.start,
+                    t.end,
+                    n.kind,
+                    n.start,
+                    n.end,
                 );
             }
         }

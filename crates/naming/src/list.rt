@@ -1,4 +1,6 @@
 // Licensees one by one and in lists, written as instructions.
+use crate::code::push;
+use crate::code::rest;
 use crate::fault::Fault;
 use crate::fault::NOBODY;
 use crate::fault::earlier;
@@ -7,10 +9,9 @@ use crate::identifier::Named;
 use crate::identifier::is_plain;
 use crate::identifier::plain_named;
 use crate::identifier::string_named;
+use crate::whole::is_whole;
 use compliance::machine as instruction;
 use conditions::table::is_string;
-use fields::list::push;
-use fields::list::rest;
 use fields::out::NO_ROOM;
 use fields::out::refusal_of;
 use index::Numbered;
@@ -24,15 +25,18 @@ use limits::MOST_LICENSEES;
 ghost use mathlib.Core.Path.{_≡_};
 ghost use mathlib.Core.Bool.{true};
 ghost use Prim.Native.Nat.{_-_, _<_};
+ghost use Rattle.lexical.specs.Kind;
+ghost use Rattle.lexical.specs.Token.{token};
+ghost use Rattle.naming.specs.Working.Whole.{wholeAt};
 ghost use Rattle.naming.specs.String.{plainFrom, nestOf};
-ghost use Rattle.naming.specs.Working.Identifying.{sight, isPlain, ofNumber};
-ghost use Rattle.naming.specs.Working.List.{ran, refusedLicensed, itemsOf, listedIn, placedIn, beforeIn, isOver, stringIn, licenseeIn, listIn, openedIn, thresholdIn, wrote};
+ghost use Rattle.naming.specs.Working.Identifying.{sight, ofNumber};
+ghost use Rattle.naming.specs.Working.List.{ran, refusedLicensed, itemsOf, listedIn, placedIn, beforeIn, literalIn, Leads, isOver, stringIn, licenseeIn, listIn, openedIn, thresholdIn, wrote};
 
-// The index's count and end, the end of the code, how many licensees were read, and the first that is nobody.
+// The index's count, the end of the code, the index's end, how many licensees were read, and the first that is nobody.
 pub struct State {
     pub count: usize,
-    pub end: usize,
     pub size: usize,
+    pub end: usize,
     pub listed: usize,
     pub fault: Fault,
 }
@@ -207,8 +211,9 @@ fn placed_number(code: &mut [u16], st: State, n: Token, e: Numbered) -> Licensed
     }
 }
 
-// The licensee that is the name or the clear literal t alone, before the token n.
-pub(crate) fn licensee_before<'a>(
+// The licensee that is the name from `start` to `stop` alone, before a token. Both are handed over in parts: a copy of a whole one would wait for the
+// stores of its parts.
+pub(crate) fn name_before<'a>(
     s: &[u8],
     query: &'a [u8],
     consts: &'a [u8],
@@ -219,36 +224,75 @@ pub(crate) fn licensee_before<'a>(
     places: &mut [usize],
     code: &mut [u16],
     st: State,
-    t: Token,
-    n: Token,
+    start: usize,
+    stop: usize,
+    then: usize,
+    from: usize,
+    to: usize,
 ) -> Licensed
-    requires { ⌜ isPlain (now s) t ≡ true ⌝ }
-    ensures { λ r. ⌜ ran r (now (pool .exit)) (now (places .exit)) (now (code .exit)) ≡ beforeIn (now (s .entry)) (sight (now (query .entry)) (now (consts .entry)) (now (values .entry)) (now (names .entry)) (now (constants .entry))) (now (pool .entry)) (now (places .entry)) (now (code .entry)) st t n ⌝ }
+    ensures { λ r. ⌜ ran r (now (pool .exit)) (now (places .exit)) (now (code .exit)) ≡ beforeIn (now (s .entry)) (sight (now (query .entry)) (now (consts .entry)) (now (values .entry)) (now (names .entry)) (now (constants .entry))) (now (pool .entry)) (now (places .entry)) (now (code .entry)) st (token Kind.NAME start stop) (token then from to) ⌝ }
 {
     if MOST_LICENSEES <= st.listed {
         return Licensed::Aside {
             reason: 7,
-            place: t.start,
+            place: start,
         };
     }
-    if t.kind == kind::NAME {
-        let e = plain_named(
-            s,
-            query,
-            consts,
-            values,
-            names,
-            constants,
-            pool,
-            places,
-            st.count,
-            st.end,
-            t,
-            n,
-        );
-        return placed(code, st, t.start, e);
+    let t = Token {
+        kind: kind::NAME,
+        start,
+        end: stop,
+    };
+    let n = Token {
+        kind: then,
+        start: from,
+        end: to,
+    };
+    let e = plain_named(
+        s,
+        query,
+        consts,
+        values,
+        names,
+        constants,
+        pool,
+        places,
+        st.count,
+        st.end,
+        t,
+        n,
+    );
+    placed(code, st, start, e)
+}
+
+// The licensee that is the clear literal from `start` to `stop` alone, before a token; it looks nothing up.
+pub(crate) fn literal_before(
+    s: &[u8],
+    pool: &mut [u8],
+    places: &mut [usize],
+    code: &mut [u16],
+    st: State,
+    start: usize,
+    stop: usize,
+    then: usize,
+    from: usize,
+    to: usize,
+) -> Licensed
+    requires { ⌜ wholeAt (now s) start stop ≡ true ⌝ }
+    ensures { λ r. ⌜ ran r (now (pool .exit)) (now (places .exit)) (now (code .exit)) ≡ literalIn (now (s .entry)) (now (pool .entry)) (now (places .entry)) (now (code .entry)) st start stop (token then from to) ⌝ }
+{
+    if MOST_LICENSEES <= st.listed {
+        return Licensed::Aside {
+            reason: 7,
+            place: start,
+        };
     }
-    let e = enter(pool, places, st.count, st.end, &s[t.start + 1..t.end - 1]);
+    let n = Token {
+        kind: then,
+        start: from,
+        end: to,
+    };
+    let e = enter(pool, places, st.count, st.end, &s[start + 1..stop - 1]);
     placed_number(code, st, n, e)
 }
 
@@ -329,7 +373,21 @@ pub fn licensee<'a>(
                 left,
             );
         }
-        return licensee_before(
+        if t.kind != kind::NAME {
+            return literal_before(
+                s,
+                pool,
+                places,
+                code,
+                st,
+                t.start,
+                t.end,
+                n.kind,
+                n.start,
+                n.end,
+            );
+        }
+        return name_before(
             s,
             query,
             consts,
@@ -340,8 +398,11 @@ pub fn licensee<'a>(
             places,
             code,
             st,
-            t,
-            n,
+            t.start,
+            t.end,
+            n.kind,
+            n.start,
+            n.end,
         );
     }
     string_licensee(
@@ -400,7 +461,66 @@ fn list_end(s: &[u8], code: &mut [u16], k: u8, before: usize, st: State, t: Toke
     }
 }
 
-// The list of a K-of, from its first licensee on.
+// Reads on past the clear literals from `from` on that have a comma behind them: the rest of the list gives what all of it gives. It looks nothing up, so
+// it is the quickest way through a list.
+fn literals(
+    s: &[u8],
+    pool: &mut [u8],
+    places: &mut [usize],
+    code: &mut [u16],
+    st: State,
+    from: Token,
+) -> Licensed
+    ensures { λ r. ⌜ Leads (now (s .entry)) (now (pool .entry)) (now (places .entry)) (now (code .entry)) st from (ran r (now (pool .exit)) (now (places .exit)) (now (code .exit))) ⌝ }
+{
+    let mut state = st;
+    let mut t = from;
+    loop {
+        if is_whole(s, t) {
+            let n = token_at(s, kind::IN_FIELD, t.end);
+            if n.kind != kind::COMMA {
+                return Licensed::On { state, next: t };
+            }
+            match literal_before(
+                s,
+                pool,
+                places,
+                code,
+                state,
+                t.start,
+                t.end,
+                n.kind,
+                n.start,
+                n.end,
+            ) {
+                Licensed::Aside { reason, place } => {
+                    return Licensed::Aside { reason, place };
+                }
+                Licensed::On { state: u, next: _ } => {
+                    if rest(state.listed) <= rest(u.listed) {
+                        return Licensed::Aside {
+                            reason: NO_ROOM,
+                            place: 0,
+                        };
+                    }
+                    state = u;
+                    t = token_at(s, kind::IN_LICENSEES, n.end);
+                }
+            }
+        } else {
+            return Licensed::On { state, next: t };
+        }
+    }
+}
+
+// A K-of's number, how many licensees stood before its list, and how many more brackets may be opened in it.
+struct Listing {
+    k: u8,
+    before: usize,
+    left: usize,
+}
+
+// The list of a K-of, from a licensee on.
 fn list<'a>(
     s: &[u8],
     query: &'a [u8],
@@ -411,12 +531,11 @@ fn list<'a>(
     pool: &mut [u8],
     places: &mut [usize],
     code: &mut [u16],
-    k: u8,
+    m: Listing,
     st: State,
     from: Token,
-    left: usize,
 ) -> Licensed
-    ensures { λ r. ⌜ ran r (now (pool .exit)) (now (places .exit)) (now (code .exit)) ≡ listIn (now (s .entry)) (sight (now (query .entry)) (now (consts .entry)) (now (values .entry)) (now (names .entry)) (now (constants .entry))) left k (st .listed) (now (pool .entry)) (now (places .entry)) (now (code .entry)) st from ⌝ }
+    ensures { λ r. ⌜ ran r (now (pool .exit)) (now (places .exit)) (now (code .exit)) ≡ listIn (now (s .entry)) (sight (now (query .entry)) (now (consts .entry)) (now (values .entry)) (now (names .entry)) (now (constants .entry))) (m .left) (m .k) (m .before) (now (pool .entry)) (now (places .entry)) (now (code .entry)) st from ⌝ }
 {
     let mut state = st;
     let mut t = from;
@@ -433,14 +552,14 @@ fn list<'a>(
             code,
             state,
             t,
-            left,
+            m.left,
         ) {
             Licensed::Aside { reason, place } => {
                 return Licensed::Aside { reason, place };
             }
             Licensed::On { state: u, next } => {
                 if next.kind == kind::CLOSE {
-                    return list_end(s, code, k, st.listed, u, next);
+                    return list_end(s, code, m.k, m.before, u, next);
                 }
                 if next.kind != kind::COMMA {
                     return refused(next);
@@ -486,21 +605,27 @@ fn opened<'a>(
         };
     }
     let n = token_at(s, kind::IN_LICENSEES, t.end);
-    list(
-        s,
-        query,
-        consts,
-        values,
-        names,
-        constants,
-        pool,
-        places,
-        code,
-        k,
-        st,
-        n,
-        left - 1,
-    )
+    match literals(s, pool, places, code, st, n) {
+        Licensed::Aside { reason, place } => Licensed::Aside { reason, place },
+        Licensed::On { state, next } => list(
+            s,
+            query,
+            consts,
+            values,
+            names,
+            constants,
+            pool,
+            places,
+            code,
+            Listing {
+                k,
+                before: st.listed,
+                left: left - 1,
+            },
+            state,
+            next,
+        ),
+    }
 }
 
 // A K-of, from its number t on.

@@ -4,7 +4,7 @@ use Rattle.assertion.proofs.kept.Statement.{statement}
 use Rattle.assertion.proofs.kept.Tie as tie
 use Rattle.assertion.proofs.kept.Reads as reads
 use Rattle.assertion.proofs.kept.Lts as lts
-use Rattle.fields.proofs.list.push.Reads as push-reads
+use Rattle.naming.proofs.code.push.Reads as push-reads
 
 returns : tie.Need-returns
 returns c = search kept-given

@@ -20,7 +20,7 @@ use Rattle.compliance.specs.Theorems.Fill.{place-stays, compiled-stays}
 use Rattle.index.specs.Index.{enterAll, Holds}
 use Rattle.index.specs.EnterLaws.{freshAll, enter-all-is}
 use Rattle.syntax.specs.Stood.{Stood}
-use Rattle.fields.specs.Theorems.Identified.{holds-before}
+use Rattle.naming.specs.Theorems.Entry.{holds-before}
 use Rattle.naming.specs.Source.{Author}
 use Rattle.naming.specs.Fault.{licenseesFault}
 use Rattle.naming.specs.Working.Faults.{meant}

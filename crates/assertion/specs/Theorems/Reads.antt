@@ -28,13 +28,13 @@ use Rattle.syntax.specs.Stood.{Stood, stood-at}
 use Rattle.fields.specs.Parsed.{ending}
 use Rattle.fields.specs.Signature.{signature}
 use Rattle.fields.specs.Working.Outs.{outOf}
-use Rattle.fields.specs.Working.List.{above, pushed}
+use Rattle.naming.specs.Working.Code.{above, pushed}
 use Rattle.fields.specs.Theorems.Together.{both, Steps, both-next, both-done, loop-same, refusal-some}
-use Rattle.fields.specs.Theorems.Growing.{above-is, pushed-length, pushed-is}
+use Rattle.naming.specs.Theorems.Code.{above-is, pushed-length, pushed-is}
 use Rattle.fields.specs.Theorems.Versioned.{SignatureRead, signature-aside, signature-on, signature-read}
 use Rattle.naming.specs.Source.{Author}
 use Rattle.naming.specs.Fault.{clear, faulty, licenseesFault}
-use Rattle.naming.specs.Working.Faults.{meant, clearAt, firstOf, first-meant}
+use Rattle.naming.specs.Working.Faults.{meant, reasonOf, reason-some, clearAt, firstOf, first-meant}
 use Rattle.naming.specs.declared.fault.Fault as declared
 use Rattle.assertion.specs.Labels.{labels, without, total}
 use Rattle.assertion.specs.Said.{Said}
@@ -89,7 +89,7 @@ meant-none : (f : declared.Fault) → eqb (f .reason) 0 ≡ true → meant f ≡
 unfolding meant
 meant-none f e = rw e
 
-meant-some : (f : declared.Fault) → eqb (f .reason) 0 ≡ false → meant f ≡ faulty (f .reason) (f .place)
+meant-some : (f : declared.Fault) → eqb (f .reason) 0 ≡ false → meant f ≡ faulty (reasonOf f) (f .place)
 unfolding meant
 meant-some f e = rw e
 
@@ -144,8 +144,8 @@ module _ {q : Query} {g : Given} (top : ℕ) {x : Tables} {names : List Principa
             split (eqb (firstOf (u .against) (u .besides) .reason) 0)
             (λ e. rw (e, resolved-clear q (g .standing) says (sym fault ∙ meant-none (firstOf (u .against) (u .besides)) e))
             (listed-as (licensedNow q (d .licensees)) (u .licensed) (u .size) refl refl refl (held .list)))
-            (λ e. rw (e, resolved-faulty q (g .standing) says (firstOf (u .against) (u .besides) .reason) (firstOf (u .against) (u .besides) .place) (sym fault ∙ meant-some (firstOf (u .against) (u .besides)) e))
-            (dropped-as _ _ y (eqb-false _ _ e) front))
+            (λ e. rw (e, resolved-faulty q (g .standing) says (reasonOf (firstOf (u .against) (u .besides))) (firstOf (u .against) (u .besides) .place) (sym fault ∙ meant-some (firstOf (u .against) (u .besides)) e))
+            (dropped-as _ _ y (reason-some (firstOf (u .against) (u .besides))) front))
 
     finished-from : (at : ℕ) (o : Option Author) (b : Bool) (i : ℕ) → d .author ≡ o → u .authored ≡ b → u .author ≡ i → Authored (enterAll names (held .ps)) (enteredBy q o) b i
         → As (finished d at) (withCode y (finishedIn (y .code) u at))

@@ -14,10 +14,10 @@ use Rattle.syntax.specs.Parsed.{refusal}
 use Rattle.fields.specs.Parsed.{ending}
 use Rattle.fields.specs.Signature.{signature}
 use Rattle.fields.specs.Working.Outs.{outOf}
-use Rattle.fields.specs.Working.List.{above, pushed}
+use Rattle.naming.specs.Working.Code.{above, pushed}
 use Rattle.fields.specs.declared.out.Out.{Out}
 use Rattle.fields.specs.declared.out.Out.the-variants.{On as Passed, Aside as Refused}
-use Rattle.naming.specs.Working.Faults.{clearAt, firstOf}
+use Rattle.naming.specs.Working.Faults.{clearAt, firstOf, reasonOf}
 use Rattle.naming.specs.declared.fault.Fault.{Fault}
 use Rattle.assertion.specs.Labels.{labels, without, total}
 use Rattle.assertion.specs.Read.{first}
@@ -44,7 +44,7 @@ keptIn code d =
 
 -- what is against the identifiers sets the text aside
 abbrev pub faultedIn : List ℕ → Partial → Fault → Finished
-faultedIn code d f = pick (eqb (f .reason) 0) (keptIn code d) (finishedBy (Dropped (f .reason) (f .place)) code)
+faultedIn code d f = pick (eqb (f .reason) 0) (keptIn code d) (finishedBy (Dropped (reasonOf f) (f .place)) code)
 
 unfoldable pub finishedIn : List ℕ → Partial → ℕ → Finished
 finishedIn code d end = pick (d .authored) (faultedIn code d (firstOf (d .against) (d .besides))) (finishedBy (Dropped 3 end) code)

@@ -18,13 +18,13 @@ use Rattle.syntax.specs.Parsed.{refusal}
 use Rattle.fields.specs.Parsed.{ending}
 use Rattle.fields.specs.Signature.{signature}
 use Rattle.fields.specs.Working.Outs.{outOf}
-use Rattle.fields.specs.Working.List.{above, pushed}
+use Rattle.naming.specs.Working.Code.{above, pushed}
 use Rattle.fields.specs.declared.out.Out.{Out}
 use Rattle.fields.specs.declared.out.Out.the-variants.{On as Passed, Aside as Refused}
 use Rattle.assertion.specs.Labels.{labels, without, total}
 use Rattle.assertion.specs.Read.{first}
 use Rattle.assertion.specs.Working.Field.{Given, given, Tables, tabled, Moved, moved, fieldAt}
-use Rattle.naming.specs.Working.Faults.{clearAt, firstOf}
+use Rattle.naming.specs.Working.Faults.{clearAt, firstOf, reasonOf}
 use Rattle.naming.specs.declared.fault.Fault.{Fault}
 use Rattle.assertion.specs.Working.Reading.{Finished, finishedBy, Result, readBy, keptAt, keptIn, finishedIn, signedIn, lastAt, lastIn, fieldsIn, begun, readIn}
 use Rattle.assertion.specs.declared.Reading.{Reading}
@@ -44,9 +44,9 @@ module _ (code : List ℕ) (d : Partial) where
   kept-missing k z m ze me = rw (k, ze, me)
 
   module _ (end : ℕ) (h : d .authored ≡ true) (f : Fault) (fe : f ≡ firstOf (d .against) (d .besides)) where
-    pub finished-faulty : (f .reason ≡ 0 → ⊥) → finishedBy (Dropped (f .reason) (f .place)) code ≡ finishedIn code d end
+    pub finished-faulty : (f .reason ≡ 0 → ⊥) → (r : ℕ) → r ≡ reasonOf f → finishedBy (Dropped r (f .place)) code ≡ finishedIn code d end
     unfolding finishedIn
-    finished-faulty n = rw (h, ← fe, ne-eqb _ _ n)
+    finished-faulty n r re = rw (h, ← fe, ne-eqb _ _ n, ← re)
 
     pub finished-kept : f .reason ≡ 0 → (r : Finished) → r ≡ keptIn code d → r ≡ finishedIn code d end
     unfolding finishedIn

@@ -2,7 +2,7 @@
 use mathlib.Core.Path.{_≡_, refl, sym, ap, _∙_}
 use mathlib.Core.Bool.{Bool, true, false}
 use mathlib.Core.List.{List, [], _∷_, _++_, append-assoc, append-nil}
-use Prim.Native.Nat.{ℕ, _+_, _-_, _*_, _<_, _≤_}
+use Prim.Native.Nat.{ℕ, suc, _+_, _-_, _*_, _<_, _≤_}
 use native.Mathlib.Omega.{arith}
 use native.Mathlib.Numerals.{add-one}
 use lib.Dec.{eqb, leb, ltb}
@@ -14,6 +14,7 @@ use Rattle.text.specs.Copy.{put, copyAt}
 use Rattle.text.specs.CopyLaws.{put-append, put-length}
 use Rattle.text.specs.Loop.{Step, done}
 use Rattle.text.specs.Counted.{counted}
+use Rattle.text.specs.Equal.{equal}
 use Rattle.record.specs.Encode.{stringBytes, attributeBytes, itemsBytes}
 use Rattle.record.specs.Places.{stringSize, attributeSize, placesFrom}
 use Rattle.record.specs.Stands.{Stands, stands-left, stands-right, counted-at}
@@ -34,7 +35,26 @@ use Rattle.fields.specs.Constants.{isSet, constantValue, assigned, nameF
 use Rattle.fields.specs.Working.Setting.{Stored, stored, State, takenIn, constantFaultIn, storeIn, valueIn, assignedIn, settingTurn, onAssigned, onStored, assignedFrom, constantsIn, refusedSettings}
 use Rattle.fields.specs.declared.constants.Settings.the-variants.{On, Aside}
 use Rattle.fields.specs.Theorems.Together.{both, Steps, both-next, both-done, loop-same, refusal-some, behind-from, stood-start, stood-wide, stood-literal, word-short}
-use Rattle.fields.specs.Theorems.Identified.{unset-is}
+
+-- a search that starts one further on ends one further on
+first-suc : (s name : List ℕ) (i : ℕ) (ps : List ℕ) → firstFrom s name (suc i) ps ≡ suc (firstFrom s name i ps)
+unfolding firstFrom
+first-suc s name i [] = refl
+first-suc s name i (p ∷ ps) = split (equal (counted s p) name) (λ e. rw e) (λ e. rw e (first-suc s name (suc i) ps))
+
+-- a name is unset where none of the places has it
+unset-is : (s ps name : List ℕ) {l : List Attribute} → Lie (AttributeAt s) ps l → {A : Type 0} (x y : A) → pick (leb (length ps) (firstFrom s name 0 ps)) x y ≡ pick (isSet l name) y x
+unfolding firstFrom isSet
+unset-is s ps name lie[] x y = refl
+unset-is s ps name (lie∷ {v = p} {vs = vs} {a = a} {l = l} at t) x y =
+    let is : equal (counted s p) name ≡ equal (a .name) name = ap (λ (z : List ℕ). equal z name) (at .0) in
+    split (equal (a .name) name)
+    (λ e. rw (is, e, lt-leb (suc (length vs)) 0 (omega arith)))
+    (λ e. split (leb (length vs) (firstFrom s name 0 vs))
+    (λ g. let h : length vs ≤ firstFrom s name 0 vs = leb-true _ _ g in
+    rw (is, e, first-suc s name 0 vs, le-leb (suc (length vs)) (suc (firstFrom s name 0 vs)) (omega arith)) (let z = unset-is s vs name t x y in rw g at z))
+    (λ g. let h : suc (firstFrom s name 0 vs) ≤ length vs = leb-false _ _ g in
+    rw (is, e, first-suc s name 0 vs, lt-leb (suc (length vs)) (suc (firstFrom s name 0 vs)) (omega arith)) (let z = unset-is s vs name t x y in rw g at z)))
 
 -- the same fault, or the same constants and token behind: they lie in the buffer at the places of the table, and what was there before stays
 pub data ConstantsRead (s m q : List ℕ) (start : ℕ) : Parsed (List Attribute) → Stored → Type 0 where

@@ -6,6 +6,7 @@ use Prim.Native.Nat.{ℕ, zero, suc, _+_, _-_, _/_, _%_, _<_, _≤_}
 use native.Mathlib.Omega.{arith}
 use lib.Dec.{eqb, leb, ltb}
 use lib.ListN.{length, getD, take, drop, set}
+use lib.Seq.{length-take-le}
 use borrow.Author.Tests.{lt-ltb, le-ltb, le-leb, lt-leb, eq-eqb, ne-eqb, leb-true, leb-false, not-true, not-false}
 use Rattle.text.specs.Choice.{pick, split}
 use Rattle.text.specs.Copy.{Copied, copied, put, copyAt}
@@ -103,6 +104,10 @@ reserved-none (x ∷ xs) h = let z : ⊥ = omega arith in absurd z
 pub reserved-some : (name : List ℕ) → eqb (getD name 0 0) 95 ≡ reserved name
 unfolding reserved
 reserved-some name = refl
+
+-- the first k of a list are k
+pub front-length : (s : List ℕ) (k : ℕ) → k ≤ length s → k ≡ length (take k s)
+front-length s k h = sym (length-take-le k s h)
 
 -- `is_taken`
 module _ (consts places : List ℕ) (count : ℕ) (name : List ℕ) where

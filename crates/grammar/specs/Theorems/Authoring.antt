@@ -30,15 +30,15 @@ use Rattle.grammar.specs.Theorems.Shadow.{str-shadow}
 use Rattle.grammar.specs.Working.Marks.{kinds-append}
 use Rattle.grammar.specs.Working.Automaton.{run, run-append, not-viable, not-longer}
 use Rattle.grammar.specs.Working.Joints.{kind-same, test-kind}
-use Rattle.grammar.specs.Working.Stations.{TEXT, alone, Place, p-dead, p-over, p-text, p-have, station}
-use Rattle.grammar.specs.Working.Stationed.{station-dead, through-part, as-text, text-run}
+use Rattle.grammar.specs.Working.States.{TEXT, alone, State, p-dead, p-over, p-text, p-have, step}
+use Rattle.grammar.specs.Working.Accepts.{step-dead, through-part, as-text, text-run}
 use Rattle.grammar.specs.Working.Reading.{runs-last}
 use Rattle.grammar.specs.Working.Known.{token-real}
 use Rattle.grammar.specs.Working.Strings.{leaves, Strung, strung, stopped, other, source-strung, source-shadow, tokens-kinds}
 
 -- what ends the field
-ends-alone : (k : ℕ) → Ends k → station (p-have TEXT alone) k ≡ p-over
-unfolding station Table.binds Table.operator Table.textOperator Table.levelOf Table.comparison ending
+ends-alone : (k : ℕ) → Ends k → step (p-have TEXT alone) k ≡ p-over
+unfolding step Table.binds Table.operator Table.textOperator Table.levelOf Table.comparison ending
 ends-alone _ end-of-text = refl
 ends-alone _ next-version = refl
 ends-alone _ next-constants = refl
@@ -48,28 +48,28 @@ ends-alone _ next-conditions = refl
 ends-alone _ next-comment = refl
 ends-alone _ next-signature = refl
 
-author-over : (ks : List ℕ) → Field Author ks → run station (p-text TEXT alone) ks ≡ p-over
+author-over : (ks : List ℕ) → Field Author ks → run step (p-text TEXT alone) ks ≡ p-over
 author-over _ (field ks e g en) = through-part (p-text TEXT alone) (p-have TEXT alone) p-over ks [] e (text-run whole ks g TEXT alone (as-text refl)) (ends-alone e en)
 
 over-dead : p-over ≡ p-dead → ⊥
 over-dead z = let v : _≡_ {A = ℕ} 0 1 = cc in omega (arith, v)
 
-pub author-dead : (ks : List ℕ) → run station (p-text TEXT alone) ks ≡ p-dead → Viable (Field Author) ks → ⊥
-author-dead = not-viable station p-dead station-dead (Field Author) (p-text TEXT alone) (λ ks g z. over-dead (sym (author-over ks g) ∙ z))
+pub author-dead : (ks : List ℕ) → run step (p-text TEXT alone) ks ≡ p-dead → Viable (Field Author) ks → ⊥
+author-dead = not-viable step p-dead step-dead (Field Author) (p-text TEXT alone) (λ ks g z. over-dead (sym (author-over ks g) ∙ z))
 
-station-over : (k : ℕ) → station p-over k ≡ p-dead
-unfolding station
-station-over k = refl
+step-over : (k : ℕ) → step p-over k ≡ p-dead
+unfolding step
+step-over k = refl
 
 -- no sentence of the field goes on as another
 pub author-whole : (ks : List ℕ) (k : ℕ) (more : List ℕ) → Field Author ks → Field Author (ks ++ k ∷ more) → ⊥
-author-whole = not-longer station p-dead station-dead (Field Author) (p-text TEXT alone) p-over author-over station-over over-dead
+author-whole = not-longer step p-dead step-dead (Field Author) (p-text TEXT alone) p-over author-over step-over over-dead
 
 pub ending-kind : (s : List ℕ) (u : Token) → ending (kindIn s u) ≡ ending (u .kind)
 unfolding ending
 ending-kind s u = kind-same s u (λ (k : ℕ). ending k) refl
 
-alone-wrong : (k : ℕ) → eqb k Kind.DOT ≡ false → ending k ≡ false → station (p-have TEXT alone) k ≡ p-dead
+alone-wrong : (k : ℕ) → eqb k Kind.DOT ≡ false → ending k ≡ false → step (p-have TEXT alone) k ≡ p-dead
 alone-wrong k e f = leaves alone k e ∙ rw f refl
 
 module _ (s : List ℕ) (constants : List Attribute) (t : Token) where

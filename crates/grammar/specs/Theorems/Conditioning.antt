@@ -36,42 +36,42 @@ use Rattle.grammar.specs.Theorems.Shadow.{kind-mark, program-shadow}
 use Rattle.grammar.specs.Working.Marks.{mark, kinds-append, tokens-append, tokens-one}
 use Rattle.grammar.specs.Working.Automaton.{run}
 use Rattle.grammar.specs.Working.Looping.{Went, went-next, went-done, loop-went}
-use Rattle.grammar.specs.Working.Stations.{TEXT, in-clause, value, Place, p-dead, p-begin, p-arrow, p-block, p-any, p-text, p-have, flat, station}
-use Rattle.grammar.specs.Working.Stationed.{Behind, behind-arrow, behind-semicolon, held-end, value-ends, brace-opens, brace-closes, block-ends, conditions-dead, conditions-over}
+use Rattle.grammar.specs.Working.States.{TEXT, in-clause, value, State, p-dead, p-begin, p-arrow, p-block, p-any, p-text, p-have, flat, step}
+use Rattle.grammar.specs.Working.Accepts.{Behind, behind-arrow, behind-semicolon, held-end, value-ends, brace-opens, brace-closes, block-ends, conditions-dead, conditions-over}
 use Rattle.grammar.specs.Working.Joints.{Fits, fit-test, fit-word, Unfit, TestFit, test-fits, test-unfit, test-fit, binds-less, kind-same, test-kind}
 use Rattle.grammar.specs.Working.Told.{goal-test, goal-text, Told, told-text, told-test, settle, Suits, suits-text, Completes, completes, finish}
 use Rattle.grammar.specs.Working.Onward.{Starts, start-any, start-text, after, asked-any, asked-text, any-test, strict-dead}
 use Rattle.grammar.specs.Working.Openings as O
 use Rattle.grammar.specs.Working.Reading.{Real, real-token, runs, runs-on, run-one, runs-last, Reading, got, halted, otherwise, expression-reads}
 use Rattle.grammar.specs.Working.Known.{next-real}
-use Rattle.grammar.specs.Working.Yard.{one-program}
+use Rattle.grammar.specs.Working.ProgramStack.{one-program}
 
 -- the automaton where a clause begins and ends
 clause-wrong : (d : ℕ) (sort : PartSort) (k : ℕ) → Fits a-test sort → Table.binds 0 (Table.operator sort k) ≡ false → eqb k Kind.ARROW ≡ false → eqb k Kind.SEMICOLON ≡ false
-    → station (after (p-any (in-clause d)) sort) k ≡ p-dead
-unfolding station Table.operator
+    → step (after (p-any (in-clause d)) sort) k ≡ p-dead
+unfolding step Table.operator
 clause-wrong d _ k fit-test b f g =
     rw (binds-less 0 3 (Table.operator (sorted a-test) k) b (omega arith), binds-less 0 2 (Table.operator (sorted a-test) k) b (omega arith), b, f, g) refl
 clause-wrong d _ k (fit-word w) b f g =
     rw (binds-less 0 3 (Table.operator (word true) k) b (omega arith), binds-less 0 2 (Table.operator (word true) k) b (omega arith), b, f, g) refl
 
-clause-right : (d : ℕ) (sort : PartSort) (k : ℕ) (p : Place) → Fits a-test sort → Behind d k p → station (after (p-any (in-clause d)) sort) k ≡ p
+clause-right : (d : ℕ) (sort : PartSort) (k : ℕ) (p : State) → Fits a-test sort → Behind d k p → step (after (p-any (in-clause d)) sort) k ≡ p
 clause-right d sort k p f b = any-test (in-clause d) k p (held-end d k p b) sort f
 
-value-wrong : (d k : ℕ) → Table.binds 3 (Table.operator (sorted a-string) k) ≡ false → eqb k Kind.SEMICOLON ≡ false → station (p-have TEXT (value d)) k ≡ p-dead
-unfolding station
+value-wrong : (d k : ℕ) → Table.binds 3 (Table.operator (sorted a-string) k) ≡ false → eqb k Kind.SEMICOLON ≡ false → step (p-have TEXT (value d)) k ≡ p-dead
+unfolding step
 value-wrong d k b f = rw (b, f) refl
 
-block-wrong : (d k : ℕ) → eqb k Kind.SEMICOLON ≡ false → station (p-block d) k ≡ p-dead
-unfolding station
+block-wrong : (d k : ℕ) → eqb k Kind.SEMICOLON ≡ false → step (p-block d) k ≡ p-dead
+unfolding step
 block-wrong d k f = rw f refl
 
-begin-same : (d k : ℕ) → Table.stops d k ≡ false → station (p-begin d) k ≡ station (p-any (in-clause d)) k
-unfolding station
+begin-same : (d k : ℕ) → Table.stops d k ≡ false → step (p-begin d) k ≡ step (p-any (in-clause d)) k
+unfolding step
 begin-same d k h = split (Table.allows want-any (flat k)) (λ e. rw e refl) (λ e. rw (e, h) refl)
 
-arrow-same : (d k : ℕ) → eqb k Kind.OPEN-BRACE ≡ false → station (p-arrow d) k ≡ station (p-text TEXT (value d)) k
-unfolding station
+arrow-same : (d k : ℕ) → eqb k Kind.OPEN-BRACE ≡ false → step (p-arrow d) k ≡ step (p-text TEXT (value d)) k
+unfolding step
 arrow-same d k h = split (Table.allows want-string (flat k)) (λ e. rw e refl) (λ e. rw (e, h) refl)
 
 stops-kind : (s : List ℕ) (u : Token) (d : ℕ) → Table.stops d (kindIn s u) ≡ Table.stops d (u .kind)
@@ -89,9 +89,9 @@ conditions-whole = conditions-over
 
 module _ (s : List ℕ) where
   -- two places that take the first token alike
-  runs-head : (q q′ : Place) (v u : Token) (us : List Token) → Tokens s v us u → station q (kindIn s v) ≡ station q′ (kindIn s v) → runs s q us u ≡ runs s q′ us u
+  runs-head : (q q′ : State) (v u : Token) (us : List Token) → Tokens s v us u → step q (kindIn s v) ≡ step q′ (kindIn s v) → runs s q us u ≡ runs s q′ us u
   runs-head q q′ v _ _ (at-once _) e = e
-  runs-head q q′ v u _ (and-on _ _ us p) e = ap (λ (x : Place). run station x (kindsIn s us ++ kindIn s u ∷ [])) e
+  runs-head q q′ v u _ (and-on _ _ us p) e = ap (λ (x : State). run step x (kindsIn s us ++ kindIn s u ∷ [])) e
 
   -- what a reader of a clause makes of the tokens from t on, where so many brackets are open
   data ClauseRead (nest : ℕ) (t : Token) : Parsed Clause → Type 0 where
@@ -104,19 +104,19 @@ module _ (s : List ℕ) where
   -- and a reader of a program
   data BlockRead (nest : ℕ) (t : Token) : Parsed Program → Type 0 where
     b-got : (ts : List Token) (u : Token) (p : Program) → Tokens s t ts u → Table.stops nest (u .kind) ≡ true → ProgramTree s ts (a-program p)
-        → run station (p-begin nest) (kindsIn s ts) ≡ p-begin nest → BlockRead nest t (ok p u)
+        → run step (p-begin nest) (kindsIn s ts) ≡ p-begin nest → BlockRead nest t (ok p u)
     b-halted : (ts : List Token) (u : Token) → Tokens s t ts u → (rest : List Token) (p : Program) → ProgramTree s (ts ++ rest) (a-program p) → runs s (p-begin nest) ts u ≡ p-dead
         → (r : ℕ) → r ≡ refusal (u .kind) → BlockRead nest t (aside r (u .start))
     b-otherwise : (r p : ℕ) → (r ≡ 2 → ⊥) → BlockRead nest t (aside r p)
 
   module _ (nest : ℕ) (t : Token) where
     -- the ";" behind a clause
-    ending-reads : (us : List Token) (u : Token) (c : Clause) → Tokens s t us u → ProgramTree s us (a-clause c) → (p : Place) → runs s (p-any (in-clause nest)) us u ≡ station p (kindIn s u)
-        → station p Kind.SEMICOLON ≡ p-begin nest → (eqb (u .kind) Kind.SEMICOLON ≡ false → station p (kindIn s u) ≡ p-dead) → ClauseRead nest t (P.ending s c u)
+    ending-reads : (us : List Token) (u : Token) (c : Clause) → Tokens s t us u → ProgramTree s us (a-clause c) → (p : State) → runs s (p-any (in-clause nest)) us u ≡ step p (kindIn s u)
+        → step p Kind.SEMICOLON ≡ p-begin nest → (eqb (u .kind) Kind.SEMICOLON ≡ false → step p (kindIn s u) ≡ p-dead) → ClauseRead nest t (P.ending s c u)
     unfolding P.ending
     ending-reads us u c path d p e f g =
         chosen (ClauseRead nest t) (eqb (u .kind) Kind.SEMICOLON) _ _
-        (λ z. c-got us u c path (eqb-true _ _ z) d (e ∙ ap (λ (k : ℕ). station p k) (kind-mark s u Kind.SEMICOLON (eqb-true _ _ z) refl) ∙ f))
+        (λ z. c-got us u c path (eqb-true _ _ z) d (e ∙ ap (λ (k : ℕ). step p k) (kind-mark s u Kind.SEMICOLON (eqb-true _ _ z) refl) ∙ f))
         (λ z. c-halted us u path [] c (subst (λ (l : List Token). ProgramTree s l (a-clause c)) (sym (append-nil us)) d) (e ∙ g z) (refusal (u .kind)) refl)
 
     -- behind the clause's test and "->"
@@ -132,7 +132,7 @@ module _ (s : List ℕ) where
       arrow-path = tokens-one s Kind.IN-FIELD t u ts path
 
       arrow-runs : (us : List Token) (n : Token) → runs s (p-any (in-clause nest)) (pre ++ us) n ≡ runs s (p-arrow nest) us n
-      arrow-runs us n = runs-on s (p-any (in-clause nest)) pre us n ∙ ap (λ (x : Place). runs s x us n) (run-one s (p-any (in-clause nest)) ts u ∙ led)
+      arrow-runs us n = runs-on s (p-any (in-clause nest)) pre us n ∙ ap (λ (x : State). runs s x us n) (run-one s (p-any (in-clause nest)) ts u ∙ led)
 
       -- a string
       value-tree : (us : List Token) (f : Expr) → StrTree s whole us f → ProgramTree s (pre ++ us) (a-clause (valued e f))
@@ -166,23 +166,23 @@ module _ (s : List ℕ) where
       block-runs : v .kind ≡ Kind.OPEN-BRACE → (us : List Token) (n : Token) → runs s (p-any (in-clause nest)) (pre ++ v ∷ us) n ≡ runs s (p-begin (nest + 1)) us n
       block-runs z us n =
           arrow-runs (v ∷ us) n
-          ∙ ap (λ (k : ℕ). run station (station (p-arrow nest) k) (kindsIn s us ++ kindIn s n ∷ [])) (kind-mark s v Kind.OPEN-BRACE z refl)
-          ∙ ap (λ (x : Place). run station x (kindsIn s us ++ kindIn s n ∷ [])) (brace-opens nest)
-          ∙ ap (λ (d : ℕ). run station (p-begin d) (kindsIn s us ++ kindIn s n ∷ [])) (let z : suc nest ≡ nest + 1 = omega arith in z)
+          ∙ ap (λ (k : ℕ). run step (step (p-arrow nest) k) (kindsIn s us ++ kindIn s n ∷ [])) (kind-mark s v Kind.OPEN-BRACE z refl)
+          ∙ ap (λ (x : State). run step x (kindsIn s us ++ kindIn s n ∷ [])) (brace-opens nest)
+          ∙ ap (λ (d : ℕ). run step (p-begin d) (kindsIn s us ++ kindIn s n ∷ [])) (let z : suc nest ≡ nest + 1 = omega arith in z)
 
       block-path : (us : List Token) (n : Token) → Tokens s first us n → Tokens s t (pre ++ v ∷ us) n
       block-path us n p = tokens-append s Kind.IN-FIELD t v n pre (v ∷ us) arrow-path (and-on v n us p)
 
-      brace-closes-at : station (p-begin (nest + 1)) Kind.CLOSE-BRACE ≡ p-block nest
-      brace-closes-at = ap (λ (d : ℕ). station (p-begin d) Kind.CLOSE-BRACE) (let z : nest + 1 ≡ suc nest = omega arith in z) ∙ brace-closes nest
+      brace-closes-at : step (p-begin (nest + 1)) Kind.CLOSE-BRACE ≡ p-block nest
+      brace-closes-at = ap (λ (d : ℕ). step (p-begin d) Kind.CLOSE-BRACE) (let z : nest + 1 ≡ suc nest = omega arith in z) ∙ brace-closes nest
 
-      closed-run : (us : List Token) (w n : Token) → v .kind ≡ Kind.OPEN-BRACE → w .kind ≡ Kind.CLOSE-BRACE → run station (p-begin (nest + 1)) (kindsIn s us) ≡ p-begin (nest + 1)
-          → runs s (p-any (in-clause nest)) (pre ++ v ∷ (us ++ w ∷ [])) n ≡ station (p-block nest) (kindIn s n)
+      closed-run : (us : List Token) (w n : Token) → v .kind ≡ Kind.OPEN-BRACE → w .kind ≡ Kind.CLOSE-BRACE → run step (p-begin (nest + 1)) (kindsIn s us) ≡ p-begin (nest + 1)
+          → runs s (p-any (in-clause nest)) (pre ++ v ∷ (us ++ w ∷ [])) n ≡ step (p-block nest) (kindIn s n)
       closed-run us w n z y g =
           block-runs z (us ++ w ∷ []) n
           ∙ runs-last s (p-begin (nest + 1)) (p-block nest) (us ++ w ∷ []) n
           (run-one s (p-begin (nest + 1)) us w ∙ runs-last s (p-begin (nest + 1)) (p-begin (nest + 1)) us w g
-          ∙ ap (λ (k : ℕ). station (p-begin (nest + 1)) k) (kind-mark s w Kind.CLOSE-BRACE y refl) ∙ brace-closes-at)
+          ∙ ap (λ (k : ℕ). step (p-begin (nest + 1)) k) (kind-mark s w Kind.CLOSE-BRACE y refl) ∙ brace-closes-at)
 
       nested-reads : v .kind ≡ Kind.OPEN-BRACE → (rr : Parsed Program) → BlockRead (nest + 1) first rr → ClauseRead nest t (andThen rr (λ p n. P.ending s (nested e p) (nextAt s (n .end))))
       nested-reads z _ (b-got us w p q st d g) =
@@ -206,15 +206,15 @@ module _ (s : List ℕ) where
 
     module _ (reader : ℕ → Expr → Token → Parsed Clause) (values : Valued reader) (ts : List Token) (u : Token) (sort : PartSort) (e : Expr) (path : Tokens s t ts u) (y : Suits want-any sort)
         (d : Told s sort 0 ts e) (b : Table.binds 0 (Table.operator sort (kindIn s u)) ≡ false)
-        (g : (q : Place) → Starts 0 want-any q → runs s q ts u ≡ station (after q sort) (kindIn s u)) where
-      at-clause : runs s (p-any (in-clause nest)) ts u ≡ station (after (p-any (in-clause nest)) sort) (kindIn s u)
+        (g : (q : State) → Starts 0 want-any q → runs s q ts u ≡ step (after q sort) (kindIn s u)) where
+      at-clause : runs s (p-any (in-clause nest)) ts u ≡ step (after (p-any (in-clause nest)) sort) (kindIn s u)
       at-clause = g (p-any (in-clause nest)) (start-any (in-clause nest))
 
       tested-with : Fits a-test sort → ClauseRead nest t (P.testedWith reader s nest (settledTree a-test sort e) u)
       tested-with f =
           chosen (ClauseRead nest t) (eqb (u .kind) Kind.ARROW) _ _
           (λ z. values ts u (settledTree a-test sort e) path tree (eqb-true _ _ z)
-          (at-clause ∙ ap (λ (k : ℕ). station (after (p-any (in-clause nest)) sort) k) (kind-mark s u Kind.ARROW (eqb-true _ _ z) refl) ∙ clause-right nest sort Kind.ARROW (p-arrow nest) f behind-arrow))
+          (at-clause ∙ ap (λ (k : ℕ). step (after (p-any (in-clause nest)) sort) k) (kind-mark s u Kind.ARROW (eqb-true _ _ z) refl) ∙ clause-right nest sort Kind.ARROW (p-arrow nest) f behind-arrow))
           (λ z. ending-reads ts u (plain (settledTree a-test sort e)) path (plain-tree ts _ tree) (after (p-any (in-clause nest)) sort) at-clause
           (clause-right nest sort Kind.SEMICOLON (p-begin nest) f behind-semicolon)
           (λ x. clause-wrong nest sort (kindIn s u) f b (test-kind s u Kind.ARROW refl refl ∙ z) (test-kind s u Kind.SEMICOLON refl refl ∙ x)))
@@ -237,7 +237,7 @@ module _ (s : List ℕ) where
     -- what is known behind a test
     abbrev Tested : (ℕ → PartSort → Expr → Token → Parsed Clause) → Type 0
     Tested tested = (ts : List Token) (u : Token) (sort : PartSort) (e : Expr) → Tokens s t ts u → Suits want-any sort → Told s sort 0 ts e → Table.binds 0 (Table.operator sort (kindIn s u)) ≡ false
-        → ((q : Place) → Starts 0 want-any q → runs s q ts u ≡ station (after q sort) (kindIn s u)) → ClauseRead nest t (tested nest sort e u)
+        → ((q : State) → Starts 0 want-any q → runs s q ts u ≡ step (after q sort) (kindIn s u)) → ClauseRead nest t (tested nest sort e u)
 
     clause-body : (tested : ℕ → PartSort → Expr → Token → Parsed Clause) → Tested tested → (rr : Parsed Part) → Reading s 0 0 0 want-any t rr → ClauseRead nest t (onPart rr (λ sort e n. tested nest sort e n))
     clause-body tested h _ (got ts u sort e p x y d b g) = h ts u sort e p y d b g
@@ -247,7 +247,7 @@ module _ (s : List ℕ) where
 
     -- clauses from left to right
     abbrev Stands : P.State → Parsed Program → Type 0
-    Stands x r = (ts : List Token) → Tokens s t ts (x .0) → Real s (x .0) → ProgramTree s ts (a-program (x .1)) → run station (p-begin nest) (kindsIn s ts) ≡ p-begin nest → BlockRead nest t r
+    Stands x r = (ts : List Token) → Tokens s t ts (x .0) → Real s (x .0) → ProgramTree s ts (a-program (x .1)) → run step (p-begin nest) (kindsIn s ts) ≡ p-begin nest → BlockRead nest t r
 
     module _ (clause : ℕ → Token → Parsed Clause) (clauses : (u : Token) → Real s u → ClauseRead nest u (clause nest u)) where
       abbrev μ : P.State → ℕ
@@ -263,16 +263,16 @@ module _ (s : List ℕ) where
       Turn x st = Went μ out turn Stands x st
 
       -- the automaton behind the clauses so far
-      module _ (u : Token) (ts : List Token) (g : run station (p-begin nest) (kindsIn s ts) ≡ p-begin nest) where
+      module _ (u : Token) (ts : List Token) (g : run step (p-begin nest) (kindsIn s ts) ≡ p-begin nest) where
         clause-runs : (us : List Token) (n : Token) → Tokens s u us n → Table.stops nest (u .kind) ≡ false → runs s (p-begin nest) (ts ++ us) n ≡ runs s (p-any (in-clause nest)) us n
         clause-runs us n p z =
-            runs-on s (p-begin nest) ts us n ∙ ap (λ (x : Place). runs s x us n) g
+            runs-on s (p-begin nest) ts us n ∙ ap (λ (x : State). runs s x us n) g
             ∙ runs-head (p-begin nest) (p-any (in-clause nest)) u n us p (begin-same nest (kindIn s u) (stops-kind s u nest ∙ z))
 
       on-clause : (u : Token) (p : Program) → Table.stops nest (u .kind) ≡ false → (rr : Parsed Clause) → (Real s u → ClauseRead nest u rr) → Turn (u, p) (P.onClause u p rr)
       on-clause u p z (aside r at) h = went-done (aside r at) (λ ts path x d g. from-aside ts path d g r at (h x))
         where
-          from-aside : (ts : List Token) → Tokens s t ts u → ProgramTree s ts (a-program p) → run station (p-begin nest) (kindsIn s ts) ≡ p-begin nest → (r at : ℕ) → ClauseRead nest u (aside r at) → BlockRead nest t (aside r at)
+          from-aside : (ts : List Token) → Tokens s t ts u → ProgramTree s ts (a-program p) → run step (p-begin nest) (kindsIn s ts) ≡ p-begin nest → (r at : ℕ) → ClauseRead nest u (aside r at) → BlockRead nest t (aside r at)
           from-aside ts path d g _ _ (c-halted us n q rest c k dead r e) =
               b-halted (ts ++ us) n (tokens-append s Kind.IN-FIELD t u n ts us path q) (rest ++ mark Kind.SEMICOLON ∷ []) (also p c)
               (subst (λ (l : List Token). ProgramTree s l (a-program (also p c)))
@@ -283,11 +283,11 @@ module _ (s : List ℕ) where
           chosen (Turn (u, p)) (leb (n .start) (u .start)) _ _ (λ y. went-done (aside 0 (u .start)) (λ ts path x d g. b-otherwise 0 (u .start) (λ k. let bad : ⊥ = omega (arith, k) in bad)))
           (λ y. went-next (n, also p c) (λ r k ts path x d g. from-ok ts path d g r n c k (h x)))
         where
-          from-ok : (ts : List Token) → Tokens s t ts u → ProgramTree s ts (a-program p) → run station (p-begin nest) (kindsIn s ts) ≡ p-begin nest → (r : Parsed Program) (n : Token) (c : Clause) → Stands (n, also p c) r
+          from-ok : (ts : List Token) → Tokens s t ts u → ProgramTree s ts (a-program p) → run step (p-begin nest) (kindsIn s ts) ≡ p-begin nest → (r : Parsed Program) (n : Token) (c : Clause) → Stands (n, also p c) r
               → ClauseRead nest u (ok c n) → BlockRead nest t r
           from-ok ts path d g r _ _ k (c-got us w c q e b f) =
               k (ts ++ (us ++ w ∷ [])) (tokens-append s Kind.IN-FIELD t u (nextAt s (w .end)) ts (us ++ w ∷ []) path (tokens-one s Kind.IN-FIELD u w us q)) (next-real s (w .end)) (one-more w ts us p c e d b)
-              (ap (λ (l : List Token). run station (p-begin nest) (kindsIn s l)) (sym (append-assoc ts us (w ∷ []))) ∙ run-one s (p-begin nest) (ts ++ us) w ∙ clause-runs u ts g us w q z ∙ f)
+              (ap (λ (l : List Token). run step (p-begin nest) (kindsIn s l)) (sym (append-assoc ts us (w ∷ []))) ∙ run-one s (p-begin nest) (ts ++ us) w ∙ clause-runs u ts g us w q z ∙ f)
 
       -- behind the last token
       late : (u : Token) (p : Program) → length s ≤ u .start → Stands (u, p) (P.stopping nest p u)
@@ -326,7 +326,7 @@ module _ (s : List ℕ) where
         (expression-reads s (next-real s) d 0 want-any 0 nest t (asked-any (omega arith)) x)
 
     tested-reads : (d nest : ℕ) (t : Token) (ts : List Token) (u : Token) (sort : PartSort) (e : Expr) → Tokens s t ts u → Suits want-any sort → Told s sort 0 ts e
-        → Table.binds 0 (Table.operator sort (kindIn s u)) ≡ false → ((q : Place) → Starts 0 want-any q → runs s q ts u ≡ station (after q sort) (kindIn s u))
+        → Table.binds 0 (Table.operator sort (kindIn s u)) ≡ false → ((q : State) → Starts 0 want-any q → runs s q ts u ≡ step (after q sort) (kindIn s u))
         → ClauseRead nest t (P.readTested d s nest sort e u)
     tested-reads zero nest t ts u sort e p y k b g = c-otherwise 0 (u .start) nothing
     tested-reads (suc d) nest t ts u sort e p y k b g =

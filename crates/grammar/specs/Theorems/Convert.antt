@@ -7,12 +7,12 @@ use Rattle.conditions.specs.Table
 use Rattle.grammar.specs.Fields.{end-of-text, field}
 use Rattle.grammar.specs.Conditions.{operand, whole, TRUTH, Name, any-name, truth-name, str-name, str-bracket, str-one, str-join, Int, int-literal, int-convert, int-one, int-up, int-term, equal, of-integers, test-comparison, test-one, test-ands, no-clause, clause, tested, Conditions}
 use Rattle.grammar.specs.Viable.{Viable}
-use Rattle.grammar.specs.Working.Stations.{station}
-use Rattle.grammar.specs.Working.Stationed.{conditions-dead}
+use Rattle.grammar.specs.Working.States.{step}
+use Rattle.grammar.specs.Working.Accepts.{conditions-dead}
 
 -- "@x ." begins no sentence: the "." has no continuation
 pub convert-dot : (k : ℕ) → Name k → Viable Conditions (Kind.AT ∷ k ∷ Kind.DOT ∷ []) → ⊥
-unfolding station Table.allows Table.beginsString Table.beginsNumber Table.beginsFloat Table.operator Table.numberOperator Table.floatOperator Table.comparison Table.binds
+unfolding step Table.allows Table.beginsString Table.beginsNumber Table.beginsFloat Table.operator Table.numberOperator Table.floatOperator Table.comparison Table.binds
 convert-dot _ any-name = conditions-dead (Kind.AT ∷ Kind.NAME ∷ Kind.DOT ∷ []) refl
 convert-dot _ truth-name = conditions-dead (Kind.AT ∷ TRUTH ∷ Kind.DOT ∷ []) refl
 

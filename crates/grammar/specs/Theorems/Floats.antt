@@ -7,39 +7,39 @@ use Rattle.conditions.specs.Table
 use Rattle.grammar.specs.Fields.{end-of-text, field}
 use Rattle.grammar.specs.Conditions.{operand, whole, TRUTH, Name, any-name, truth-name, str-name, Float, float-literal, float-minus, float-convert, float-bracket, float-one, float-up, float-term, float-sum, plus, less, of-floats, test-comparison, test-one, test-ands, no-clause, clause, tested, Conditions}
 use Rattle.grammar.specs.Viable.{Viable}
-use Rattle.grammar.specs.Working.Stations.{station}
-use Rattle.grammar.specs.Working.Stationed.{conditions-dead}
+use Rattle.grammar.specs.Working.States.{step}
+use Rattle.grammar.specs.Working.Accepts.{conditions-dead}
 
 -- "Equality tests of floats are refused": `1.5 ==` and `1.5 !=` begin no sentence, in brackets neither
 pub float-equal : Viable Conditions (Kind.FLOAT ∷ Kind.EQUAL ∷ []) → ⊥
-unfolding station Table.allows Table.beginsString Table.beginsNumber Table.beginsFloat Table.operator Table.floatOperator Table.ordering Table.binds
+unfolding step Table.allows Table.beginsString Table.beginsNumber Table.beginsFloat Table.operator Table.floatOperator Table.ordering Table.binds
 float-equal = conditions-dead (Kind.FLOAT ∷ Kind.EQUAL ∷ []) refl
 
 pub float-unequal : Viable Conditions (Kind.FLOAT ∷ Kind.UNEQUAL ∷ []) → ⊥
-unfolding station Table.allows Table.beginsString Table.beginsNumber Table.beginsFloat Table.operator Table.floatOperator Table.ordering Table.binds
+unfolding step Table.allows Table.beginsString Table.beginsNumber Table.beginsFloat Table.operator Table.floatOperator Table.ordering Table.binds
 float-unequal = conditions-dead (Kind.FLOAT ∷ Kind.UNEQUAL ∷ []) refl
 
 pub bracketed-equal : Viable Conditions (Kind.OPEN ∷ Kind.FLOAT ∷ Kind.CLOSE ∷ Kind.EQUAL ∷ []) → ⊥
-unfolding station Table.allows Table.beginsString Table.beginsNumber Table.beginsFloat Table.operator Table.floatOperator Table.ordering Table.binds
+unfolding step Table.allows Table.beginsString Table.beginsNumber Table.beginsFloat Table.operator Table.floatOperator Table.ordering Table.binds
 bracketed-equal = conditions-dead (Kind.OPEN ∷ Kind.FLOAT ∷ Kind.CLOSE ∷ Kind.EQUAL ∷ []) refl
 
 -- floats have no "%"
 pub float-remainder : Viable Conditions (Kind.FLOAT ∷ Kind.REMAINDER ∷ []) → ⊥
-unfolding station Table.allows Table.beginsString Table.beginsNumber Table.beginsFloat Table.operator Table.floatOperator Table.ordering Table.binds
+unfolding step Table.allows Table.beginsString Table.beginsNumber Table.beginsFloat Table.operator Table.floatOperator Table.ordering Table.binds
 float-remainder = conditions-dead (Kind.FLOAT ∷ Kind.REMAINDER ∷ []) refl
 
 -- "Both sides of a comparison have one type": `1.5 < 2` and `1 < 1.5`
 pub float-integer : Viable Conditions (Kind.FLOAT ∷ Kind.LESS ∷ Kind.DIGITS ∷ []) → ⊥
-unfolding station Table.allows Table.beginsString Table.beginsNumber Table.beginsFloat Table.operator Table.floatOperator Table.ordering Table.binds Table.levelOf
+unfolding step Table.allows Table.beginsString Table.beginsNumber Table.beginsFloat Table.operator Table.floatOperator Table.ordering Table.binds Table.levelOf
 float-integer = conditions-dead (Kind.FLOAT ∷ Kind.LESS ∷ Kind.DIGITS ∷ []) refl
 
 pub integer-float : Viable Conditions (Kind.DIGITS ∷ Kind.LESS ∷ Kind.FLOAT ∷ []) → ⊥
-unfolding station Table.allows Table.beginsString Table.beginsNumber Table.beginsFloat Table.operator Table.numberOperator Table.comparison Table.binds Table.levelOf
+unfolding step Table.allows Table.beginsString Table.beginsNumber Table.beginsFloat Table.operator Table.numberOperator Table.comparison Table.binds Table.levelOf
 integer-float = conditions-dead (Kind.DIGITS ∷ Kind.LESS ∷ Kind.FLOAT ∷ []) refl
 
 -- ""&" binds as "@"": `&x .` begins no sentence
 pub ampersand-dot : (k : ℕ) → Name k → Viable Conditions (Kind.AMPERSAND ∷ k ∷ Kind.DOT ∷ []) → ⊥
-unfolding station Table.allows Table.beginsString Table.beginsNumber Table.beginsFloat Table.operator Table.floatOperator Table.ordering Table.binds
+unfolding step Table.allows Table.beginsString Table.beginsNumber Table.beginsFloat Table.operator Table.floatOperator Table.ordering Table.binds
 ampersand-dot _ any-name = conditions-dead (Kind.AMPERSAND ∷ Kind.NAME ∷ Kind.DOT ∷ []) refl
 ampersand-dot _ truth-name = conditions-dead (Kind.AMPERSAND ∷ TRUTH ∷ Kind.DOT ∷ []) refl
 

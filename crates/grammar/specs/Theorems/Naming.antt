@@ -41,13 +41,13 @@ use Rattle.grammar.specs.Working.Automaton.{run, run-append, run-dead}
 use Rattle.grammar.specs.Working.Looping.{Turned, turned-next, turned-done, loop-turned}
 use Rattle.grammar.specs.Working.Marks.{around, before, kinds-append, tokens-append, tokens-one}
 use Rattle.grammar.specs.Working.Joints.{test-kind}
-use Rattle.grammar.specs.Working.Stations.{TEXT, Frame, people, item, Place, p-dead, p-text, p-have, p-names, p-princ, p-people, p-count, p-of, station}
-use Rattle.grammar.specs.Working.Stationed.{station-dead, through-part, first-part, dot-text, as-text, text-run}
+use Rattle.grammar.specs.Working.States.{TEXT, Frame, people, item, State, p-dead, p-text, p-have, p-names, p-princ, p-people, p-count, p-of, step}
+use Rattle.grammar.specs.Working.Accepts.{step-dead, through-part, first-part, dot-text, as-text, text-run}
 use Rattle.grammar.specs.Working.Reading.{Real, runs, runs-on, runs-last}
 use Rattle.grammar.specs.Working.Known.{token-real}
 use Rattle.grammar.specs.Working.Begun.{Begun, begun-so, begun-aside, begins, expression-begun}
 use Rattle.grammar.specs.Working.Modes.{Near, near-same, near-test, near-ending, near-refusal, near-start, near-is}
-use Rattle.grammar.specs.Working.Sorting.{one-tree}
+use Rattle.grammar.specs.Working.LicenseesStack.{one-tree}
 use Rattle.grammar.specs.Working.Strings.{leaves, Named, named, unnamed, not-named, source-strung, strung-named, source-shadow, tokens-kinds}
 use Rattle.grammar.specs.Working.Principals.{Joins, joins-and, joins-or, princ-open, princ-digits, count-of, of-open, item-comma, princ-run, Stood, text-stood, mixed-stood, people-stood, stood-joins, joined-stood, open-run, closed-mixed, closed-people, list-run, list-place, threshold-run, names-want, names-dead}
 
@@ -60,8 +60,8 @@ data Several : Sources → Type 0 where
 -- where the automaton stands behind kinds that say an expression, a token of kind k behind them
 data Stands (ks : List ℕ) (k : ℕ) : Sources → Type 0 where
   stands-text : (x : Source) → Str whole ks → eqb k Kind.DOT ≡ false → Stands ks k (one x)
-  stands-mixed : (e : Sources) → Several e → ((u n : ℕ) → run station (p-princ u n) ks ≡ p-have TEXT (people 0 n)) → eqb k Kind.DOT ≡ false → Stands ks k e
-  stands-people : (e : Sources) → Several e → ((u n : ℕ) → run station (p-princ u n) ks ≡ p-people n) → Stands ks k e
+  stands-mixed : (e : Sources) → Several e → ((u n : ℕ) → run step (p-princ u n) ks ≡ p-have TEXT (people 0 n)) → eqb k Kind.DOT ≡ false → Stands ks k e
+  stands-people : (e : Sources) → Several e → ((u n : ℕ) → run step (p-princ u n) ks ≡ p-people n) → Stands ks k e
 
 stands-stood : (ks : List ℕ) (k : ℕ) (e : Sources) → Stands ks k e → Stood ks
 stands-stood ks k _ (stands-text x g h) = text-stood g
@@ -69,34 +69,34 @@ stands-stood ks k _ (stands-mixed e z g h) = mixed-stood g
 stands-stood ks k _ (stands-people e z g) = people-stood g
 
 -- the kinds that the automaton has no place for
-text-wrong : (u n k : ℕ) → eqb k Kind.DOT ≡ false → eqb k Kind.AND ≡ false → eqb k Kind.OR ≡ false → eqb k Kind.CLOSE ≡ false → station (p-have TEXT (people u (suc n))) k ≡ p-dead
-text-wrong u n k d a b c = leaves (people u (suc n)) k d ∙ rw (a, b, c) (chosen (λ (q : Place). q ≡ p-dead) (ending k) p-dead p-dead (λ e. refl) (λ e. refl))
+text-wrong : (u n k : ℕ) → eqb k Kind.DOT ≡ false → eqb k Kind.AND ≡ false → eqb k Kind.OR ≡ false → eqb k Kind.CLOSE ≡ false → step (p-have TEXT (people u (suc n))) k ≡ p-dead
+text-wrong u n k d a b c = leaves (people u (suc n)) k d ∙ rw (a, b, c) (chosen (λ (q : State). q ≡ p-dead) (ending k) p-dead p-dead (λ e. refl) (λ e. refl))
 
-people-wrong : (n k : ℕ) → eqb k Kind.AND ≡ false → eqb k Kind.OR ≡ false → eqb k Kind.CLOSE ≡ false → station (p-people (suc n)) k ≡ p-dead
-unfolding station
-people-wrong n k a b c = rw (a, b, c) (chosen (λ (q : Place). q ≡ p-dead) (ending k) p-dead p-dead (λ e. refl) (λ e. refl))
+people-wrong : (n k : ℕ) → eqb k Kind.AND ≡ false → eqb k Kind.OR ≡ false → eqb k Kind.CLOSE ≡ false → step (p-people (suc n)) k ≡ p-dead
+unfolding step
+people-wrong n k a b c = rw (a, b, c) (chosen (λ (q : State). q ≡ p-dead) (ending k) p-dead p-dead (λ e. refl) (λ e. refl))
 
-text-last : (u k : ℕ) → eqb k Kind.DOT ≡ false → eqb k Kind.AND ≡ false → eqb k Kind.OR ≡ false → ending k ≡ false → station (p-have TEXT (people u 0)) k ≡ p-dead
-text-last u k d a b c = leaves (people u 0) k d ∙ rw (a, b, c) (chosen (λ (q : Place). q ≡ p-dead) (eqb k Kind.CLOSE) p-dead p-dead (λ e. refl) (λ e. refl))
+text-last : (u k : ℕ) → eqb k Kind.DOT ≡ false → eqb k Kind.AND ≡ false → eqb k Kind.OR ≡ false → ending k ≡ false → step (p-have TEXT (people u 0)) k ≡ p-dead
+text-last u k d a b c = leaves (people u 0) k d ∙ rw (a, b, c) (chosen (λ (q : State). q ≡ p-dead) (eqb k Kind.CLOSE) p-dead p-dead (λ e. refl) (λ e. refl))
 
-people-last : (k : ℕ) → eqb k Kind.AND ≡ false → eqb k Kind.OR ≡ false → ending k ≡ false → station (p-people 0) k ≡ p-dead
-unfolding station
-people-last k a b c = rw (a, b, c) (chosen (λ (q : Place). q ≡ p-dead) (eqb k Kind.CLOSE) p-dead p-dead (λ e. refl) (λ e. refl))
+people-last : (k : ℕ) → eqb k Kind.AND ≡ false → eqb k Kind.OR ≡ false → ending k ≡ false → step (p-people 0) k ≡ p-dead
+unfolding step
+people-last k a b c = rw (a, b, c) (chosen (λ (q : State). q ≡ p-dead) (eqb k Kind.CLOSE) p-dead p-dead (λ e. refl) (λ e. refl))
 
-count-wrong : (n k : ℕ) → eqb k Kind.OF ≡ false → station (p-count n) k ≡ p-dead
-unfolding station
+count-wrong : (n k : ℕ) → eqb k Kind.OF ≡ false → step (p-count n) k ≡ p-dead
+unfolding step
 count-wrong n k a = rw a refl
 
-of-wrong : (n k : ℕ) → eqb k Kind.OPEN ≡ false → station (p-of n) k ≡ p-dead
-unfolding station
+of-wrong : (n k : ℕ) → eqb k Kind.OPEN ≡ false → step (p-of n) k ≡ p-dead
+unfolding step
 of-wrong n k a = rw a refl
 
-item-wrong : (n k : ℕ) → eqb k Kind.DOT ≡ false → eqb k Kind.CLOSE ≡ false → eqb k Kind.COMMA ≡ false → station (p-have TEXT (item n)) k ≡ p-dead
+item-wrong : (n k : ℕ) → eqb k Kind.DOT ≡ false → eqb k Kind.CLOSE ≡ false → eqb k Kind.COMMA ≡ false → step (p-have TEXT (item n)) k ≡ p-dead
 item-wrong n k d a b = leaves (item n) k d ∙ rw (a, b) refl
 
 -- a string begins alike where a licensee and where a string is wanted
-princ-same : (u n k : ℕ) → eqb k Kind.OPEN ≡ false → eqb k Kind.DIGITS ≡ false → station (p-princ u n) k ≡ station (p-text TEXT (people u n)) k
-unfolding station
+princ-same : (u n k : ℕ) → eqb k Kind.OPEN ≡ false → eqb k Kind.DIGITS ≡ false → step (p-princ u n) k ≡ step (p-text TEXT (people u n)) k
+unfolding step
 princ-same u n k a b = rw (a, b) refl
 
 text-not-dead : (F : Frame) → p-text TEXT F ≡ p-dead → ⊥
@@ -211,7 +211,7 @@ module _ (s : List ℕ) where
       → ((F : Frame) → runs s (p-text TEXT F) ts v ≡ p-dead) → (u m : ℕ) → runs s (p-princ u m) ts v ≡ p-dead
   plain-heads t a b _ _ (at-once _) g u m = princ-same u m (kindIn s t) (test-kind s t Kind.OPEN refl refl ∙ a) (test-kind s t Kind.DIGITS refl refl ∙ b) ∙ g (people u m)
   plain-heads t a b _ v (and-on _ _ ts p) g u m =
-      ap (λ (q : Place). run station q (kindsIn s ts ++ kindIn s v ∷ [])) (princ-same u m (kindIn s t) (test-kind s t Kind.OPEN refl refl ∙ a) (test-kind s t Kind.DIGITS refl refl ∙ b))
+      ap (λ (q : State). run step q (kindsIn s ts ++ kindIn s v ∷ [])) (princ-same u m (kindIn s t) (test-kind s t Kind.OPEN refl refl ∙ a) (test-kind s t Kind.DIGITS refl refl ∙ b))
       ∙ g (people u m)
 
   -- two walks from one token
@@ -237,27 +237,27 @@ module _ (s : List ℕ) where
     dot-kind = kind-mark s v Kind.DOT dot refl
 
     -- behind the "." it doesn't matter whose brackets they were
-    dot-run : (q : Place) (F : Frame) → run station q (kindsIn s pre) ≡ p-have TEXT F → (more : List Token) (w : Token) → runs s q (pre ++ v ∷ more) w ≡ runs s (p-text TEXT F) more w
+    dot-run : (q : State) (F : Frame) → run step q (kindsIn s pre) ≡ p-have TEXT F → (more : List Token) (w : Token) → runs s q (pre ++ v ∷ more) w ≡ runs s (p-text TEXT F) more w
     dot-run q F e more w =
-        ap (λ (l : List ℕ). run station q (l ++ kindIn s w ∷ [])) (kinds-append (kindIn s) pre (v ∷ more))
-        ∙ ap (run station q) (append-assoc (kindsIn s pre) (kindsIn s (v ∷ more)) (kindIn s w ∷ []))
-        ∙ through-part q (p-have TEXT F) (p-text TEXT F) (kindsIn s pre) (kindsIn s more ++ kindIn s w ∷ []) (kindIn s v) e (ap (λ (k : ℕ). station (p-have TEXT F) k) dot-kind ∙ dot-text F)
+        ap (λ (l : List ℕ). run step q (l ++ kindIn s w ∷ [])) (kinds-append (kindIn s) pre (v ∷ more))
+        ∙ ap (run step q) (append-assoc (kindsIn s pre) (kindsIn s (v ∷ more)) (kindIn s w ∷ []))
+        ∙ through-part q (p-have TEXT F) (p-text TEXT F) (kindsIn s pre) (kindsIn s more ++ kindIn s w ∷ []) (kindIn s v) e (ap (λ (k : ℕ). step (p-have TEXT F) k) dot-kind ∙ dot-text F)
 
-    text-pre : (F : Frame) → run station (p-text TEXT F) (kindsIn s pre) ≡ p-have TEXT F
+    text-pre : (F : Frame) → run step (p-text TEXT F) (kindsIn s pre) ≡ p-have TEXT F
     text-pre F = text-run whole (kindsIn s pre) str TEXT F (as-text refl)
 
     way-dead : (us : List Token) (w : Token) → ((F : Frame) → runs s (p-text TEXT F) us w ≡ p-dead) → (u m : ℕ) → Ways us w pre v → runs s (p-princ u m) us w ≡ p-dead
     way-dead us w g u m (together e f) =
-        absurd (text-not-dead (people u m) (sym (runs-last s (p-text TEXT (people u m)) (p-have TEXT (people u m)) pre v (text-pre (people u m)) ∙ ap (λ (k : ℕ). station (p-have TEXT (people u m)) k) dot-kind ∙ dot-text (people u m))
+        absurd (text-not-dead (people u m) (sym (runs-last s (p-text TEXT (people u m)) (p-have TEXT (people u m)) pre v (text-pre (people u m)) ∙ ap (λ (k : ℕ). step (p-have TEXT (people u m)) k) dot-kind ∙ dot-text (people u m))
         ∙ subst (λ (l : List Token). runs s (p-text TEXT (people u m)) l v ≡ p-dead) e (subst (λ (x : Token). runs s (p-text TEXT (people u m)) us x ≡ p-dead) f (g (people u m)))))
     way-dead us w g u m (beyond more e) =
         ap (λ (l : List Token). runs s (p-princ u m) l w) e ∙ dot-run (p-princ u m) (people u m) (princ-run whole (kindsIn s pre) str u m) more w
         ∙ sym (dot-run (p-text TEXT (people u m)) (people u m) (text-pre (people u m)) more w) ∙ ap (λ (l : List Token). runs s (p-text TEXT (people u m)) l w) (sym e) ∙ g (people u m)
     way-dead us w g u m (short more e) =
-        absurd (have-not-dead (people u m) (sym (text-pre (people u m)) ∙ ap (λ (l : List Token). run station (p-text TEXT (people u m)) (kindsIn s l)) e
-        ∙ ap (run station (p-text TEXT (people u m))) (kinds-append (kindIn s) us (w ∷ more) ∙ sym (append-assoc (kindsIn s us) (kindIn s w ∷ []) (kindsIn s more)))
-        ∙ run-append station (p-text TEXT (people u m)) (kindsIn s us ++ kindIn s w ∷ []) (kindsIn s more) ∙ ap (λ (q : Place). run station q (kindsIn s more)) (g (people u m))
-        ∙ run-dead station p-dead station-dead (kindsIn s more)))
+        absurd (have-not-dead (people u m) (sym (text-pre (people u m)) ∙ ap (λ (l : List Token). run step (p-text TEXT (people u m)) (kindsIn s l)) e
+        ∙ ap (run step (p-text TEXT (people u m))) (kinds-append (kindIn s) us (w ∷ more) ∙ sym (append-assoc (kindsIn s us) (kindIn s w ∷ []) (kindsIn s more)))
+        ∙ run-append step (p-text TEXT (people u m)) (kindsIn s us ++ kindIn s w ∷ []) (kindsIn s more) ∙ ap (λ (q : State). run step q (kindsIn s more)) (g (people u m))
+        ∙ run-dead step p-dead step-dead (kindsIn s more)))
 
     dot-heads : (us : List Token) (w : Token) → Toks t us w → ((F : Frame) → runs s (p-text TEXT F) us w ≡ p-dead) → (u m : ℕ) → runs s (p-princ u m) us w ≡ p-dead
     dot-heads us w q g u m = way-dead us w g u m (ways t w v us pre q path)
@@ -279,10 +279,10 @@ module _ (s : List ℕ) where
   items-open _ _ (items-some ls xs c d e) ms l =
       subst PrincList (sym (ap (λ (y : List ℕ). y ++ ms) (items-kinds ls c e) ∙ append-assoc (kindsIn s ls) (Kind.COMMA ∷ []) ms)) (G.comma (kindsIn s ls) ms (list-shadow ls xs d) l)
 
-  items-run : (ls : List Token) (xs : List Source) → Items ls xs → (m : ℕ) → run station (p-text TEXT (item m)) (kindsIn s ls) ≡ p-text TEXT (item m)
+  items-run : (ls : List Token) (xs : List Source) → Items ls xs → (m : ℕ) → run step (p-text TEXT (item m)) (kindsIn s ls) ≡ p-text TEXT (item m)
   items-run _ _ items-none m = refl
   items-run _ _ (items-some ls xs c d e) m =
-      ap (run station (p-text TEXT (item m))) (items-kinds ls c e)
+      ap (run step (p-text TEXT (item m))) (items-kinds ls c e)
       ∙ through-part (p-text TEXT (item m)) (p-have TEXT (item m)) (p-text TEXT (item m)) (kindsIn s ls) [] Kind.COMMA (list-run (kindsIn s ls) (list-shadow ls xs d) m) (item-comma m)
 
   -- sixteen licensees are enough
@@ -333,7 +333,7 @@ module _ (s : List ℕ) where
           ∙ ap (λ (x : ℕ). Kind.DIGITS ∷ Kind.OF ∷ x ∷ kindsIn s ls) (kind-mark s b Kind.OPEN open′ refl)
 
       up-run : (ls : List Token) (v : Token) (u m : ℕ) → runs s (p-princ u m) (upTo ls) v ≡ runs s (p-text TEXT (item m)) ls v
-      up-run ls v u m = ap (λ (l : List ℕ). run station (p-princ u m) (l ++ kindIn s v ∷ [])) (up-kinds ls) ∙ list-place (kindsIn s ls ++ kindIn s v ∷ []) u m
+      up-run ls v u m = ap (λ (l : List ℕ). run step (p-princ u m) (l ++ kindIn s v ∷ [])) (up-kinds ls) ∙ list-place (kindsIn s ls ++ kindIn s v ∷ []) u m
 
       up-closed : (ls : List Token) (w : Token) → w .kind ≡ Kind.CLOSE → kindsIn s (upTo ls ++ w ∷ []) ≡ Kind.DIGITS ∷ Kind.OF ∷ Kind.OPEN ∷ kindsIn s ls ++ Kind.CLOSE ∷ []
       up-closed ls w e =
@@ -369,7 +369,7 @@ module _ (s : List ℕ) where
             (tokens-one s Kind.IN-LICENSEES t w (upTo (ls ++ ts)) (near-path t w v (upTo (ls ++ ts)) Kind.CLOSE e refl z (up-path (ls ++ ts) v item-path))) (near-same (next w))
             (threshold-tree t o b w (ls ++ ts) (xs ++ x ∷ []) digits of open′ e tree)
             (stands-people _ (several-of k (xs ++ x ∷ []))
-            (λ u m. ap (run station (p-princ u m)) (up-closed (ls ++ ts) w e) ∙ threshold-run (kindsIn s (ls ++ ts)) (list-shadow (ls ++ ts) (xs ++ x ∷ []) tree) u m)) refl
+            (λ u m. ap (run step (p-princ u m)) (up-closed (ls ++ ts) w e) ∙ threshold-run (kindsIn s (ls ++ ts)) (list-shadow (ls ++ ts) (xs ++ x ∷ []) tree) u m)) refl
             (kOf-size n k xs x few .0) (kOf-size n k xs x few .1))
 
         comma-path : w .kind ≡ Kind.COMMA → Toks (next b) ((ls ++ ts) ++ w ∷ []) (next w)
@@ -392,7 +392,7 @@ module _ (s : List ℕ) where
       item-aside xs u ls path it _ _ (one-none ts v p rest e d g r h) =
           halted (upTo (ls ++ ts)) v (up-path (ls ++ ts) v (tokens-append s Kind.IN-LICENSEES (next b) u v ls ts path p)) (kindsIn s rest ++ Kind.CLOSE ∷ [])
           (subst PrincExpr (sym whole-kinds) (threshold (kindsIn s ls ++ kindsIn s (ts ++ rest)) (items-open ls xs it (kindsIn s (ts ++ rest)) (G.one _ (str-shadow s whole (ts ++ rest) e d)))))
-          (λ u m. up-run (ls ++ ts) v u m ∙ runs-on s (p-text TEXT (item m)) ls ts v ∙ ap (λ (q : Place). runs s q ts v) (items-run ls xs it m) ∙ g (item m)) r h
+          (λ u m. up-run (ls ++ ts) v u m ∙ runs-on s (p-text TEXT (item m)) ls ts v ∙ ap (λ (q : State). runs s q ts v) (items-run ls xs it m) ∙ g (item m)) r h
         where
           whole-kinds : kindsIn s (upTo (ls ++ ts)) ++ (kindsIn s rest ++ Kind.CLOSE ∷ [])
               ≡ Kind.DIGITS ∷ Kind.OF ∷ Kind.OPEN ∷ (kindsIn s ls ++ kindsIn s (ts ++ rest)) ++ Kind.CLOSE ∷ []
@@ -448,7 +448,7 @@ module _ (s : List ℕ) where
         (λ f. list-reads (left - 1) n t digits (let z : left - 1 ≤ 16 = omega (arith, low) in z) of (eqb-true _ _ e)))
         (λ e. halted (t ∷ next t ∷ []) (next (next t)) (and-on t _ _ (and-on (next t) _ [] (at-once (next (next t))))) (Kind.OPEN ∷ Kind.LITERAL ∷ Kind.CLOSE ∷ [])
         (subst (λ (l : List ℕ). PrincExpr (l ++ Kind.OPEN ∷ Kind.LITERAL ∷ Kind.CLOSE ∷ [])) (sym two-kinds) some-list)
-        (λ u m. ap (λ (l : List ℕ). run station (p-princ u m) (l ++ kindIn s (next (next t)) ∷ [])) two-kinds
+        (λ u m. ap (λ (l : List ℕ). run step (p-princ u m) (l ++ kindIn s (next (next t)) ∷ [])) two-kinds
         ∙ first-part (p-princ u m) (p-count m) (Kind.OF ∷ kindIn s (next (next t)) ∷ []) Kind.DIGITS (princ-digits u m)
         ∙ first-part (p-count m) (p-of m) (kindIn s (next (next t)) ∷ []) Kind.OF (count-of m)
         ∙ of-wrong m (kindIn s (next (next t))) (test-kind s (next (next t)) Kind.OPEN refl refl ∙ e)) (refusal (next (next t) .kind)) refl)
@@ -462,7 +462,7 @@ module _ (s : List ℕ) where
         chosen (Reading operand N0 n t) (eqb (next t .kind) Kind.OF) _ _ (λ e. open-reads low (eqb-true _ _ e))
         (λ e. halted (t ∷ []) (next t) (and-on t _ [] (at-once (next t))) (Kind.OF ∷ Kind.OPEN ∷ Kind.LITERAL ∷ Kind.CLOSE ∷ [])
         (subst (λ (x : ℕ). PrincExpr (x ∷ Kind.OF ∷ Kind.OPEN ∷ Kind.LITERAL ∷ Kind.CLOSE ∷ [])) (sym digits-kind) some-list)
-        (λ u m. ap (λ (x : ℕ). run station (p-princ u m) (x ∷ kindIn s (next t) ∷ [])) digits-kind
+        (λ u m. ap (λ (x : ℕ). run step (p-princ u m) (x ∷ kindIn s (next t) ∷ [])) digits-kind
         ∙ first-part (p-princ u m) (p-count m) (kindIn s (next t) ∷ []) Kind.DIGITS (princ-digits u m)
         ∙ count-wrong m (kindIn s (next t)) (test-kind s (next t) Kind.OF refl refl ∙ e)) (refusal (next t .kind)) refl)
 
@@ -493,8 +493,8 @@ module _ (s : List ℕ) where
 
     joint-run : (ts us : List Token) (u w : Token) → u .kind ≡ joint → Stood (kindsIn s ts) → (x m : ℕ) → runs s (p-princ x m) (ts ++ u ∷ us) w ≡ runs s (p-princ 0 m) us w
     joint-run ts us u w e a x m =
-        ap (λ (l : List ℕ). run station (p-princ x m) (l ++ kindIn s w ∷ [])) (joint-kinds ts us u e)
-        ∙ ap (run station (p-princ x m)) (append-assoc (kindsIn s ts) (joint ∷ kindsIn s us) (kindIn s w ∷ []))
+        ap (λ (l : List ℕ). run step (p-princ x m) (l ++ kindIn s w ∷ [])) (joint-kinds ts us u e)
+        ∙ ap (run step (p-princ x m)) (append-assoc (kindsIn s ts) (joint ∷ kindsIn s us) (kindIn s w ∷ []))
         ∙ stood-joins (kindsIn s ts) joint (kindsIn s us ++ kindIn s w ∷ []) joins a x m
 
     name-length : (e f : Sources) → length (sources (join e f)) ≡ length (sources e) + length (sources f)
@@ -600,7 +600,7 @@ module _ (s : List ℕ) where
     bracket-kinds ts = ap (λ (x : ℕ). x ∷ kindsIn s ts) (kind-mark s t Kind.OPEN o refl)
 
     bracket-run : (ts : List Token) (v : Token) (u m : ℕ) → runs s (p-princ u m) (t ∷ ts) v ≡ runs s (p-princ (suc u) (suc m)) ts v
-    bracket-run ts v u m = ap (λ (l : List ℕ). run station (p-princ u m) (l ++ kindIn s v ∷ [])) (bracket-kinds ts) ∙ open-run (kindsIn s ts ++ kindIn s v ∷ []) u m
+    bracket-run ts v u m = ap (λ (l : List ℕ). run step (p-princ u m) (l ++ kindIn s v ∷ [])) (bracket-kinds ts) ∙ open-run (kindsIn s ts ++ kindIn s v ∷ []) u m
 
     -- what it holds, up to its closing bracket u
     module _ (ts : List Token) (u : Token) (path : Toks (next t) ts u) (c : u .kind ≡ Kind.CLOSE) where
@@ -626,11 +626,11 @@ module _ (s : List ℕ) where
       onward-reads k _ d (stands-mixed e z g h) some few =
           subst (Reading operand N0 n t) (sym (several-onward e (next u) z))
           (got pre (next u) (next u) e shut-path (near-same (next u)) (bracket-tree t u ts e o c d)
-          (stands-people e z (λ x m. ap (run station (p-princ x m)) shut-kinds ∙ closed-mixed (kindsIn s ts) g x m)) refl some few)
+          (stands-people e z (λ x m. ap (run step (p-princ x m)) shut-kinds ∙ closed-mixed (kindsIn s ts) g x m)) refl some few)
       onward-reads k _ d (stands-people e z g) some few =
           subst (Reading operand N0 n t) (sym (several-onward e (next u) z))
           (got pre (next u) (next u) e shut-path (near-same (next u)) (bracket-tree t u ts e o c d)
-          (stands-people e z (λ x m. ap (run station (p-princ x m)) shut-kinds ∙ closed-people (kindsIn s ts) g x m)) refl some few)
+          (stands-people e z (λ x m. ap (run step (p-princ x m)) shut-kinds ∙ closed-people (kindsIn s ts) g x m)) refl some few)
 
     closed-reads : (ts : List Token) (u v : Token) (e : Sources) → Toks (next t) ts v → Near u v → PrincTree s whole ts e → Stands (kindsIn s ts) (v .kind) e → N2 (v .kind)
         → 1 ≤ length (sources e) → n + length (sources e) ≤ 16 → Reading operand N0 n t (L.closed s left n t e u)
@@ -676,7 +676,7 @@ module _ (s : List ℕ) where
 
     first-runs : (ts : List Token) (v : Token) → ending (t .kind) ≡ false → Toks t ts v → runs s p-names ts v ≡ runs s (p-princ 0 0) ts v
     first-runs _ _ f (at-once _) = names-want (kindIn s t) (ending-kind s t ∙ f)
-    first-runs _ v f (and-on _ _ ts p) = ap (λ (q : Place). run station q (kindsIn s ts ++ kindIn s v ∷ [])) (names-want (kindIn s t) (ending-kind s t ∙ f))
+    first-runs _ v f (and-on _ _ ts p) = ap (λ (q : State). run step q (kindsIn s ts ++ kindIn s v ∷ [])) (names-want (kindIn s t) (ending-kind s t ∙ f))
 
     end-through : (ts : List Token) (u v : Token) (e : Sources) → Toks t ts v → Near u v → PrincTree s whole ts e → ending (u .kind) ≡ true → FieldJudged (ok (given constants e) u)
     end-through ts u v e p z d f =

@@ -1,33 +1,26 @@
--- KeyNote-Version, Authorizer and Signature: their readers give reason 2 where the grammar allows no continuation, and else read a sentence.
+-- KeyNote-Version and Signature: their readers give reason 2 where the grammar allows no continuation, and else read a sentence.
 -- Assumes nothing.
-use mathlib.Core.Path.{_≡_, refl, sym, ap, _∙_}
+use mathlib.Core.Path.{_≡_, refl, ap, _∙_}
 use mathlib.Core.Bool.{Bool, true, false}
 use mathlib.Core.List.{List, [], _∷_, _++_}
 use Prim.Native.Nat.{ℕ, _≤_, _<_}
 use native.Mathlib.Omega.{arith}
 use lib.Dec.{eqb, leb, ltb}
 use lib.ListN.{length}
-use borrow.Author.Tests.{eqb-true, eqb-false, ltb-false, leb-true, ne-eqb}
+use borrow.Author.Tests.{eqb-true, eqb-false, ltb-false, leb-true}
 use Rattle.text.specs.Choice.{pick, split, clash}
 use Rattle.text.specs.Equal.{equal}
-use Rattle.record.specs.Query.{Attribute}
 use Rattle.lexical.specs.Kind
 use Rattle.lexical.specs.Bounds.{chosen}
 use Rattle.lexical.specs.Literal.{decodedAt}
 use Rattle.lexical.specs.Number.{LIMIT, numberAt}
 use Rattle.lexical.specs.declared.token.Token.{Token}
-use Rattle.principal.specs.Principal as P
-use Rattle.syntax.specs.Parsed.{Parsed, ok, aside, refusal, andThen}
+use Rattle.syntax.specs.Parsed.{Parsed, ok, aside, refusal}
 use Rattle.limits.specs.Limits.{mostLiteral}
-use Rattle.fields.specs.Parsed.{behind, ending, ended, wordOf}
-use Rattle.expression.specs.Names.{settingOr}
-use Rattle.fields.specs.Constants.{isSet}
-use Rattle.fields.specs.Theorems.Together.{refusal-some}
+use Rattle.fields.specs.Parsed.{behind, ending, ended}
 use Rattle.fields.specs.Version as Vers
-use Rattle.fields.specs.Identifier as Ident
-use Rattle.fields.specs.Authorizer as Auth
 use Rattle.fields.specs.Signature as Sign
-use Rattle.grammar.specs.Fields.{Ends, end-of-text, next-version, next-constants, next-authorizer, next-licensees, next-conditions, next-comment, next-signature, Field, field, Version, version-integer, version-literal, Principal, principal-literal, principal-name, Authorizer, authorizer, Signature, signature}
+use Rattle.grammar.specs.Fields.{Ends, end-of-text, next-version, next-constants, next-authorizer, next-licensees, next-conditions, next-comment, next-signature, Field, field, Version, version-integer, version-literal, Signature, signature}
 use Rattle.grammar.specs.Viable.{Viable, viable, Open, opens, KindsBy, here, further, Judged, JudgedBy, plainly, through, no-continuation, another}
 use Rattle.grammar.specs.Working.Automaton.{run, not-viable, not-longer}
 
@@ -190,83 +183,6 @@ module _ (s : List ℕ) (t : Token) where
 -- no sentence of the field goes on as another
 pub version-whole : (ks : List ℕ) (k : ℕ) (more : List ℕ) → Field Version ks → Field Version (ks ++ k ∷ more) → ⊥
 version-whole = one-whole versionFirst Version version-shape version-holds Kind.LITERAL (version-string Kind.LITERAL refl)
-
--- a principal
-unfoldable pub principalFirst : ℕ → Bool
-principalFirst k = pick (eqb k Kind.LITERAL) true (eqb k Kind.NAME)
-
-pub principal-is : (k : ℕ) → principalFirst k ≡ true → Principal k
-unfolding principalFirst
-principal-is k h =
-    split (eqb k Kind.LITERAL) (λ e. rw (eqb-true k Kind.LITERAL e) principal-literal)
-    (λ e. let f : eqb k Kind.NAME ≡ true = rw e at h in rw (eqb-true k Kind.NAME f) principal-name)
-
-pub is-principal : (k : ℕ) → Principal k → principalFirst k ≡ true
-unfolding principalFirst
-is-principal _ principal-literal = refl
-is-principal _ principal-name = refl
-
--- what a token has against it as an identifier: reason 2 only where it is none
-pub data Against (k : ℕ) : ℕ → Type 0 where
-  none-against : principalFirst k ≡ true → Against k 0
-  no-principal : principalFirst k ≡ false → (r : ℕ) → r ≡ refusal k → Against k r
-  some-fault : principalFirst k ≡ true → (r : ℕ) → (r ≡ 2 → ⊥) → (r ≡ 0 → ⊥) → Against k r
-
-module _ (s : List ℕ) (constants : List Attribute) (t : Token) where
-  size-against : (n : ℕ) → principalFirst (t .kind) ≡ true → Against (t .kind) (Ident.sizeFault n)
-  unfolding Ident.sizeFault
-  size-against n h =
-      chosen (Against (t .kind)) (eqb n 0) 7 _ (λ e. seven) (λ e. chosen (Against (t .kind)) (ltb 256 n) 7 0 (λ f. seven) (λ f. none-against h))
-    where
-      seven : Against (t .kind) 7
-      seven = some-fault h 7 (λ z. let bad : ⊥ = omega (arith, z) in bad) (λ z. let bad : ⊥ = omega (arith, z) in bad)
-
-  name-against : (name : List ℕ) → principalFirst (t .kind) ≡ true → Against (t .kind) (Ident.nameFault constants name)
-  unfolding Ident.nameFault
-  name-against name h =
-      chosen (Against (t .kind)) (isSet constants name) _ 4 (λ e. size-against (length (settingOr constants name [])) h)
-      (λ e. some-fault h 4 (λ z. let bad : ⊥ = omega (arith, z) in bad) (λ z. let bad : ⊥ = omega (arith, z) in bad))
-
-  pub identifier-against : Against (t .kind) (Ident.identifierFault s constants t)
-  unfolding Ident.identifierFault principalFirst
-  identifier-against =
-      chosen (Against (t .kind)) (eqb (t .kind) Kind.LITERAL) _ _ (λ e. size-against (length (decodedAt s (t .start))) (rw e))
-      (λ e. chosen (Against (t .kind)) (eqb (t .kind) Kind.NAME) _ _ (λ f. name-against (wordOf s t) (rw (e, f))) (λ f. no-principal (rw (e, f)) (refusal (t .kind)) refl))
-
-authorizer-shape : (ks : List ℕ) → Authorizer ks → Single principalFirst ks
-authorizer-shape _ (authorizer k p) = single k (is-principal k p)
-
-authorizer-holds : (k : ℕ) → principalFirst k ≡ true → Authorizer (k ∷ [])
-authorizer-holds k h = authorizer k (principal-is k h)
-
-pub authorizer-whole : (ks : List ℕ) (k : ℕ) (more : List ℕ) → Field Authorizer ks → Field Authorizer (ks ++ k ∷ more) → ⊥
-authorizer-whole = one-whole principalFirst Authorizer authorizer-shape authorizer-holds Kind.LITERAL (is-principal Kind.LITERAL principal-literal)
-
-module _ (s : List ℕ) (standing : ℕ) (constants : List Attribute) (t : Token) where
-  abbrev AuthorizerJudged : Parsed P.Principal → Type 0
-  AuthorizerJudged r = Judged (Field Authorizer) s Kind.IN-FIELD t r
-
-  authorizer-right : (p : P.Principal) → principalFirst (t .kind) ≡ true → AuthorizerJudged (ended p (behind s Kind.IN-FIELD t))
-  authorizer-right p h = one-right principalFirst Authorizer authorizer-shape authorizer-holds Kind.LITERAL (is-principal Kind.LITERAL principal-literal) s Kind.IN-FIELD t p h
-
-  authorized-judged : (p : P.Principal) → principalFirst (t .kind) ≡ true → AuthorizerJudged (Auth.authorized standing t p (behind s Kind.IN-FIELD t))
-  unfolding Auth.authorized
-  authorized-judged p h =
-      chosen AuthorizerJudged (eqb standing 2) _ _
-      (λ e. chosen AuthorizerJudged (P.same p P.policy) _ _ (λ f. another 9 (t .start) (λ z. let bad : ⊥ = omega (arith, z) in bad)) (λ f. authorizer-right p h))
-      (λ e. authorizer-right p h)
-
-  authorizer-fault : (r : ℕ) → Against (t .kind) r → (p : P.Principal)
-      → AuthorizerJudged (andThen (pick (eqb r 0) (ok p (behind s Kind.IN-FIELD t)) (aside r (t .start))) (λ p n. Auth.authorized standing t p n))
-  authorizer-fault _ (none-against h) p = authorized-judged p h
-  authorizer-fault _ (no-principal h r e) p =
-      split (eqb r 0) (λ z. absurd (refusal-some (t .kind) (sym e ∙ eqb-true r 0 z)))
-      (λ z. rw z (one-wrong principalFirst Authorizer authorizer-shape authorizer-holds Kind.LITERAL (is-principal Kind.LITERAL principal-literal) s Kind.IN-FIELD t h r e))
-  authorizer-fault _ (some-fault h r n z) p = rw (ne-eqb r 0 z) (another r (t .start) n)
-
-  pub authorizer-judged : Judged (Field Authorizer) s Kind.IN-FIELD t (Auth.authorizer s standing constants t)
-  unfolding Auth.authorizer Ident.identifier
-  authorizer-judged = authorizer-fault (Ident.identifierFault s constants t) (identifier-against s constants t) (Ident.identified s constants t)
 
 -- Signature. Nothing after its literal is read: where the reader gets through, the literal is the sentence, and it is the token handed back.
 pub data SignatureJudged (s : List ℕ) (t : Token) : Parsed (List ℕ) → Type 0 where

@@ -6,21 +6,17 @@ use Rattle.lexical.specs.Kind
 use Rattle.lexical.specs.declared.token.Token.{Token}
 use Rattle.fields.specs.Version.{version}
 use Rattle.fields.specs.Constants.{constantsFrom}
-use Rattle.fields.specs.Authorizer.{authorizer}
-use Rattle.fields.specs.Licensees.{licensees}
 use Rattle.lexical.specs.Line.{tokenAt}
 use Rattle.conditions.specs.Program.{readProgram}
-use Rattle.grammar.specs.Fields.{Field, Version, Assignments, Authorizer, Licensees}
+use Rattle.grammar.specs.Fields.{Field, Version, Assignments}
 use Rattle.grammar.specs.Viable.{Viable, Open, Kinds, KindsBy, plainly}
-use Rattle.grammar.specs.Theorems.OneToken.{version-judged, version-whole, authorizer-judged, authorizer-whole}
+use Rattle.grammar.specs.Theorems.OneToken.{version-judged, version-whole}
 use Rattle.grammar.specs.Theorems.Assigning.{constants-judged, constants-whole}
-use Rattle.grammar.specs.Theorems.Licensing.{licensees-judged}
-use Rattle.grammar.specs.Working.Places.{licensees-whole}
 use Rattle.grammar.specs.Theorems.Conditioning.{conditions-judged, conditions-whole}
 use Rattle.grammar.specs.Conditions.{Conditions}
-use Rattle.naming.specs.Authorizer as Author
-use Rattle.naming.specs.Licensees as Names
-use Rattle.grammar.specs.Naming as New
+use Rattle.naming.specs.Authorizer.{authorizer}
+use Rattle.naming.specs.Licensees.{licensees}
+use Rattle.grammar.specs.Naming.{Author, Licensees}
 use Rattle.grammar.specs.Theorems.Authoring.{author-judged, author-whole}
 use Rattle.grammar.specs.Theorems.Naming.{names-judged}
 use Rattle.grammar.specs.Working.Principals.{names-whole}
@@ -45,25 +41,6 @@ module _ (s : List ℕ) (t n : Token) (ks : List ℕ) where
       → Passed plainly (Field Assignments) constants-whole s Kind.IN-FIELD t n (constantsFrom s [] t)
   constants-complete p g = complete plainly (Field Assignments) constants-whole s Kind.IN-FIELD t (constantsFrom s [] t) (constants-judged s t) n ks p g
 
-  module _ (constants : List Attribute) where
-    pub authorizer-exactly : (standing : ℕ) → Kinds s Kind.IN-FIELD t ks n → Open (Field Authorizer) ks → (Viable (Field Authorizer) (ks ++ n .kind ∷ []) → ⊥)
-        → Refused plainly (Field Authorizer) authorizer-whole s Kind.IN-FIELD t n (authorizer s standing constants t)
-    authorizer-exactly standing p o nv =
-        exactly plainly (Field Authorizer) authorizer-whole s Kind.IN-FIELD t (authorizer s standing constants t) (authorizer-judged s standing constants t) n ks p o nv
-
-    pub authorizer-complete : (standing : ℕ) → Kinds s Kind.IN-FIELD t ks n → Field Authorizer (ks ++ n .kind ∷ [])
-        → Passed plainly (Field Authorizer) authorizer-whole s Kind.IN-FIELD t n (authorizer s standing constants t)
-    authorizer-complete standing p g =
-        complete plainly (Field Authorizer) authorizer-whole s Kind.IN-FIELD t (authorizer s standing constants t) (authorizer-judged s standing constants t) n ks p g
-
-    pub licensees-exactly : Kinds s Kind.IN-LICENSEES t ks n → Open (Field Licensees) ks → (Viable (Field Licensees) (ks ++ n .kind ∷ []) → ⊥)
-        → Refused plainly (Field Licensees) licensees-whole s Kind.IN-LICENSEES t n (licensees s constants t)
-    licensees-exactly p o nv = exactly plainly (Field Licensees) licensees-whole s Kind.IN-LICENSEES t (licensees s constants t) (licensees-judged s constants t) n ks p o nv
-
-    pub licensees-complete : Kinds s Kind.IN-LICENSEES t ks n → Field Licensees (ks ++ n .kind ∷ [])
-        → Passed plainly (Field Licensees) licensees-whole s Kind.IN-LICENSEES t n (licensees s constants t)
-    licensees-complete p g = complete plainly (Field Licensees) licensees-whole s Kind.IN-LICENSEES t (licensees s constants t) (licensees-judged s constants t) n ks p g
-
 -- Conditions, whose tokens are of the kinds that `kindIn` says, from the token behind a place of the text on
 module _ (s : List ℕ) (at : ℕ) (n : Token) (ks : List ℕ) where
   abbrev first : Token
@@ -77,7 +54,7 @@ module _ (s : List ℕ) (at : ℕ) (n : Token) (ks : List ℕ) where
       → Passed (kindIn s) Conditions conditions-whole s Kind.IN-FIELD first n (readProgram s first)
   conditions-complete p g = complete (kindIn s) Conditions conditions-whole s Kind.IN-FIELD first (readProgram s first) (conditions-judged s at) n ks p g
 
--- Authorizer and Licensees with string expressions, whose tokens are of the same kinds
+-- Authorizer and Licensees, whose tokens are of the same kinds
 module _ (s : List ℕ) (constants : List Attribute) (at : ℕ) (n : Token) (ks : List ℕ) where
   abbrev author-first : Token
   author-first = tokenAt s Kind.IN-FIELD at
@@ -85,20 +62,20 @@ module _ (s : List ℕ) (constants : List Attribute) (at : ℕ) (n : Token) (ks 
   abbrev names-first : Token
   names-first = tokenAt s Kind.IN-LICENSEES at
 
-  pub author-exactly : KindsBy (kindIn s) s Kind.IN-FIELD author-first ks n → Open (Field New.Author) ks → (Viable (Field New.Author) (ks ++ kindIn s n ∷ []) → ⊥)
-      → Refused (kindIn s) (Field New.Author) author-whole s Kind.IN-FIELD author-first n (Author.authorizer s constants author-first)
+  pub author-exactly : KindsBy (kindIn s) s Kind.IN-FIELD author-first ks n → Open (Field Author) ks → (Viable (Field Author) (ks ++ kindIn s n ∷ []) → ⊥)
+      → Refused (kindIn s) (Field Author) author-whole s Kind.IN-FIELD author-first n (authorizer s constants author-first)
   author-exactly p o nv =
-      exactly (kindIn s) (Field New.Author) author-whole s Kind.IN-FIELD author-first (Author.authorizer s constants author-first) (author-judged s constants at) n ks p o nv
+      exactly (kindIn s) (Field Author) author-whole s Kind.IN-FIELD author-first (authorizer s constants author-first) (author-judged s constants at) n ks p o nv
 
-  pub author-complete : KindsBy (kindIn s) s Kind.IN-FIELD author-first ks n → Field New.Author (ks ++ kindIn s n ∷ [])
-      → Passed (kindIn s) (Field New.Author) author-whole s Kind.IN-FIELD author-first n (Author.authorizer s constants author-first)
-  author-complete p g = complete (kindIn s) (Field New.Author) author-whole s Kind.IN-FIELD author-first (Author.authorizer s constants author-first) (author-judged s constants at) n ks p g
+  pub author-complete : KindsBy (kindIn s) s Kind.IN-FIELD author-first ks n → Field Author (ks ++ kindIn s n ∷ [])
+      → Passed (kindIn s) (Field Author) author-whole s Kind.IN-FIELD author-first n (authorizer s constants author-first)
+  author-complete p g = complete (kindIn s) (Field Author) author-whole s Kind.IN-FIELD author-first (authorizer s constants author-first) (author-judged s constants at) n ks p g
 
-  pub names-exactly : KindsBy (kindIn s) s Kind.IN-LICENSEES names-first ks n → Open (Field New.Licensees) ks → (Viable (Field New.Licensees) (ks ++ kindIn s n ∷ []) → ⊥)
-      → Refused (kindIn s) (Field New.Licensees) names-whole s Kind.IN-LICENSEES names-first n (Names.licensees s constants names-first)
+  pub names-exactly : KindsBy (kindIn s) s Kind.IN-LICENSEES names-first ks n → Open (Field Licensees) ks → (Viable (Field Licensees) (ks ++ kindIn s n ∷ []) → ⊥)
+      → Refused (kindIn s) (Field Licensees) names-whole s Kind.IN-LICENSEES names-first n (licensees s constants names-first)
   names-exactly p o nv =
-      exactly (kindIn s) (Field New.Licensees) names-whole s Kind.IN-LICENSEES names-first (Names.licensees s constants names-first) (names-judged s constants at) n ks p o nv
+      exactly (kindIn s) (Field Licensees) names-whole s Kind.IN-LICENSEES names-first (licensees s constants names-first) (names-judged s constants at) n ks p o nv
 
-  pub names-complete : KindsBy (kindIn s) s Kind.IN-LICENSEES names-first ks n → Field New.Licensees (ks ++ kindIn s n ∷ [])
-      → Passed (kindIn s) (Field New.Licensees) names-whole s Kind.IN-LICENSEES names-first n (Names.licensees s constants names-first)
-  names-complete p g = complete (kindIn s) (Field New.Licensees) names-whole s Kind.IN-LICENSEES names-first (Names.licensees s constants names-first) (names-judged s constants at) n ks p g
+  pub names-complete : KindsBy (kindIn s) s Kind.IN-LICENSEES names-first ks n → Field Licensees (ks ++ kindIn s n ∷ [])
+      → Passed (kindIn s) (Field Licensees) names-whole s Kind.IN-LICENSEES names-first n (licensees s constants names-first)
+  names-complete p g = complete (kindIn s) (Field Licensees) names-whole s Kind.IN-LICENSEES names-first (licensees s constants names-first) (names-judged s constants at) n ks p g

@@ -12,13 +12,13 @@ use Rattle.syntax.specs.Operator.{Binary, Sort, a-string, an-integer, a-float, 
 use Rattle.conditions.specs.Table.{PartSort, sorted, word, Want, want-any, want-string, want-number, want-integer, want-float}
 use Rattle.conditions.specs.Table
 use Rattle.grammar.specs.Theorems.Shadow.{product-shadow, sum-shadow, float-product-shadow, float-sum-shadow, order-shadow, compare-shadow}
-use Rattle.grammar.specs.Working.Stations.{TEXT, NUMBER, FLOATING, TEST, TRUE, Spot, in-clause, in-bracket, Frame, tests, right, Place, p-dead, p-over, p-begin, p-arrow, p-block, p-any, p-text, p-number, p-have, p-names, p-princ, p-people, p-count, p-of, strict, station, endAt}
-use Rattle.grammar.specs.Working.Stationed.{Words, w-text, w-word, Held, h-test, h-word, Junction, junction-and, junction-or, strict-strict, power-number, product-number, sum-number, power-float, times-float, sum-float, dot-text, words-dot, number-compare, float-compare, words-compare, words-match, held-junction}
+use Rattle.grammar.specs.Working.States.{TEXT, NUMBER, FLOATING, TEST, TRUE, Spot, in-clause, in-bracket, Frame, tests, right, State, p-dead, p-over, p-begin, p-arrow, p-block, p-any, p-text, p-number, p-have, p-names, p-princ, p-people, p-count, p-of, strict, step, endAt}
+use Rattle.grammar.specs.Working.Accepts.{Words, w-text, w-word, Held, h-test, h-word, Junction, junction-and, junction-or, strict-strict, power-number, product-number, sum-number, power-float, times-float, sum-float, dot-text, words-dot, number-compare, float-compare, words-compare, words-match, held-junction}
 use Rattle.grammar.specs.Working.Joints.{Fits, fit-test, fit-text, fit-number, fit-float, fit-word, fit-name, Unfit, unfit-text, unfit-number, unfit-float, Joint, j-power, j-product, j-sum, j-float-power, j-float-product, j-float-sum, j-orders, j-join, j-numbers, j-texts, j-match, j-and, j-or, Tabled, tabled, joint-tabled, TestFit, test-fits, test-unfit, test-fit, Operated, no-operator, joins, operated, binds-less}
 use Rattle.grammar.specs.Working.Told.{aim, Suits, suits-any, suits-text, suits-number, suits-decimal, suits-integer, suits-float}
 
 -- the places where a reader of a level begins; one operand may stand for a string of any sort
-pub data Starts (level : ℕ) : Want → Place → Type 0 where
+pub data Starts (level : ℕ) : Want → State → Type 0 where
   start-any : (S : Spot) → Starts level want-any (p-any S)
   start-text : (F : Frame) → Starts level want-string (p-text TEXT F)
   start-operand : (r : PartSort) (F : Frame) → 5 < level → Starts level want-string (p-text r F)
@@ -26,7 +26,7 @@ pub data Starts (level : ℕ) : Want → Place → Type 0 where
   start-integer : (F : Frame) → Starts level want-integer (p-number want-integer F)
   start-float : (F : Frame) → Starts level want-float (p-number want-float F)
 
-pub starts-up : (level m : ℕ) (want : Want) (q : Place) → level ≤ m → Starts level want q → Starts m want q
+pub starts-up : (level m : ℕ) (want : Want) (q : State) → level ≤ m → Starts level want q → Starts m want q
 starts-up level m _ _ h (start-any S) = start-any S
 starts-up level m _ _ h (start-text F) = start-text F
 starts-up level m _ _ h (start-operand r F i) = start-operand r F (omega (arith, h, i))
@@ -35,21 +35,21 @@ starts-up level m _ _ h (start-integer F) = start-integer F
 starts-up level m _ _ h (start-float F) = start-float F
 
 -- where what was read from there leads
-abbrev pub afterAny : Spot → PartSort → Place
+abbrev pub afterAny : Spot → PartSort → State
 afterAny S (sorted a-string) = p-have TEXT (tests S)
 afterAny S (sorted an-integer) = p-have NUMBER (tests S)
 afterAny S (sorted a-float) = p-have FLOATING (tests S)
 afterAny S (sorted a-test) = p-have TEST (tests (strict S))
 afterAny S (word b) = p-have TRUE (tests S)
 
-abbrev pub afterNumber : Frame → PartSort → Place
+abbrev pub afterNumber : Frame → PartSort → State
 afterNumber F (sorted a-string) = p-have NUMBER F
 afterNumber F (sorted an-integer) = p-have NUMBER F
 afterNumber F (sorted a-float) = p-have FLOATING F
 afterNumber F (sorted a-test) = p-have NUMBER F
 afterNumber F (word b) = p-have NUMBER F
 
-abbrev pub after : Place → PartSort → Place
+abbrev pub after : State → PartSort → State
 after p-dead sort = p-dead
 after p-over sort = p-dead
 after (p-begin d) sort = p-dead
@@ -74,11 +74,11 @@ pub data Asked (level : ℕ) : Want → Type 0 where
   asked-float : 2 < level → level ≤ 6 → Asked level want-float
 
 -- behind a string or a test at a place of tests
-any-text : (S : Spot) (k : ℕ) (p : Place) → ((sort : PartSort) (F : Frame) → Words S sort F → station (p-have sort F) k ≡ p) → (sort : PartSort) → Fits a-string sort → station (after (p-any S) sort) k ≡ p
+any-text : (S : Spot) (k : ℕ) (p : State) → ((sort : PartSort) (F : Frame) → Words S sort F → step (p-have sort F) k ≡ p) → (sort : PartSort) → Fits a-string sort → step (after (p-any S) sort) k ≡ p
 any-text S k p h _ fit-text = h TEXT (tests S) w-text
 any-text S k p h _ (fit-name b) = h TRUE (tests S) w-word
 
-pub any-test : (S : Spot) (k : ℕ) (p : Place) → ((sort : PartSort) (F : Frame) → Held S sort F → station (p-have sort F) k ≡ p) → (sort : PartSort) → Fits a-test sort → station (after (p-any S) sort) k ≡ p
+pub any-test : (S : Spot) (k : ℕ) (p : State) → ((sort : PartSort) (F : Frame) → Held S sort F → step (p-have sort F) k ≡ p) → (sort : PartSort) → Fits a-test sort → step (after (p-any S) sort) k ≡ p
 any-test S k p h _ fit-test = h TEST (tests (strict S)) h-test
 any-test S k p h _ (fit-word b) = h TRUE (tests S) h-word
 
@@ -127,24 +127,24 @@ word-operator k b =
     rw (e, f) (z ∙ sym (none-low))))
 
 -- the right side of a comparison, where its operators end, is a test
-right-text : (S : Spot) (k : ℕ) → Table.binds 3 (Table.operator (sorted a-string) k) ≡ false → station (p-have TEXT (right S)) k ≡ station (p-have TEST (tests S)) k
-unfolding station
+right-text : (S : Spot) (k : ℕ) → Table.binds 3 (Table.operator (sorted a-string) k) ≡ false → step (p-have TEXT (right S)) k ≡ step (p-have TEST (tests S)) k
+unfolding step
 right-text S k b = rw (b, test-none k, test-low k)
 
-right-number : (S : Spot) (k : ℕ) → Table.binds 3 (Table.operator (sorted an-integer) k) ≡ false → station (p-have NUMBER (right S)) k ≡ station (p-have TEST (tests S)) k
-unfolding station
+right-number : (S : Spot) (k : ℕ) → Table.binds 3 (Table.operator (sorted an-integer) k) ≡ false → step (p-have NUMBER (right S)) k ≡ step (p-have TEST (tests S)) k
+unfolding step
 right-number S k b = rw (b, test-none k, test-low k)
 
-right-float : (S : Spot) (k : ℕ) → Table.binds 3 (Table.operator (sorted a-float) k) ≡ false → station (p-have FLOATING (right S)) k ≡ station (p-have TEST (tests S)) k
-unfolding station
+right-float : (S : Spot) (k : ℕ) → Table.binds 3 (Table.operator (sorted a-float) k) ≡ false → step (p-have FLOATING (right S)) k ≡ step (p-have TEST (tests S)) k
+unfolding step
 right-float S k b = rw (b, test-none k, test-low k)
 
 word-ends : (S : Spot) (k : ℕ) → endAt TRUE (strict S) k ≡ endAt TEST (strict S) k
 word-ends (in-clause d) k = refl
 word-ends (in-bracket b S) k = refl
 
-word-strict : (S : Spot) (k : ℕ) → Table.binds 2 (Table.operator (word true) k) ≡ false → station (p-have TRUE (tests (strict S))) k ≡ station (p-have TEST (tests (strict S))) k
-unfolding station
+word-strict : (S : Spot) (k : ℕ) → Table.binds 2 (Table.operator (word true) k) ≡ false → step (p-have TRUE (tests (strict S))) k ≡ step (p-have TEST (tests (strict S))) k
+unfolding step
 word-strict S k b =
     rw (binds-less 2 3 (Table.operator (word true) k) b (omega arith), b, word-operator k b, test-none k, test-low k, word-ends S k)
 
@@ -153,21 +153,21 @@ unfolding Table.operator
 word-same b k = refl
 
 pub strict-test : (S : Spot) (m : ℕ) → m ≤ 2 → (sort : PartSort) (k : ℕ) → Fits a-test sort → Table.binds m (Table.operator sort k) ≡ false
-    → station (after (p-any (strict S)) sort) k ≡ station (after (p-any S) (sorted a-test)) k
-strict-test S m h _ k fit-test b = ap (λ (x : Spot). station (p-have TEST (tests x)) k) (strict-strict S)
+    → step (after (p-any (strict S)) sort) k ≡ step (after (p-any S) (sorted a-test)) k
+strict-test S m h _ k fit-test b = ap (λ (x : Spot). step (p-have TEST (tests x)) k) (strict-strict S)
 strict-test S m h _ k (fit-word c) b = word-strict S k (binds-less m 2 (Table.operator (word true) k) (ap (Table.binds m) (sym (word-same c k)) ∙ b) h)
 
 unfit-ends : (S : Spot) (sort : PartSort) (k : ℕ) → Unfit sort → endAt sort (strict S) k ≡ p-dead
 unfit-ends (in-clause d) _ k unfit-text = refl
 unfit-ends (in-clause d) _ k unfit-number = refl
 unfit-ends (in-clause d) _ k unfit-float = refl
-unfit-ends (in-bracket b S) _ k unfit-float = chosen (λ (q : Place). q ≡ p-dead) (eqb k Kind.CLOSE) p-dead p-dead (λ e. refl) (λ e. refl)
-unfit-ends (in-bracket b S) _ k unfit-text = chosen (λ (q : Place). q ≡ p-dead) (eqb k Kind.CLOSE) p-dead p-dead (λ e. refl) (λ e. refl)
-unfit-ends (in-bracket b S) _ k unfit-number = chosen (λ (q : Place). q ≡ p-dead) (eqb k Kind.CLOSE) p-dead p-dead (λ e. refl) (λ e. refl)
+unfit-ends (in-bracket b S) _ k unfit-float = chosen (λ (q : State). q ≡ p-dead) (eqb k Kind.CLOSE) p-dead p-dead (λ e. refl) (λ e. refl)
+unfit-ends (in-bracket b S) _ k unfit-text = chosen (λ (q : State). q ≡ p-dead) (eqb k Kind.CLOSE) p-dead p-dead (λ e. refl) (λ e. refl)
+unfit-ends (in-bracket b S) _ k unfit-number = chosen (λ (q : State). q ≡ p-dead) (eqb k Kind.CLOSE) p-dead p-dead (λ e. refl) (λ e. refl)
 
 -- where only a test may stand, a string or a number that no operator follows leads nowhere
-pub strict-dead : (S : Spot) (m : ℕ) → m ≤ 2 → (sort : PartSort) (k : ℕ) → Unfit sort → Table.binds m (Table.operator sort k) ≡ false → station (after (p-any (strict S)) sort) k ≡ p-dead
-unfolding station
+pub strict-dead : (S : Spot) (m : ℕ) → m ≤ 2 → (sort : PartSort) (k : ℕ) → Unfit sort → Table.binds m (Table.operator sort k) ≡ false → step (after (p-any (strict S)) sort) k ≡ p-dead
+unfolding step
 strict-dead S m h _ k unfit-text b =
     let c : Table.binds 2 (Table.operator (sorted a-string) k) ≡ false = binds-less m 2 (Table.operator (sorted a-string) k) b h in
     rw (binds-less 2 3 (Table.operator (sorted a-string) k) c (omega arith), c, unfit-low (sorted a-string) k (Table.operator (sorted a-string) k) unfit-text (operated (sorted a-string) k) c, unfit-ends S (sorted a-string) k unfit-text)
@@ -179,15 +179,15 @@ strict-dead S m h _ k unfit-float b =
     rw (binds-less 2 3 (Table.operator (sorted a-float) k) c (omega arith), c, unfit-low (sorted a-float) k (Table.operator (sorted a-float) k) unfit-float (operated (sorted a-float) k) c, unfit-ends S (sorted a-float) k unfit-float)
 
 -- p, behind a mark, is where an operand is wanted; behind that what the mark makes is read
-pub data Onward (q : Place) (level : ℕ) (want : Want) (o r : Sort) (p : Place) : Type 0 where
-  onward : (q′ : Place) → p ≡ q′ → Starts level want q′
-      → ((sort : PartSort) (k : ℕ) → Fits o sort → Table.binds level (Table.operator sort k) ≡ false → station (after q′ sort) k ≡ station (after q (sorted r)) k)
-      → ((sort : PartSort) (k : ℕ) → o ≡ a-test → Unfit sort → Table.binds level (Table.operator sort k) ≡ false → station (after q′ sort) k ≡ p-dead)
+pub data Onward (q : State) (level : ℕ) (want : Want) (o r : Sort) (p : State) : Type 0 where
+  onward : (q′ : State) → p ≡ q′ → Starts level want q′
+      → ((sort : PartSort) (k : ℕ) → Fits o sort → Table.binds level (Table.operator sort k) ≡ false → step (after q′ sort) k ≡ step (after q (sorted r)) k)
+      → ((sort : PartSort) (k : ℕ) → o ≡ a-test → Unfit sort → Table.binds level (Table.operator sort k) ≡ false → step (after q′ sort) k ≡ p-dead)
       → Onward q level want o r p
 
 -- of a string or a number, nothing but that is read
-pub typed : (q : Place) (level : ℕ) (want : Want) (o r : Sort) (p q′ : Place) → p ≡ q′ → Starts level want q′ → (o ≡ a-test → ⊥)
-    → ((sort : PartSort) (k : ℕ) → Fits o sort → Table.binds level (Table.operator sort k) ≡ false → station (after q′ sort) k ≡ station (after q (sorted r)) k) → Onward q level want o r p
+pub typed : (q : State) (level : ℕ) (want : Want) (o r : Sort) (p q′ : State) → p ≡ q′ → Starts level want q′ → (o ≡ a-test → ⊥)
+    → ((sort : PartSort) (k : ℕ) → Fits o sort → Table.binds level (Table.operator sort k) ≡ false → step (after q′ sort) k ≡ step (after q (sorted r)) k) → Onward q level want o r p
 typed q level want o r p q′ e st apart h = onward q′ e st h (λ sort k z u b. absurd (apart z))
 
 text-fit : (sort : PartSort) (k level : ℕ) → Fits a-string sort → Table.binds level (Table.operator sort k) ≡ false → Table.binds level (Table.operator (sorted a-string) k) ≡ false
@@ -218,26 +218,26 @@ pub float-after : (F : Frame) (sort : PartSort) → Fits a-float sort → afterN
 float-after F _ fit-float = refl
 
 -- an operator between integers
-arithmetic : (q : Place) (F : Frame) (level k : ℕ) → after q (sorted an-integer) ≡ p-have NUMBER F → station (p-have NUMBER F) k ≡ p-number want-integer F
-    → Onward q level want-integer an-integer an-integer (station (after q (sorted an-integer)) k)
+arithmetic : (q : State) (F : Frame) (level k : ℕ) → after q (sorted an-integer) ≡ p-have NUMBER F → step (p-have NUMBER F) k ≡ p-number want-integer F
+    → Onward q level want-integer an-integer an-integer (step (after q (sorted an-integer)) k)
 arithmetic q F level k e f =
-    typed q level want-integer an-integer an-integer (station (after q (sorted an-integer)) k) (p-number want-integer F) (ap (λ (p : Place). station p k) e ∙ f) (start-integer F) number-test
-    (λ sort j h b. ap (λ (p : Place). station p j) (number-after F sort h ∙ sym e))
+    typed q level want-integer an-integer an-integer (step (after q (sorted an-integer)) k) (p-number want-integer F) (ap (λ (p : State). step p k) e ∙ f) (start-integer F) number-test
+    (λ sort j h b. ap (λ (p : State). step p j) (number-after F sort h ∙ sym e))
 
 -- and between floats
-computing : (q : Place) (F : Frame) (level k : ℕ) → after q (sorted a-float) ≡ p-have FLOATING F → station (p-have FLOATING F) k ≡ p-number want-float F
-    → Onward q level want-float a-float a-float (station (after q (sorted a-float)) k)
+computing : (q : State) (F : Frame) (level k : ℕ) → after q (sorted a-float) ≡ p-have FLOATING F → step (p-have FLOATING F) k ≡ p-number want-float F
+    → Onward q level want-float a-float a-float (step (after q (sorted a-float)) k)
 computing q F level k e f =
-    typed q level want-float a-float a-float (station (after q (sorted a-float)) k) (p-number want-float F) (ap (λ (p : Place). station p k) e ∙ f) (start-float F) float-test
-    (λ sort j h b. ap (λ (p : Place). station p j) (float-after F sort h ∙ sym e))
+    typed q level want-float a-float a-float (step (after q (sorted a-float)) k) (p-number want-float F) (ap (λ (p : State). step p k) e ∙ f) (start-float F) float-test
+    (λ sort j h b. ap (λ (p : State). step p j) (float-after F sort h ∙ sym e))
 
-junction : (S : Spot) (m k : ℕ) → m ≤ 2 → Junction k → (sort : PartSort) → Fits a-test sort → Onward (p-any S) m want-any a-test a-test (station (after (p-any S) sort) k)
+junction : (S : Spot) (m k : ℕ) → m ≤ 2 → Junction k → (sort : PartSort) → Fits a-test sort → Onward (p-any S) m want-any a-test a-test (step (after (p-any S) sort) k)
 junction S m k h j sort f =
     onward (p-any (strict S)) (any-test S k (p-any (strict S)) (held-junction S k j) sort f) (start-any (strict S)) (strict-test S m h) (λ sort k z u b. strict-dead S m h sort k u b)
 
 -- where an operator leads behind what was read
-pub joint-onward : (level : ℕ) (want : Want) (sort : PartSort) (k : ℕ) (op : Binary) (l : ℕ) (o r : Sort) (q : Place) → Asked level want → Starts level want q → Suits want sort → Joint k op l o r → Fits o sort → level ≤ l
-    → Onward q (l + 1) (Table.wantOf o) o r (station (after q sort) k)
+pub joint-onward : (level : ℕ) (want : Want) (sort : PartSort) (k : ℕ) (op : Binary) (l : ℕ) (o r : Sort) (q : State) → Asked level want → Starts level want q → Suits want sort → Joint k op l o r → Fits o sort → level ≤ l
+    → Onward q (l + 1) (Table.wantOf o) o r (step (after q sort) k)
 joint-onward level _ _ _ _ _ _ _ _ a (start-any S) u j-power fit-number h = arithmetic (p-any S) (tests S) 6 Kind.POWER refl (power-number (tests S))
 joint-onward level _ _ _ _ _ _ _ _ a (start-any S) u (j-product k op c) fit-number h = arithmetic (p-any S) (tests S) 5 k refl (product-number (tests S) k (product-shadow k op c .0))
 joint-onward level _ _ _ _ _ _ _ _ a (start-any S) u (j-sum k op c) fit-number h = arithmetic (p-any S) (tests S) 4 k refl (sum-number (tests S) k (sum-shadow k op c .0))
@@ -246,12 +246,12 @@ joint-onward level _ _ _ _ _ _ _ _ a (start-any S) u (j-float-product k op c) fi
 joint-onward level _ _ _ _ _ _ _ _ a (start-any S) u (j-float-sum k op c) fit-float h = computing (p-any S) (tests S) 4 k refl (sum-float (tests S) k (float-sum-shadow k op c .0))
 joint-onward level _ _ _ _ _ _ _ _ a (start-any S) u (j-orders k y c) fit-float h =
     typed (p-any S) 3 want-float a-float a-test _ (p-number want-float (right (strict S))) (float-compare S k (order-shadow k y c .0)) (start-float (right (strict S))) float-test
-    (λ x j g b. ap (λ (p : Place). station p j) (float-after (right (strict S)) x g) ∙ right-float (strict S) j (float-fit x j 3 g b))
+    (λ x j g b. ap (λ (p : State). step p j) (float-after (right (strict S)) x g) ∙ right-float (strict S) j (float-fit x j 3 g b))
 joint-onward level _ sort _ _ _ _ _ _ a (start-any S) u j-join f h =
     typed (p-any S) 4 want-string a-string a-string _ (p-text TEXT (tests S)) (any-text S Kind.DOT _ (words-dot S) sort f) (start-text (tests S)) text-test (λ x j g b. refl)
 joint-onward level _ _ _ _ _ _ _ _ a (start-any S) u (j-numbers k y c) fit-number h =
     typed (p-any S) 3 want-integer an-integer a-test _ (p-number want-integer (right (strict S))) (number-compare S k (compare-shadow k y c .0)) (start-integer (right (strict S))) number-test
-    (λ x j g b. ap (λ (p : Place). station p j) (number-after (right (strict S)) x g) ∙ right-number (strict S) j (number-fit x j 3 g b))
+    (λ x j g b. ap (λ (p : State). step p j) (number-after (right (strict S)) x g) ∙ right-number (strict S) j (number-fit x j 3 g b))
 joint-onward level _ sort _ _ _ _ _ _ a (start-any S) u (j-texts k y c) f h =
     typed (p-any S) 3 want-string a-string a-test _ (p-text TEXT (right (strict S))) (any-text S k _ (words-compare S k (compare-shadow k y c .0)) sort f) (start-text (right (strict S))) text-test
     (λ x j g b. right-text (strict S) j (text-fit x j 3 g b))

@@ -21,8 +21,8 @@ use Rattle.grammar.specs.Conditions.{TRUTH}
 use Rattle.grammar.specs.Spelled.{spelled, kindIn}
 use Rattle.grammar.specs.Trees.{lookup-tree, negate-tree, convert-tree, float-negate-tree, to-float-tree, not-tree}
 use Rattle.grammar.specs.Theorems.Shadow.{kind-name, kind-true, kind-false}
-use Rattle.grammar.specs.Working.Stations.{TEXT, NUMBER, FLOATING, TEST, TRUE, Spot, in-bracket, Frame, tests, texts, numbers, Place, p-dead, p-any, p-text, p-number, p-have, strict, flat, station}
-use Rattle.grammar.specs.Working.Stationed.{open-text, close-text, name-text, truth-any, open-any}
+use Rattle.grammar.specs.Working.States.{TEXT, NUMBER, FLOATING, TEST, TRUE, Spot, in-bracket, Frame, tests, texts, numbers, State, p-dead, p-any, p-text, p-number, p-have, strict, flat, step}
+use Rattle.grammar.specs.Working.Accepts.{open-text, close-text, name-text, truth-any, open-any}
 use Rattle.grammar.specs.Working.Joints.{Fits, binds-less, kind-same}
 use Rattle.grammar.specs.Working.Told.{aim, Goal, goal-test, goal-text, goal-number, goal-decimal, goal-integer, goal-float, Told, told-text, told-number, told-float, told-test, Suits, suits-any, suits-text, suits-number, suits-decimal, suits-integer, suits-float}
 use Rattle.grammar.specs.Working.Onward.{word-same, Starts, start-any, start-text, start-operand, start-number, start-integer, start-float, after, Asked, asked-any, asked-text, asked-number, asked-integer, asked-float, Onward, onward, typed, number-after, float-after, number-test, float-test, text-test, strict-test, strict-dead}
@@ -103,14 +103,14 @@ before-told s _ _ _ _ _ _ _ t _ _ dollar-text z (told-text _ us f d) = told-text
 before-told s _ _ _ _ _ _ _ t _ _ not-test z (told-test _ us f d) = told-test 7 _ _ (not-tree t us f z d)
 
 -- where the mark leads
-number-led : (F G : Frame) (x : PartSort) (j : ℕ) → F ≡ G → Fits an-integer x → station (after (p-number want-number F) x) j ≡ station (p-have NUMBER G) j
-number-led F G x j e g = ap (λ (p : Place). station p j) (number-after F x g ∙ ap (p-have NUMBER) e)
+number-led : (F G : Frame) (x : PartSort) (j : ℕ) → F ≡ G → Fits an-integer x → step (after (p-number want-number F) x) j ≡ step (p-have NUMBER G) j
+number-led F G x j e g = ap (λ (p : State). step p j) (number-after F x g ∙ ap (p-have NUMBER) e)
 
-float-led : (F G : Frame) (x : PartSort) (j : ℕ) → F ≡ G → Fits a-float x → station (after (p-number want-number F) x) j ≡ station (p-have FLOATING G) j
-float-led F G x j e g = ap (λ (p : Place). station p j) (float-after F x g ∙ ap (p-have FLOATING) e)
+float-led : (F G : Frame) (x : PartSort) (j : ℕ) → F ≡ G → Fits a-float x → step (after (p-number want-number F) x) j ≡ step (p-have FLOATING G) j
+float-led F G x j e g = ap (λ (p : State). step p j) (float-after F x g ∙ ap (p-have FLOATING) e)
 
-pub before-onward : (k : ℕ) (op : Unary) (want : Want) (level : ℕ) (wanted : Want) (o r : Sort) (q : Place) → Before k op want level wanted o r → Starts 7 want q → Onward q level wanted o r (station q k)
-unfolding station Table.allows Table.beginsNumber Table.beginsString Table.beginsFloat
+pub before-onward : (k : ℕ) (op : Unary) (want : Want) (level : ℕ) (wanted : Want) (o r : Sort) (q : State) → Before k op want level wanted o r → Starts 7 want q → Onward q level wanted o r (step q k)
+unfolding step Table.allows Table.beginsNumber Table.beginsString Table.beginsFloat
 before-onward _ _ _ _ _ _ _ _ minus-any (start-any S) = typed (p-any S) 6 _ an-integer _ _ (p-number want-number (tests S)) refl (start-number (tests S)) number-test (λ x j g b. number-led (tests S) (tests S) x j refl g)
 before-onward _ _ _ _ _ _ _ _ minus-any-float (start-any S) = typed (p-any S) 6 _ a-float _ _ (p-number want-number (tests S)) refl (start-number (tests S)) float-test (λ x j g b. float-led (tests S) (tests S) x j refl g)
 before-onward _ _ _ _ _ _ _ _ minus-number (start-number F) = typed (p-number want-number F) 6 _ an-integer _ _ (p-number want-number F) refl (start-number F) number-test (λ x j g b. number-led F F x j refl g)
@@ -242,13 +242,13 @@ prefixing want k h =
     allowed-at x e = subst (λ (y : ℕ). Table.allows want y ≡ true) (eqb-true k _ e) h
 
 -- brackets
-pub data Enclosed (q : Place) (want : Want) : Type 0 where
-  enclosed : (q′ : Place) → station q Kind.OPEN ≡ q′ → Starts (Table.insideLevel want) want q′ → ((sort : PartSort) → Suits want sort → station (after q′ sort) Kind.CLOSE ≡ after q sort)
-      → ((sort : PartSort) (k : ℕ) → Suits want sort → Table.binds (Table.insideLevel want) (Table.operator sort k) ≡ false → eqb k Kind.CLOSE ≡ false → station (after q′ sort) k ≡ p-dead)
+pub data Enclosed (q : State) (want : Want) : Type 0 where
+  enclosed : (q′ : State) → step q Kind.OPEN ≡ q′ → Starts (Table.insideLevel want) want q′ → ((sort : PartSort) → Suits want sort → step (after q′ sort) Kind.CLOSE ≡ after q sort)
+      → ((sort : PartSort) (k : ℕ) → Suits want sort → Table.binds (Table.insideLevel want) (Table.operator sort k) ≡ false → eqb k Kind.CLOSE ≡ false → step (after q′ sort) k ≡ p-dead)
       → Enclosed q want
 
-close-any : (S : Spot) (sort : PartSort) → Suits want-any sort → station (after (p-any (in-bracket true S)) sort) Kind.CLOSE ≡ after (p-any S) sort
-unfolding station Table.operator Table.numberOperator Table.floatOperator Table.ordering Table.textOperator Table.testOperator Table.comparison Table.binds
+close-any : (S : Spot) (sort : PartSort) → Suits want-any sort → step (after (p-any (in-bracket true S)) sort) Kind.CLOSE ≡ after (p-any S) sort
+unfolding step Table.operator Table.numberOperator Table.floatOperator Table.ordering Table.textOperator Table.testOperator Table.comparison Table.binds
 close-any S _ (suits-any (sorted a-test)) = refl
 close-any S _ (suits-any (sorted a-string)) = refl
 close-any S _ (suits-any (sorted an-integer)) = refl
@@ -257,42 +257,42 @@ close-any S _ (suits-any (word b)) = refl
 
 -- no operator and no closing bracket
 wrong-close : (S : Spot) (lone : Bool) (sort : PartSort) (k : ℕ) → Table.binds 0 (Table.operator sort k) ≡ false → eqb k Kind.CLOSE ≡ false
-    → station (p-have sort (tests (in-bracket lone S))) k ≡ p-dead
-unfolding station
+    → step (p-have sort (tests (in-bracket lone S))) k ≡ p-dead
+unfolding step
 wrong-close S lone sort k b c = rw (binds-less 0 3 (Table.operator sort k) b (omega arith), binds-less 0 2 (Table.operator sort k) b (omega arith), b, c) refl
 
 dead-any : (S : Spot) (sort : PartSort) (k : ℕ) → Suits want-any sort → Table.binds 0 (Table.operator sort k) ≡ false → eqb k Kind.CLOSE ≡ false
-    → station (after (p-any (in-bracket true S)) sort) k ≡ p-dead
+    → step (after (p-any (in-bracket true S)) sort) k ≡ p-dead
 dead-any S _ k (suits-any (sorted a-test)) b c = wrong-close S false (sorted a-test) k b c
 dead-any S _ k (suits-any (sorted a-string)) b c = wrong-close S true (sorted a-string) k b c
 dead-any S _ k (suits-any (sorted an-integer)) b c = wrong-close S true (sorted an-integer) k b c
 dead-any S _ k (suits-any (sorted a-float)) b c = wrong-close S true (sorted a-float) k b c
 dead-any S _ k (suits-any (word w)) b c = wrong-close S true (word true) k (ap (Table.binds 0) (sym (word-same w k)) ∙ b) c
 
-text-close : (r : PartSort) (F : Frame) (k : ℕ) → Table.binds 3 (Table.operator (sorted a-string) k) ≡ false → eqb k Kind.CLOSE ≡ false → station (p-have TEXT (texts r F)) k ≡ p-dead
-unfolding station
+text-close : (r : PartSort) (F : Frame) (k : ℕ) → Table.binds 3 (Table.operator (sorted a-string) k) ≡ false → eqb k Kind.CLOSE ≡ false → step (p-have TEXT (texts r F)) k ≡ p-dead
+unfolding step
 text-close r F k b c = rw (b, c) refl
 
-number-close : (F : Frame) (k : ℕ) → Table.binds 3 (Table.operator (sorted an-integer) k) ≡ false → eqb k Kind.CLOSE ≡ false → station (p-have NUMBER (numbers F)) k ≡ p-dead
-unfolding station
+number-close : (F : Frame) (k : ℕ) → Table.binds 3 (Table.operator (sorted an-integer) k) ≡ false → eqb k Kind.CLOSE ≡ false → step (p-have NUMBER (numbers F)) k ≡ p-dead
+unfolding step
 number-close F k b c = rw (b, c) refl
 
-float-close : (F : Frame) (k : ℕ) → Table.binds 3 (Table.operator (sorted a-float) k) ≡ false → eqb k Kind.CLOSE ≡ false → station (p-have FLOATING (numbers F)) k ≡ p-dead
-unfolding station
+float-close : (F : Frame) (k : ℕ) → Table.binds 3 (Table.operator (sorted a-float) k) ≡ false → eqb k Kind.CLOSE ≡ false → step (p-have FLOATING (numbers F)) k ≡ p-dead
+unfolding step
 float-close F k b c = rw (b, c) refl
 
 text-enclosed : (r : PartSort) (F : Frame) → Enclosed (p-text r F) want-string
 unfolding Table.insideLevel
 text-enclosed r F = enclosed (p-text TEXT (texts r F)) (open-text r F) (start-text (texts r F)) closes stays
   where
-    closes : (sort : PartSort) → Suits want-string sort → station (p-have TEXT (texts r F)) Kind.CLOSE ≡ p-have r F
+    closes : (sort : PartSort) → Suits want-string sort → step (p-have TEXT (texts r F)) Kind.CLOSE ≡ p-have r F
     closes sort u = close-text r F
 
-    stays : (sort : PartSort) (k : ℕ) → Suits want-string sort → Table.binds 3 (Table.operator sort k) ≡ false → eqb k Kind.CLOSE ≡ false → station (p-have TEXT (texts r F)) k ≡ p-dead
+    stays : (sort : PartSort) (k : ℕ) → Suits want-string sort → Table.binds 3 (Table.operator sort k) ≡ false → eqb k Kind.CLOSE ≡ false → step (p-have TEXT (texts r F)) k ≡ p-dead
     stays _ k suits-text b c = text-close r F k b c
 
-open-number : (w : Want) (F : Frame) → station (p-number w F) Kind.OPEN ≡ p-number w (numbers F)
-unfolding station Table.allows
+open-number : (w : Want) (F : Frame) → step (p-number w F) Kind.OPEN ≡ p-number w (numbers F)
+unfolding step Table.allows
 open-number w F = refl
 
 -- a number in brackets is of its sort
@@ -300,12 +300,12 @@ pub data Numeric : PartSort → Type 0 where
   as-integer : Numeric (sorted an-integer)
   as-float : Numeric (sorted a-float)
 
-close-number : (w v : Want) (F : Frame) (sort : PartSort) → Numeric sort → station (after (p-number w (numbers F)) sort) Kind.CLOSE ≡ after (p-number v F) sort
-unfolding station Table.operator Table.numberOperator Table.floatOperator Table.ordering Table.comparison Table.binds
+close-number : (w v : Want) (F : Frame) (sort : PartSort) → Numeric sort → step (after (p-number w (numbers F)) sort) Kind.CLOSE ≡ after (p-number v F) sort
+unfolding step Table.operator Table.numberOperator Table.floatOperator Table.ordering Table.comparison Table.binds
 close-number w v F _ as-integer = refl
 close-number w v F _ as-float = refl
 
-wrong-number : (w : Want) (F : Frame) (sort : PartSort) (k : ℕ) → Numeric sort → Table.binds 3 (Table.operator sort k) ≡ false → eqb k Kind.CLOSE ≡ false → station (after (p-number w (numbers F)) sort) k ≡ p-dead
+wrong-number : (w : Want) (F : Frame) (sort : PartSort) (k : ℕ) → Numeric sort → Table.binds 3 (Table.operator sort k) ≡ false → eqb k Kind.CLOSE ≡ false → step (after (p-number w (numbers F)) sort) k ≡ p-dead
 wrong-number w F _ k as-integer b c = number-close F k b c
 wrong-number w F _ k as-float b c = float-close F k b c
 
@@ -324,7 +324,7 @@ unfolding Table.insideLevel
 number-enclosed w F n st h =
     enclosed (p-number w (numbers F)) (open-number w F) (rw n (st (numbers F))) (λ sort u. close-number w w F sort (h sort u)) (rw n (λ sort k u b c. wrong-number w F sort k (h sort u) b c))
 
-pub encloses : (want : Want) (q : Place) → Starts 7 want q → Enclosed q want
+pub encloses : (want : Want) (q : State) → Starts 7 want q → Enclosed q want
 unfolding Table.insideLevel
 encloses _ _ (start-any S) = enclosed (p-any (in-bracket true S)) (open-any S) (start-any (in-bracket true S)) (close-any S) (dead-any S)
 encloses _ _ (start-text F) = text-enclosed TEXT F
@@ -334,8 +334,8 @@ encloses _ _ (start-integer F) = number-enclosed want-integer F refl start-integ
 encloses _ _ (start-float F) = number-enclosed want-float F refl start-float float-suits
 
 -- one token
-pub literal-leaf : (want : Want) (q : Place) → Starts 7 want q → Table.allows want Kind.LITERAL ≡ true → station q Kind.LITERAL ≡ after q (sorted a-string)
-unfolding station Table.allows Table.beginsString Table.beginsNumber Table.beginsFloat
+pub literal-leaf : (want : Want) (q : State) → Starts 7 want q → Table.allows want Kind.LITERAL ≡ true → step q Kind.LITERAL ≡ after q (sorted a-string)
+unfolding step Table.allows Table.beginsString Table.beginsNumber Table.beginsFloat
 literal-leaf _ _ (start-any S) h = refl
 literal-leaf _ _ (start-text F) h = refl
 literal-leaf _ _ (start-operand r F i) h = refl
@@ -351,8 +351,8 @@ literal-suits want-number h = clash h refl
 literal-suits want-integer h = clash h refl
 literal-suits want-float h = clash h refl
 
-pub digits-leaf : (want : Want) (q : Place) → Starts 7 want q → Table.allows want Kind.DIGITS ≡ true → station q Kind.DIGITS ≡ after q (sorted an-integer)
-unfolding station Table.allows Table.beginsString Table.beginsNumber Table.beginsFloat
+pub digits-leaf : (want : Want) (q : State) → Starts 7 want q → Table.allows want Kind.DIGITS ≡ true → step q Kind.DIGITS ≡ after q (sorted an-integer)
+unfolding step Table.allows Table.beginsString Table.beginsNumber Table.beginsFloat
 digits-leaf _ _ (start-any S) h = refl
 digits-leaf _ _ (start-text F) h = clash h refl
 digits-leaf _ _ (start-operand r F i) h = clash h refl
@@ -368,8 +368,8 @@ digits-suits want-number h = suits-number
 digits-suits want-integer h = suits-integer
 digits-suits want-float h = clash h refl
 
-pub float-leaf : (want : Want) (q : Place) → Starts 7 want q → Table.allows want Kind.FLOAT ≡ true → station q Kind.FLOAT ≡ after q (sorted a-float)
-unfolding station Table.allows Table.beginsString Table.beginsNumber Table.beginsFloat
+pub float-leaf : (want : Want) (q : State) → Starts 7 want q → Table.allows want Kind.FLOAT ≡ true → step q Kind.FLOAT ≡ after q (sorted a-float)
+unfolding step Table.allows Table.beginsString Table.beginsNumber Table.beginsFloat
 float-leaf _ _ (start-any S) h = refl
 float-leaf _ _ (start-text F) h = clash h refl
 float-leaf _ _ (start-operand r F i) h = clash h refl
@@ -411,19 +411,19 @@ last-leaf want k h n o l m d =
 
 -- a name, or a bare word
 pub data Worded (s : List ℕ) (want : Want) (t : Token) : PartSort → Type 0 where
-  plain-word : ((q : Place) → Starts 7 want q → station q (kindIn s t) ≡ after q (sorted a-string)) → Suits want (sorted a-string) → Worded s want t (sorted a-string)
-  true-word : spelled s t word-true ≡ true → ((q : Place) → Starts 7 want q → station q (kindIn s t) ≡ after q (word true)) → Suits want (word true) → Worded s want t (word true)
-  false-word : spelled s t word-false ≡ true → ((q : Place) → Starts 7 want q → station q (kindIn s t) ≡ after q (word false)) → Suits want (word false) → Worded s want t (word false)
+  plain-word : ((q : State) → Starts 7 want q → step q (kindIn s t) ≡ after q (sorted a-string)) → Suits want (sorted a-string) → Worded s want t (sorted a-string)
+  true-word : spelled s t word-true ≡ true → ((q : State) → Starts 7 want q → step q (kindIn s t) ≡ after q (word true)) → Suits want (word true) → Worded s want t (word true)
+  false-word : spelled s t word-false ≡ true → ((q : State) → Starts 7 want q → step q (kindIn s t) ≡ after q (word false)) → Suits want (word false) → Worded s want t (word false)
 
 module _ (s : List ℕ) (t : Token) where
-  word-any : (k : ℕ) (sort : PartSort) → kindIn s t ≡ k → ((S : Spot) → station (p-any S) k ≡ after (p-any S) sort) → (q : Place) → Starts 7 want-any q → station q (kindIn s t) ≡ after q sort
-  word-any k sort e h _ (start-any S) = ap (λ (x : ℕ). station (p-any S) x) e ∙ h S
+  word-any : (k : ℕ) (sort : PartSort) → kindIn s t ≡ k → ((S : Spot) → step (p-any S) k ≡ after (p-any S) sort) → (q : State) → Starts 7 want-any q → step q (kindIn s t) ≡ after q sort
+  word-any k sort e h _ (start-any S) = ap (λ (x : ℕ). step (p-any S) x) e ∙ h S
 
-  name-any : (S : Spot) → station (p-any S) Kind.NAME ≡ after (p-any S) (sorted a-string)
-  unfolding station Table.allows Table.beginsString Table.beginsNumber Table.beginsFloat
+  name-any : (S : Spot) → step (p-any S) Kind.NAME ≡ after (p-any S) (sorted a-string)
+  unfolding step Table.allows Table.beginsString Table.beginsNumber Table.beginsFloat
   name-any S = refl
 
-  word-text : t .kind ≡ Kind.NAME → (q : Place) → Starts 7 want-string q → station q (kindIn s t) ≡ after q (sorted a-string)
+  word-text : t .kind ≡ Kind.NAME → (q : State) → Starts 7 want-string q → step q (kindIn s t) ≡ after q (sorted a-string)
   word-text z _ (start-text F) = name-text TEXT F (kindIn s t) (kind-name s t z)
   word-text z _ (start-operand r F i) = name-text r F (kindIn s t) (kind-name s t z)
 
@@ -446,8 +446,8 @@ module _ (s : List ℕ) (t : Token) where
   flat-kind h = kind-same s t flat refl ∙ (rw (ne-eqb (t .kind) TRUTH h) refl)
 
   -- a token that is not allowed leads nowhere
-  pub not-allowed : (want : Want) (q : Place) → Starts 7 want q → (t .kind ≡ TRUTH → ⊥) → Table.allows want (t .kind) ≡ false → station q (kindIn s t) ≡ p-dead
-  unfolding station
+  pub not-allowed : (want : Want) (q : State) → Starts 7 want q → (t .kind ≡ TRUTH → ⊥) → Table.allows want (t .kind) ≡ false → step q (kindIn s t) ≡ p-dead
+  unfolding step
   not-allowed _ _ (start-any S) n h = rw (flat-kind n, h) refl
   not-allowed _ _ (start-text F) n h = rw (flat-kind n, h) refl
   not-allowed _ _ (start-operand r F i) n h = rw (flat-kind n, h) refl

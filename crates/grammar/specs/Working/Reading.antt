@@ -35,7 +35,7 @@ use Rattle.grammar.specs.Theorems.Shadow.{kind-other, kind-mark}
 use Rattle.grammar.specs.Working.Marks.{mark, kinds-append, tokens-append, tokens-one}
 use Rattle.grammar.specs.Working.Automaton.{run, run-append}
 use Rattle.grammar.specs.Working.Looping.{Went, went-next, went-done, loop-went}
-use Rattle.grammar.specs.Working.Stations.{Place, p-dead, station}
+use Rattle.grammar.specs.Working.States.{State, p-dead, step}
 use Rattle.grammar.specs.Working.Joints.{Fits, Unfit, Joint, Tabled, tabled, joint-tabled, joint-mark, Operated, joins, operated, binds-high, binds-none, operator-kind, test-kind}
 use Rattle.grammar.specs.Working.Told.{Told, told-text, told-number, told-float, told-word, lower, settle, joined, enclosed, aim, aim-goal, aim-right, Goal, goal-right, Suits, Completes, completes, completes-lower, finish, something}
 use Rattle.grammar.specs.Working.Onward.{Starts, starts-up, after, Asked, Onward, onward, joint-onward, joint-suits, joint-ends, joint-asked, RightFit, right-fits, right-unfit, right-fit}
@@ -56,24 +56,24 @@ pub data Real (s : List ℕ) (u : Token) : Type 0 where
 
 module _ (s : List ℕ) where
   -- the automaton over tokens and the one behind them
-  abbrev pub runs : Place → List Token → Token → Place
-  runs q ts u = run station q (kindsIn s ts ++ kindIn s u ∷ [])
+  abbrev pub runs : State → List Token → Token → State
+  runs q ts u = run step q (kindsIn s ts ++ kindIn s u ∷ [])
 
-  pub runs-on : (q : Place) (pre us : List Token) (u : Token) → runs q (pre ++ us) u ≡ runs (run station q (kindsIn s pre)) us u
+  pub runs-on : (q : State) (pre us : List Token) (u : Token) → runs q (pre ++ us) u ≡ runs (run step q (kindsIn s pre)) us u
   runs-on q pre us u =
-      ap (λ (l : List ℕ). run station q (l ++ kindIn s u ∷ [])) (kinds-append (kindIn s) pre us) ∙ ap (run station q) (append-assoc (kindsIn s pre) (kindsIn s us) (kindIn s u ∷ []))
-      ∙ run-append station q (kindsIn s pre) (kindsIn s us ++ kindIn s u ∷ [])
+      ap (λ (l : List ℕ). run step q (l ++ kindIn s u ∷ [])) (kinds-append (kindIn s) pre us) ∙ ap (run step q) (append-assoc (kindsIn s pre) (kindsIn s us) (kindIn s u ∷ []))
+      ∙ run-append step q (kindsIn s pre) (kindsIn s us ++ kindIn s u ∷ [])
 
-  pub run-one : (q : Place) (ts : List Token) (u : Token) → run station q (kindsIn s (ts ++ u ∷ [])) ≡ runs q ts u
-  run-one q ts u = ap (run station q) (kinds-append (kindIn s) ts (u ∷ []))
+  pub run-one : (q : State) (ts : List Token) (u : Token) → run step q (kindsIn s (ts ++ u ∷ [])) ≡ runs q ts u
+  run-one q ts u = ap (run step q) (kinds-append (kindIn s) ts (u ∷ []))
 
   -- Of a reader that starts at t, where `want` is wanted: what it read is of level l, and b takes no operator behind it; or it stopped at a token
   -- before which what is wanted can still come, and which leads nowhere; or it gave another reason.
   pub data Reading (l b level : ℕ) (want : Want) (t : Token) : Parsed Part → Type 0 where
     got : (ts : List Token) (u : Token) (sort : PartSort) (e : Expr) → Tokens s t ts u → Real s u → Suits want sort → Told s sort l ts e
-        → Table.binds b (Table.operator sort (kindIn s u)) ≡ false → ((q : Place) → Starts level want q → runs q ts u ≡ station (after q sort) (kindIn s u))
+        → Table.binds b (Table.operator sort (kindIn s u)) ≡ false → ((q : State) → Starts level want q → runs q ts u ≡ step (after q sort) (kindIn s u))
         → Reading l b level want t (ok (part sort e) u)
-    halted : (ts : List Token) (u : Token) → Tokens s t ts u → Completes s want level ts → ((q : Place) → Starts level want q → runs q ts u ≡ p-dead)
+    halted : (ts : List Token) (u : Token) → Tokens s t ts u → Completes s want level ts → ((q : State) → Starts level want q → runs q ts u ≡ p-dead)
         → (r : ℕ) → r ≡ refusal (u .kind) → Reading l b level want t (aside r (u .start))
     otherwise : (r p : ℕ) → (r ≡ 2 → ⊥) → Reading l b level want t (aside r p)
 
@@ -87,35 +87,35 @@ module _ (s : List ℕ) where
       (makes : (x : PartSort) → Suits wn x → (f : Expr) (n : Token) → make x f n ≡ applied (build (aim wn x)) (aim wn x) (r (aim wn x)) x f n)
       (high : level ≤ 7) (low : level ≤ l) (deep : lv ≤ 7) (suits : (g : Sort) → Goal wn g → Suits want (sorted (r g)))
       (grows : (g : Sort) → Goal wn g → (us : List Token) (f : Expr) → Told s (sorted g) lv us f → Told s (sorted (r g)) l (pre ++ us) (build g f))
-      (leads : (g : Sort) → Goal wn g → (q : Place) → Starts level want q → Onward q lv wn g (r g) (run station q (kindsIn s pre)))
+      (leads : (g : Sort) → Goal wn g → (q : State) → Starts level want q → Onward q lv wn g (r g) (run step q (kindsIn s pre)))
       (ends : (g : Sort) → Goal wn g → (sort : PartSort) (k : ℕ) → Fits g sort → Table.binds lv (Table.operator sort k) ≡ false → Table.binds (l + 1) (Table.operator (sorted (r g)) k) ≡ false) where
     grown-completes : (us : List Token) → Completes s wn lv us → Completes s want level (pre ++ us)
     grown-completes us (completes rest f g γ d) =
         completes-more want level (pre ++ us) rest
         (subst (Completes s want level) (sym (append-assoc pre us rest)) (finish s want (sorted (r g)) level l (pre ++ (us ++ rest)) (build g f) high low (suits g γ) (grows g γ (us ++ rest) f d)))
 
-    leads-dead : (g : Sort) (q : Place) (us : List Token) (u : Token) (p : Place) → Onward q lv wn g (r g) p → ((x : Place) → Starts lv wn x → runs x us u ≡ p-dead) → runs p us u ≡ p-dead
-    leads-dead g q us u p (onward q′ e st h n) k = ap (λ (x : Place). runs x us u) e ∙ k q′ st
+    leads-dead : (g : Sort) (q : State) (us : List Token) (u : Token) (p : State) → Onward q lv wn g (r g) p → ((x : State) → Starts lv wn x → runs x us u ≡ p-dead) → runs p us u ≡ p-dead
+    leads-dead g q us u p (onward q′ e st h n) k = ap (λ (x : State). runs x us u) e ∙ k q′ st
 
     module _ (g : Sort) (γ : Goal wn g) (us : List Token) (u : Token) (sort : PartSort) (f : Expr) (p : Tokens s v us u) (x : Real s u) (y : Suits wn sort) (d : Told s sort lv us f)
-        (b : Table.binds lv (Table.operator sort (kindIn s u)) ≡ false) (k : (q : Place) → Starts lv wn q → runs q us u ≡ station (after q sort) (kindIn s u)) where
-      leads-fit : (q o : Place) → Onward q lv wn g (r g) o → Fits g sort → runs o us u ≡ station (after q (sorted (r g))) (kindIn s u)
-      leads-fit q o (onward q′ e st h n) i = ap (λ (x : Place). runs x us u) e ∙ k q′ st ∙ h sort (kindIn s u) i b
+        (b : Table.binds lv (Table.operator sort (kindIn s u)) ≡ false) (k : (q : State) → Starts lv wn q → runs q us u ≡ step (after q sort) (kindIn s u)) where
+      leads-fit : (q o : State) → Onward q lv wn g (r g) o → Fits g sort → runs o us u ≡ step (after q (sorted (r g))) (kindIn s u)
+      leads-fit q o (onward q′ e st h n) i = ap (λ (x : State). runs x us u) e ∙ k q′ st ∙ h sort (kindIn s u) i b
 
-      leads-unfit : (q o : Place) → Onward q lv wn g (r g) o → g ≡ a-test → Unfit sort → runs o us u ≡ p-dead
-      leads-unfit q o (onward q′ e st h n) z i = ap (λ (x : Place). runs x us u) e ∙ k q′ st ∙ n sort (kindIn s u) z i b
+      leads-unfit : (q o : State) → Onward q lv wn g (r g) o → g ≡ a-test → Unfit sort → runs o us u ≡ p-dead
+      leads-unfit q o (onward q′ e st h n) z i = ap (λ (x : State). runs x us u) e ∙ k q′ st ∙ n sort (kindIn s u) z i b
 
       grown : (c : Bool) → RightFit g sort c → Reading l (l + 1) level want t (pick c (ok (part (sorted (r g)) (build g (settledTree g sort f))) u) (unexpected u))
       grown _ (right-fits i) =
           got (pre ++ us) u (sorted (r g)) (build g (settledTree g sort f)) (tokens-append s Kind.IN-FIELD t v u pre us path p) x (suits g γ)
           (grows g γ us (settledTree g sort f) (settle s g sort lv us f deep i d))
-          (ends g γ sort (kindIn s u) i b) (λ q st. runs-on q pre us u ∙ leads-fit q (run station q (kindsIn s pre)) (leads g γ q st) i)
+          (ends g γ sort (kindIn s u) i b) (λ q st. runs-on q pre us u ∙ leads-fit q (run step q (kindsIn s pre)) (leads g γ q st) i)
       grown _ (right-unfit z i) =
           halted (pre ++ us) u (tokens-append s Kind.IN-FIELD t v u pre us path p) (grown-completes us (finish s wn sort lv lv us f deep (omega arith) y d))
-          (λ q st. runs-on q pre us u ∙ leads-unfit q (run station q (kindsIn s pre)) (leads g γ q st) z i) (refusal (u .kind)) refl
+          (λ q st. runs-on q pre us u ∙ leads-unfit q (run step q (kindsIn s pre)) (leads g γ q st) z i) (refusal (u .kind)) refl
 
     made : (us : List Token) (u : Token) (sort : PartSort) (f : Expr) → Tokens s v us u → Real s u → Suits wn sort → Told s sort lv us f → Table.binds lv (Table.operator sort (kindIn s u)) ≡ false
-        → ((q : Place) → Starts lv wn q → runs q us u ≡ station (after q sort) (kindIn s u))
+        → ((q : State) → Starts lv wn q → runs q us u ≡ step (after q sort) (kindIn s u))
         → Reading l (l + 1) level want t (applied (build (aim wn sort)) (aim wn sort) (r (aim wn sort)) sort f u)
     unfolding applied
     made us u sort f p x y d b g = grown (aim wn sort) (aim-goal wn sort y) us u sort f p x y d b g (Table.fits (aim wn sort) sort) (right-fit wn sort y)
@@ -127,31 +127,31 @@ module _ (s : List ℕ) where
     extend _ (got us u sort f p x y d b g) = subst (Reading l (l + 1) level want t) (sym (makes sort y f u)) (made us u sort f p x y d b g)
     extend _ (halted us u p c g rr e) =
         halted (pre ++ us) u (tokens-append s Kind.IN-FIELD t v u pre us path p) (grown-completes us c)
-        (λ q st. runs-on q pre us u ∙ leads-dead (some-goal wn us c .0) q us u (run station q (kindsIn s pre)) (leads (some-goal wn us c .0) (some-goal wn us c .1) q st) g) rr e
+        (λ q st. runs-on q pre us u ∙ leads-dead (some-goal wn us c .0) q us u (run step q (kindsIn s pre)) (leads (some-goal wn us c .0) (some-goal wn us c .1) q st) g) rr e
     extend _ (otherwise rr p n) = otherwise rr p n
 
-  pub runs-last : (q p : Place) (ts : List Token) (u : Token) → run station q (kindsIn s ts) ≡ p → runs q ts u ≡ station p (kindIn s u)
-  runs-last q p ts u e = run-append station q (kindsIn s ts) (kindIn s u ∷ []) ∙ ap (λ (x : Place). station x (kindIn s u)) e
+  pub runs-last : (q p : State) (ts : List Token) (u : Token) → run step q (kindsIn s ts) ≡ p → runs q ts u ≡ step p (kindIn s u)
+  runs-last q p ts u e = run-append step q (kindsIn s ts) (kindIn s u ∷ []) ∙ ap (λ (x : State). step x (kindIn s u)) e
 
-  run-first : (q p : Place) (t : Token) (ts : List Token) (k : ℕ) → kindIn s t ≡ k → station q k ≡ p → run station q (kindsIn s (t ∷ ts)) ≡ run station p (kindsIn s ts)
-  run-first q p t ts k z e = ap (λ (x : ℕ). run station (station q x) (kindsIn s ts)) z ∙ ap (λ (x : Place). run station x (kindsIn s ts)) e
+  run-first : (q p : State) (t : Token) (ts : List Token) (k : ℕ) → kindIn s t ≡ k → step q k ≡ p → run step q (kindsIn s (t ∷ ts)) ≡ run step p (kindsIn s ts)
+  run-first q p t ts k z e = ap (λ (x : ℕ). run step (step q x) (kindsIn s ts)) z ∙ ap (λ (x : State). run step x (kindsIn s ts)) e
 
-  runs-first : (q p : Place) (t : Token) (ts : List Token) (u : Token) (k : ℕ) → kindIn s t ≡ k → station q k ≡ p → runs q (t ∷ ts) u ≡ runs p ts u
-  runs-first q p t ts u k z e = ap (λ (x : ℕ). run station (station q x) (kindsIn s ts ++ kindIn s u ∷ [])) z ∙ ap (λ (x : Place). run station x (kindsIn s ts ++ kindIn s u ∷ [])) e
+  runs-first : (q p : State) (t : Token) (ts : List Token) (u : Token) (k : ℕ) → kindIn s t ≡ k → step q k ≡ p → runs q (t ∷ ts) u ≡ runs p ts u
+  runs-first q p t ts u k z e = ap (λ (x : ℕ). run step (step q x) (kindsIn s ts ++ kindIn s u ∷ [])) z ∙ ap (λ (x : State). run step x (kindsIn s ts ++ kindIn s u ∷ [])) e
 
   abbrev seven : _≡_ {A = ℕ} 7 2 → ⊥
   seven z = let bad : ⊥ = omega (arith, z) in bad
 
   module _ (reals : (at : ℕ) → Real s (nextAt s at)) (want : Want) (t : Token) where
     -- an operand of one token
-    leaf : (sort : PartSort) (e : Expr) → Suits want sort → Told s sort 7 (t ∷ []) e → ((q : Place) → Starts 7 want q → station q (kindIn s t) ≡ after q sort)
+    leaf : (sort : PartSort) (e : Expr) → Suits want sort → Told s sort 7 (t ∷ []) e → ((q : State) → Starts 7 want q → step q (kindIn s t) ≡ after q sort)
         → Reading 7 8 7 want t (ok (part sort e) (nextAt s (t .end)))
     leaf sort e y d g =
         got (t ∷ []) (nextAt s (t .end)) sort e (and-on t (nextAt s (t .end)) [] (at-once (nextAt s (t .end)))) (reals (t .end)) y d
-        (binds-high 8 (Table.operator sort (kindIn s (nextAt s (t .end)))) (omega arith)) (λ q st. ap (λ (x : Place). station x (kindIn s (nextAt s (t .end)))) (g q st))
+        (binds-high 8 (Table.operator sort (kindIn s (nextAt s (t .end)))) (omega arith)) (λ q st. ap (λ (x : State). step x (kindIn s (nextAt s (t .end)))) (g q st))
 
-    mark-at : (sort : PartSort) (k : ℕ) → t .kind ≡ k → eqb k Kind.NAME ≡ false → ((q : Place) → Starts 7 want q → station q k ≡ after q sort) → (q : Place) → Starts 7 want q → station q (kindIn s t) ≡ after q sort
-    mark-at sort k z n g q st = ap (λ (x : ℕ). station q x) (kind-mark s t k z n) ∙ g q st
+    mark-at : (sort : PartSort) (k : ℕ) → t .kind ≡ k → eqb k Kind.NAME ≡ false → ((q : State) → Starts 7 want q → step q k ≡ after q sort) → (q : State) → Starts 7 want q → step q (kindIn s t) ≡ after q sort
+    mark-at sort k z n g q st = ap (λ (x : ℕ). step q x) (kind-mark s t k z n) ∙ g q st
 
     literal-reads : Table.allows want Kind.LITERAL ≡ true → t .kind ≡ Kind.LITERAL → Reading 7 8 7 want t (readLiteral s t)
     unfolding readLiteral
@@ -204,19 +204,19 @@ module _ (s : List ℕ) where
         (subst (λ (l : List Token). Told s (sorted w) 7 (t ∷ l) f) (append-assoc us rest (mark Kind.CLOSE ∷ []))
         (enclosed s (sorted w) t (mark Kind.CLOSE) (us ++ rest) f z refl (lower s (sorted w) 0 level (us ++ rest) f (omega arith) d)))
 
-    opened-dead : (q : Place) (us : List Token) (u : Token) → t .kind ≡ Kind.OPEN → O.Enclosed q want → ((x : Place) → Starts level want x → runs x us u ≡ p-dead) → runs q (t ∷ us) u ≡ p-dead
+    opened-dead : (q : State) (us : List Token) (u : Token) → t .kind ≡ Kind.OPEN → O.Enclosed q want → ((x : State) → Starts level want x → runs x us u ≡ p-dead) → runs q (t ∷ us) u ≡ p-dead
     opened-dead q us u z (O.enclosed q′ e st c n) g = runs-first q q′ t us u Kind.OPEN (kind-mark s t Kind.OPEN z refl) e ∙ g q′ st
 
-    opened-wrong : (q : Place) (us : List Token) (u : Token) (sort : PartSort) → t .kind ≡ Kind.OPEN → O.Enclosed q want → ((x : Place) → Starts level want x → runs x us u ≡ station (after x sort) (kindIn s u))
+    opened-wrong : (q : State) (us : List Token) (u : Token) (sort : PartSort) → t .kind ≡ Kind.OPEN → O.Enclosed q want → ((x : State) → Starts level want x → runs x us u ≡ step (after x sort) (kindIn s u))
         → Suits want sort → Table.binds level (Table.operator sort (kindIn s u)) ≡ false → eqb (u .kind) Kind.CLOSE ≡ false → runs q (t ∷ us) u ≡ p-dead
     opened-wrong q us u sort z (O.enclosed q′ e st c n) g y b f =
         runs-first q q′ t us u Kind.OPEN (kind-mark s t Kind.OPEN z refl) e ∙ g q′ st ∙ n sort (kindIn s u) y b (test-kind s u Kind.CLOSE refl refl ∙ f)
 
-    opened-right : (q : Place) (us : List Token) (u : Token) (sort : PartSort) → t .kind ≡ Kind.OPEN → O.Enclosed q want → ((x : Place) → Starts level want x → runs x us u ≡ station (after x sort) (kindIn s u))
-        → Suits want sort → u .kind ≡ Kind.CLOSE → run station q (kindsIn s (t ∷ us ++ u ∷ [])) ≡ after q sort
+    opened-right : (q : State) (us : List Token) (u : Token) (sort : PartSort) → t .kind ≡ Kind.OPEN → O.Enclosed q want → ((x : State) → Starts level want x → runs x us u ≡ step (after x sort) (kindIn s u))
+        → Suits want sort → u .kind ≡ Kind.CLOSE → run step q (kindsIn s (t ∷ us ++ u ∷ [])) ≡ after q sort
     opened-right q us u sort z (O.enclosed q′ e st c n) g y f =
         run-first q q′ t (us ++ u ∷ []) Kind.OPEN (kind-mark s t Kind.OPEN z refl) e ∙ run-one q′ us u ∙ g q′ st
-        ∙ ap (λ (x : ℕ). station (after q′ sort) x) (kind-mark s u Kind.CLOSE f refl) ∙ c sort y
+        ∙ ap (λ (x : ℕ). step (after q′ sort) x) (kind-mark s u Kind.CLOSE f refl) ∙ c sort y
 
     inside-most : level ≤ 7
     unfolding Table.insideLevel
@@ -256,7 +256,7 @@ module _ (s : List ℕ) where
       prefix-reads rr h =
           extend t (t ∷ []) first (and-on t first [] (at-once first)) 7 7 want lv wn gives (λ g. unary (O.asTaken op g)) (madeOf op) makes (omega arith) (omega arith) (O.asked-most lv wn a)
           (λ g γ. O.before-suits (t .kind) op want lv wn g (gives g) (bs g γ)) (λ g γ us f d. O.before-told s (t .kind) op want lv wn g (gives g) t us f (bs g γ) refl d)
-          (λ g γ q st. subst (λ (x : ℕ). Onward q lv wn g (gives g) (station q x)) (sym (kind-other s t em)) (O.before-onward (t .kind) op want lv wn g (gives g) q (bs g γ) st))
+          (λ g γ q st. subst (λ (x : ℕ). Onward q lv wn g (gives g) (step q x)) (sym (kind-other s t em)) (O.before-onward (t .kind) op want lv wn g (gives g) q (bs g γ) st))
           (λ g γ sort k f b. binds-high 8 (Table.operator (sorted (gives g)) k) (omega arith)) rr
           (subst (λ (x : ℕ). Reading x x x wn first rr) el (subst (λ (x : Want). Reading (Table.operandLevel op) (Table.operandLevel op) (Table.operandLevel op) x first rr) ew h))
 
@@ -288,7 +288,7 @@ module _ (s : List ℕ) where
     -- what is known where the loop stands
     abbrev Stands : E.State → Parsed Part → Type 0
     Stands x r = (l : ℕ) (ts : List Token) → level ≤ l → Tokens s t ts (x .0) → Real s (x .0) → Suits want (x .1) → Told s (x .1) l ts (x .2)
-        → Table.binds (l + 1) (Table.operator (x .1) (kindIn s (x .0))) ≡ false → ((q : Place) → Starts level want q → runs q ts (x .0) ≡ station (after q (x .1)) (kindIn s (x .0))) → Done r
+        → Table.binds (l + 1) (Table.operator (x .1) (kindIn s (x .0))) ≡ false → ((q : State) → Starts level want q → runs q ts (x .0) ≡ step (after q (x .1)) (kindIn s (x .0))) → Done r
 
     stopped : (u : Token) (sort : PartSort) (e : Expr) → Table.binds level (Table.operator sort (u .kind)) ≡ false → Stands (u, sort, e) (ok (part sort e) u)
     stopped u sort e h l ts low p x y d b g =
@@ -305,7 +305,7 @@ module _ (s : List ℕ) where
     operator-joined : (u : Token) (sort : PartSort) (e : Expr) (op : Binary) (lo : ℕ) (o r : Sort) → Joint (u .kind) op lo o r → Fits o sort → Table.binds level (Table.between op) ≡ true
         → (rr : Parsed Part) → Reading (Table.rightLevel op) (Table.rightLevel op) (Table.rightLevel op) (Table.rightWant op) (nextAt s (u .end)) rr
         → (l : ℕ) (ts : List Token) → level ≤ l → Tokens s t ts u → Real s u → Suits want sort → Told s sort l ts e → Table.binds (l + 1) (Table.between op) ≡ false
-        → ((q : Place) → Starts level want q → runs q ts u ≡ station (after q sort) (kindIn s u))
+        → ((q : State) → Starts level want q → runs q ts u ≡ step (after q sort) (kindIn s u))
         → (m : ℕ) × ((level ≤ m) × Reading m (m + 1) level want t (onPart rr (λ x f n. applied (binary op (settledTree (binaryTakes op) sort e)) (binaryTakes op) (binaryGives op) x f n)))
     unfolding Table.rightLevel Table.rightWant
     operator-joined u sort e op lo o r j fit h rr inner l ts low p x y d b g₀ = on-table (joint-tabled (u .kind) op lo o r j)
@@ -342,10 +342,10 @@ module _ (s : List ℕ) where
                 subst (λ (z : List Token). Told s (sorted r) lo z (binary op (settledTree (binaryTakes op) sort e) f)) (sym (append-assoc ts (u ∷ []) us))
                 (rw eo (joined s (u .kind) op lo o r u ts us (settledTree o sort e) f j refl left (subst (λ (z : Sort). Told s (sorted z) (lo + 1) us f) (sym (goal-right o g γ)) k)))
 
-            leads : (g : Sort) → Goal (Table.wantOf o) g → (q : Place) → Starts level want q → Onward q (lo + 1) (Table.wantOf o) g r (run station q (kindsIn s (ts ++ u ∷ [])))
+            leads : (g : Sort) → Goal (Table.wantOf o) g → (q : State) → Starts level want q → Onward q (lo + 1) (Table.wantOf o) g r (run step q (kindsIn s (ts ++ u ∷ [])))
             leads g γ q st =
-                subst (λ (z : Sort). Onward q (lo + 1) (Table.wantOf o) z r (run station q (kindsIn s (ts ++ u ∷ [])))) (goal-right o g γ)
-                (subst (Onward q (lo + 1) (Table.wantOf o) o r) (sym (run-one q ts u ∙ g₀ q st ∙ ap (λ (z : ℕ). station (after q sort) z) (kind-other s u (joint-mark (u .kind) op lo o r j))))
+                subst (λ (z : Sort). Onward q (lo + 1) (Table.wantOf o) z r (run step q (kindsIn s (ts ++ u ∷ [])))) (goal-right o g γ)
+                (subst (Onward q (lo + 1) (Table.wantOf o) o r) (sym (run-one q ts u ∙ g₀ q st ∙ ap (λ (z : ℕ). step (after q sort) z) (kind-other s u (joint-mark (u .kind) op lo o r j))))
                 (joint-onward level want sort (u .kind) op lo o r q a st y j fit level-low))
 
             ends : (g : Sort) → Goal (Table.wantOf o) g → (x : PartSort) (k : ℕ) → Fits g x → Table.binds (lo + 1) (Table.operator x k) ≡ false → Table.binds (lo + 1) (Table.operator (sorted r) k) ≡ false
@@ -357,7 +357,7 @@ module _ (s : List ℕ) where
                 subst (λ (z : Want). Reading (lo + 1) (lo + 1) (lo + 1) z (nextAt s (u .end)) rr) (ap (λ (z : Sort). Table.wantOf z) eo) k
 
     module _ (u : Token) (sort : PartSort) (e : Expr) (l : ℕ) (ts : List Token) (low : level ≤ l) (p : Tokens s t ts u) (x : Real s u) (y : Suits want sort) (d : Told s sort l ts e)
-        (g : (q : Place) → Starts level want q → runs q ts u ≡ station (after q sort) (kindIn s u)) where
+        (g : (q : State) → Starts level want q → runs q ts u ≡ step (after q sort) (kindIn s u)) where
       joined-as : (op : Binary) (lo : ℕ) (o r : Sort) → Joint (u .kind) op lo o r → Fits o sort → Table.binds level (Table.between op) ≡ true → Table.binds (l + 1) (Table.between op) ≡ false → (rr : Parsed Part) → JoinedAs u sort e op rr
           → (m : ℕ) × ((level ≤ m) × Reading m (m + 1) level want t rr)
       joined-as op lo o r j fit h b _ (joined-none at) = (level, (omega arith, otherwise 0 at (λ n. let bad : ⊥ = omega (arith, n) in bad)))
@@ -374,7 +374,7 @@ module _ (s : List ℕ) where
       -- what a right operand makes: the loop goes on with it, or it is a fault
       on-joined : (u : Token) (sort : PartSort) (e : Expr) (rr : Parsed Part)
           → ((l : ℕ) (ts : List Token) → level ≤ l → Tokens s t ts u → Real s u → Suits want sort → Told s sort l ts e → Table.binds (l + 1) (Table.operator sort (kindIn s u)) ≡ false
-          → ((q : Place) → Starts level want q → runs q ts u ≡ station (after q sort) (kindIn s u)) → (m : ℕ) × ((level ≤ m) × Reading m (m + 1) level want t rr))
+          → ((q : State) → Starts level want q → runs q ts u ≡ step (after q sort) (kindIn s u)) → (m : ℕ) × ((level ≤ m) × Reading m (m + 1) level want t rr))
           → Turn (u, sort, e) (E.onJoined u rr)
       on-joined u sort e (aside r p) h = went-done (aside r p) (λ l ts low q x y d b g. from-aside r p (h l ts low q x y d b g))
         where

@@ -29,8 +29,8 @@ use Rattle.grammar.specs.Viable.{TokensIn, at-once, and-on, KindsBy, her
 use Rattle.grammar.specs.Theorems.Shadow.{kind-mark, str-shadow}
 use Rattle.grammar.specs.Working.Automaton.{run, run-append}
 use Rattle.grammar.specs.Working.Marks.{kinds-append}
-use Rattle.grammar.specs.Working.Stations.{TEXT, Spot, in-clause, in-bracket, Frame, tests, right, value, texts, numbers, alone, people, item, Place, p-dead, p-text, p-have, station, leaveAt}
-use Rattle.grammar.specs.Working.Stationed.{name-text, literal-text, lookup-text, open-text, close-text, dot-text, as-text, text-run}
+use Rattle.grammar.specs.Working.States.{TEXT, Spot, in-clause, in-bracket, Frame, tests, right, value, texts, numbers, alone, people, item, State, p-dead, p-text, p-have, step, leaveAt}
+use Rattle.grammar.specs.Working.Accepts.{name-text, literal-text, lookup-text, open-text, close-text, dot-text, as-text, text-run}
 use Rattle.grammar.specs.Working.Told.{goal-text, told-text, suits-text, completes}
 use Rattle.grammar.specs.Working.Onward.{start-text, asked-text}
 use Rattle.grammar.specs.Working.Reading.{Real, runs, runs-last, Reading, got, halted, otherwise, expression-reads}
@@ -59,34 +59,34 @@ not-dot s u b =
     eqb-is : eqb (u .kind) Kind.DOT ≡ true → u .kind ≡ Kind.DOT
     eqb-is e = eqb-true (u .kind) Kind.DOT e
 
-pub leaves : (F : Frame) (k : ℕ) → eqb k Kind.DOT ≡ false → station (p-have TEXT F) k ≡ leaveAt TEXT F k
-unfolding station
+pub leaves : (F : Frame) (k : ℕ) → eqb k Kind.DOT ≡ false → step (p-have TEXT F) k ≡ leaveAt TEXT F k
+unfolding step
 leaves F k e = rw (dot-only k e) refl
 
 -- places in a string, and a walk along them
-data Texty : Place → Type 0 where
+data Texty : State → Type 0 where
   texty-want : (F : Frame) → Texty (p-text TEXT F)
   texty-have : (F : Frame) → Texty (p-have TEXT F)
 
-data Along : Place → List ℕ → Type 0 where
-  along-end : (q : Place) → Texty q → Along q []
-  along-step : (q p : Place) (k : ℕ) (ks : List ℕ) → Texty q → station q k ≡ p → Along p ks → Along q (k ∷ ks)
+data Along : State → List ℕ → Type 0 where
+  along-end : (q : State) → Texty q → Along q []
+  along-step : (q p : State) (k : ℕ) (ks : List ℕ) → Texty q → step q k ≡ p → Along p ks → Along q (k ∷ ks)
 
-along-append : (q p : Place) (ks ls : List ℕ) → Along q ks → run station q ks ≡ p → Along p ls → Along q (ks ++ ls)
-along-append q p _ ls (along-end _ x) e b = subst (λ (z : Place). Along z ls) (sym e) b
+along-append : (q p : State) (ks ls : List ℕ) → Along q ks → run step q ks ≡ p → Along p ls → Along q (ks ++ ls)
+along-append q p _ ls (along-end _ x) e b = subst (λ (z : State). Along z ls) (sym e) b
 along-append q p _ ls (along-step _ w k ks x f a) e b =
-    along-step q w k (ks ++ ls) x f (along-append w p ks ls a (ap (λ (z : Place). run station z ks) (sym f) ∙ e) b)
+    along-step q w k (ks ++ ls) x f (along-append w p ks ls a (ap (λ (z : State). run step z ks) (sym f) ∙ e) b)
 
-along-here : (q : Place) (ks : List ℕ) → Along q ks → Texty q
+along-here : (q : State) (ks : List ℕ) → Along q ks → Texty q
 along-here q _ (along-end _ x) = x
 along-here q _ (along-step _ p k ks x e a) = x
 
-along-next : (q : Place) (k : ℕ) (ks : List ℕ) → Along q (k ∷ ks) → Along (station q k) ks
-along-next q _ _ (along-step _ p k ks x e b) = subst (λ (z : Place). Along z ks) (sym e) b
+along-next : (q : State) (k : ℕ) (ks : List ℕ) → Along q (k ∷ ks) → Along (step q k) ks
+along-next q _ _ (along-step _ p k ks x e b) = subst (λ (z : State). Along z ks) (sym e) b
 
-along-front : (q : Place) (ks rest : List ℕ) → Along q (ks ++ rest) → Texty (run station q ks)
+along-front : (q : State) (ks rest : List ℕ) → Along q (ks ++ rest) → Texty (run step q ks)
 along-front q [] rest a = along-here q rest a
-along-front q (k ∷ ks) rest a = along-front (station q k) ks rest (along-next q k (ks ++ rest) a)
+along-front q (k ∷ ks) rest a = along-front (step q k) ks rest (along-next q k (ks ++ rest) a)
 
 text-along : (c : Class) (ks : List ℕ) → Str c ks → (F : Frame) → Along (p-text TEXT F) ks
 text-along _ _ str-literal F = along-step _ (p-have TEXT F) Kind.LITERAL [] (texty-want F) (literal-text TEXT F) (along-end _ (texty-have F))
@@ -102,8 +102,8 @@ text-along _ _ (str-join ks ls s u) F =
     (along-step _ (p-text TEXT F) Kind.DOT ls (texty-have F) (dot-text F) (text-along operand ls u F))
 
 -- no "-of" stands in a string
-of-have : (F : Frame) → station (p-have TEXT F) Kind.OF ≡ p-dead
-unfolding station Table.binds Table.operator Table.textOperator Table.testOperator Table.levelOf Table.comparison ending
+of-have : (F : Frame) → step (p-have TEXT F) Kind.OF ≡ p-dead
+unfolding step Table.binds Table.operator Table.textOperator Table.testOperator Table.levelOf Table.comparison ending
 of-have (tests (in-clause d)) = refl
 of-have (tests (in-bracket b S)) = refl
 of-have (right (in-clause d)) = refl
@@ -115,8 +115,8 @@ of-have alone = refl
 of-have (people u n) = refl
 of-have (item n) = refl
 
-of-dead : (q : Place) → Texty q → station q Kind.OF ≡ p-dead
-unfolding station Table.allows Table.beginsString
+of-dead : (q : State) → Texty q → step q Kind.OF ≡ p-dead
+unfolding step Table.allows Table.beginsString
 of-dead _ (texty-want F) = refl
 of-dead _ (texty-have F) = of-have F
 
@@ -192,9 +192,6 @@ module _ (s : List ℕ) where
   pub source-shadow : (ts : List Token) (x : Source) → SourceTree s ts x → Str whole (kindsIn s ts)
   source-shadow _ _ (source-tree ts x d p) = str-shadow s whole ts (x .says) d
 
-  pub string-run : (F : Frame) (ts : List Token) (e : Expr) → StrTree s whole ts e → run station (p-text TEXT F) (kindsIn s ts) ≡ p-have TEXT F
-  string-run F ts e d = text-run whole (kindsIn s ts) (str-shadow s whole ts e d) TEXT F (as-text refl)
-
   -- the same in Licensees: u as the reader sees it, n as it stands there
   pub data Named (b : Bool) (t : Token) : Parsed Source → Type 0 where
     named : (ts : List Token) (u n : Token) (x : Source) → TokensIn s Kind.IN-LICENSEES t ts n → Near u n → SourceTree s ts x → eqb (u .kind) Kind.DOT ≡ false → b ≡ true → Named b t (ok x u)
@@ -206,9 +203,9 @@ module _ (s : List ℕ) where
   near-dead : (u n : Token) (ts rest : List Token) (e : Expr) → Near u n → StrTree s whole (ts ++ rest) e → (F : Frame) → runs s (p-text TEXT F) ts u ≡ p-dead → runs s (p-text TEXT F) ts n ≡ p-dead
   near-dead u _ ts rest e (near-same _) d F g = g
   near-dead _ _ ts rest e (near-of u n a b c) d F g =
-      runs-last s (p-text TEXT F) (run station (p-text TEXT F) (kindsIn s ts)) ts n refl
-      ∙ ap (λ (k : ℕ). station (run station (p-text TEXT F) (kindsIn s ts)) k) (kind-mark s n Kind.OF b refl)
-      ∙ of-dead (run station (p-text TEXT F) (kindsIn s ts)) (along-front (p-text TEXT F) (kindsIn s ts) (kindsIn s rest)
+      runs-last s (p-text TEXT F) (run step (p-text TEXT F) (kindsIn s ts)) ts n refl
+      ∙ ap (λ (k : ℕ). step (run step (p-text TEXT F) (kindsIn s ts)) k) (kind-mark s n Kind.OF b refl)
+      ∙ of-dead (run step (p-text TEXT F) (kindsIn s ts)) (along-front (p-text TEXT F) (kindsIn s ts) (kindsIn s rest)
       (subst (Along (p-text TEXT F)) (kinds-append (kindIn s) ts rest) (text-along whole (kindsIn s (ts ++ rest)) (str-shadow s whole (ts ++ rest) e d) F)))
 
   pub strung-named : (b : Bool) (t : Token) (r : Parsed Source) → Strung b t r → Named b t r

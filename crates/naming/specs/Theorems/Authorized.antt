@@ -28,14 +28,14 @@ use Rattle.syntax.specs.Stood.{Stood}
 use Rattle.conditions.specs.Word.{nextAt}
 use Rattle.fields.specs.Parsed.{ending, ended}
 use Rattle.fields.specs.Theorems.Together.{refusal-some}
-use Rattle.fields.specs.Theorems.Identified.{holds-before, EntryRead, entry-at}
+use Rattle.naming.specs.Theorems.Entry.{holds-before, EntryRead, entry-at}
 use Rattle.naming.specs.Source.{Source, Author}
 use Rattle.naming.specs.String.{plainFrom, source}
 use Rattle.naming.specs.Authorizer.{authorizer}
 use Rattle.naming.specs.Naming.{identified, author}
 use Rattle.naming.specs.Fault as Spec
 use Rattle.naming.specs.Fault.{verified, clear, faulty, sourceFault, policyFault, authorFault}
-use Rattle.naming.specs.Working.Faults.{against, meant}
+use Rattle.naming.specs.Working.Faults.{against, meant, reasonOf}
 use Rattle.naming.specs.Working.Identifying.{sight, Done, named, ofNumber, ofKept, stringNamed, isPlain}
 use Rattle.naming.specs.Working.Authorizing.{Made, made, policyAt, barredAt, barFault, authorizerEnd, authoredIn, onAuthor, authorNamed, authorizerIn}
 use Rattle.naming.specs.declared.fault.Fault.{Fault}
@@ -92,7 +92,7 @@ module _ (standing : ℕ) (q : Query) (constants : List Attribute) (s pool place
   -- what is against a principal that is one
   bar-meant : (x : Source) → sourceFault (environment q constants) x ≡ clear → (pool′ places′ : List ℕ) (i : ℕ)
       → policyAt pool′ places′ i ≡ same (identified (environment q constants) x) policy → meant (barFault standing pool′ places′ i (x .place)) ≡ authorFault standing q (Of x)
-  unfolding barFault barredAt meant authorFault policyFault author
+  unfolding barFault barredAt meant reasonOf authorFault policyFault author
   bar-meant x f pool′ places′ i e =
       split (eqb standing verified)
       (λ g. split (same (identified (environment q constants) x) policy) (λ h. rw (f, g, e, h)) (λ h. rw (f, g, e, h)))
@@ -119,7 +119,7 @@ module _ (standing : ℕ) (q : Query) (constants : List Attribute) (s pool place
 
     -- where it is nobody, only 10 is against it
     nobody-meant : (x : Source) → sourceFault (environment q constants) x ≡ faulty 10 (x .place) → meant (against 10 (x .place)) ≡ authorFault standing q (Of x)
-    unfolding meant authorFault policyFault
+    unfolding meant reasonOf authorFault policyFault
     nobody-meant x f =
         split (eqb standing verified)
         (λ g. split (same (author q (Of x)) policy) (λ h. rw (f, g, h) (rw (le-leb (x .place) (x .place) (omega arith)))) (λ h. rw (f, g, h)))

@@ -24,9 +24,9 @@ use Rattle.lexical.specs.Kind
 use Rattle.lexical.specs.declared.token.Token.{Token}
 use Rattle.syntax.specs.Parsed.{Parsed, ok, aside, andThen, refusal, unexpected}
 use Rattle.syntax.specs.Stood.{Stood, stood-at}
-use Rattle.fields.specs.Working.List.{above, pushed}
+use Rattle.naming.specs.Working.Code.{above, pushed}
 use Rattle.fields.specs.Theorems.Together.{both, Steps, both-next, both-done, loop-same, refusal-some}
-use Rattle.fields.specs.Theorems.Growing.{compile-short}
+use Rattle.naming.specs.Theorems.Code.{compile-short}
 use Rattle.naming.specs.Source.{Source, Sources, one, and, or, kOf, sources}
 use Rattle.naming.specs.Licensees.{after, onward, closed, Reader, onOperand, chainTurn, chainFrom, chain, expressionOf, primaryBody, primary}
 use Rattle.naming.specs.Fault.{earlier}

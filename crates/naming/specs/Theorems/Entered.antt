@@ -40,8 +40,8 @@ use Rattle.index.specs.Index.{Holds}
 use Rattle.index.specs.Working.Entering.{Kept}
 use Rattle.machine.specs.Given.{bufferOf}
 use Rattle.judge.specs.Working.Saying.{Told, said}
-use Rattle.fields.specs.Working.Whole.{whole, inner, Whole, whole-is}
-use Rattle.fields.specs.Theorems.Identified.{EntryRead, entry-read}
+use Rattle.naming.specs.Working.Whole.{whole, inner, Whole, whole-is}
+use Rattle.naming.specs.Theorems.Entry.{EntryRead, entry-read}
 use Rattle.naming.specs.Source.{Source}
 use Rattle.naming.specs.String.{plainFrom, nestOf, source}
 use Rattle.naming.specs.Naming.{identified}

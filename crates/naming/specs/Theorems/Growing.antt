@@ -14,13 +14,13 @@ use Rattle.compliance.specs.Tables.{place}
 use Rattle.compliance.specs.Theorems.Fill.{place-stays}
 use Rattle.index.specs.Index.{enterAll, Holds}
 use Rattle.index.specs.EnterLaws.{enter-all-is, enter-all-append, enter-all-keeps, freshAll}
-use Rattle.fields.specs.Working.List.{above, pushed}
+use Rattle.naming.specs.Working.Code.{above, pushed}
 use Rattle.naming.specs.Working.List.{sized}
 use Rattle.naming.specs.declared.list.State.{State}
 use Rattle.naming.specs.Fault.{Fault, clear, earlier}
 use Rattle.naming.specs.Working.Faults.{meant}
-use Rattle.fields.specs.Theorems.Identified.{holds-before}
-use Rattle.fields.specs.Theorems.Growing.{above-is, pushed-length, pushed-is}
+use Rattle.naming.specs.Theorems.Entry.{holds-before}
+use Rattle.naming.specs.Theorems.Code.{above-is, pushed-length, pushed-is}
 use Rattle.naming.specs.Theorems.StandIn.{earlier-clear, earlier-assoc}
 
 -- the index holds the names, POLICY first, and the room is enough for the licensees that may follow

@@ -21,9 +21,9 @@ use Rattle.lexical.specs.declared.token.Token.{Token}
 use Rattle.syntax.specs.Parsed.{Parsed, ok, aside, andThen, refusal}
 use Rattle.syntax.specs.Stood.{Stood}
 use Rattle.fields.specs.Parsed.{ending, ended}
-use Rattle.fields.specs.Working.List.{above, pushed}
+use Rattle.naming.specs.Working.Code.{above, pushed}
 use Rattle.fields.specs.Theorems.Together.{both, refusal-some}
-use Rattle.fields.specs.Theorems.Growing.{compile-short}
+use Rattle.naming.specs.Theorems.Code.{compile-short}
 use Rattle.naming.specs.Source.{Sources, Licensees, missing, empty, given}
 use Rattle.naming.specs.Licensees.{primary, expression, licensees}
 use Rattle.naming.specs.Fault.{licenseesFault}

@@ -27,15 +27,15 @@ use Rattle.syntax.specs.Parsed.{Parsed, ok, aside, refusal, unexpected}
 use Rattle.syntax.specs.Stood.{Stood, stood-at}
 use Rattle.conditions.specs.Table.{beginsString}
 use Rattle.conditions.specs.Word.{nextAt}
-use Rattle.fields.specs.Working.List.{above, pushed}
+use Rattle.naming.specs.Working.Code.{above, pushed}
 use Rattle.fields.specs.Theorems.Together.{both, Steps, both-next, both-done, loop-same, refusal-some}
-use Rattle.fields.specs.Theorems.Identified.{holds-before, EntryRead, entry-at}
+use Rattle.naming.specs.Theorems.Entry.{holds-before, EntryRead, entry-at}
 use Rattle.naming.specs.Source.{Source, Sources, kOf, sources}
 use Rattle.naming.specs.String.{plainFrom}
 use Rattle.naming.specs.Licensees.{after, licensee, listed, onListed, listTurn, listFrom, listOpened, ofRead, threshold}
 use Rattle.naming.specs.Naming.{identified}
 use Rattle.naming.specs.Fault.{clear, faulty, sourceFault, firstFault}
-use Rattle.naming.specs.Working.Faults.{against, firstOf, meant, first-meant}
+use Rattle.naming.specs.Working.Faults.{against, firstOf, meant, reasonOf, first-meant}
 use Rattle.naming.specs.Working.Identifying.{sight, Done, named, ofNumber, ofKept, isPlain}
 use Rattle.naming.specs.Working.List.{Ran, ran, wrote, refusedLicensed, sized, stateOf, placedIn, onWrote, onNamed, beforeIn, isOver, stringIn, licenseeIn, itemsOf, listedIn, Loop, onItem, listIn, openedIn, ofIn, thresholdOf, thresholdIn}
 use Rattle.naming.specs.Working.List.{listTurn as itemTurn}
@@ -113,7 +113,7 @@ module _ (env : Environment) (s pool places code : List ℕ) (st : State) (names
   policy-kept = rw (ready .known)
 
   nobody-grown : (at : ℕ) → Grown pool places code st names (policy ∷ []) [] (faulty 10 at) (stateOf (st .count) (st .end) (st .size) (st .listed + 1) (firstOf (st .fault) (against 10 at))) pool places code
-  unfolding meant
+  unfolding meant reasonOf
   nobody-grown at = record {
     stays = stays-self ready;
     holds = rw policy-kept (ready .holds);

@@ -13,7 +13,7 @@ use Rattle.lexical.specs.declared.token.Token.{Token}
 use Rattle.compliance.specs.Codes.{andCode, orCode, zeroCode}
 use Rattle.fields.specs.Parsed.{ending}
 use Rattle.naming.specs.Licensees.{after}
-use Rattle.fields.specs.Working.List.{above, pushed}
+use Rattle.naming.specs.Working.Code.{above, pushed}
 use Rattle.naming.specs.Working.Faults.{clearAt}
 use Rattle.naming.specs.Working.Identifying.{Sight}
 use Rattle.naming.specs.Working.List.{Ran, ran, Loop, refusedLicensed, sized, stateOf, licenseeIn, thresholdIn}

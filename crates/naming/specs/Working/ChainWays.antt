@@ -13,16 +13,17 @@ use Rattle.limits.specs.Limits.{mostCode}
 use Rattle.lexical.specs.Kind
 use Rattle.lexical.specs.Bounds.{chosen}
 use Rattle.lexical.specs.Line.{tokenAt}
+use Rattle.lexical.specs.Token.{token}
 use Rattle.lexical.specs.declared.token.Token.{Token}
 use Rattle.compliance.specs.Codes.{andCode, orCode, zeroCode}
 use Rattle.fields.specs.Parsed.{ending}
-use Rattle.fields.specs.Working.List.{above, pushed}
+use Rattle.naming.specs.Working.Code.{above, pushed}
 use Rattle.conditions.specs.Word.{nextAt}
 use Rattle.naming.specs.String.{nestOf}
 use Rattle.naming.specs.Working.Faults.{clearAt}
 use Rattle.naming.specs.Working.Identifying.{Sight, isPlain}
-use Rattle.naming.specs.Working.List.{Ran, ran, refusedLicensed, sized, stateOf, beforeIn, licenseeIn, thresholdIn}
-use Rattle.naming.specs.Working.ListWays.{licensee-plain, before-next}
+use Rattle.naming.specs.Working.List.{Ran, ran, refusedLicensed, sized, stateOf, beforeIn, literalIn, licenseeIn, thresholdIn}
+use Rattle.naming.specs.Working.ListWays.{licensee-plain, literal-before, before-next}
 use Rattle.naming.specs.Working.Chain.{jointOf, joinOf, onOn, single, isLone, isLonger, behindIn, closedIn, operandAt, moreAt, chainAt, primaryAt, primaryBody, innerAt, endIn, fieldIn}
 use Rattle.naming.specs.declared.fault.Fault.{Fault}
 use Rattle.naming.specs.declared.list.State.{State}
@@ -248,7 +249,7 @@ module _ (left : ℕ) (s : List ℕ) (look : Sight) (pool places code : List ℕ
     apart = lone-is (n .kind) (sym ce ∙ o)
 
     plain : beforeIn s look pool places code st t n ≡ licenseeIn s look pool places code st left t
-    plain = licensee-plain s look pool places code st left t (beforeIn s look pool places code st t n) d de w n ne (apart .1) refl
+    plain = licensee-plain s look pool places code st left t (beforeIn s look pool places code st t n) d de w n ne (apart .1)
 
     lone : operandAt left 0 s look pool places code st t ≡ licenseeIn s look pool places code st left t
     lone =
@@ -264,8 +265,14 @@ module _ (left : ℕ) (s : List ℕ) (look : Sight) (pool places code : List ℕ
         sym (operand-up left 0 s look pool places code st t)
         ∙ rw lone (unjoined (licenseeIn s look pool places code st left t) last)
 
-    pub operand-single : (r : Ran) → r ≡ beforeIn s look pool places code st t n → r ≡ operandAt left level s look pool places code st t
-    operand-single r re = re ∙ plain ∙ sym whole ∙ rw (facts .0)
+    single-as : beforeIn s look pool places code st t n ≡ operandAt left level s look pool places code st t
+    single-as = plain ∙ sym whole ∙ rw (facts .0)
+
+    pub operand-name : t .kind ≡ Kind.NAME → (r : Ran) → r ≡ beforeIn s look pool places code st (token Kind.NAME (t .start) (t .end)) (token (n .kind) (n .start) (n .end)) → r ≡ operandAt left level s look pool places code st t
+    operand-name k r re = re ∙ ap (λ (x : ℕ). beforeIn s look pool places code st (token x (t .start) (t .end)) n) (sym k) ∙ single-as
+
+    pub operand-literal : (t .kind ≡ Kind.NAME → ⊥) → (r : Ran) → r ≡ literalIn s pool places code st (t .start) (t .end) (token (n .kind) (n .start) (n .end)) → r ≡ operandAt left level s look pool places code st t
+    operand-literal nn r re = re ∙ literal-before s look pool places code st t n nn (sym de ∙ w) ∙ single-as
 
 -- `finished`
 module _ (st : State) (t : Token) (b : Bool) (be : b ≡ ending (t .kind)) where

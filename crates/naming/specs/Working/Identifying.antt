@@ -16,8 +16,7 @@ use Rattle.principal.specs.Principal.{Principal}
 use Rattle.limits.specs.Limits.{mostIdentifier}
 use Rattle.expression.specs.Tables.{lookupIn}
 use Rattle.fields.specs.Parsed.{wordOf}
-use Rattle.fields.specs.Working.Whole.{whole, inner}
-use Rattle.fields.specs.Working.Identifying.{whole-some, whole-fits, whole-from, whole-within}
+use Rattle.naming.specs.Working.Whole.{whole, inner, whole-some, whole-fits, whole-from, whole-within}
 use Rattle.index.specs.Working.Entering.{Kept, numbered, enterIn}
 use Rattle.index.specs.declared.Numbered.{Numbered}
 use Rattle.index.specs.declared.Numbered.the-variants.{At as Known, Full}
@@ -118,6 +117,9 @@ module _ (s : List ℕ) (t : Token) where
   pub plain-kind : t .kind ≡ Kind.NAME → true ≡ isPlain s t
   unfolding isPlain
   plain-kind h = rw (eq-eqb _ _ h)
+
+  pub plain-kind-yes : t .kind ≡ Kind.NAME → isPlain s t ≡ true
+  plain-kind-yes h = sym (plain-kind h)
 
   pub plain-yes : (b : Bool) → b ≡ isPlain s t → b ≡ true → isPlain s t ≡ true
   plain-yes b be y = sym be ∙ y

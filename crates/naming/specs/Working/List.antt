@@ -1,4 +1,5 @@
 -- Working definitions: licensees one by one and in lists, written as instructions. Assumes nothing.
+use mathlib.Core.Path.{_≡_}
 use mathlib.Core.Bool.{Bool, true, false}
 use mathlib.Core.List.{List, [], _∷_}
 use Prim.Native.Nat.{ℕ, _+_, _-_}
@@ -14,11 +15,13 @@ use Rattle.compliance.specs.Codes.{kOfCode}
 use Rattle.syntax.specs.Parsed.{refusal}
 use Rattle.conditions.specs.Table.{beginsString}
 use Rattle.conditions.specs.Word.{nextAt}
-use Rattle.fields.specs.Working.List.{above, pushed}
+use Rattle.naming.specs.Working.Code.{above, pushed}
+use Rattle.naming.specs.Working.Whole.{inner}
+use Rattle.index.specs.Working.Entering.{enterIn}
 use Rattle.naming.specs.String.{plainFrom, nestOf}
 use Rattle.naming.specs.Licensees.{after}
 use Rattle.naming.specs.Working.Faults.{against, firstOf}
-use Rattle.naming.specs.Working.Identifying.{Sight, Done, named, stringNamed, isPlain, plainNamed}
+use Rattle.naming.specs.Working.Identifying.{Sight, Done, named, ofKept, stringNamed, isPlain, plainNamed}
 use Rattle.naming.specs.declared.fault.Fault.{Fault}
 use Rattle.naming.specs.declared.identifier.Named.{Named}
 use Rattle.naming.specs.declared.identifier.Named.the-variants.{At, Nobody, Aside as Refused}
@@ -67,6 +70,12 @@ beforeIn s look pool places code st t n =
     pick (leb mostLicensees (st .listed)) (ran (Aside 7 (t .start)) pool places code)
     (onNamed code st (t .start) (plainNamed s look pool places (st .count) (st .end) t n))
 
+-- a clear literal alone, before the token n
+unfoldable pub literalIn : List ℕ → List ℕ → List ℕ → List ℕ → State → ℕ → ℕ → Token → Ran
+literalIn s pool places code st start stop n =
+    pick (leb mostLicensees (st .listed)) (ran (Aside 7 start) pool places code)
+    (onNamed code st 0 (ofKept n (enterIn pool places (st .count) (st .end) (inner s start stop))))
+
 -- is a licensee with its first token at p one too many?
 unfoldable pub isOver : ℕ → ℕ → Bool
 isOver listed k = pick (leb mostLicensees listed) (beginsString k) false
@@ -114,6 +123,15 @@ listTurn s look left k before (st, t, pool, places, code) = onItem s k before st
 unfoldable pub listIn : List ℕ → Sight → ℕ → ℕ → ℕ → List ℕ → List ℕ → List ℕ → State → Token → Ran
 listIn s look left k before pool places code st t =
     loop (λ x. mostLicensees - x .0 .listed) (λ x. ran (Aside 0 0) (x .2) (x .3) (x .4)) (listTurn s look left k before) (st, t, pool, places, code)
+
+-- what comes of a list that is read this far
+abbrev pub resumed : List ℕ → Sight → ℕ → ℕ → ℕ → Ran → Ran
+resumed s look left k before (ran (Aside r p) pool places code) = ran (Aside r p) pool places code
+resumed s look left k before (ran (On u t) pool places code) = listIn s look left k before pool places code u t
+
+-- read this far, the list gives what it gives from the licensee t on
+pub record Leads (s pool places code : List ℕ) (st : State) (t : Token) (x : Ran) : Type 0 where
+  pub leads : (look : Sight) (left k before : ℕ) → resumed s look left k before x ≡ listIn s look left k before pool places code st t
 
 unfoldable pub openedIn : ℕ → List ℕ → Sight → ℕ → List ℕ → List ℕ → List ℕ → State → Token → Ran
 openedIn left s look k pool places code st t =

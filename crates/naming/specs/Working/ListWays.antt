@@ -2,13 +2,16 @@
 use mathlib.Core.Path.{_≡_, refl, sym, ap, _∙_}
 use mathlib.Core.Bool.{Bool, true, false}
 use mathlib.Core.List.{List, []}
-use Prim.Native.Nat.{ℕ, zero, suc, _+_, _-_, _<_, _≤_}
+use Prim.Native.Nat.{ℕ, zero, suc, _+_, _-_, _^_, _<_, _≤_}
 use native.Mathlib.Omega.{arith}
 use lib.Dec.{eqb, leb, ltb}
 use lib.ListN.{length, set, take, drop, length-drop}
 use lib.Seq.{length-take-le}
-use borrow.Author.Tests.{lt-ltb, le-ltb, le-leb, lt-leb, eq-eqb, ne-eqb}
-use Rattle.text.specs.Choice.{split}
+use borrow.Author.Tests.{lt-ltb, le-ltb, le-leb, lt-leb, eq-eqb, ne-eqb, eqb-true}
+use mir.Syntax.{w64}
+use mir.Val.{Fits}
+use Rattle.text.specs.Choice.{pick, split, clash}
+use Rattle.naming.specs.Working.Whole.{whole-some, whole-fits, whole-from, whole-within}
 use Rattle.text.specs.Loop.{loop-next, loop-done}
 use Rattle.limits.specs.Limits.{mostLicensees}
 use Rattle.lexical.specs.Kind
@@ -18,18 +21,18 @@ use Rattle.lexical.specs.Token.{token}
 use Rattle.lexical.specs.declared.token.Token.{Token}
 use Rattle.compliance.specs.Codes.{kOfCode}
 use Rattle.syntax.specs.Parsed.{refusal}
-use Rattle.fields.specs.Working.List.{above, pushed}
+use Rattle.naming.specs.Working.Code.{above, pushed}
 use Rattle.conditions.specs.Table.{beginsString}
 use Rattle.conditions.specs.Word.{nextAt}
 use Rattle.naming.specs.String.{plainFrom, nestOf}
 use Rattle.naming.specs.Working.Faults.{against, firstOf}
-use Rattle.naming.specs.Working.Identifying.{Sight, Done, named, ofNumber, enteredIn, stringNamed, isPlain, plainNamed, plain-at, plain-nobody}
+use Rattle.naming.specs.Working.Identifying.{Sight, sight, Done, named, ofNumber, ofKept, enteredIn, stringNamed, isPlain, plainNamed, plain-at, plain-nobody}
 use Rattle.limits.specs.Limits.{mostIdentifier}
-use Rattle.fields.specs.Working.Whole.{whole, inner, Whole, whole-is}
-use Rattle.index.specs.Working.Entering.{numbered, enterIn}
+use Rattle.naming.specs.Working.Whole.{whole, wholeAt, inner, Whole, whole-is}
+use Rattle.index.specs.Working.Entering.{Kept, numbered, enterIn}
 use Rattle.index.specs.declared.Numbered.{Numbered}
 use Rattle.index.specs.declared.Numbered.the-variants.{At as Known, Full}
-use Rattle.naming.specs.Working.List.{Ran, ran, Wrote, wrote, refusedLicensed, sized, stateOf, placedIn, onNamed, beforeIn, isOver, stringIn, licenseeIn, itemsOf, listedIn, onWrote, listIn, openedIn, thresholdIn}
+use Rattle.naming.specs.Working.List.{Ran, ran, Wrote, wrote, refusedLicensed, sized, stateOf, placedIn, onNamed, beforeIn, literalIn, Leads, resumed, isOver, stringIn, licenseeIn, itemsOf, listedIn, onWrote, listIn, openedIn, thresholdIn}
 use Rattle.naming.specs.declared.fault.Fault.{Fault}
 use Rattle.naming.specs.declared.identifier.Named.{Named}
 use Rattle.naming.specs.declared.identifier.Named.the-variants.{At, Nobody, Aside as Refused}
@@ -131,12 +134,13 @@ unfolding ofNumber placedIn
 any-place code st a b n Full = refl
 any-place code st a b n (Known i c m) = refl
 
--- `licensee_before`
-module _ (s : List ℕ) (look : Sight) (pool places code : List ℕ) (st : State) (t n : Token) where
-  pub before-most : mostLicensees ≤ st .listed → ran (Aside 7 (t .start)) pool places code ≡ beforeIn s look pool places code st t n
+-- `name_before`
+module _ (s : List ℕ) (look : Sight) (pool places code : List ℕ) (st : State) (k start stop : ℕ) (n : Token) where
+  pub before-most : mostLicensees ≤ st .listed → ran (Aside 7 start) pool places code ≡ beforeIn s look pool places code st (token k start stop) n
   unfolding beforeIn
   before-most h = rw (le-leb _ _ h)
 
+module _ (s : List ℕ) (look : Sight) (pool places code : List ℕ) (st : State) (t n : Token) where
   pub before-placed : st .listed < mostLicensees → (e : Named) (p q : List ℕ) → named e p q ≡ plainNamed s look pool places (st .count) (st .end) t n
       → (x : Licensed) (m : List ℕ) → wrote x m ≡ placedIn code st (t .start) e → ran x p q m ≡ beforeIn s look pool places code st t n
   unfolding beforeIn
@@ -150,15 +154,72 @@ inner-long s t h =
     = length-take-le (t .end - 1 - (t .start + 1)) (drop (t .start + 1) s) (rw (length-drop (t .start + 1) s) (omega (arith, is .inText))) in
     ((λ z. let no : ⊥ = omega (arith, z, long, is .some) in no), omega (arith, long, is .few))
 
-module _ (s : List ℕ) (look : Sight) (pool places code : List ℕ) (st : State) (t n : Token) where
-  pub before-literal : st .listed < mostLicensees → (t .kind ≡ Kind.NAME → ⊥) → isPlain s t ≡ true → (e : Numbered) (p q : List ℕ)
-      → numbered e p q ≡ enterIn pool places (st .count) (st .end) (inner s (t .start) (t .end))
-      → (x : Licensed) (m : List ℕ) → wrote x m ≡ placedIn code st 0 (ofNumber n e) → ran x p q m ≡ beforeIn s look pool places code st t n
-  unfolding beforeIn plainNamed enteredIn isPlain
-  before-literal h nn is e p q ee x m we =
-      let w : whole s t ≡ true = rw (ne-eqb _ _ nn) at is in
-      let l : _ = inner-long s t w in
-      rw (lt-leb _ _ h, ne-eqb _ _ nn, ne-eqb _ _ (l .0), le-ltb _ _ (l .1), ← ee, any-place code st (t .start) 0 n e, ← we)
+-- `literal_before`
+module _ (s pool places code : List ℕ) (st : State) (start stop : ℕ) (n : Token) where
+  pub literal-most : mostLicensees ≤ st .listed → ran (Aside 7 start) pool places code ≡ literalIn s pool places code st start stop n
+  unfolding literalIn
+  literal-most h = rw (le-leb _ _ h)
+
+  pub literal-placed : st .listed < mostLicensees → (e : Numbered) (p q : List ℕ) → numbered e p q ≡ enterIn pool places (st .count) (st .end) (inner s start stop)
+      → (x : Licensed) (m : List ℕ) → wrote x m ≡ placedIn code st 0 (ofNumber n e) → ran x p q m ≡ literalIn s pool places code st start stop n
+  unfolding literalIn
+  literal-placed h e p q ee x m we = rw (lt-leb _ _ h, ← ee, ← we)
+
+module _ (s : List ℕ) (start stop : ℕ) (is : wholeAt s start stop ≡ true) where
+  literal : Token
+  literal = token Kind.LITERAL start stop
+
+  as-token : true ≡ whole s literal
+  unfolding whole literal
+  as-token = sym is
+
+  pub literal-some : 1 ≤ stop
+  unfolding literal
+  literal-some = whole-some s literal true as-token refl
+
+  pub literal-fits : length s < 2 ^ 64 → Fits w64 (start + 1)
+  unfolding literal
+  literal-fits l = whole-fits s literal true as-token refl l
+
+  pub literal-from : start + 1 ≤ stop - 1
+  unfolding literal
+  literal-from = whole-from s literal true as-token refl
+
+  pub literal-within : stop - 1 ≤ length s
+  unfolding literal
+  literal-within = whole-within s literal true as-token refl
+
+-- where it is asked for
+module _ (s : List ℕ) (t : Token) where
+  pub whole-asked : whole s t ≡ true → wholeAt s (t .start) (t .end) ≡ true
+  unfolding whole
+  whole-asked h = split (eqb (t .kind) Kind.LITERAL) (λ e. rw e at h) (λ e. clash {b = false} (rw e at h) refl)
+
+  whole-kind : whole s t ≡ true → t .kind ≡ Kind.LITERAL
+  unfolding whole
+  whole-kind h = split (eqb (t .kind) Kind.LITERAL) (λ e. eqb-true _ _ e) (λ e. clash {b = false} (rw e at h) refl)
+
+  plain-whole : (t .kind ≡ Kind.NAME → ⊥) → isPlain s t ≡ true → whole s t ≡ true
+  unfolding isPlain
+  plain-whole nn is = rw (ne-eqb _ _ nn) at is
+
+  pub plain-asked : (b : Bool) → b ≡ isPlain s t → b ≡ true → (t .kind ≡ Kind.NAME → ⊥) → wholeAt s (t .start) (t .end) ≡ true
+  plain-asked b be y nn = whole-asked (plain-whole nn (sym be ∙ y))
+
+  pub literal-asked : (b : Bool) → b ≡ whole s t → b ≡ true → wholeAt s (t .start) (t .end) ≡ true
+  literal-asked b be y = whole-asked (sym be ∙ y)
+
+-- it is what any plain token is
+pub literal-before : (s : List ℕ) (look : Sight) (pool places code : List ℕ) (st : State) (t n : Token) → (t .kind ≡ Kind.NAME → ⊥) → isPlain s t ≡ true
+    → literalIn s pool places code st (t .start) (t .end) n ≡ beforeIn s look pool places code st t n
+unfolding literalIn beforeIn plainNamed enteredIn
+literal-before s look pool places code st t n nn is =
+    let w : whole s t ≡ true = plain-whole s t nn is in
+    let l : _ = inner-long s t w in
+    rw (ne-eqb _ _ nn, ne-eqb _ _ (l .0), le-ltb _ _ (l .1)) (ap (λ (x : Ran). pick (leb mostLicensees (st .listed)) (ran (Aside 7 (t .start)) pool places code) x) (anywhere (enterIn pool places (st .count) (st .end) (inner s (t .start) (t .end)))))
+  where
+    anywhere : (e : Kept) → onNamed code st 0 (ofKept n e) ≡ onNamed code st (t .start) (ofKept n e)
+    anywhere (numbered e p q) = ap (onWrote p q) (any-place code st 0 (t .start) n e)
 
 -- the token behind such a licensee
 behind-placed : (code : List ℕ) (st : State) (place : ℕ) (n : Token) (e : Named) (u : State) (v : Token) (m : List ℕ) → ((i c d : ℕ) (o : Token) → e ≡ At i c d o → o ≡ n) → ((o : Token) → e ≡ Nobody o → o ≡ n)
@@ -217,9 +278,16 @@ module _ (s : List ℕ) (look : Sight) (pool places code : List ℕ) (st : State
     unfolding licenseeIn
     licensee-longer h re = rw (← be, y, ← ne, eq-eqb _ _ h) re
 
-    pub licensee-plain : (n .kind ≡ Kind.DOT → ⊥) → r ≡ beforeIn s look pool places code st t n → r ≡ licenseeIn s look pool places code st left t
-    unfolding licenseeIn
-    licensee-plain h re = rw (← be, y, ← ne, ne-eqb _ _ h) re
+    module _ (h : n .kind ≡ Kind.DOT → ⊥) where
+      pub licensee-plain : beforeIn s look pool places code st t n ≡ licenseeIn s look pool places code st left t
+      unfolding licenseeIn
+      licensee-plain = rw (← be, y, ← ne, ne-eqb _ _ h)
+
+      pub licensee-name : t .kind ≡ Kind.NAME → r ≡ beforeIn s look pool places code st (token Kind.NAME (t .start) (t .end)) (token (n .kind) (n .start) (n .end)) → r ≡ licenseeIn s look pool places code st left t
+      licensee-name k re = re ∙ ap (λ (x : ℕ). beforeIn s look pool places code st (token x (t .start) (t .end)) n) (sym k) ∙ licensee-plain
+
+      pub licensee-literal : (t .kind ≡ Kind.NAME → ⊥) → r ≡ literalIn s pool places code st (t .start) (t .end) (token (n .kind) (n .start) (n .end)) → r ≡ licenseeIn s look pool places code st left t
+      licensee-literal nn re = re ∙ literal-before s look pool places code st t n nn (sym be ∙ y) ∙ licensee-plain
 
 -- `items`
 module _ (before listed : ℕ) where
@@ -284,6 +352,65 @@ module _ (s : List ℕ) (look : Sight) (left k before : ℕ) (pool places code :
         pub item-less : y < x → 16 - u .listed < 16 - st .listed
         item-less g = omega (arith, xe, ye)
 
+-- `literals`
+pub leads-here : (s pool places code : List ℕ) (st : State) (t : Token) → Leads s pool places code st t (ran (On st t) pool places code)
+leads-here s pool places code st t = record { leads = λ look left k before. refl }
+
+-- its loop, with the invariant `Leads`
+module _ (s pool₀ places₀ code₀ : List ℕ) (st₀ : State) (t₀ : Token) (pool places code : List ℕ) (st : State) (t : Token)
+    (inv : Leads s pool₀ places₀ code₀ st₀ t₀ (ran (On st t) pool places code)) (b : Bool) (be : b ≡ whole s t) (y : b ≡ true)
+    (n : Token) (ne : n ≡ tokenAt s Kind.IN-FIELD (t .end)) (comma : n .kind ≡ Kind.COMMA)
+    (r : Licensed) (p q m : List ℕ) (re : ran r p q m ≡ literalIn s pool places code st (t .start) (t .end) (token (n .kind) (n .start) (n .end))) where
+  no-name : t .kind ≡ Kind.NAME → ⊥
+  no-name k = let z : _≡_ {A = ℕ} Kind.NAME Kind.LITERAL = sym k ∙ whole-kind s t (sym be ∙ y) in let no : ⊥ = omega (arith, z) in no
+
+  no-dot : n .kind ≡ Kind.DOT → ⊥
+  no-dot k = let z : _≡_ {A = ℕ} Kind.COMMA Kind.DOT = sym comma ∙ k in let no : ⊥ = omega (arith, z) in no
+
+  no-close : n .kind ≡ Kind.CLOSE → ⊥
+  no-close k = let z : _≡_ {A = ℕ} Kind.COMMA Kind.CLOSE = sym comma ∙ k in let no : ⊥ = omega (arith, z) in no
+
+  is-plain : true ≡ isPlain s t
+  unfolding isPlain
+  is-plain = rw (ne-eqb _ _ no-name) (sym (sym be ∙ y))
+
+  item : (look : Sight) (left : ℕ) → ran r p q m ≡ licenseeIn s look pool places code st left t
+  item look left = licensee-literal s look pool places code st left t (ran r p q m) true is-plain refl n ne no-dot no-name re
+
+  pub literals-aside : (x z : ℕ) → r ≡ Aside x z → Leads s pool₀ places₀ code₀ st₀ t₀ (ran (Aside x z) p q m)
+  literals-aside x z h = record {
+    leads = λ look left k before.
+        item-aside s look left k before pool places code st t _ (inv .leads look left k before) r p q m (item look left) x z h;
+  }
+
+  module _ (u : State) (v : Token) (rv : r ≡ On u v) where
+    same-next : v ≡ n
+    same-next = before-next s (sight [] [] [] [] []) pool places code st t n u v p q m
+        (rw (sym rv) (re ∙ literal-before s (sight [] [] [] [] []) pool places code st t n no-name (sym is-plain)))
+
+    next-comma : v .kind ≡ Kind.COMMA
+    next-comma = ap (λ (o : Token). o .kind) same-next ∙ comma
+
+    next-close : v .kind ≡ Kind.CLOSE → ⊥
+    next-close k = no-close (sym (ap (λ (o : Token). o .kind) same-next) ∙ k)
+
+    module _ (x z : ℕ) (xe : x ≡ 16 - st .listed) (ze : z ≡ 16 - u .listed) where
+      pub literals-stuck : x ≤ z → Leads s pool₀ places₀ code₀ st₀ t₀ (ran (Aside 0 0) p q m)
+      literals-stuck g = record {
+        leads = λ look left k before.
+            item-stuck s look left k before pool places code st t _ (inv .leads look left k before) r p q m (item look left) u v rv next-close next-comma x z xe ze g;
+      }
+
+      pub literals-more : (w : Token) → z < x → w ≡ tokenAt s Kind.IN-LICENSEES (n .end) → Leads s pool₀ places₀ code₀ st₀ t₀ (ran (On u w) p q m)
+      literals-more w g we = record {
+        leads = λ look left k before.
+            item-more s look left k before pool places code st t _ (inv .leads look left k before) r p q m (item look left) u v rv next-close next-comma x z xe ze w g
+            (we ∙ ap (λ (o : Token). tokenAt s Kind.IN-LICENSEES (o .end)) (sym same-next));
+      }
+
+      pub literals-less : z < x → 16 - u .listed < 16 - st .listed
+      literals-less g = omega (arith, xe, ze)
+
 -- `opened`
 module _ (left : ℕ) (s : List ℕ) (look : Sight) (k : ℕ) (pool places code : List ℕ) (st : State) (t : Token) where
   pub opened-not : (r : Licensed) → (t .kind ≡ Kind.OPEN → ⊥) → r ≡ refusedLicensed t → ran r pool places code ≡ openedIn left s look k pool places code st t
@@ -295,10 +422,17 @@ module _ (left : ℕ) (s : List ℕ) (look : Sight) (k : ℕ) (pool places code 
     unfolding openedIn
     opened-most z = simp (eq-eqb _ _ h, eq-eqb _ _ z)
 
-    pub opened-list : (n : Token) (r : Ran) → (left ≡ 0 → ⊥) → n ≡ tokenAt s Kind.IN-LICENSEES (t .end) → r ≡ listIn s look (left - 1) k (st .listed) pool places code st n
-        → r ≡ openedIn left s look k pool places code st t
-    unfolding openedIn
-    opened-list n r z ne re = re ∙ simp (eq-eqb _ _ h, ne-eqb _ _ z, ne)
+    module _ (z : left ≡ 0 → ⊥) (n : Token) (ne : n ≡ tokenAt s Kind.IN-LICENSEES (t .end)) where
+      all : listIn s look (left - 1) k (st .listed) pool places code st n ≡ openedIn left s look k pool places code st t
+      unfolding openedIn
+      all = simp (eq-eqb _ _ h, ne-eqb _ _ z, ne)
+
+      module _ (w : Licensed) (p q m : List ℕ) (we : Leads s pool places code st n (ran w p q m)) where
+        pub opened-aside : (x y : ℕ) → w ≡ Aside x y → ran (Aside x y) p q m ≡ openedIn left s look k pool places code st t
+        opened-aside x y e = ap (λ (v : Licensed). resumed s look (left - 1) k (st .listed) (ran v p q m)) (sym e) ∙ we .leads look (left - 1) k (st .listed) ∙ all
+
+        pub opened-list : (u : State) (v : Token) → w ≡ On u v → (r : Ran) → r ≡ listIn s look (left - 1) k (st .listed) p q m u v → r ≡ openedIn left s look k pool places code st t
+        opened-list u v e r re = re ∙ ap (λ (v : Licensed). resumed s look (left - 1) k (st .listed) (ran v p q m)) (sym e) ∙ we .leads look (left - 1) k (st .listed) ∙ all
 
 -- `threshold`
 module _ (left : ℕ) (s : List ℕ) (look : Sight) (pool places code : List ℕ) (st : State) (t : Token) (k : ℕ) (ke : k ≡ numberAt s (t .start) (t .end)) where

@@ -4,7 +4,7 @@ use Rattle.assertion.proofs.field.front.Tie as tie
 use Rattle.assertion.proofs.field.front.Reads as reads
 use Rattle.assertion.proofs.field.front.Lts as lts
 use Rattle.assertion.specs.Working.FieldWays.{front-all}
-use Rattle.fields.specs.Working.Identifying.{front-length}
+use Rattle.fields.specs.Working.Setting.{front-length}
 use Rattle.assertion.specs.Working.FieldWays.{front-short}
 
 returns : tie.Need-returns

@@ -1,6 +1,5 @@
 use Rattle.fields.proofs.constants.is_taken.Statement.{statement}
-use Rattle.fields.specs.Working.Identifying.{front-length}
-use Rattle.fields.specs.Working.Setting.{taken-is, taken-short}
+use Rattle.fields.specs.Working.Setting.{front-length, taken-is, taken-short}
 use borrow.Author.Needs.{needs}
 use Rattle.fields.proofs.constants.is_taken.Tie as tie
 use Rattle.fields.proofs.constants.is_taken.Reads as reads

@@ -4,7 +4,7 @@ use Rattle.naming.proofs.identifier.is_plain.Statement.{statement}
 use Rattle.naming.proofs.identifier.is_plain.Tie as tie
 use Rattle.naming.proofs.identifier.is_plain.Reads as reads
 use Rattle.naming.proofs.identifier.is_plain.Lts as lts
-use Rattle.fields.proofs.identifier.is_whole.Reads as is-whole-reads
+use Rattle.naming.proofs.whole.is_whole.Reads as is-whole-reads
 
 returns : tie.Need-returns
 returns c = search plain-kind

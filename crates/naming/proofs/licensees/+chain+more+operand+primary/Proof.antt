@@ -1,8 +1,9 @@
+use Rattle.naming.specs.Working.ListWays.{plain-asked}
 use lib.ListN.{length}
 use mathlib.Core.Path.{_≡_}
-use Rattle.naming.specs.Working.Identifying.{sight, plain-yes}
+use Rattle.naming.specs.Working.Identifying.{sight}
 use Rattle.naming.specs.Working.Chain.{moreAt}
-use Rattle.naming.specs.Working.ChainWays.{more-again, more-less, chain-aside, chain-on, more-aside, more-end, more-stuck, operand-chain, operand-primary, operand-single, primary-aside, primary-digits, primary-most, primary-open, primary-longer, primary-on, primary-one}
+use Rattle.naming.specs.Working.ChainWays.{more-again, more-less, chain-aside, chain-on, more-aside, more-end, more-stuck, operand-chain, operand-primary, operand-name, operand-literal, primary-aside, primary-digits, primary-most, primary-open, primary-longer, primary-on, primary-one}
 use borrow.Author.Needs.{needs}
 use Prim.Native.Nat.{ℕ, _-_, _+_, _*_, _<_}
 use borrow.Fn.Kinds.{In}
@@ -19,8 +20,8 @@ use Rattle.naming.proofs.licensees.+chain+more+operand+primary.Lts-oper
 use Rattle.naming.proofs.licensees.primary.Reads as primary
 use Rattle.naming.proofs.licensees.primary.Kinds as primary-kinds
 use Rattle.naming.proofs.licensees.+chain+more+operand+primary.Lts-primary as primary-lts
-use Rattle.fields.proofs.list.push.Reads as push-reads
-use Rattle.fields.proofs.list.rest.Reads as rest-reads
+use Rattle.naming.proofs.code.push.Reads as push-reads
+use Rattle.naming.proofs.code.rest.Reads as rest-reads
 use Rattle.lexical.proofs.token_at.Reads as token-at-reads
 use Rattle.naming.proofs.identifier.is_plain.Reads as is-plain-reads
 use Rattle.naming.proofs.licensees.closed.Reads as closed-reads
@@ -30,7 +31,8 @@ use Rattle.naming.proofs.licensees.is_single.Reads as is-single-reads
 use Rattle.naming.proofs.licensees.join_of.Reads as join-of-reads
 use Rattle.naming.proofs.licensees.joint_of.Reads as joint-of-reads
 use Rattle.naming.proofs.list.licensee.Reads as licensee-reads
-use Rattle.naming.proofs.list.licensee_before.Reads as licensee-before-reads
+use Rattle.naming.proofs.list.literal_before.Reads as literal-before-reads
+use Rattle.naming.proofs.list.name_before.Reads as name-before-reads
 use Rattle.naming.proofs.list.threshold.Reads as threshold-reads
 use Rattle.naming.proofs.licensees.+chain+more+operand+primary.{statement}
 use Rattle.naming.proofs.licensees.+chain+more+operand+primary.Tie.{close}
@@ -107,8 +109,10 @@ operand-claims t = (
   is-lone-reads.Learnt,
   is-plain-reads.Asked,
   is-plain-reads.Learnt,
-  licensee-before-reads.Asked,
-  licensee-before-reads.Learnt,
+  literal-before-reads.Asked,
+  literal-before-reads.Learnt,
+  name-before-reads.Asked,
+  name-before-reads.Learnt,
   chain-below t,
   chain.Post,
 )
@@ -272,8 +276,8 @@ operand-is-lone-requires t c κs = search needs
 operand-is-plain-requires : (t : ℕ) → operand-lts.Need-is-plain-requires (operand-claims t) (operand-at t) operand.Post
 operand-is-plain-requires t c κs = search needs
 
-operand-licensee-before-requires : (t : ℕ) → operand-lts.Need-licensee-before-requires (operand-claims t) (operand-at t) operand.Post
-operand-licensee-before-requires t c κs = search plain-yes
+operand-literal-before-requires : (t : ℕ) → operand-lts.Need-literal-before-requires (operand-claims t) (operand-at t) operand.Post
+operand-literal-before-requires t c κs = search plain-asked
 
 operand-same-length-4 : (t : ℕ) → operand-lts.Need-same-length-4 (operand-claims t) (operand-at t) operand.Post
 operand-same-length-4 t c = search needs
@@ -285,13 +289,10 @@ operand-same-length-6 : (t : ℕ) → operand-lts.Need-same-length-6 (operand-cl
 operand-same-length-6 t c = search needs
 
 operand-returns-2 : (t : ℕ) → operand-lts.Need-returns-2 (operand-claims t) (operand-at t) operand.Post
-operand-returns-2 t c = search operand-single
+operand-returns-2 t c = search operand-literal
 
-operand-sub-chain : (t : ℕ) → operand-lts.Need-sub-chain (operand-claims t) (operand-at t) operand.Post
-operand-sub-chain t c = search needs
-
-operand-chain-requires : (t : ℕ) → operand-lts.Need-chain-requires (operand-claims t) (operand-at t) operand.Post
-operand-chain-requires t c κs = search needs
+operand-name-before-requires : (t : ℕ) → operand-lts.Need-name-before-requires (operand-claims t) (operand-at t) operand.Post
+operand-name-before-requires t c κs = search needs
 
 operand-same-length-7 : (t : ℕ) → operand-lts.Need-same-length-7 (operand-claims t) (operand-at t) operand.Post
 operand-same-length-7 t c = search needs
@@ -303,7 +304,25 @@ operand-same-length-9 : (t : ℕ) → operand-lts.Need-same-length-9 (operand-cl
 operand-same-length-9 t c = search needs
 
 operand-returns-3 : (t : ℕ) → operand-lts.Need-returns-3 (operand-claims t) (operand-at t) operand.Post
-operand-returns-3 t c = search operand-chain
+operand-returns-3 t c = search operand-name
+
+operand-sub-chain : (t : ℕ) → operand-lts.Need-sub-chain (operand-claims t) (operand-at t) operand.Post
+operand-sub-chain t c = search needs
+
+operand-chain-requires : (t : ℕ) → operand-lts.Need-chain-requires (operand-claims t) (operand-at t) operand.Post
+operand-chain-requires t c κs = search needs
+
+operand-same-length-10 : (t : ℕ) → operand-lts.Need-same-length-10 (operand-claims t) (operand-at t) operand.Post
+operand-same-length-10 t c = search needs
+
+operand-same-length-11 : (t : ℕ) → operand-lts.Need-same-length-11 (operand-claims t) (operand-at t) operand.Post
+operand-same-length-11 t c = search needs
+
+operand-same-length-12 : (t : ℕ) → operand-lts.Need-same-length-12 (operand-claims t) (operand-at t) operand.Post
+operand-same-length-12 t c = search needs
+
+operand-returns-4 : (t : ℕ) → operand-lts.Need-returns-4 (operand-claims t) (operand-at t) operand.Post
+operand-returns-4 t c = search operand-chain
 
 primary-threshold-requires : (t : ℕ) → primary-lts.Need-threshold-requires (primary-claims t) (primary-at t) primary.Post
 primary-threshold-requires t c κs = search needs
@@ -485,8 +504,10 @@ pub +chain+more+operand+primary-spec : {M : Type 1} → statement M
       is-lone-reads.Learnt,
       is-plain-reads.Asked,
       is-plain-reads.Learnt,
-      licensee-before-reads.Asked,
-      licensee-before-reads.Learnt,
+      literal-before-reads.Asked,
+      literal-before-reads.Learnt,
+      name-before-reads.Asked,
+      name-before-reads.Learnt,
       chain-below t,
       chain.Post,
     )
@@ -501,17 +522,22 @@ pub +chain+more+operand+primary-spec : {M : Type 1} → statement M
     (operand-token-at-requires t)
     (operand-is-lone-requires t)
     (operand-is-plain-requires t)
-    (operand-licensee-before-requires t)
+    (operand-literal-before-requires t)
     (operand-same-length-4 t)
     (operand-same-length-5 t)
     (operand-same-length-6 t)
     (operand-returns-2 t)
-    (operand-sub-chain t)
-    (operand-chain-requires t)
+    (operand-name-before-requires t)
     (operand-same-length-7 t)
     (operand-same-length-8 t)
     (operand-same-length-9 t)
-    (operand-returns-3 t))
+    (operand-returns-3 t)
+    (operand-sub-chain t)
+    (operand-chain-requires t)
+    (operand-same-length-10 t)
+    (operand-same-length-11 t)
+    (operand-same-length-12 t)
+    (operand-returns-4 t))
     λ t. primary-lts.spec (
       threshold-reads.Asked,
       threshold-reads.Learnt,

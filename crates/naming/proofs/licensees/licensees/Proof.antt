@@ -4,7 +4,7 @@ use Rattle.naming.proofs.licensees.licensees.Statement.{statement}
 use Rattle.naming.proofs.licensees.licensees.Tie as tie
 use Rattle.naming.proofs.licensees.licensees.Reads as reads
 use Rattle.naming.proofs.licensees.licensees.Lts as lts
-use Rattle.fields.proofs.list.push.Reads as push-reads
+use Rattle.naming.proofs.code.push.Reads as push-reads
 use Rattle.fields.proofs.out.is_ending.Reads as is-ending-reads
 use Rattle.naming.proofs.fault.clear.Reads as clear-reads
 use Rattle.naming.proofs.licensees.chain.Reads as chain-reads

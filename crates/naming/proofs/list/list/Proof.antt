@@ -9,19 +9,18 @@ use Rattle.naming.proofs.list.list.Statement.{statement}
 use Rattle.naming.proofs.list.list.Tie as tie
 use Rattle.naming.proofs.list.list.Reads as reads
 use Rattle.naming.proofs.list.list.Lts as lts
-use Rattle.fields.proofs.list.rest.Reads as rest-reads
+use Rattle.naming.proofs.code.rest.Reads as rest-reads
 use Rattle.lexical.proofs.token_at.Reads as token-at-reads
 use Rattle.naming.proofs.list.licensee.Reads as licensee-reads
 use Rattle.naming.proofs.list.list_end.Reads as list-end-reads
 use Rattle.naming.proofs.list.refused.Reads as refused-reads
 
 abbrev Inv-loop : tie.InvT-loop
-Inv-loop s query consts values names constants pool₀ places₀ code₀ k st left state₀ t₀ pool places code state t =
-    (length pool ≡ length pool₀) × (length places ≡ length places₀) × (length code ≡ length code₀) × (listIn s (sight query consts values names constants) left k (st .listed) pool places code state t ≡ listIn s (sight query consts values names constants) left k (st .listed) pool₀ places₀ code₀ st t₀)
+Inv-loop s query consts values names constants pool₀ places₀ code₀ m state₀ t₀ pool places code state t =
+    (length pool ≡ length pool₀) × (length places ≡ length places₀) × (length code ≡ length code₀) × (listIn s (sight query consts values names constants) (m .left) (m .k) (m .before) pool places code state t ≡ listIn s (sight query consts values names constants) (m .left) (m .k) (m .before) pool₀ places₀ code₀ state₀ t₀)
 
 abbrev μ-loop : tie.MeasureT-loop
-μ-loop s query consts values names constants pool₀ places₀ code₀ k st left state₀ t₀ pool places code state t =
-    16 - state .listed
+μ-loop s query consts values names constants pool₀ places₀ code₀ m state₀ t₀ pool places code state t = 16 - state .listed
 
 loop-holds : tie.Need-loop-holds Inv-loop μ-loop
 loop-holds c = search needs

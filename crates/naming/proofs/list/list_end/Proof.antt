@@ -5,7 +5,7 @@ use Rattle.naming.proofs.list.list_end.Tie as tie
 use Rattle.naming.proofs.list.list_end.Reads as reads
 use Rattle.naming.proofs.list.list_end.Lts as lts
 use Rattle.compliance.proofs.machine.k_of.Reads as k-of-reads
-use Rattle.fields.proofs.list.push.Reads as push-reads
+use Rattle.naming.proofs.code.push.Reads as push-reads
 use Rattle.lexical.proofs.token_at.Reads as token-at-reads
 use Rattle.naming.proofs.list.byte.Reads as byte-reads
 use Rattle.naming.proofs.list.items.Reads as items-reads

@@ -4,7 +4,7 @@ use Rattle.naming.proofs.list.placed.Statement.{statement}
 use Rattle.naming.proofs.list.placed.Tie as tie
 use Rattle.naming.proofs.list.placed.Reads as reads
 use Rattle.naming.proofs.list.placed.Lts as lts
-use Rattle.fields.proofs.list.push.Reads as push-reads
+use Rattle.naming.proofs.code.push.Reads as push-reads
 use Rattle.naming.proofs.fault.earlier.Reads as earlier-reads
 use Rattle.naming.proofs.fault.fault_at.Reads as fault-at-reads
 use Rattle.naming.proofs.list.narrow.Reads as narrow-reads

@@ -4,7 +4,7 @@ use Rattle.naming.proofs.list.placed_number.Statement.{statement}
 use Rattle.naming.proofs.list.placed_number.Tie as tie
 use Rattle.naming.proofs.list.placed_number.Reads as reads
 use Rattle.naming.proofs.list.placed_number.Lts as lts
-use Rattle.fields.proofs.list.push.Reads as push-reads
+use Rattle.naming.proofs.code.push.Reads as push-reads
 use Rattle.naming.proofs.list.narrow.Reads as narrow-reads
 
 enum-told : tie.Need-enum-told
