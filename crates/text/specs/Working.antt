@@ -7,4 +7,3 @@ pub mod Holding
 pub mod Deciding
 pub mod Blocks
 pub mod Backward
-pub mod WordBlocks
