@@ -1,4 +1,4 @@
-// Byte strings: equality, order, copying, joining and decimal numbers, as the layers above need them.
+// Byte strings: equality, order, copying, joining, counted strings and decimal numbers, as the layers above need them.
 mod long;
 
 pub use long::copy_long;
@@ -14,7 +14,7 @@ ghost use Rattle.text.specs.Equal.{equal};
 ghost use Rattle.text.specs.Order.{order};
 ghost use Rattle.text.specs.Copy.{copied, put, copyAt};
 ghost use Rattle.text.specs.Class.{isDigit, isLetter, isWord, inClass};
-ghost use Rattle.text.specs.Counted.{pairAt, counted};
+ghost use Rattle.text.specs.Counted.{pairAt, counted, putPair, putCounted};
 ghost use Rattle.text.specs.Join.{joined};
 ghost use Rattle.text.specs.Digits.{digitsAt, value, limit};
 ghost use Rattle.text.specs.Decimal.{inRange, roundedDown, withFraction, unsigned, decimal};
@@ -331,6 +331,44 @@ pub fn counted_at(s: &[u8], at: usize) -> &[u8]
         return &s[..0];
     }
     &s[at..at + n]
+}
+
+// Writes a number below 65,536 in two bytes, big-endian, at a place, and tells whether it did; where it doesn't fit, nothing is written.
+pub fn put_pair(dst: &mut [u8], at: usize, n: usize) -> bool
+    ensures { λ r. ⌜ copied r (now (dst .exit)) ≡ putPair (now (dst .entry)) at n ⌝ }
+{
+    if 65535 < n {
+        return false;
+    }
+    if dst.len() < at {
+        return false;
+    }
+    if dst.len() - at < 2 {
+        return false;
+    }
+    dst[at] = (n / 256 % 256) as u8;
+    dst[at + 1] = (n % 256) as u8;
+    true
+}
+
+// Writes a string behind its two-byte length at a place, and tells whether it did; where it doesn't fit, nothing is written.
+pub fn put_counted(dst: &mut [u8], at: usize, b: &[u8]) -> bool
+    ensures { λ r. ⌜ copied r (now (dst .exit)) ≡ putCounted (now (dst .entry)) at (now (b .entry)) ⌝ }
+{
+    if 65535 < b.len() {
+        return false;
+    }
+    if dst.len() < at {
+        return false;
+    }
+    if dst.len() - at < 2 {
+        return false;
+    }
+    if copy_at(dst, at + 2, b) {
+        put_pair(dst, at, b.len());
+        return true;
+    }
+    false
 }
 
 // The length of the comma before string i: none before the first.
