@@ -2,7 +2,6 @@ pub mod Stepping
 pub mod Quick
 pub mod Alike
 pub mod Joining
-pub mod Rating
 pub mod Passing
 pub mod Ending
 pub mod Running
