@@ -7,7 +7,7 @@ use Prim.Native.String.{String}
 use Rattle.record.specs.Query.{Query, Attribute}
 use Rattle.compliance.specs.Highest.{highest}
 use Rattle.expression.specs.Value.{bytesOf}
-use Rattle.keynote.specs.Answer.{worth, ranked, reading, readings, keptOf, system, classOf}
+use Rattle.keynote.specs.Answer.{worth, ranked, reading, readings, keptOf, system, classGiven}
 use Rattle.keynote.specs.Report.{reasonOf, placeOf}
 use Rattle.keynote.specs.Rulings.{bytes, set}
 use Rattle.text.specs.Counted as TextCounted
@@ -77,7 +77,7 @@ long n k v = record { name = bytes n; value = times k v }
 
 -- reasons, places and the rank
 unfoldable pub tells : Query → List ℕ × List ℕ × ℕ
-tells q = (map reasonOf (readings q), map placeOf (readings q), classOf q)
+tells q = (map reasonOf (readings q), map placeOf (readings q), classGiven q)
 
 -- values, requesters, attributes, and texts of one standing
 unfoldable pub asked : List String → List String → List Attribute → ℕ → List (List ℕ) → List ℕ × List ℕ × ℕ
@@ -211,7 +211,7 @@ pub record NamingRulings : Type 0 where
   pub b42-05 : standing 2 [] (heading ++ bytes "?") ≡ aside 3 21
 
 pub naming-rulings : NamingRulings
-unfolding heading times long asked standing tells SyntaxCode.nameAt TextClass.isLetter TextClass.isWord FieldsConstants.isSet FieldsConstants.reserved FieldsConstants.constantValue FieldsConstants.assigned FieldsConstants.nameFault FieldsConstants.constant FieldsConstants.constantsFrom FieldsParsed.wordOf TextOrder.order ExpressionNames.settingOr ExpressionNames.fromQuery ExpressionNames.lookup set bytes worth ranked reading readings keptOf system classOf reasonOf highest TextClass.isDigit TextClass.inClass TextDecimal.inRange TextDecimal.roundedDown TextDecimal.withFraction TextDecimal.unsigned TextDecimal.decimal TextDigits.valueFrom TextDigits.value TextEqual.equal TextLoop.turns TextLoop.loop TextScan.past LexicalClass.classOf LexicalKind.opened LexicalLabel.labelKind LexicalLine.visible LexicalLine.inLine LexicalLine.blankTo LexicalLine.lineAt LexicalLine.linesFrom LexicalLine.tokenAt LexicalLiteral.units LexicalLiteral.unitsAt LexicalLiteral.literalEnd LexicalLiteral.decodedAt LexicalNumber.decimal LexicalNumber.held LexicalNumber.numberAt LexicalOperator.equalPair LexicalOperator.pairOf LexicalOperator.markKind LexicalOperator.isOf LexicalOperator.operatorKind LexicalRun.hasClass LexicalRun.inRun LexicalToken.widthOf LexicalToken.operatorAt LexicalToken.operatorToken LexicalToken.literalToken LexicalToken.floatEnd LexicalToken.numberToken LexicalToken.tokenFrom LexicalUnit.barred LexicalUnit.unitAt LexicalWord.lower LexicalWord.stands LexicalWord.spells FieldsParsed.ending AssertionLabels.without AssertionLabels.total ConditionsExpression.readExpression ConditionsOperand.readLiteral ConditionsOperand.readName ConditionsOperand.readDigits ConditionsOperand.readLeaf ConditionsOperand.settledTree ConditionsOperand.applied ConditionsProgram.ending ConditionsProgram.valuing ConditionsProgram.stopping ConditionsProgram.readProgram ConditionsProgram.readBlock ConditionsTable.beginsString ConditionsTable.beginsNumber ConditionsTable.beginsFloat ConditionsTable.allows ConditionsTable.comparison ConditionsTable.numberOperator ConditionsTable.textOperator ConditionsTable.testOperator ConditionsTable.operator ConditionsTable.prefixOperator ConditionsTable.levelOf ConditionsTable.operandLevel ConditionsTable.operandWant ConditionsTable.rightWant ConditionsTable.rightLevel ConditionsTable.binds ConditionsTable.insideLevel ConditionsTable.fits ConditionsTable.stops ConditionsWord.wordSort SyntaxCode.numberAt ComplianceLicensees.value ComplianceLicensees.licensed ComplianceLicensees.named ComplianceLicensees.licensees ComplianceReach.licenseesOf ComplianceReach.reachFrom ComplianceReach.namings ComplianceReach.reach ComplianceRounds.mentioned ComplianceRounds.rank ComplianceSystem.direct ComplianceSystem.asserted ComplianceSystem.delegated ComplianceSystem.equations ComplianceSystem.round PrincipalMembers.member PrincipalCanonical.fold PrincipalCanonical.folded PrincipalCanonical.front PrincipalCanonical.behind PrincipalCanonical.isHex PrincipalCanonical.canonicalWith PrincipalCanonical.canonical PrincipalPrincipal.same PrincipalPrincipal.policy ExpressionConditions.evaluate ExpressionConditions.indexFrom ExpressionConditions.rankOf ExpressionConditions.top ExpressionConditions.clause ExpressionIntegers.ranged ExpressionIntegers.negated ExpressionIntegers.differ ExpressionIntegers.over ExpressionIntegers.raisedTo ExpressionIntegers.odd ExpressionIntegers.signOfPower ExpressionIntegers.power ExpressionIntegers.sizes ExpressionIntegers.compared ExpressionOperations.held ExpressionOperations.relates ExpressionOperations.onTexts ExpressionOperations.onIntegers ExpressionOperations.binaryOf ExpressionOperations.converted ExpressionOperations.negative ExpressionOperations.opposite ExpressionOperations.unaryOf ExpressionNames.environment placeOf TextCounted.part TextCounted.pairAt SyntaxParsed.refusal LexicalReason.reasonOf TextClass.isPlain NamingSource.sources NamingString.plainFrom NamingString.source NamingAuthorizer.authorizer NamingLicensees.licensee NamingLicensees.listed NamingLicensees.listFrom NamingLicensees.listOpened NamingLicensees.ofRead NamingLicensees.threshold NamingLicensees.closed NamingLicensees.primary NamingLicensees.expression NamingLicensees.licensees NamingNaming.identified NamingNaming.people NamingNaming.author NamingNaming.licensed NamingFault.sizeFault NamingFault.sourceFault NamingFault.policyFault NamingFault.authorFault NamingFault.firstFault NamingFault.licenseesFault AssertionForm.finished AssertionForm.field AssertionForm.fieldsFrom AssertionForm.readAssertion AssertionResolved.meant AssertionResolved.faultOf bytesOf FieldsSignature.signature TextJoin.joined TextJoin.followed ConditionsExpression.readChain LexicalLine.indented LexicalLine.restOfLine
+unfolding heading times long asked standing tells SyntaxCode.nameAt TextClass.isLetter TextClass.isWord FieldsConstants.isSet FieldsConstants.reserved FieldsConstants.constantValue FieldsConstants.assigned FieldsConstants.nameFault FieldsConstants.constant FieldsConstants.constantsFrom FieldsParsed.wordOf TextOrder.order ExpressionNames.settingOr ExpressionNames.fromQuery ExpressionNames.lookup set bytes worth ranked reading readings keptOf system classGiven reasonOf highest TextClass.isDigit TextClass.inClass TextDecimal.inRange TextDecimal.roundedDown TextDecimal.withFraction TextDecimal.unsigned TextDecimal.decimal TextDigits.valueFrom TextDigits.value TextEqual.equal TextLoop.turns TextLoop.loop TextScan.past LexicalClass.classOf LexicalKind.opened LexicalLabel.labelKind LexicalLine.visible LexicalLine.inLine LexicalLine.blankTo LexicalLine.lineAt LexicalLine.linesFrom LexicalLine.tokenAt LexicalLiteral.units LexicalLiteral.unitsAt LexicalLiteral.literalEnd LexicalLiteral.decodedAt LexicalNumber.decimal LexicalNumber.held LexicalNumber.numberAt LexicalOperator.equalPair LexicalOperator.pairOf LexicalOperator.markKind LexicalOperator.isOf LexicalOperator.operatorKind LexicalRun.hasClass LexicalRun.inRun LexicalToken.widthOf LexicalToken.operatorAt LexicalToken.operatorToken LexicalToken.literalToken LexicalToken.floatEnd LexicalToken.numberToken LexicalToken.tokenFrom LexicalUnit.barred LexicalUnit.unitAt LexicalWord.lower LexicalWord.stands LexicalWord.spells FieldsParsed.ending AssertionLabels.without AssertionLabels.total ConditionsExpression.readExpression ConditionsOperand.readLiteral ConditionsOperand.readName ConditionsOperand.readDigits ConditionsOperand.readLeaf ConditionsOperand.settledTree ConditionsOperand.applied ConditionsProgram.ending ConditionsProgram.valuing ConditionsProgram.stopping ConditionsProgram.readProgram ConditionsProgram.readBlock ConditionsTable.beginsString ConditionsTable.beginsNumber ConditionsTable.beginsFloat ConditionsTable.allows ConditionsTable.comparison ConditionsTable.numberOperator ConditionsTable.textOperator ConditionsTable.testOperator ConditionsTable.operator ConditionsTable.prefixOperator ConditionsTable.levelOf ConditionsTable.operandLevel ConditionsTable.operandWant ConditionsTable.rightWant ConditionsTable.rightLevel ConditionsTable.binds ConditionsTable.insideLevel ConditionsTable.fits ConditionsTable.stops ConditionsWord.wordSort SyntaxCode.numberAt ComplianceLicensees.value ComplianceLicensees.licensed ComplianceLicensees.named ComplianceLicensees.licensees ComplianceReach.licenseesOf ComplianceReach.reachFrom ComplianceReach.namings ComplianceReach.reach ComplianceRounds.mentioned ComplianceRounds.rank ComplianceSystem.direct ComplianceSystem.asserted ComplianceSystem.delegated ComplianceSystem.equations ComplianceSystem.round PrincipalMembers.member PrincipalCanonical.fold PrincipalCanonical.folded PrincipalCanonical.front PrincipalCanonical.behind PrincipalCanonical.isHex PrincipalCanonical.canonicalWith PrincipalCanonical.canonical PrincipalPrincipal.same PrincipalPrincipal.policy ExpressionConditions.evaluate ExpressionConditions.indexFrom ExpressionConditions.rankOf ExpressionConditions.top ExpressionConditions.clause ExpressionIntegers.ranged ExpressionIntegers.negated ExpressionIntegers.differ ExpressionIntegers.over ExpressionIntegers.raisedTo ExpressionIntegers.odd ExpressionIntegers.signOfPower ExpressionIntegers.power ExpressionIntegers.sizes ExpressionIntegers.compared ExpressionOperations.held ExpressionOperations.relates ExpressionOperations.onTexts ExpressionOperations.onIntegers ExpressionOperations.binaryOf ExpressionOperations.converted ExpressionOperations.negative ExpressionOperations.opposite ExpressionOperations.unaryOf ExpressionNames.environment placeOf TextCounted.part TextCounted.pairAt SyntaxParsed.refusal LexicalReason.reasonOf TextClass.isPlain NamingSource.sources NamingString.plainFrom NamingString.source NamingAuthorizer.authorizer NamingLicensees.licensee NamingLicensees.listed NamingLicensees.listFrom NamingLicensees.listOpened NamingLicensees.ofRead NamingLicensees.threshold NamingLicensees.closed NamingLicensees.primary NamingLicensees.expression NamingLicensees.licensees NamingNaming.identified NamingNaming.people NamingNaming.author NamingNaming.licensed NamingFault.sizeFault NamingFault.sourceFault NamingFault.policyFault NamingFault.authorFault NamingFault.firstFault NamingFault.licenseesFault AssertionForm.finished AssertionForm.field AssertionForm.fieldsFrom AssertionForm.readAssertion AssertionResolved.meant AssertionResolved.faultOf bytesOf FieldsSignature.signature TextJoin.joined TextJoin.followed ConditionsExpression.readChain LexicalLine.indented LexicalLine.restOfLine
 naming-rulings = record {
   r01-1 = refl;
   r01-2 = refl;

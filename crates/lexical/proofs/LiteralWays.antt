@@ -15,9 +15,9 @@ use borrow.Author.Tests.{eqb-true, eqb-false, lt-ltb, le-ltb, le-leb, eq-eqb, ne
 use Rattle.text.specs.Choice.{split}
 use Rattle.lexical.specs.declared.unit.Unit.{Unit}
 use Rattle.lexical.specs.Unit.{GIVES, CLOSES, barred, unitAt}
-use Rattle.lexical.specs.UnitLaws.{unit-moves}
+use Rattle.lexical.specs.Theorems.UnitLaws.{unit-moves}
 use Rattle.lexical.specs.Literal.{units, unitsAt, given, literalEnd, decodedAt}
-use Rattle.lexical.specs.LiteralLaws.{units-more, units-last, units-end}
+use Rattle.lexical.specs.Theorems.LiteralLaws.{units-more, units-last, units-end}
 use Rattle.lexical.specs.Decode.{ran, decodeInto, within, decodeWithin}
 use Rattle.lexical.specs.declared.literal.Decoded.the-variants.{Put, Long, Full}
 use Rattle.text.specs.Scan.{past, past-end}

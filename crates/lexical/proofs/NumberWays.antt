@@ -11,8 +11,8 @@ use lib.Seq.{slice, drop-cons, getD-take, getD-drop}
 use mir.Syntax.{w8}
 use mir.Val.{Fits}
 use borrow.Author.Tests.{le-leb, lt-leb, leb-true, leb-false}
-use Rattle.lexical.specs.Bounds.{chosen}
-use Rattle.lexical.specs.UnitLaws.{Bytes}
+use Rattle.lexical.specs.Theorems.Bounds.{chosen}
+use Rattle.lexical.specs.Theorems.UnitLaws.{Bytes}
 use Rattle.lexical.specs.Number.{LIMIT, decimal, held, numberAt}
 
 -- two numbers that are one below the limit

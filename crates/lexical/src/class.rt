@@ -309,7 +309,7 @@ pub fn is_blank(b: u8) -> bool
 }
 
 // Is it a letter or the underscore?
-pub fn is_letter(b: u8) -> bool
+pub fn is_name_letter(b: u8) -> bool
     ensures { λ r. ⌜ r ≡ letter b ⌝ }
 {
     if is_within(b'a', b'z', b) {

@@ -10,3 +10,8 @@ pub mod Decimals
 pub mod Widths
 pub mod Stacking
 pub mod Giving
+pub mod Machine
+pub mod Left
+pub mod Live
+pub mod Need
+pub mod Given

@@ -44,7 +44,7 @@ pub const DIGIT: u8 = 1;
 pub const WORD: u8 = 2;
 
 // Numbers are told apart up to here.
-pub const LIMIT: u64 = 4294967295;
+pub const MOST_HELD: u64 = 4294967295;
 
 const ZERO: Integer = Integer {
     negative: false,
@@ -465,11 +465,11 @@ fn hold_digit(v: u64, b: u8) -> u64
     ensures { λ r. ⌜ r ≡ hold v b ⌝ }
 {
     if 429496729 < v {
-        return LIMIT;
+        return MOST_HELD;
     }
     let d = digit_value(b);
-    if LIMIT < v * 10 + d {
-        return LIMIT;
+    if MOST_HELD < v * 10 + d {
+        return MOST_HELD;
     }
     v * 10 + d
 }

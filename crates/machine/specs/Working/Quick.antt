@@ -21,8 +21,8 @@ use Rattle.expression.specs.Working.Clauses.{applied, combined}
 use Rattle.expression.specs.declared.value.Operand.{Operand}
 use Rattle.expression.specs.declared.value.Operand.the-variants.{Number, Test, Rank}
 use Rattle.expression.specs.declared.value.Packed.{Packed}
-use Rattle.machine.specs.Machine.{on, placed, topOf, below, unaryOn, unaryStep, settledOn, binaryOn, binaryStep, raised}
-use Rattle.machine.specs.Live.{Live, Landed, landed, putAt}
+use Rattle.machine.specs.Working.Machine.{on, placed, topOf, below, unaryOn, unaryStep, settledOn, binaryOn, binaryStep, raised}
+use Rattle.machine.specs.Working.Live.{Live, Landed, landed, putAt}
 use Rattle.machine.specs.Working.Widths.{front-combined}
 use Rattle.machine.specs.Working.Stacking.{pair, topped, width-is, place-is, binary-is}
 use Rattle.machine.specs.Working.Stepping.{put-live, top-some, below-is, binary-two}

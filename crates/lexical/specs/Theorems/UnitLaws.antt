@@ -9,7 +9,7 @@ use lib.ListN.{length, getD}
 use borrow.Author.Tests.{ltb-false, eq-eqb, leb-true, leb-false, eqb-true, eqb-false}
 use Rattle.text.specs.Choice.{pick, split, clash}
 use Rattle.text.specs.Scan.{past, past-from, past-within}
-use Rattle.lexical.specs.Bounds.{chosen, past-inside, byte-within}
+use Rattle.lexical.specs.Theorems.Bounds.{chosen, past-inside, byte-within}
 use Rattle.lexical.specs.Class.{within, classOf}
 use Rattle.lexical.specs.Run.{hasClass, inRun, WHITE}
 use Rattle.lexical.specs.declared.unit.Unit.{Unit}

@@ -5,7 +5,7 @@ use lib.ListN.{length}
 use Rattle.text.specs.Counted.{counted}
 use Rattle.text.specs.Copy.{Copied, copied, copyAt}
 use Rattle.expression.specs.Tables.{lookupIn}
-use Rattle.machine.specs.Machine.{State, on, stuck, exec}
+use Rattle.machine.specs.Working.Machine.{State, on, stuck, exec}
 use Rattle.machine.specs.declared.Given.{Given}
 use Rattle.machine.specs.declared.Given.the-variants.{Bytes, Stuck}
 

@@ -7,7 +7,7 @@ use lib.ListN.{length, take, set}
 use Rattle.text.specs.Choice.{pick}
 use Rattle.expression.specs.Operands.{kindOf, sizeOf, width}
 use Rattle.expression.specs.declared.value.Operand.{Operand}
-use Rattle.machine.specs.Machine.{State, on, stuck}
+use Rattle.machine.specs.Working.Machine.{State, on, stuck}
 use Rattle.machine.specs.declared.Tops.{Tops}
 use Rattle.machine.specs.declared.Tops.the-variants.{At, Stuck}
 

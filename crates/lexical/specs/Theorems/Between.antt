@@ -11,13 +11,13 @@ use lib.Seq.{slice, getD-take, getD-drop, drop-drop, length-take-le}
 use borrow.Author.Tests.{le-leb, lt-leb, ne-eqb, eqb-true, leb-true, ltb-true, ltb-false}
 use Rattle.text.specs.Choice.{split, bool-iff}
 use Rattle.text.specs.Scan.{past, past-more, past-stop, past-end, past-from}
-use Rattle.lexical.specs.Bounds.{chosen}
+use Rattle.lexical.specs.Theorems.Bounds.{chosen}
 use Rattle.lexical.specs.Run.{inRun, WHITE}
 use Rattle.lexical.specs.declared.unit.Unit.{Unit}
 use Rattle.lexical.specs.Unit.{GIVES, CLOSES, gives, drops, spoils, closes, bare, octal, control, coded, octalUnit, escapeUnit, barred, unitAt}
-use Rattle.lexical.specs.UnitLaws.{unit-closing}
+use Rattle.lexical.specs.Theorems.UnitLaws.{unit-closing}
 use Rattle.lexical.specs.Literal.{inside, units, unitsAt, closing, given, literalEnd, decodedAt, decode}
-use Rattle.lexical.specs.LiteralLaws.{Closed, closing-within, units-more, units-end}
+use Rattle.lexical.specs.Theorems.LiteralLaws.{Closed, closing-within, units-more, units-end}
 
 -- The text from k on, read from j.
 module _ (s : List ℕ) (k : ℕ) where

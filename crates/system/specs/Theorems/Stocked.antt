@@ -12,7 +12,8 @@ use Rattle.principal.specs.Principal.{Principal}
 use Rattle.principal.specs.Members.{member, member-left, member-find, member-same}
 use Rattle.compliance.specs.Licensees.{Expression, given, licensees}
 use Rattle.compliance.specs.System.{Assertion}
-use Rattle.compliance.specs.Tables.{place, compiled, Formed}
+use Rattle.principal.specs.Places.{place}
+use Rattle.compliance.specs.Tables.{compiled, Formed}
 use Rattle.compliance.specs.Theorems.Filling.{Filling, asking, fill-name, fill-row}
 use Rattle.index.specs.Index.{enter, enterAll}
 use Rattle.index.specs.EnterLaws.{enter-all-member}

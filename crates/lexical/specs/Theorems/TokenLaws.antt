@@ -9,7 +9,7 @@ use lib.ListN.{length, getD}
 use borrow.Author.Tests.{eqb-true, eqb-false, ltb-true, ltb-false, lt-ltb, leb-false}
 use Rattle.text.specs.Choice.{pick, split}
 use Rattle.text.specs.Scan.{past, past-more, past-from, past-within}
-use Rattle.lexical.specs.Bounds.{chosen}
+use Rattle.lexical.specs.Theorems.Bounds.{chosen}
 use Rattle.lexical.specs.Kind
 use Rattle.lexical.specs.Class.{classOf, LETTER, DIGIT, QUOTE}
 use Rattle.lexical.specs.Run.{hasClass, inRun, WORD, NUMERALS}
@@ -17,9 +17,9 @@ use Rattle.lexical.specs.Word.{stands}
 use Rattle.lexical.specs.Label.{labelKind}
 use Rattle.lexical.specs.Operator.{pairOf, markKind, isOf, operatorKind}
 use Rattle.lexical.specs.Literal.{literalEnd}
-use Rattle.lexical.specs.LiteralLaws.{end-within}
+use Rattle.lexical.specs.Theorems.LiteralLaws.{end-within}
 use Rattle.lexical.specs.Token.{token, endOf, illegalAt, badLine, nextLine, widthOf, fixed, operatorAt, operatorToken, literalToken, floatEnd, numberToken, tokenFrom}
-use Rattle.lexical.specs.KindLaws.{Wide, label-wide, operator-wide, pair-width}
+use Rattle.lexical.specs.Theorems.KindLaws.{Wide, label-wide, operator-wide, pair-width}
 use Rattle.lexical.specs.declared.token.Token.{Token}
 
 -- what may be found from `at` on

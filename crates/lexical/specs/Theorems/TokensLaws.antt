@@ -11,10 +11,10 @@ use borrow.Author.Tests.{ltb-true, lt-ltb, le-ltb}
 use Rattle.text.specs.Choice.{pick, pick-if}
 use Rattle.lexical.specs.Kind.{BAD-LINE, LITERAL, modeAfter}
 use Rattle.lexical.specs.Literal.{literalEnd, decodedAt, decode}
-use Rattle.lexical.specs.Decoded.{decoded-shorter}
-use Rattle.lexical.specs.Between.{decode-between}
+use Rattle.lexical.specs.Theorems.Decoded.{decoded-shorter}
+use Rattle.lexical.specs.Theorems.Between.{decode-between}
 use Rattle.lexical.specs.Line.{tokenAt}
-use Rattle.lexical.specs.LineLaws.{token-real, token-literal}
+use Rattle.lexical.specs.Theorems.LineLaws.{token-real, token-literal}
 use Rattle.lexical.specs.Tokens.{tokensTo, tokensFrom}
 use Rattle.lexical.specs.declared.token.Token.{Token}
 

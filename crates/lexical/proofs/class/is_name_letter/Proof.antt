@@ -1,9 +1,9 @@
 use Rattle.lexical.proofs.ClassWays.{letter-small, letter-capital, letter-bar}
 use borrow.Author.Needs.{needs}
-use Rattle.lexical.proofs.class.is_letter.Statement.{statement}
-use Rattle.lexical.proofs.class.is_letter.Tie as tie
-use Rattle.lexical.proofs.class.is_letter.Reads as reads
-use Rattle.lexical.proofs.class.is_letter.Lts as lts
+use Rattle.lexical.proofs.class.is_name_letter.Statement.{statement}
+use Rattle.lexical.proofs.class.is_name_letter.Tie as tie
+use Rattle.lexical.proofs.class.is_name_letter.Reads as reads
+use Rattle.lexical.proofs.class.is_name_letter.Lts as lts
 use Rattle.lexical.proofs.class.is_within.Reads as is-within-reads
 
 is-within-requires : tie.Need-is-within-requires
@@ -21,6 +21,6 @@ returns-2 c = search letter-capital
 returns-3 : tie.Need-returns-3
 returns-3 c = search letter-bar
 
-pub is-letter-spec : {M : Type 1} → statement M
-is-letter-spec =
+pub is-name-letter-spec : {M : Type 1} → statement M
+is-name-letter-spec =
     tie.close (tie.spec is-within-requires returns is-within-requires-2 returns-2 returns-3)

@@ -4,7 +4,7 @@ use Prim.Native.Nat.{ℕ}
 use Rattle.text.specs.Counted.{counted}
 use Rattle.expression.specs.Tables.{lookupIn}
 use Rattle.expression.specs.declared.value.Operand.{Operand}
-use Rattle.machine.specs.Machine.{on, exec, resultOf}
+use Rattle.machine.specs.Working.Machine.{on, exec, resultOf}
 
 -- with room for so many numbers and bytes
 unfoldable pub leftIn : ℕ → ℕ → List ℕ → List ℕ → List ℕ → List ℕ → List ℕ → List ℕ → List ℕ → Operand

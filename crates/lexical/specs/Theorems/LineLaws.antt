@@ -8,13 +8,13 @@ use lib.ListN.{length, getD}
 use borrow.Author.Tests.{eqb-true, eqb-false, leb-false}
 use Rattle.text.specs.Loop.{Step, next, done, loop-ind}
 use Rattle.text.specs.Scan.{past, past-from}
-use Rattle.lexical.specs.Bounds.{chosen}
+use Rattle.lexical.specs.Theorems.Bounds.{chosen}
 use Rattle.lexical.specs.Kind
 use Rattle.lexical.specs.Class.{classOf, BLANK, NEWLINE, HASH}
 use Rattle.lexical.specs.Run.{inRun, BLANKS, FREE}
 use Rattle.lexical.specs.Literal.{literalEnd}
 use Rattle.lexical.specs.Token.{endOf}
-use Rattle.lexical.specs.TokenLaws.{Fine, ended, fault, further, real, illegal-fine, bad-fine, label-fine, token-fine}
+use Rattle.lexical.specs.Theorems.TokenLaws.{Fine, ended, fault, further, real, illegal-fine, bad-fine, label-fine, token-fine}
 use Rattle.lexical.specs.Line.{restOfLine, visible, inLine, blankTo, indented, lineAt, lineTurn, linesFrom, tokenAt}
 use Rattle.lexical.specs.declared.token.Token.{Token}
 

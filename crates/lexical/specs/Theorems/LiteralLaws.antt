@@ -10,9 +10,9 @@ use borrow.Author.Tests.{eqb-true, le-leb, lt-leb, leb-true}
 use Rattle.text.specs.Choice.{pick-if}
 use Rattle.lexical.specs.declared.unit.Unit.{Unit}
 use Rattle.lexical.specs.Unit.{GIVES, CLOSES, spoils, unitAt}
-use Rattle.lexical.specs.UnitLaws.{unit-moves, unit-closing}
+use Rattle.lexical.specs.Theorems.UnitLaws.{unit-moves, unit-closing}
 use Rattle.lexical.specs.Literal.{inside, units, unitsAt, closing, literalEnd}
-use Rattle.lexical.specs.Bounds.{chosen}
+use Rattle.lexical.specs.Theorems.Bounds.{chosen}
 
 -- more fuel than needed changes nothing
 units-same : (n m : ℕ) (s : List ℕ) (i : ℕ) → length s - i < n → length s - i < m → units n s i ≡ units m s i

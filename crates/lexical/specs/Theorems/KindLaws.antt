@@ -8,7 +8,7 @@ use lib.Dec.{eqb, ltb}
 use lib.ListN.{length, getD}
 use borrow.Author.Tests.{ne-eqb, eqb-true, eqb-false, ltb-false, le-ltb}
 use Rattle.text.specs.Choice.{pick, clash}
-use Rattle.lexical.specs.Bounds.{chosen, byte-within}
+use Rattle.lexical.specs.Theorems.Bounds.{chosen, byte-within}
 use Rattle.lexical.specs.Kind
 use Rattle.lexical.specs.Class.{classOf}
 use Rattle.lexical.specs.Word.{lower, stands}

@@ -15,14 +15,14 @@ use Rattle.record.specs.Valid.{Each, each∷, RequesterOk}
 use Rattle.principal.specs.Principal.{Principal, same, same-sym, same-refl}
 use Rattle.principal.specs.Members.{member, Distinct, d[], d∷, member-none, member-here, member-there, member-cases, member-left, member-right, member-either, member-same}
 use Rattle.index.specs.Index.{enter, enterAll, Holds}
-use Rattle.compliance.specs.Tables.{place}
+use Rattle.principal.specs.Places.{place}
 use Rattle.compliance.specs.Theorems.Fill.{place-added}
 use Rattle.compliance.specs.Theorems.Filling.{asking, Filling, fill-name}
 use Rattle.index.specs.Working.Entering.{Kept}
 use Rattle.naming.specs.Theorems.Entry.{EntryRead, entry-at, entry-read}
 use Rattle.system.specs.declared.asked.Index.{Index}
 use Rattle.system.specs.Working.Sizes.{small}
 use Rattle.system.specs.Working.Asking.{Asked, asked, onEntered, askIn, allFrom}
 
 map-snoc : (f : Principal → ℕ) (l : List Principal) (p : Principal) → map f (l ++ (p ∷ [])) ≡ map f l ++ (f p ∷ [])
 map-snoc f [] p = refl

@@ -8,10 +8,10 @@ use lib.Dec.{eqb}
 use lib.ListN.{length, getD}
 use borrow.Author.Tests.{eqb-true, leb-true, leb-false, ne-eqb}
 use Rattle.text.specs.Choice.{pick}
-use Rattle.lexical.specs.Bounds.{chosen}
+use Rattle.lexical.specs.Theorems.Bounds.{chosen}
 use Rattle.lexical.specs.declared.unit.Unit.{Unit}
 use Rattle.lexical.specs.Unit.{GIVES, CLOSES, unitAt}
-use Rattle.lexical.specs.UnitLaws.{Bytes, unit-moves, unit-solid, unit-byte}
+use Rattle.lexical.specs.Theorems.UnitLaws.{Bytes, unit-moves, unit-solid, unit-byte}
 use Rattle.lexical.specs.Literal.{inside, units, unitsAt, closing, given, literalEnd, decodedAt}
 
 -- each element has the property P
