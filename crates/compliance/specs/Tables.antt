@@ -3,21 +3,17 @@ use mathlib.Core.Path.{_≡_}
 use mathlib.Core.Bool.{true}
 use mathlib.Core.Option.{some}
 use mathlib.Core.List.{List, [], _∷_, _++_, map, List·Memᴰ as Mem}
-use Prim.Native.Nat.{ℕ, suc, _-_, _≤_, _<_}
+use Prim.Native.Nat.{ℕ, _-_, _≤_, _<_}
 use lib.Dec.{eqb, ltb}
 use lib.ListN.{length, getD, getElem?, take, drop}
 use Rattle.text.specs.Choice.{pick}
-use Rattle.principal.specs.Principal.{Principal, same, policy}
+use Rattle.principal.specs.Places.{place}
+use Rattle.principal.specs.Principal.{Principal, policy}
 use Rattle.principal.specs.Members.{member, Distinct}
 use Rattle.compliance.specs.Licensees.{Expression, name, and, or, kOf, Licensees, missing, empty, given, licensees}
 use Rattle.compliance.specs.System.{Assertion, System}
 use Rattle.compliance.specs.Codes.{topCode, kOfCode, andCode, orCode, zeroCode}
 use Rattle.limits.specs.Limits.{mostAssertions, mostLicensees, mostPrincipals}
-
--- the index of p: the first place whose principal is the same
-unfoldable pub place : List Principal → Principal → ℕ
-place [] p = 0
-place (q ∷ names) p = pick (same p q) 0 (suc (place names p))
 
 -- an expression as a postfix program
 unfoldable pub compile : List Principal → Expression → List ℕ

@@ -1,6 +1,5 @@
 // The K-th highest of a list of ranks.
 ghost use mathlib.Core.Path.{_≡_};
-ghost use mathlib.Core.List.{[], _∷_};
 ghost use Prim.Native.Nat.{_≤_, min, max};
 ghost use lib.Dec.{leb};
 ghost use Rattle.text.specs.Choice.{pick};
@@ -62,21 +61,8 @@ fn better(values: &[u8], k: usize, best: u8, x: u8) -> u8
     greater(best, candidate(values, k, x))
 }
 
-// The K-th highest of two.
-fn kth_of_two(a: u8, b: u8, k: usize) -> u8
-    ensures { λ r. ⌜ r ≡ highest k (a ∷ b ∷ []) ⌝ }
-{
-    if k == 1 {
-        return greater(a, b);
-    }
-    if k == 2 {
-        return lesser(a, b);
-    }
-    0
-}
-
 // The K-th highest of the values, with multiplicity: the highest of which at least k are as high.
-fn kth_of_many(values: &[u8], k: usize) -> u8
+pub(crate) fn kth_highest(values: &[u8], k: usize) -> u8
     ensures { λ r. ⌜ r ≡ highest k (now (values .entry)) ⌝ }
 {
     if k == 0 {
@@ -89,14 +75,4 @@ fn kth_of_many(values: &[u8], k: usize) -> u8
         i += 1;
     }
     best
-}
-
-// The K-th highest of the values. Two are the commonest, for && and ||.
-pub(crate) fn kth_highest(values: &[u8], k: usize) -> u8
-    ensures { λ r. ⌜ r ≡ highest k (now (values .entry)) ⌝ }
-{
-    if values.len() == 2 {
-        return kth_of_two(values[0], values[1], k);
-    }
-    kth_of_many(values, k)
 }

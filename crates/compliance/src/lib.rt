@@ -1,4 +1,5 @@
 // The compliance value of a query from tables of numbers. Principals are indices, POLICY is 0.
+mod fast;
 mod highest;
 pub mod machine;
 mod reach;
@@ -6,6 +7,8 @@ mod rounds;
 mod tables;
 mod words;
 
+use fast::FEW;
+use fast::solve_few;
 use limits::MOST_ASSERTIONS;
 use limits::MOST_LICENSEES;
 use limits::MOST_PRINCIPALS;
@@ -17,12 +20,7 @@ ghost use mathlib.Core.Path.{_≡_};
 ghost use Prim.Native.Nat.{_≤_};
 ghost use lib.ListN.{length};
 ghost use Rattle.limits.specs.Limits.{mostAssertions, mostLicensees, mostPrincipals};
-ghost use Rattle.compliance.specs.Working.Solve.{Blank, few, solvedBy, solutionOf};
-
-// Most queries have no more.
-const FEW: usize = 64;
-
-const FEW_WORDS: usize = (FEW + 63) / 64;
+ghost use Rattle.compliance.specs.Working.Solve.{Blank, solvedBy, solutionOf};
 
 const WORDS: usize = (MOST_PRINCIPALS + 63) / 64;
 
@@ -34,7 +32,7 @@ pub struct Solution {
 }
 
 // The answer, worked out in blank tables that are lent.
-fn solve_in(
+pub(crate) fn solve_in(
     authors: &[u16],
     conds: &[u8],
     ends: &[u16],
@@ -90,40 +88,6 @@ fn solve_many(
     let mut ranks = [0u8; MOST_PRINCIPALS];
     let mut next = [0u8; MOST_PRINCIPALS];
     let mut reach = [0u64; WORDS];
-    let mut done = [0u8; MOST_ASSERTIONS];
-    let mut stack = [0u8; MOST_LICENSEES];
-    solve_in(
-        authors,
-        conds,
-        ends,
-        code,
-        direct,
-        top,
-        &mut ranks[..n],
-        &mut next[..n],
-        &mut reach,
-        &mut done[..m],
-        &mut stack,
-    )
-}
-
-// The same in tables for few principals.
-fn solve_few(
-    authors: &[u16],
-    conds: &[u8],
-    ends: &[u16],
-    code: &[u16],
-    direct: &[u8],
-    top: u8,
-) -> Solution
-    requires { ⌜ (length (now authors) ≤ mostAssertions) × (length (now direct) ≤ few) ⌝ }
-    ensures { λ r. ⌜ r ≡ solvedBy (now (authors .entry)) (now (conds .entry)) (now (ends .entry)) (now (code .entry)) (now (direct .entry)) top mostLicensees ⌝ }
-{
-    let n = direct.len();
-    let m = authors.len();
-    let mut ranks = [0u8; FEW];
-    let mut next = [0u8; FEW];
-    let mut reach = [0u64; FEW_WORDS];
     let mut done = [0u8; MOST_ASSERTIONS];
     let mut stack = [0u8; MOST_LICENSEES];
     solve_in(

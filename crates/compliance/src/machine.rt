@@ -1,5 +1,4 @@
 // The rank of licensees: a short postfix program over the ranks of principals, run on a stack.
-use crate::highest::greater;
 use crate::highest::kth_highest;
 ghost use mathlib.Core.Path.{_≡_};
 ghost use Prim.Native.Nat.{_+_, _-_, _*_, _≤_};
@@ -86,18 +85,6 @@ fn combine(stack: &mut [u8], sp: usize, k: usize, n: usize) -> usize
     push(stack, base, v)
 }
 
-// The topmost two numbers give way to the greater.
-fn either(stack: &mut [u8], sp: usize) -> usize
-    requires { ⌜ sp ≤ length (now stack) ⌝ }
-    ensures { λ r. ⌜ Live (now (stack .exit)) r (combined (length (now (stack .entry))) 1 2 (take sp (now (stack .entry)))) ⌝ }
-{
-    if sp < 2 {
-        return combine(stack, sp, 1, 2);
-    }
-    stack[sp - 2] = greater(stack[sp - 2], stack[sp - 1]);
-    sp - 1
-}
-
 // One instruction.
 fn step(op: u16, ranks: &[u8], top: u8, stack: &mut [u8], sp: usize) -> usize
     requires { ⌜ sp ≤ length (now stack) ⌝ }
@@ -108,9 +95,6 @@ fn step(op: u16, ranks: &[u8], top: u8, stack: &mut [u8], sp: usize) -> usize
     }
     if op == TOP {
         return push(stack, sp, top);
-    }
-    if op == OR {
-        return either(stack, sp);
     }
     let x = op - K_OF;
     combine(stack, sp, wide(x / SPAN), wide(x % SPAN))
@@ -128,7 +112,7 @@ fn last(stack: &[u8], sp: usize) -> u8
 }
 
 // What the program leaves on top of an empty stack, instruction by instruction.
-fn run(code: &[u16], ranks: &[u8], top: u8, stack: &mut [u8]) -> u8
+pub(crate) fn run(code: &[u16], ranks: &[u8], top: u8, stack: &mut [u8]) -> u8
     ensures { λ r. ⌜ r ≡ worth (now (ranks .entry)) top (length (now (stack .entry))) (now (code .entry)) ⌝ }
 {
     let mut sp: usize = 0;
@@ -138,18 +122,4 @@ fn run(code: &[u16], ranks: &[u8], top: u8, stack: &mut [u8]) -> u8
         i += 1;
     }
     last(stack, sp)
-}
-
-// What the program leaves on top of an empty stack; one that names a principal only leaves its rank.
-pub(crate) fn worth_of(code: &[u16], ranks: &[u8], top: u8, stack: &mut [u8]) -> u8
-    ensures { λ r. ⌜ r ≡ worth (now (ranks .entry)) top (length (now (stack .entry))) (now (code .entry)) ⌝ }
-{
-    if code.len() == 1 {
-        if 0 < stack.len() {
-            if code[0] < TOP {
-                return number_at(ranks, wide(code[0]));
-            }
-        }
-    }
-    run(code, ranks, top, stack)
 }

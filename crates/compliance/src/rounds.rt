@@ -1,9 +1,9 @@
 // Rounds: the equations applied to the ranks of the principals in the reach, until a round changes nothing.
+use crate::fast::worth_of;
 use crate::highest::greater;
 use crate::highest::lesser;
 use crate::machine::index_at;
 use crate::machine::number_at;
-use crate::machine::worth_of;
 use crate::tables::program;
 use crate::words::flag;
 ghost use mathlib.Core.Path.{_≡_};

@@ -5,6 +5,4 @@ pub mod Operand
 pub mod Expression
 pub mod Program
 pub mod Working
-pub mod Compiled
-pub mod Behind
 pub mod Examples

@@ -16,3 +16,5 @@ pub mod Reach
 pub mod PaceExpression
 pub mod PaceProgram
 pub mod Keeping
+pub mod Compiled
+pub mod Behind

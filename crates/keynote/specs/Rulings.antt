@@ -16,9 +16,9 @@ use Rattle.text.specs.Counted as TextCounted
 use Rattle.assertion.specs.Read.{dropped}
 use Rattle.syntax.specs.Parsed as SyntaxParsed
 use Rattle.compliance.specs.Highest.{highest}
-use Rattle.keynote.specs.Answer.{worth, ranked, reading, readings, keptOf, system, classOf, roundsOf, reachedOf}
+use Rattle.keynote.specs.Answer.{worth, ranked, reading, readings, keptOf, system, classGiven, roundsOf, reachedOf}
 use Rattle.keynote.specs.Report.{reasonOf, placeOf, pairBytes, entryBytes, entriesBytes, report, reportSize}
-use Rattle.keynote.specs.Outcome.{refusal, answer, needed, judged, outcome, written, pageAfter}
+use Rattle.keynote.specs.Outcome.{refusedWith, answer, needed, judged, outcome, written, pageAfter}
 use Rattle.keynote.specs.Secrets.{dereferences, anyReads, authorReads, licenseesRead, namingReads}
 use Rattle.keynote.specs.Mission.{standing, computed, anyNames, anyComputes, authorNames, licenseesName, licenseesCompute, naming, namingComputed}
 use Rattle.keynote.specs.Working.Hearing.{suchIn, heardSuch, anySuch, suppliedSuch}
@@ -97,11 +97,11 @@ reasons q = map reasonOf (readings q)
 
 -- reasons, then rank, rounds and reached
 unfoldable pub told : Query → List ℕ × List ℕ
-told q = (reasons q, classOf q ∷ roundsOf q ∷ reachedOf q ∷ [])
+told q = (reasons q, classGiven q ∷ roundsOf q ∷ reachedOf q ∷ [])
 
 -- reasons, then the rank
 unfoldable pub class : Query → List ℕ × ℕ
-class q = (reasons q, classOf q)
+class q = (reasons q, classGiven q)
 
 -- what a test is worth as POLICY's Conditions: 1 where it is true
 unfoldable pub tested : String → List ℕ × ℕ
@@ -268,8 +268,8 @@ pub record Rulings : Type 0 where
   pub first-outcome : outcome (encode first) 8 ≡ record { number = 0; place = 0; rank = 1; rounds = 2; reached = 2 }
   pub first-page : pageAfter (encode first) (replicate 8 7) ≡ 1 ∷ 0 ∷ 3 ∷ 0 ∷ 0 ∷ 0 ∷ 7 ∷ 7 ∷ []
   -- W-206: a requester named POLICY, told at its first byte; one that only resembles it
-  pub asked-as-policy : outcome (encode (desk ("POLICY" ∷ []) [])) 8 ≡ refusal 10 22
-  pub asked-as-policy-last : outcome (encode (desk ("a" ∷ "POLICY" ∷ []) [])) 8 ≡ refusal 10 25
+  pub asked-as-policy : outcome (encode (desk ("POLICY" ∷ []) [])) 8 ≡ refusedWith 10 22
+  pub asked-as-policy-last : outcome (encode (desk ("a" ∷ "POLICY" ∷ []) [])) 8 ≡ refusedWith 10 25
   pub asked-in-small : told (desk ("policy" ∷ []) ("Authorizer: \"POLICY\"\nLicensees: \"a\"" ∷ [])) ≡ (0 ∷ [], 0 ∷ 0 ∷ 2 ∷ [])
   -- W-205: one key in two spellings, as requester, authorizer and licensee; two keys
   pub one-key : told (desk ("DSA:ab" ∷ []) ("Authorizer: \"POLICY\"\nLicensees: \"dsa:ab\" || \"Dsa:ab\"" ∷ [])) ≡ (0 ∷ [], 1 ∷ 2 ∷ 2 ∷ [])
@@ -324,7 +324,7 @@ pub record Rulings : Type 0 where
   pub inside-a : isOutside paperWeb (reading paperWeb (supplied (bytes byA))) ≡ false
 
 pub rulings : Rulings
-unfolding isOutside refusal SyntaxCode.nameAt TextClass.isLetter TextClass.isWord FieldsConstants.isSet FieldsConstants.reserved FieldsConstants.constantValue FieldsConstants.assigned FieldsConstants.nameFault FieldsConstants.constant FieldsConstants.constantsFrom FieldsParsed.wordOf TextOrder.order ExpressionNames.settingOr ExpressionNames.fromQuery ExpressionNames.lookup set secretTexts secretQuery isRead stands standing computed dereferences suchIn heardSuch ExpressionReads.reads ExpressionReads.programReads ExpressionReads.clauseReads ExpressionReads.isSet ExpressionStanding.names ExpressionStanding.programNames ExpressionStanding.clauseNames ExpressionStanding.computes ExpressionStanding.programComputes ExpressionStanding.clauseComputes bytes supplied query reasons told class tested worth ranked reading readings keptOf system classOf roundsOf reachedOf reasonOf highest TextClass.isDigit TextClass.inClass TextDecimal.inRange TextDecimal.roundedDown TextDecimal.withFraction TextDecimal.unsigned TextDecimal.decimal TextDigits.valueFrom TextDigits.value TextEqual.equal TextLoop.turns TextLoop.loop TextScan.past LexicalClass.classOf LexicalKind.opened LexicalLabel.labelKind LexicalLine.visible LexicalLine.inLine LexicalLine.blankTo LexicalLine.lineAt LexicalLine.linesFrom LexicalLine.tokenAt LexicalLiteral.units LexicalLiteral.unitsAt LexicalLiteral.literalEnd LexicalLiteral.decodedAt LexicalNumber.decimal LexicalNumber.held LexicalNumber.numberAt LexicalOperator.equalPair LexicalOperator.pairOf LexicalOperator.markKind LexicalOperator.isOf LexicalOperator.operatorKind LexicalRun.hasClass LexicalRun.inRun LexicalToken.widthOf LexicalToken.operatorAt LexicalToken.operatorToken LexicalToken.literalToken LexicalToken.floatEnd LexicalToken.numberToken LexicalToken.tokenFrom LexicalUnit.barred LexicalUnit.unitAt LexicalWord.lower LexicalWord.stands LexicalWord.spells FieldsParsed.ending AssertionLabels.without AssertionLabels.total ConditionsExpression.readExpression ConditionsOperand.readLiteral ConditionsOperand.readName ConditionsOperand.readDigits ConditionsOperand.readLeaf ConditionsOperand.settledTree ConditionsOperand.applied ConditionsProgram.ending ConditionsProgram.valuing ConditionsProgram.stopping ConditionsProgram.readProgram ConditionsProgram.readBlock ConditionsTable.beginsString ConditionsTable.beginsNumber ConditionsTable.beginsFloat ConditionsTable.allows ConditionsTable.comparison ConditionsTable.numberOperator ConditionsTable.textOperator ConditionsTable.testOperator ConditionsTable.operator ConditionsTable.prefixOperator ConditionsTable.levelOf ConditionsTable.operandLevel ConditionsTable.operandWant ConditionsTable.rightWant ConditionsTable.rightLevel ConditionsTable.binds ConditionsTable.insideLevel ConditionsTable.fits ConditionsTable.stops ConditionsWord.wordSort SyntaxCode.numberAt ComplianceLicensees.value ComplianceLicensees.licensed ComplianceLicensees.named ComplianceLicensees.licensees ComplianceReach.licenseesOf ComplianceReach.reachFrom ComplianceReach.namings ComplianceReach.reach ComplianceRounds.equalOn ComplianceRounds.settled ComplianceRounds.reached ComplianceRounds.firstSettled ComplianceRounds.rounds ComplianceRounds.mentioned ComplianceRounds.rank ComplianceSystem.direct ComplianceSystem.asserted ComplianceSystem.delegated ComplianceSystem.equations ComplianceSystem.round PrincipalMembers.member PrincipalCanonical.fold PrincipalCanonical.folded PrincipalCanonical.front PrincipalCanonical.behind PrincipalCanonical.isHex PrincipalCanonical.canonicalWith PrincipalCanonical.canonical PrincipalPrincipal.same PrincipalPrincipal.policy ExpressionConditions.evaluate ExpressionConditions.indexFrom ExpressionConditions.rankOf ExpressionConditions.top ExpressionConditions.clause ExpressionIntegers.ranged ExpressionIntegers.negated ExpressionIntegers.differ ExpressionIntegers.over ExpressionIntegers.raisedTo ExpressionIntegers.odd ExpressionIntegers.signOfPower ExpressionIntegers.power ExpressionIntegers.sizes ExpressionIntegers.compared ExpressionOperations.held ExpressionOperations.relates ExpressionOperations.onTexts ExpressionOperations.onIntegers ExpressionOperations.binaryOf ExpressionOperations.converted ExpressionOperations.negative ExpressionOperations.opposite ExpressionOperations.unaryOf ExpressionNames.environment stringBytes assertionBytes itemsBytes groupBytes encode placeOf pairBytes entryBytes entriesBytes report reportSize answer needed judged outcome written pageAfter TextCounted.part TextCounted.pairAt SyntaxParsed.refusal LexicalReason.reasonOf TextClass.isPlain RecordField.countAt RecordField.lengthAt RecordField.contentAt RecordField.fieldAt RecordField.nameFront RecordField.among RecordItem.plainAt RecordItem.valueAt RecordItem.requesterAt RecordItem.nameAt RecordItem.attributeAt RecordItem.assertionAt RecordItem.itemsAt RecordItem.groupAt RecordRecord.queryAt RecordRecord.readRecord NamingSource.sources NamingString.plainFrom NamingString.source NamingAuthorizer.authorizer NamingLicensees.licensee NamingLicensees.listed NamingLicensees.listFrom NamingLicensees.listOpened NamingLicensees.ofRead NamingLicensees.threshold NamingLicensees.closed NamingLicensees.primary NamingLicensees.expression NamingLicensees.licensees NamingNaming.identified NamingNaming.people NamingNaming.author NamingNaming.licensed NamingFault.sizeFault NamingFault.sourceFault NamingFault.policyFault NamingFault.authorFault NamingFault.firstFault NamingFault.licenseesFault AssertionForm.finished AssertionForm.field AssertionForm.fieldsFrom AssertionForm.readAssertion AssertionResolved.meant AssertionResolved.faultOf bytesOf anyReads authorReads licenseesRead namingReads anyNames anyComputes authorNames licenseesName licenseesCompute naming namingComputed anySuch suppliedSuch isNamed standsNaming
+unfolding isOutside refusedWith SyntaxCode.nameAt TextClass.isLetter TextClass.isWord FieldsConstants.isSet FieldsConstants.reserved FieldsConstants.constantValue FieldsConstants.assigned FieldsConstants.nameFault FieldsConstants.constant FieldsConstants.constantsFrom FieldsParsed.wordOf TextOrder.order ExpressionNames.settingOr ExpressionNames.fromQuery ExpressionNames.lookup set secretTexts secretQuery isRead stands standing computed dereferences suchIn heardSuch ExpressionReads.reads ExpressionReads.programReads ExpressionReads.clauseReads ExpressionReads.isSet ExpressionStanding.names ExpressionStanding.programNames ExpressionStanding.clauseNames ExpressionStanding.computes ExpressionStanding.programComputes ExpressionStanding.clauseComputes bytes supplied query reasons told class tested worth ranked reading readings keptOf system classGiven roundsOf reachedOf reasonOf highest TextClass.isDigit TextClass.inClass TextDecimal.inRange TextDecimal.roundedDown TextDecimal.withFraction TextDecimal.unsigned TextDecimal.decimal TextDigits.valueFrom TextDigits.value TextEqual.equal TextLoop.turns TextLoop.loop TextScan.past LexicalClass.classOf LexicalKind.opened LexicalLabel.labelKind LexicalLine.visible LexicalLine.inLine LexicalLine.blankTo LexicalLine.lineAt LexicalLine.linesFrom LexicalLine.tokenAt LexicalLiteral.units LexicalLiteral.unitsAt LexicalLiteral.literalEnd LexicalLiteral.decodedAt LexicalNumber.decimal LexicalNumber.held LexicalNumber.numberAt LexicalOperator.equalPair LexicalOperator.pairOf LexicalOperator.markKind LexicalOperator.isOf LexicalOperator.operatorKind LexicalRun.hasClass LexicalRun.inRun LexicalToken.widthOf LexicalToken.operatorAt LexicalToken.operatorToken LexicalToken.literalToken LexicalToken.floatEnd LexicalToken.numberToken LexicalToken.tokenFrom LexicalUnit.barred LexicalUnit.unitAt LexicalWord.lower LexicalWord.stands LexicalWord.spells FieldsParsed.ending AssertionLabels.without AssertionLabels.total ConditionsExpression.readExpression ConditionsOperand.readLiteral ConditionsOperand.readName ConditionsOperand.readDigits ConditionsOperand.readLeaf ConditionsOperand.settledTree ConditionsOperand.applied ConditionsProgram.ending ConditionsProgram.valuing ConditionsProgram.stopping ConditionsProgram.readProgram ConditionsProgram.readBlock ConditionsTable.beginsString ConditionsTable.beginsNumber ConditionsTable.beginsFloat ConditionsTable.allows ConditionsTable.comparison ConditionsTable.numberOperator ConditionsTable.textOperator ConditionsTable.testOperator ConditionsTable.operator ConditionsTable.prefixOperator ConditionsTable.levelOf ConditionsTable.operandLevel ConditionsTable.operandWant ConditionsTable.rightWant ConditionsTable.rightLevel ConditionsTable.binds ConditionsTable.insideLevel ConditionsTable.fits ConditionsTable.stops ConditionsWord.wordSort SyntaxCode.numberAt ComplianceLicensees.value ComplianceLicensees.licensed ComplianceLicensees.named ComplianceLicensees.licensees ComplianceReach.licenseesOf ComplianceReach.reachFrom ComplianceReach.namings ComplianceReach.reach ComplianceRounds.equalOn ComplianceRounds.settled ComplianceRounds.reached ComplianceRounds.firstSettled ComplianceRounds.rounds ComplianceRounds.mentioned ComplianceRounds.rank ComplianceSystem.direct ComplianceSystem.asserted ComplianceSystem.delegated ComplianceSystem.equations ComplianceSystem.round PrincipalMembers.member PrincipalCanonical.fold PrincipalCanonical.folded PrincipalCanonical.front PrincipalCanonical.behind PrincipalCanonical.isHex PrincipalCanonical.canonicalWith PrincipalCanonical.canonical PrincipalPrincipal.same PrincipalPrincipal.policy ExpressionConditions.evaluate ExpressionConditions.indexFrom ExpressionConditions.rankOf ExpressionConditions.top ExpressionConditions.clause ExpressionIntegers.ranged ExpressionIntegers.negated ExpressionIntegers.differ ExpressionIntegers.over ExpressionIntegers.raisedTo ExpressionIntegers.odd ExpressionIntegers.signOfPower ExpressionIntegers.power ExpressionIntegers.sizes ExpressionIntegers.compared ExpressionOperations.held ExpressionOperations.relates ExpressionOperations.onTexts ExpressionOperations.onIntegers ExpressionOperations.binaryOf ExpressionOperations.converted ExpressionOperations.negative ExpressionOperations.opposite ExpressionOperations.unaryOf ExpressionNames.environment stringBytes assertionBytes itemsBytes groupBytes encode placeOf pairBytes entryBytes entriesBytes report reportSize answer needed judged outcome written pageAfter TextCounted.part TextCounted.pairAt SyntaxParsed.refusal LexicalReason.reasonOf TextClass.isPlain RecordField.countAt RecordField.lengthAt RecordField.contentAt RecordField.fieldAt RecordField.nameFront RecordField.among RecordItem.plainAt RecordItem.valueAt RecordItem.requesterAt RecordItem.nameAt RecordItem.attributeAt RecordItem.assertionAt RecordItem.itemsAt RecordItem.groupAt RecordRecord.queryAt RecordRecord.readRecord NamingSource.sources NamingString.plainFrom NamingString.source NamingAuthorizer.authorizer NamingLicensees.licensee NamingLicensees.listed NamingLicensees.listFrom NamingLicensees.listOpened NamingLicensees.ofRead NamingLicensees.threshold NamingLicensees.closed NamingLicensees.primary NamingLicensees.expression NamingLicensees.licensees NamingNaming.identified NamingNaming.people NamingNaming.author NamingNaming.licensed NamingFault.sizeFault NamingFault.sourceFault NamingFault.policyFault NamingFault.authorFault NamingFault.firstFault NamingFault.licenseesFault AssertionForm.finished AssertionForm.field AssertionForm.fieldsFrom AssertionForm.readAssertion AssertionResolved.meant AssertionResolved.faultOf bytesOf anyReads authorReads licenseesRead namingReads anyNames anyComputes authorNames licenseesName licenseesCompute naming namingComputed anySuch suppliedSuch isNamed standsNaming
 rulings = record {
   licence = refl;
   ring-c = refl;

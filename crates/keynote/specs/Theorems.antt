@@ -11,11 +11,7 @@ pub mod PlacesNaming
 pub mod PlacesAssertion
 pub mod Few
 pub mod Bounds
-pub mod Started
-pub mod Marked
-pub mod Starting
 pub mod Parts
-pub mod Stocked
 pub mod Paged
 pub mod Made
 pub mod Grown

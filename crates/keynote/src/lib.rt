@@ -7,7 +7,7 @@ use system::solved::solved;
 ghost use mathlib.Core.Path.{_≡_};
 ghost use lib.ListN.{length, take, drop};
 ghost use Prim.Native.Nat.{_-_};
-ghost use Rattle.keynote.specs.Outcome.{refusal, outcome, pageAfter};
+ghost use Rattle.keynote.specs.Outcome.{refusedWith, outcome, pageAfter};
 ghost use Rattle.keynote.specs.Working.Answering.{givenBy, answeredIn};
 
 // The number and the place of a refusal, 0 and 0 for an answer; then the class (0 is weakest), the rounds and how many principals are
@@ -22,7 +22,7 @@ pub struct Outcome {
 }
 
 fn refused(number: u8, place: usize) -> Outcome
-    ensures { λ r. ⌜ r ≡ refusal number place ⌝ }
+    ensures { λ r. ⌜ r ≡ refusedWith number place ⌝ }
 {
     Outcome {
         number,

@@ -18,9 +18,9 @@ use Rattle.lexical.specs.Class.{classOf, or, BLANK, NEWLINE, HASH}
 use Rattle.lexical.specs.Run.{inRun, BLANKS, FREE}
 use Rattle.lexical.specs.Label.{labelKind}
 use Rattle.lexical.specs.Token.{endOf, illegalAt, badLine, nextLine, widthOf, fixed, tokenFrom, token}
-use Rattle.lexical.specs.KindLaws.{label-wide}
+use Rattle.lexical.specs.Theorems.KindLaws.{label-wide}
 use Rattle.lexical.specs.Line.{restOfLine, visible, inLine, blankTo, indented, lineAt, linesFrom, tokenAt}
-use Rattle.lexical.specs.LineLaws.{fine-next, line-fine}
+use Rattle.lexical.specs.Theorems.LineLaws.{fine-next, line-fine}
 use Rattle.lexical.specs.declared.token.Token.{Token}
 use Rattle.lexical.specs.Working.Open.{literalFrom, settled, belowOf, settled-other, settled-line, settled-open, literal-other, rest-kept}
 use Rattle.lexical.proofs.TokenWays.{wide-fits}

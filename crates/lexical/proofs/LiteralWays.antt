@@ -9,22 +9,20 @@ use mir.Syntax.{w64}
 use mir.Val.{Fits}
 use native.Mathlib.Numerals.{add-one}
 use lib.Dec.{eqb, leb}
-use lib.ListN.{length, getD, set, take, drop, length-set, length-drop, List·getD-eq-default}
-use lib.Seq.{sets, take-all, length-take-le}
-use borrow.Author.Tests.{eqb-true, eqb-false, leb-true, leb-false, lt-ltb, le-ltb, lt-leb, le-leb, eq-eqb, ne-eqb}
+use lib.ListN.{length, getD, set, length-set, List·getD-eq-default}
+use lib.Seq.{sets}
+use borrow.Author.Tests.{eqb-true, eqb-false, lt-ltb, le-ltb, le-leb, eq-eqb, ne-eqb}
 use Rattle.text.specs.Choice.{split}
 use Rattle.lexical.specs.declared.unit.Unit.{Unit}
 use Rattle.lexical.specs.Unit.{GIVES, CLOSES, barred, unitAt}
-use Rattle.lexical.specs.UnitLaws.{unit-moves}
+use Rattle.lexical.specs.Theorems.UnitLaws.{unit-moves}
 use Rattle.lexical.specs.Literal.{units, unitsAt, given, literalEnd, decodedAt}
-use Rattle.lexical.specs.LiteralLaws.{units-more, units-last, units-end}
-use Rattle.lexical.specs.Decode.{Ran, ran, decodeInto, within, decodeWithin}
+use Rattle.lexical.specs.Theorems.LiteralLaws.{units-more, units-last, units-end}
+use Rattle.lexical.specs.Decode.{ran, decodeInto, within, decodeWithin}
 use Rattle.lexical.specs.declared.literal.Decoded.the-variants.{Put, Long, Full}
-use Rattle.text.specs.Scan.{past, past-end, past-from}
-use Rattle.text.specs.Copy.{Copied, copied, put, copyAt}
-use Rattle.lexical.specs.DecodeLaws.{decode-fits, decode-full}
+use Rattle.text.specs.Scan.{past, past-end}
 use Rattle.lexical.specs.Short.{near, near-short, sized}
-use Rattle.lexical.specs.Plain.{plain, bareEnd, end-plain, quote-within, quote-units, end-quote, given-plain}
+use Rattle.lexical.specs.Plain.{plain, bareEnd, end-plain, quote-within, quote-units, end-quote}
 
 module _ (s : List ℕ) (i : ℕ) (u : Unit) (ue : u ≡ unitAt s i) where
   -- the units from here, by the unit at hand
@@ -250,39 +248,6 @@ module _ (s : List ℕ) (i e : ℕ) (ee : e ≡ past plain s i) (t : Bool) (te :
 
     pub end-found : e + 1 ≡ literalEnd s i
     end-found = end-units (e + 1) (sym (end-quote s e at-quote))
-
-    pub plain-from : i ≤ e
-    plain-from = rw ee (past-from plain s i)
-
-    pub plain-within : e ≤ length s
-    plain-within = omega (arith, quote-within s e at-quote)
-
-    given-taken : given (unitsAt s i) ≡ take (e - i) (drop i s)
-    given-taken = rw ee (given-plain s i (rw (sym ee) at-quote))
-
--- what was copied, as what was decoded
-toRan : Copied → Ran
-toRan (copied r b) = ran r b
-
-copied-decoded : (s : List ℕ) (start : ℕ) (m : List ℕ) (at : ℕ) → toRan (copyAt m at (decodedAt s start)) ≡ decodeInto s start m at
-unfolding toRan copyAt put
-copied-decoded s start m at =
-    split (leb (at + length (decodedAt s start)) (length m))
-    (λ e. rw e (sym (decode-fits s start m at (leb-true _ _ e)))) (λ e. rw e (sym (decode-full s start m at (leb-false _ _ e))))
-
-module _ (s : List ℕ) (start e : ℕ) (ee : e ≡ past plain s (start + 1)) (t : Bool) (te : t ≡ eqb (getD s e 0) 34) (h : t ≡ true) where
-  decoded-taken : decodedAt s start ≡ take (e - (start + 1)) (drop (start + 1) s)
-  unfolding decodedAt
-  decoded-taken = given-taken s (start + 1) e ee t te h
-
-  pub length-plain : e - (start + 1) ≡ length (decodedAt s start)
-  length-plain =
-      let l : e - (start + 1) ≤ length (drop (start + 1) s) = omega (arith, length-drop (start + 1) s, plain-within s (start + 1) e ee t te h) in
-      sym (ap length decoded-taken ∙ length-take-le (e - (start + 1)) (drop (start + 1) s) l)
-
-  pub into-plain : (m : List ℕ) (at : ℕ) (r : Bool) (b : List ℕ) → copied r b ≡ copyAt m at (take (e - (start + 1)) (drop (start + 1) s)) → ran r b ≡ decodeInto s start m at
-  unfolding toRan
-  into-plain m at r b ce = ap toRan (rw (sym decoded-taken) at ce) ∙ copied-decoded s start m at
 
 -- whether a literal is short
 module _ (s : List ℕ) (start end most : ℕ) where

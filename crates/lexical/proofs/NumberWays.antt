@@ -11,8 +11,8 @@ use lib.Seq.{slice, drop-cons, getD-take, getD-drop}
 use mir.Syntax.{w8}
 use mir.Val.{Fits}
 use borrow.Author.Tests.{le-leb, lt-leb, leb-true, leb-false}
-use Rattle.lexical.specs.Bounds.{chosen}
-use Rattle.lexical.specs.UnitLaws.{Bytes}
+use Rattle.lexical.specs.Theorems.Bounds.{chosen}
+use Rattle.lexical.specs.Theorems.UnitLaws.{Bytes}
 use Rattle.lexical.specs.Number.{LIMIT, decimal, held, numberAt}
 
 -- two numbers that are one below the limit
@@ -85,19 +85,10 @@ module _ (s : List ℕ) (i end v r : ℕ) (inv : numberRest s i end v ≡ r) whe
     pub number-low : w ≤ LIMIT
     number-low = omega (arith, we, held-low (v * 10 + d))
 
--- no digit, and one
+-- no digit
 module _ (s : List ℕ) (start end : ℕ) where
   pub number-none : end ≤ start → 0 ≡ numberAt s start end
   number-none h = number-end s start end 0 (numberAt s start end) (number-start s start end) (omega arith) h
-
-  pub number-out : length s ≤ start → 0 ≡ numberAt s start end
-  number-out h = number-past s start end 0 (numberAt s start end) (number-start s start end) (omega arith) h
-
-  pub number-one : (d : ℕ) → start < length s → start < end → end - start ≡ 1 → d ≡ getD s start 0 - 48 → d < 256 → d ≡ numberAt s start end
-  number-one d l h o de small =
-      let e : d ≡ 0 * 10 + d = omega arith in
-      let w : d ≡ held (0 * 10 + d) = low-held d (omega (arith, small)) ∙ ap held e in
-      number-end s (start + 1) end d (numberAt s start end) (number-more s start end 0 (numberAt s start end) (number-start s start end) h l d de d w) (omega (arith, small)) (omega (arith, o))
 
 -- a front of bytes
 bytes-take : (n : ℕ) (s : List ℕ) → Bytes s → Bytes (take n s)

@@ -22,12 +22,12 @@ use Rattle.lexical.specs.Literal.{literalEnd}
 use Rattle.lexical.specs.declared.token.Token.{Token}
 use Rattle.lexical.specs.Token.{token, illegalAt, widthOf, operatorAt, operatorToken, literalToken, floatEnd, numberToken, tokenFrom}
 use Rattle.lexical.specs.Plain.{plain, end-plain}
-use Rattle.lexical.specs.TokenLaws.{operator-next}
+use Rattle.lexical.specs.Theorems.TokenLaws.{operator-next}
 use Rattle.lexical.specs.Working.Open.{literalFrom, settled, settled-other, settled-line, settled-open, number-other}
-use Rattle.lexical.specs.Bounds.{byte-within}
+use Rattle.lexical.specs.Theorems.Bounds.{byte-within}
 use Rattle.lexical.specs.Lone.{lone, lone-kind, lone-width}
 use Rattle.lexical.specs.Common.{commonPair, common-kind, common-width, common-mark}
-use Rattle.lexical.specs.KindLaws.{Wide, operator-wide}
+use Rattle.lexical.specs.Theorems.KindLaws.{Wide, operator-wide}
 use Rattle.lexical.proofs.LiteralWays.{end-end, end-found}
 
 -- the end of a token whose kind settles its width is a place

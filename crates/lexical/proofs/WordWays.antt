@@ -9,8 +9,8 @@ use native.Mathlib.Nat.{add-zero, add-suc}
 use lib.Dec.{eqb, leb}
 use lib.ListN.{length, getD, drop, drop-of-length-le}
 use lib.Seq.{drop-cons}
-use borrow.Author.Tests.{lt-ltb, le-ltb, le-leb, lt-leb, eq-eqb, ne-eqb, eqb-true, eqb-false, leb-true, leb-false}
-use Rattle.text.specs.Choice.{pick, split, clash}
+use borrow.Author.Tests.{lt-ltb, le-ltb, le-leb, eq-eqb, ne-eqb, eqb-true, eqb-false, leb-true}
+use Rattle.text.specs.Choice.{split, clash}
 use Rattle.lexical.specs.Class.{within}
 use Rattle.lexical.specs.Word.{lower, stands, spells}
 
@@ -78,19 +78,6 @@ module _ (s : List ℕ) (at : ℕ) (w : List ℕ) where
       pub stands-more : t ≡ true → standsRest s at w (k + 1) ≡ r
       unfolding standsRest stands
       stands-more e = rw (add-one k, add-suc at k) (rw (drop-cons w k 0 h, sym be, sym te, e) at inv)
-
--- the ways out of `has_room`
-pub room-none : (s : List ℕ) (at n : ℕ) → length s < at → false ≡ leb (at + n) (length s)
-room-none s at n h = sym (lt-leb (at + n) (length s) (omega (arith, h)))
-
-pub room-rest : (s : List ℕ) (at n : ℕ) → at ≤ length s → leb n (length s - at) ≡ leb (at + n) (length s)
-room-rest s at n h =
-    split (leb n (length s - at))
-    (λ e. e ∙ sym (le-leb (at + n) (length s) (omega (arith, h, leb-true n (length s - at) e))))
-    (λ e. e ∙ sym (lt-leb (at + n) (length s) (omega (arith, h, leb-false n (length s - at) e))))
-
-pub room-there : (s : List ℕ) (at n : ℕ) (t : Bool) → t ≡ leb (at + n) (length s) → t ≡ true → at + n ≤ length s
-room-there s at n t e f = leb-true _ _ (sym e ∙ f)
 
 module _ (s : List ℕ) (start end : ℕ) (w : List ℕ) where
   pub spells-none : end < start → false ≡ spells s start end w

@@ -5,7 +5,7 @@ use Prim.Native.Nat.{ℕ}
 use lib.Dec.{eqb}
 use borrow.Author.Tests.{eqb-true}
 use Rattle.text.specs.Choice.{pick}
-use Rattle.lexical.specs.Bounds.{chosen}
+use Rattle.lexical.specs.Theorems.Bounds.{chosen}
 use Rattle.lexical.specs.Kind.{ILLEGAL, ARROW, AND, OR, EQUAL}
 use Rattle.lexical.specs.Class.{classOf, LETTER, DIGIT, QUOTE}
 use Rattle.lexical.specs.Operator.{equalPair, pairOf, isOf, operatorKind}

@@ -6,7 +6,7 @@ use native.Mathlib.Omega.{arith}
 use lib.Dec.{eqb, ltb}
 use borrow.Author.Tests.{le-ltb, ltb-true, ltb-false, eqb-false, ne-eqb}
 use Rattle.text.specs.Choice.{pick, clash}
-use Rattle.lexical.specs.Bounds.{chosen}
+use Rattle.lexical.specs.Theorems.Bounds.{chosen}
 use Rattle.lexical.specs.Kind.{ILLEGAL, OPEN, ASSIGN, NOT, LESS, GREATER, DOT, AMPERSAND, MINUS}
 use Rattle.lexical.specs.Class.{BAR, TILDE}
 use Rattle.lexical.specs.Operator.{equalPair, pairOf, markKind, isOf, operatorKind}

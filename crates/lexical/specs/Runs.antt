@@ -10,7 +10,7 @@ use Rattle.text.specs.Choice.{pick, split}
 use Rattle.text.specs.Class.{isDigit, isLetter, isWord}
 use Rattle.text.specs.Table.{at}
 use Rattle.lexical.specs.Class.{classOf, or, within, BLANK, NEWLINE, LETTER, DIGIT, QUOTE, HASH}
-use Rattle.lexical.specs.Classes.{classes, class-rule}
+use Rattle.lexical.specs.Theorems.Classes.{classes, class-rule}
 use Rattle.lexical.specs.Run.{BLANKS, WHITE, FREE, WORD, NUMERALS, hasClass, inRun}
 
 -- space or tab

@@ -8,13 +8,13 @@ use lib.Dec.{eqb, leb, ltb}
 use lib.ListN.{length, getD}
 use borrow.Author.Tests.{eqb-true, eqb-false, leb-true, leb-false, ltb-true, ltb-false}
 use Rattle.text.specs.Choice.{pick, split, clash}
-use Rattle.lexical.specs.Bounds.{chosen}
+use Rattle.lexical.specs.Theorems.Bounds.{chosen}
 use Rattle.lexical.specs.declared.unit.Unit.{Unit}
 use Rattle.lexical.specs.Unit.{GIVES, unitAt}
-use Rattle.lexical.specs.UnitLaws.{Quoteless, unit-case, unit-moves}
+use Rattle.lexical.specs.Theorems.UnitLaws.{Quoteless, unit-case, unit-moves}
 use Rattle.lexical.specs.Literal.{unitsAt, given, decodedAt}
-use Rattle.lexical.specs.LiteralLaws.{units-more, units-last}
-use Rattle.lexical.specs.Decoded.{given-cons}
+use Rattle.lexical.specs.Theorems.LiteralLaws.{units-more, units-last}
+use Rattle.lexical.specs.Theorems.Decoded.{given-cons}
 use Rattle.lexical.specs.Plain.{plain, quote-units, plain-some}
 
 module _ (s : List ℕ) (j : ℕ) (q : getD s (j + 1) 0 ≡ 34) (n : getD s j 0 ≡ 92 → ⊥) where

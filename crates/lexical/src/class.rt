@@ -1,5 +1,4 @@
 // The class of each of the 256 byte values.
-use crate::kind;
 ghost use mathlib.Core.Path.{_≡_};
 ghost use lib.Dec.{eqb};
 ghost use Rattle.lexical.specs.Class;
@@ -310,7 +309,7 @@ pub fn is_blank(b: u8) -> bool
 }
 
 // Is it a letter or the underscore?
-pub fn is_letter(b: u8) -> bool
+pub fn is_name_letter(b: u8) -> bool
     ensures { λ r. ⌜ r ≡ letter b ⌝ }
 {
     if is_within(b'a', b'z', b) {
@@ -401,92 +400,8 @@ fn wide(c: u8) -> usize
 }
 
 // The class of any byte, by the table.
-fn class_by_table(b: u8) -> usize
+pub(crate) fn class_by_table(b: u8) -> usize
     ensures { λ r. ⌜ r ≡ classOf b ⌝ }
 {
     wide(class_in_table(b))
-}
-
-// The class of a byte with which more than one operator begins; by the table for any other.
-fn class_of_first(b: u8) -> usize
-    ensures { λ r. ⌜ r ≡ classOf b ⌝ }
-{
-    if b == b'=' {
-        return kind::ASSIGN;
-    }
-    if b == b'!' {
-        return kind::NOT;
-    }
-    if b == b'<' {
-        return kind::LESS;
-    }
-    if b == b'>' {
-        return kind::GREATER;
-    }
-    if b == b'&' {
-        return kind::AMPERSAND;
-    }
-    if b == b'-' {
-        return kind::MINUS;
-    }
-    if b == b'|' {
-        return BAR;
-    }
-    class_by_table(b)
-}
-
-// The class of a mark that is less common; of any other byte as before.
-fn class_of_rare(b: u8) -> usize
-    ensures { λ r. ⌜ r ≡ classOf b ⌝ }
-{
-    if b == b'{' {
-        return kind::OPEN_BRACE;
-    }
-    if b == b'}' {
-        return kind::CLOSE_BRACE;
-    }
-    if b == b'/' {
-        return kind::DIVIDE;
-    }
-    if b == b'%' {
-        return kind::REMAINDER;
-    }
-    if b == b'^' {
-        return kind::POWER;
-    }
-    class_of_first(b)
-}
-
-// The class of a byte: common marks are told by comparisons.
-pub fn class_of(b: u8) -> usize
-    ensures { λ r. ⌜ r ≡ classOf b ⌝ }
-{
-    if b == b'(' {
-        return kind::OPEN;
-    }
-    if b == b')' {
-        return kind::CLOSE;
-    }
-    if b == b',' {
-        return kind::COMMA;
-    }
-    if b == b';' {
-        return kind::SEMICOLON;
-    }
-    if b == b'.' {
-        return kind::DOT;
-    }
-    if b == b'$' {
-        return kind::DOLLAR;
-    }
-    if b == b'@' {
-        return kind::AT;
-    }
-    if b == b'+' {
-        return kind::PLUS;
-    }
-    if b == b'*' {
-        return kind::TIMES;
-    }
-    class_of_rare(b)
 }

@@ -4,7 +4,6 @@ use crate::unit::CLOSES;
 use crate::unit::GIVES;
 use crate::unit::is_barred;
 use crate::unit::unit_at;
-use text::copy_at;
 ghost use mathlib.Core.Path.{_≡_};
 ghost use Prim.Native.Nat.{_+_, _≤_};
 ghost use lib.Dec.{eqb, leb};
@@ -93,8 +92,8 @@ pub fn units_end(s: &[u8], from: usize) -> usize
     0
 }
 
-// How many bytes the units of the literal at `start` give.
-fn units_length(s: &[u8], start: usize) -> usize
+// How many bytes the literal whose opening quote stands at `start` gives.
+pub fn literal_length(s: &[u8], start: usize) -> usize
     ensures { λ r. ⌜ r ≡ length (decodedAt (now (s .entry)) start) ⌝ }
 {
     if s.len() <= start {
@@ -114,20 +113,6 @@ fn units_length(s: &[u8], start: usize) -> usize
         i += u.width;
     }
     n
-}
-
-// How many bytes the literal whose opening quote stands at `start` gives.
-pub fn literal_length(s: &[u8], start: usize) -> usize
-    ensures { λ r. ⌜ r ≡ length (decodedAt (now (s .entry)) start) ⌝ }
-{
-    if s.len() <= start {
-        return 0;
-    }
-    let e = plain_end(s, start + 1);
-    if closes_at(s, e) {
-        return e - (start + 1);
-    }
-    units_length(s, start)
 }
 
 // Does a quote behind a byte other than a backslash stand before `end`, and no more than `most` bytes from `start` to there?
@@ -232,14 +217,7 @@ fn decode_units(s: &[u8], start: usize, buf: &mut [u8], at: usize, n: usize) -> 
 pub fn decode_into(s: &[u8], start: usize, buf: &mut [u8], at: usize) -> bool
     ensures { λ r. ⌜ ran r (now (buf .exit)) ≡ decodeInto (now (s .entry)) start (now (buf .entry)) at ⌝ }
 {
-    if s.len() <= start {
-        return decode_units(s, start, buf, at, 0);
-    }
-    let e = plain_end(s, start + 1);
-    if closes_at(s, e) {
-        return copy_at(buf, at, &s[start + 1..e]);
-    }
-    let n = units_length(s, start);
+    let n = literal_length(s, start);
     decode_units(s, start, buf, at, n)
 }
 

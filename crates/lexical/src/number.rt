@@ -35,8 +35,8 @@ fn hold(n: u64) -> u64
     n
 }
 
-// The number that digits write one after the other.
-fn number_from(s: &[u8], start: usize, end: usize) -> u64
+// The number that the digits from start to end write, or the limit where that is smaller.
+pub fn number_at(s: &[u8], start: usize, end: usize) -> u64
     ensures { λ r. ⌜ r ≡ numberAt (now (s .entry)) start end ⌝ }
 {
     let mut i = start;
@@ -49,22 +49,6 @@ fn number_from(s: &[u8], start: usize, end: usize) -> u64
         i += 1;
     }
     v
-}
-
-// The number that the digits from start to end write, or the limit where that is smaller; one digit is read at once.
-pub fn number_at(s: &[u8], start: usize, end: usize) -> u64
-    ensures { λ r. ⌜ r ≡ numberAt (now (s .entry)) start end ⌝ }
-{
-    if s.len() <= start {
-        return 0;
-    }
-    if end <= start {
-        return 0;
-    }
-    if end - start != 1 {
-        return number_from(s, start, end);
-    }
-    digit(s[start])
 }
 
 // Do the digits from start to end write the limit or more? No seven bytes do.

@@ -1,6 +1,6 @@
 // Scanning by an index: the byte some way on, and the end of a run of bytes.
 use crate::class::is_blank;
-use crate::class::is_letter;
+use crate::class::is_name_letter;
 use crate::class::is_numeral;
 ghost use mathlib.Core.Path.{_≡_};
 ghost use Prim.Native.Nat.{_+_};
@@ -56,7 +56,7 @@ fn is_free(b: u8) -> bool
 fn is_wordly(b: u8) -> bool
     ensures { λ r. ⌜ r ≡ wordly b ⌝ }
 {
-    if is_letter(b) {
+    if is_name_letter(b) {
         return true;
     }
     is_numeral(b)

@@ -1,8 +1,8 @@
 // The token that starts at a place.
 use crate::class::begins_name;
 use crate::class::begins_number;
-use crate::class::class_of;
 use crate::class::is_quote;
+use crate::fast::mark_token;
 use crate::kind;
 use crate::literal::closes_at;
 use crate::literal::plain_end;
@@ -14,7 +14,6 @@ use crate::scan::skip;
 ghost use mathlib.Core.Path.{_≡_};
 ghost use lib.ListN.{getD};
 ghost use Rattle.lexical.specs.Class.{classOf, DIGIT};
-ghost use Rattle.lexical.specs.Lone.{lone};
 ghost use Rattle.lexical.specs.Common.{commonPair};
 ghost use Rattle.lexical.specs.Token.{widthOf, operatorAt, operatorToken, literalToken, floatEnd, numberToken, tokenFrom};
 ghost use Rattle.lexical.specs.Working.Open.{literalFrom, settled};
@@ -68,7 +67,7 @@ fn operator_at(s: &[u8], mode: u8, i: usize, c: usize) -> usize
     operator_kind(mode, c, byte_at(s, i, 1), byte_at(s, i, 2))
 }
 
-fn operator_token(s: &[u8], mode: u8, i: usize, c: usize) -> Token
+pub(crate) fn operator_token(s: &[u8], mode: u8, i: usize, c: usize) -> Token
     requires { ⌜ c ≡ classOf (getD (now s) i 0) ⌝ }
     ensures { λ r. ⌜ r ≡ operatorToken (now (s .entry)) mode i ⌝ }
 {
@@ -174,41 +173,6 @@ fn number_token(s: &[u8], i: usize) -> Token
         start: i,
         end: f,
     }
-}
-
-// Is it the class of an operator that begins no longer one?
-fn is_lone(c: usize) -> bool
-    ensures { λ r. ⌜ r ≡ lone c ⌝ }
-{
-    if c < kind::OPEN {
-        return false;
-    }
-    if c < kind::ASSIGN {
-        return true;
-    }
-    if c < kind::DOT {
-        return false;
-    }
-    if c == kind::AMPERSAND {
-        return false;
-    }
-    c != kind::MINUS
-}
-
-// The operator at i, where the byte b stands, or a fault.
-fn mark_token(s: &[u8], mode: u8, i: usize, b: u8) -> Token
-    requires { ⌜ b ≡ getD (now s) i 0 ⌝ }
-    ensures { λ r. ⌜ r ≡ operatorToken (now (s .entry)) mode i ⌝ }
-{
-    let c = class_of(b);
-    if is_lone(c) {
-        return Token {
-            kind: c,
-            start: i,
-            end: i + 1,
-        };
-    }
-    operator_token(s, mode, i, c)
 }
 
 // The kind of a common operator of two bytes; ILLEGAL for any other two.

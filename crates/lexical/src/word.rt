@@ -2,9 +2,7 @@
 use crate::class::is_within;
 use crate::scan::byte_at;
 ghost use mathlib.Core.Path.{_≡_};
-ghost use Prim.Native.Nat.{_+_, _≤_};
-ghost use lib.Dec.{eqb, leb};
-ghost use lib.ListN.{length};
+ghost use lib.Dec.{eqb};
 ghost use Rattle.lexical.specs.Word.{lower, stands, spells, word-true, word-false};
 
 // Is c the small one of the byte b, or b itself where that is no capital letter?
@@ -23,34 +21,8 @@ fn is_lower(b: u8, c: u8) -> bool
     false
 }
 
-// Are there n bytes from `at` on?
-fn has_room(s: &[u8], at: usize, n: usize) -> bool
-    ensures { λ r. ⌜ r ≡ leb (at + n) (length (now (s .entry))) ⌝ }
-{
-    if s.len() < at {
-        return false;
-    }
-    n <= s.len() - at
-}
-
-// Does the word w, in small letters, stand in s at `at` in any case, where there is room for it?
-fn stands_in(s: &[u8], at: usize, w: &[u8]) -> bool
-    requires { ⌜ at + length (now w) ≤ length (now s) ⌝ }
-    ensures { λ r. ⌜ r ≡ stands (now (s .entry)) at (now (w .entry)) ⌝ }
-{
-    let mut i: usize = 0;
-    while i < w.len() {
-        if is_lower(s[at + i], w[i]) {
-            i += 1;
-        } else {
-            return false;
-        }
-    }
-    true
-}
-
-// The same with NUL behind the end.
-fn stands_past(s: &[u8], at: usize, w: &[u8]) -> bool
+// Does the word w, in small letters, stand in s at `at` in any case? Behind the end there is NUL.
+pub fn stands_at(s: &[u8], at: usize, w: &[u8]) -> bool
     ensures { λ r. ⌜ r ≡ stands (now (s .entry)) at (now (w .entry)) ⌝ }
 {
     let mut i: usize = 0;
@@ -62,16 +34,6 @@ fn stands_past(s: &[u8], at: usize, w: &[u8]) -> bool
         }
     }
     true
-}
-
-// Does the word w, in small letters, stand in s at `at` in any case?
-pub fn stands_at(s: &[u8], at: usize, w: &[u8]) -> bool
-    ensures { λ r. ⌜ r ≡ stands (now (s .entry)) at (now (w .entry)) ⌝ }
-{
-    if has_room(s, at, w.len()) {
-        return stands_in(s, at, w);
-    }
-    stands_past(s, at, w)
 }
 
 // Are the bytes from start to end the word w?

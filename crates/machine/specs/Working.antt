@@ -2,7 +2,6 @@ pub mod Stepping
 pub mod Quick
 pub mod Alike
 pub mod Joining
-pub mod Rating
 pub mod Passing
 pub mod Ending
 pub mod Running
@@ -11,3 +10,8 @@ pub mod Decimals
 pub mod Widths
 pub mod Stacking
 pub mod Giving
+pub mod Machine
+pub mod Left
+pub mod Live
+pub mod Need
+pub mod Given

@@ -5,3 +5,4 @@ pub mod Tag
 pub mod Rulings
 pub mod Theorems
 pub mod Working
+pub mod Places

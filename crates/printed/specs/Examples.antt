@@ -3,7 +3,7 @@ use mathlib.Core.Path.{_≡_, refl}
 use mathlib.Core.List.{List, [], _∷_}
 use Prim.Native.Nat.{ℕ}
 use Rattle.text.specs.Counted as TextCounted
-use Rattle.keynote.specs.Outcome.{refusal}
+use Rattle.keynote.specs.Outcome.{refusedWith}
 use Rattle.keynote.specs.declared.Outcome.{Outcome}
 use Rattle.printed.specs.Numeral.{lastDigit, digits, decimal}
 use Rattle.printed.specs.Fill.{filled, fillAt}
@@ -19,10 +19,10 @@ pub record Examples : Type 0 where
   -- two assertions, the second set aside
   pub second : outcomeLines (record { number = 0; place = 0; rank = 0; rounds = 1; reached = 3 }) 2 (1 ∷ 0 ∷ 6 ∷ 0 ∷ 0 ∷ 0 ∷ 2 ∷ 1 ∷ 249 ∷ []) (bytes "|")
       ≡ bytes "rank 0 of 2|rounds 1|reached 3|assertion 0 reason 0 at 0|assertion 1 reason 2 at 505|"
-  pub refused : outcomeLines (refusal 4 12) 0 [] (bytes "\n") ≡ bytes "refused 4 at 12\n"
+  pub refused : outcomeLines (refusedWith 4 12) 0 [] (bytes "\n") ≡ bytes "refused 4 at 12\n"
 
 pub examples : Examples
-unfolding lastDigit digits decimal said line pairLine headLines assertionLine assertionLines refusalLine outcomeLines refusal TextCounted.pairAt
+unfolding lastDigit digits decimal said line pairLine headLines assertionLine assertionLines refusalLine outcomeLines refusedWith TextCounted.pairAt
 examples = record {
   none = refl;
   ten = refl;

@@ -5,7 +5,7 @@ use Prim.Native.Nat.{ℕ, _<_, _≤_}
 use lib.ListN.{length}
 use Rattle.lexical.specs.Kind
 use Rattle.lexical.specs.Line.{tokenAt}
-use Rattle.lexical.specs.TokensLaws.{token-within}
+use Rattle.lexical.specs.Theorems.TokensLaws.{token-within}
 use Rattle.lexical.specs.declared.token.Token.{Token}
 
 -- t is the token behind some place of the text

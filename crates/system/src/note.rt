@@ -12,12 +12,6 @@ pub struct Ends {
     pub kept: usize,
 }
 
-fn low(n: usize) -> u8
-    ensures { λ r. ⌜ r ≡ n % 256 ⌝ }
-{
-    (n % 256) as u8
-}
-
 fn pair(n: usize) -> u16
     ensures { λ r. ⌜ r ≡ n % 65536 ⌝ }
 {
@@ -35,8 +29,7 @@ pub fn put_entry(page: &mut [u8], i: usize, reason: u8, place: usize)
         return;
     }
     let at = 3 + 3 * i;
-    page[at + 2] = low(place);
-    page[at + 1] = low(place / 256);
+    text::put_pair(page, at + 1, place % 65536);
     page[at] = reason;
 }
 
@@ -111,7 +104,6 @@ pub fn put_header(page: &mut [u8], n: usize)
         return;
     }
     let size = 3 * (n % 65536);
-    page[2] = low(size);
-    page[1] = low(size / 256);
+    text::put_pair(page, 1, size % 65536);
     page[0] = 1;
 }

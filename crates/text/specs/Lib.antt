@@ -10,6 +10,7 @@ pub mod Copy
 pub mod CopyLaws
 pub mod Class
 pub mod Counted
+pub mod CountedLaws
 pub mod Join
 pub mod Digits
 pub mod Decimal

@@ -7,4 +7,4 @@ pub mod Holding
 pub mod Deciding
 pub mod Blocks
 pub mod Backward
-pub mod WordBlocks
+pub mod Pairs

@@ -1,17 +1,20 @@
-// Byte strings: equality, order, copying, joining and decimal numbers, as the layers above need them.
+// Byte strings: equality, order, copying, joining, counted strings and decimal numbers, as the layers above need them.
+mod long;
+
+pub use long::copy_long;
+pub use long::same_long;
 ghost use mathlib.Core.Path.{_≡_};
 ghost use mathlib.Core.Bool.{_&&_};
 ghost use mathlib.Core.List.{map, _++_};
 ghost use Prim.Native.Nat.{_+_, _-_, _*_, _≤_, _<_, min};
 ghost use lib.Dec.{leb};
 ghost use lib.ListN.{length, take};
-ghost use Rattle.text.specs.Choice.{pick};
 ghost use Rattle.text.specs.Scan.{run, past};
 ghost use Rattle.text.specs.Equal.{equal};
 ghost use Rattle.text.specs.Order.{order};
 ghost use Rattle.text.specs.Copy.{copied, put, copyAt};
 ghost use Rattle.text.specs.Class.{isDigit, isLetter, isWord, inClass};
-ghost use Rattle.text.specs.Counted.{pairAt, counted};
+ghost use Rattle.text.specs.Counted.{pairAt, counted, putPair, putCounted};
 ghost use Rattle.text.specs.Join.{joined};
 ghost use Rattle.text.specs.Digits.{digitsAt, value, limit};
 ghost use Rattle.text.specs.Decimal.{inRange, roundedDown, withFraction, unsigned, decimal};
@@ -19,7 +22,6 @@ ghost use Rattle.text.specs.Working.Common.{common, commonFrom};
 ghost use Rattle.text.specs.Working.Blocks.{alike};
 ghost use Rattle.text.specs.Working.Holding.{hold};
 ghost use Rattle.text.specs.Working.Joining.{comma};
-ghost use Rattle.text.specs.Working.WordBlocks.{firstOther};
 
 // How one byte string stands to another.
 pub enum Order {
@@ -42,10 +44,7 @@ pub const DIGIT: u8 = 1;
 pub const WORD: u8 = 2;
 
 // Numbers are told apart up to here.
-pub const LIMIT: u64 = 4294967295;
-
-// The longest string that is moved at once.
-const BLOCK: usize = 4096;
+pub const MOST_HELD: u64 = 4294967295;
 
 const ZERO: Integer = Integer {
     negative: false,
@@ -171,24 +170,6 @@ pub fn same_bytes(a: &[u8], b: &[u8]) -> bool
     false
 }
 
-// The same for strings that may be long: in blocks of 1,024 bytes first.
-pub fn same_long(a: &[u8], b: &[u8]) -> bool
-    ensures { λ r. ⌜ r ≡ equal (now (a .entry)) (now (b .entry)) ⌝ }
-{
-    if a.len() != b.len() {
-        return false;
-    }
-    let mut i: usize = 0;
-    while 1024 <= a.len() - i {
-        if same_part(a, b, i, 1024) {
-            i += 1024;
-        } else {
-            return false;
-        }
-    }
-    same_bytes(&a[i..], &b[i..])
-}
-
 // The order by byte; a proper prefix is less.
 pub fn compare(a: &[u8], b: &[u8]) -> Order
     ensures { λ r. ⌜ r ≡ order (now (a .entry)) (now (b .entry)) ⌝ }
@@ -232,39 +213,6 @@ pub fn copy_at(dst: &mut [u8], at: usize, src: &[u8]) -> bool
         return false;
     }
     paste(dst, at, src);
-    true
-}
-
-// Copies src, of no more bytes than the table has, by way of a table of its own: neither string overlaps that, so the compiler moves all
-// bytes at once.
-fn transfer(dst: &mut [u8], at: usize, src: &[u8])
-    requires { ⌜ (at ≤ length (now dst)) × (length (now src) ≤ length (now dst) - at) × (length (now src) ≤ 4096) ⌝ }
-    ensures { λ _. ⌜ now (dst .exit) ≡ put (now (dst .entry)) at (now (src .entry)) ⌝ }
-{
-    let mut block = [0u8; BLOCK];
-    paste(&mut block, 0, src);
-    paste(dst, at, &block[..src.len()]);
-}
-
-// The same as `copy_at` for strings that may be long.
-pub fn copy_long(dst: &mut [u8], at: usize, src: &[u8]) -> bool
-    ensures { λ r. ⌜ copied r (now (dst .exit)) ≡ copyAt (now (dst .entry)) at (now (src .entry)) ⌝ }
-{
-    if dst.len() < at {
-        return false;
-    }
-    if dst.len() - at < src.len() {
-        return false;
-    }
-    if src.len() < 128 {
-        paste(dst, at, src);
-        return true;
-    }
-    if BLOCK < src.len() {
-        paste(dst, at, src);
-        return true;
-    }
-    transfer(dst, at, src);
     true
 }
 
@@ -347,85 +295,6 @@ pub fn word_end(s: &[u8], at: usize) -> usize
     i
 }
 
-// `is_word` without branches.
-fn is_word_flat(b: u8) -> bool
-    ensures { λ r. ⌜ r ≡ isWord b ⌝ }
-{
-    let small = (97 <= b) & (b <= 122);
-    let capital = (65 <= b) & (b <= 90);
-    let figure = (48 <= b) & (b <= 57);
-    small | capital | figure | (b == 95)
-}
-
-// j, or 16 for a byte of a word.
-fn mark(in_word: bool, j: u8) -> u8
-    ensures { λ r. ⌜ r ≡ pick in_word 16 j ⌝ }
-{
-    if in_word {
-        return 16;
-    }
-    j
-}
-
-fn lesser(a: u8, b: u8) -> u8
-    ensures { λ r. ⌜ r ≡ min a b ⌝ }
-{
-    if b < a {
-        return b;
-    }
-    a
-}
-
-fn byte(n: usize) -> u8
-    requires { ⌜ n < 256 ⌝ }
-    ensures { λ r. ⌜ r ≡ n ⌝ }
-{
-    n as u8
-}
-
-// Which of the n bytes from i on, at most 16, is the first that is no word's; 16 where none is. The loop has no early end, so that all are
-// tested at once.
-fn first_other(s: &[u8], i: usize, n: usize) -> usize
-    requires { ⌜ (i + n ≤ length (now s)) × (n ≤ 16) ⌝ }
-    ensures { λ r. ⌜ r ≡ firstOther isWord (now (s .entry)) i n ⌝ }
-{
-    let mut e: u8 = 16;
-    let mut j: usize = 0;
-    while j < n {
-        let m = mark(is_word_flat(s[i + j]), byte(j));
-        e = lesser(e, m);
-        j += 1;
-    }
-    wide(e)
-}
-
-// How many bytes are left from i on, but at most 16.
-fn block_at(s: &[u8], i: usize) -> usize
-    requires { ⌜ i ≤ length (now s) ⌝ }
-    ensures { λ r. ⌜ r ≡ min 16 (length (now (s .entry)) - i) ⌝ }
-{
-    if s.len() - i < 16 {
-        return s.len() - i;
-    }
-    16
-}
-
-// The same as `word_end`, in blocks of 16 bytes.
-pub fn word_end_by_blocks(s: &[u8], at: usize) -> usize
-    ensures { λ r. ⌜ r ≡ past isWord (now (s .entry)) at ⌝ }
-{
-    let mut i = at;
-    while i < s.len() {
-        let n = block_at(s, i);
-        let e = first_other(s, i, n);
-        if e < n {
-            return i + e;
-        }
-        i += n;
-    }
-    i
-}
-
 fn wide(b: u8) -> usize
     ensures { λ r. ⌜ (r ≡ b) × (r < 256) ⌝ }
 {
@@ -462,6 +331,44 @@ pub fn counted_at(s: &[u8], at: usize) -> &[u8]
         return &s[..0];
     }
     &s[at..at + n]
+}
+
+// Writes a number below 65,536 in two bytes, big-endian, at a place, and tells whether it did; where it doesn't fit, nothing is written.
+pub fn put_pair(dst: &mut [u8], at: usize, n: usize) -> bool
+    ensures { λ r. ⌜ copied r (now (dst .exit)) ≡ putPair (now (dst .entry)) at n ⌝ }
+{
+    if 65535 < n {
+        return false;
+    }
+    if dst.len() < at {
+        return false;
+    }
+    if dst.len() - at < 2 {
+        return false;
+    }
+    dst[at] = (n / 256 % 256) as u8;
+    dst[at + 1] = (n % 256) as u8;
+    true
+}
+
+// Writes a string behind its two-byte length at a place, and tells whether it did; where it doesn't fit, nothing is written.
+pub fn put_counted(dst: &mut [u8], at: usize, b: &[u8]) -> bool
+    ensures { λ r. ⌜ copied r (now (dst .exit)) ≡ putCounted (now (dst .entry)) at (now (b .entry)) ⌝ }
+{
+    if 65535 < b.len() {
+        return false;
+    }
+    if dst.len() < at {
+        return false;
+    }
+    if dst.len() - at < 2 {
+        return false;
+    }
+    if copy_at(dst, at + 2, b) {
+        put_pair(dst, at, b.len());
+        return true;
+    }
+    false
 }
 
 // The length of the comma before string i: none before the first.
@@ -558,11 +465,11 @@ fn hold_digit(v: u64, b: u8) -> u64
     ensures { λ r. ⌜ r ≡ hold v b ⌝ }
 {
     if 429496729 < v {
-        return LIMIT;
+        return MOST_HELD;
     }
     let d = digit_value(b);
-    if LIMIT < v * 10 + d {
-        return LIMIT;
+    if MOST_HELD < v * 10 + d {
+        return MOST_HELD;
     }
     v * 10 + d
 }

@@ -15,7 +15,8 @@ use Rattle.lexical.specs.declared.token.Token.{Token}
 use Rattle.principal.specs.Principal.{Principal}
 use Rattle.principal.specs.Members.{member, member-left}
 use Rattle.compliance.specs.Licensees.{Expression, Licensees, missing, given, licensees}
-use Rattle.compliance.specs.Tables.{place, compiled, Formed}
+use Rattle.principal.specs.Places.{place}
+use Rattle.compliance.specs.Tables.{compiled, Formed}
 use Rattle.compliance.specs.Theorems.Fill.{place-stays, compiled-stays}
 use Rattle.index.specs.Index.{enterAll, Holds}
 use Rattle.index.specs.EnterLaws.{freshAll, enter-all-is}

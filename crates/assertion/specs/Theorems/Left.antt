@@ -8,7 +8,7 @@ use lib.ListN.{length, getD, set}
 use Rattle.lexical.specs.Kind
 use Rattle.principal.specs.Principal.{Principal, policy, same-refl}
 use Rattle.principal.specs.Members.{member, member-none, member-here, member-left}
-use Rattle.compliance.specs.Tables.{place}
+use Rattle.principal.specs.Places.{place}
 use Rattle.compliance.specs.Theorems.Fill.{place-stays}
 use Rattle.index.specs.Index.{enter, enterAll}
 use Rattle.index.specs.EnterLaws.{enter-length, freshAll, enter-all-is}

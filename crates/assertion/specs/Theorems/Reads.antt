@@ -21,7 +21,8 @@ use Rattle.principal.specs.Members.{member}
 use Rattle.compliance.specs.Codes.{topCode}
 use Rattle.compliance.specs.Licensees.{Expression, Licensees, missing, licensees}
 use Rattle.compliance.specs.Licensees.{given as stating}
-use Rattle.compliance.specs.Tables.{place, compiled, Formed}
+use Rattle.principal.specs.Places.{place}
+use Rattle.compliance.specs.Tables.{compiled, Formed}
 use Rattle.index.specs.Index.{enterAll}
 use Rattle.syntax.specs.Parsed.{Parsed, refusal}
 use Rattle.syntax.specs.Stood.{Stood, stood-at}

@@ -12,7 +12,8 @@ use Rattle.record.specs.Lies.{Lie, StringAt, AttributeAt}
 use Rattle.principal.specs.Principal.{Principal}
 use Rattle.principal.specs.Members.{member}
 use Rattle.compliance.specs.Licensees.{Expression, given, licensees}
-use Rattle.compliance.specs.Tables.{place, compiled, Formed}
+use Rattle.principal.specs.Places.{place}
+use Rattle.compliance.specs.Tables.{compiled, Formed}
 use Rattle.index.specs.Index.{enterAll, Holds}
 use Rattle.expression.specs.Names.{environment}
 use Rattle.expression.specs.Conditions.{conditions}

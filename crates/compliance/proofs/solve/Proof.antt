@@ -4,7 +4,7 @@ use Rattle.compliance.proofs.solve.Statement.{statement}
 use Rattle.compliance.proofs.solve.Tie as tie
 use Rattle.compliance.proofs.solve.Reads as reads
 use Rattle.compliance.proofs.solve.Lts as lts
-use Rattle.compliance.proofs.solve_few.Reads as solve-few-reads
+use Rattle.compliance.proofs.fast.solve_few.Reads as solve-few-reads
 use Rattle.compliance.proofs.solve_many.Reads as solve-many-reads
 
 returns : tie.Need-returns

@@ -10,7 +10,8 @@ use Rattle.principal.specs.Principal.{Principal}
 use Rattle.compliance.specs.Highest.{highest}
 use Rattle.compliance.specs.Licensees.{Rank, Expression, Licensees, missing, empty, given, value, licensed, named, licensees}
 use Rattle.compliance.specs.Codes.{topCode, kOfBase, span, kOfCode, andCode, orCode}
-use Rattle.compliance.specs.Tables.{place, compile, compiled, Formed, f-name, f-and, f-or, f-kOf}
+use Rattle.principal.specs.Places.{place}
+use Rattle.compliance.specs.Tables.{compile, compiled, Formed, f-name, f-and, f-or, f-kOf}
 use Rattle.compliance.specs.Working.Highest.{two-or, two-and}
 use Rattle.compliance.specs.Working.Machine.{pushed, combined, stepped, exec, lastOf, worth}
 

@@ -11,11 +11,12 @@ use lib.ListN.{length, getD, drop, length-append, length-drop, List·getD-append
 use lib.Seq.{take-append-le, drop-append-le, getD-append-seam, drop-append-seam, take-length}
 use borrow.Author.Tests.{ltb-false, le-ltb}
 use Rattle.text.specs.Choice.{split, clash}
-use Rattle.principal.specs.Principal.{Principal, same, same-refl, same-sym}
-use Rattle.principal.specs.Members.{member, Distinct, d[], d∷, member-none, member-here, member-there, member-cases, member-left, member-either}
+use Rattle.principal.specs.Principal.{Principal, same, same-refl}
+use Rattle.principal.specs.Members.{member, member-none, member-here, member-there, member-cases, member-left}
 use Rattle.compliance.specs.Licensees.{Expression, name, and, or, kOf, Licensees, missing, empty, given, named, licensees}
 use Rattle.compliance.specs.System.{Assertion}
-use Rattle.compliance.specs.Tables.{place, compile, compiled, startOf, programOf, Row}
+use Rattle.principal.specs.Places.{place}
+use Rattle.compliance.specs.Tables.{compile, compiled, startOf, programOf, Row}
 
 -- a principal that is not in the list has the next free index, and gets it when it is added
 pub place-absent : (names : List Principal) (p : Principal) → member p names ≡ false → place names p ≡ length names
@@ -31,17 +32,6 @@ place-added [] p i = split (same p p) (λ e. rw e) (λ e. clash (same-refl p) e)
 place-added (q ∷ names) p i = split (same p q)
     (λ e. clash (member-here p q names e) i)
     (λ e. rw e (ap suc (place-added names p (split (member p names) (λ k. clash (member-there p q names k) i) (λ k. k)))))
-
-pub distinct-added : {names : List Principal} → Distinct names → (p : Principal) → member p names ≡ false → Distinct (names ++ (p ∷ []))
-distinct-added d[] p i = d∷ i d[]
-distinct-added (d∷ {p = q} {l = names} n d) p i =
-    let k : member q (names ++ (p ∷ [])) ≡ false = split (member q (names ++ (p ∷ [])))
-    (λ e. ⊎-elim
-    (λ x. clash x n)
-    (λ x. ⊎-elim (λ y. clash (member-here p q names (same-sym q p y)) i) (λ y. member-none q y) (member-cases q p [] x))
-    (member-either q names (p ∷ []) e))
-    (λ e. e) in
-    d∷ k (distinct-added d p (split (member p names) (λ x. clash (member-there p q names x) i) (λ x. x)))
 
 -- an index stays
 pub place-stays : (names more : List Principal) (p : Principal) → member p names ≡ true → place (names ++ more) p ≡ place names p

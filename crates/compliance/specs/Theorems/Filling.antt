@@ -17,8 +17,10 @@ use Rattle.principal.specs.Members.{member, d[], d∷, member-here, member-left
 use Rattle.compliance.specs.Licensees.{Expression, given, licensees}
 use Rattle.compliance.specs.System.{Assertion, System}
 use Rattle.limits.specs.Limits.{mostAssertions, mostLicensees, mostPrincipals}
-use Rattle.compliance.specs.Tables.{place, compiled, startOf, programOf, Formed, Row, Represents}
-use Rattle.compliance.specs.Theorems.Fill.{place-stays, distinct-added, program-stays, program-added, row-stays}
+use Rattle.principal.specs.Places.{place}
+use Rattle.compliance.specs.Tables.{compiled, startOf, programOf, Formed, Row, Represents}
+use Rattle.principal.specs.Theorems.Added.{distinct-added}
+use Rattle.compliance.specs.Theorems.Fill.{place-stays, program-stays, program-added, row-stays}
 
 -- the system of assertions read, requesters and the highest rank
 abbrev pub reading : List Assertion → List Principal → ℕ → System

@@ -17,7 +17,8 @@ use Rattle.compliance.specs.Licensees.{Rank, Expression, name, and, or, 
 use Rattle.compliance.specs.System.{Assertion, System}
 use Rattle.compliance.specs.Reach.{reach, Reachable, root, licensee}
 use Rattle.compliance.specs.Codes.{topCode, kOfCode, andCode, orCode, zeroCode}
-use Rattle.compliance.specs.Tables.{place, compile, compiled, programOf, Represents}
+use Rattle.principal.specs.Places.{place}
+use Rattle.compliance.specs.Tables.{compile, compiled, programOf, Represents}
 use Rattle.compliance.specs.Theorems.Reach.{reach-sound, reach-complete}
 use Rattle.compliance.specs.Theorems.Index.{Even, map-same, place-lt, place-map, place-none, place-set}
 use Rattle.compliance.specs.Working.Reach.{marked, markedAll, openAt, openFrom, spreadFrom}

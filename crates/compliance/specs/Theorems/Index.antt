@@ -10,7 +10,7 @@ use Rattle.text.specs.Choice.{pick, split, clash}
 use Rattle.principal.specs.Principal.{Principal, same, same-sym, same-trans}
 use Rattle.principal.specs.Members.{member, Distinct, d[], d∷, member-none, member-cases, member-mem, member-same}
 use Rattle.compliance.specs.Licensees.{Rank}
-use Rattle.compliance.specs.Tables.{place}
+use Rattle.principal.specs.Places.{place}
 
 -- a rank that goes by `same`
 abbrev pub Even : Rank → Type 0

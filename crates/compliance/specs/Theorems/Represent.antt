@@ -21,7 +21,8 @@ use Rattle.compliance.specs.System as system
 use Rattle.compliance.specs.Reach.{reach, InReach, Reachable, root, licensee}
 use Rattle.compliance.specs.Rounds.{settled, reached, firstSettled, rounds, rank}
 use Rattle.limits.specs.Limits.{mostAssertions, mostLicensees, mostPrincipals}
-use Rattle.compliance.specs.Tables.{place, compiled, Row, Represents}
+use Rattle.principal.specs.Places.{place}
+use Rattle.compliance.specs.Tables.{compiled, Row, Represents}
 use Rattle.compliance.specs.Theorems.Monotone.{round-alike}
 use Rattle.compliance.specs.Theorems.Reach.{reach-licenses, reach-root, reach-sound, reach-distinct}
 use Rattle.compliance.specs.Theorems.Settle.{settled-equal, equal-settled, rounds-rank}

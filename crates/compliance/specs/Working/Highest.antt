@@ -142,16 +142,3 @@ two-or a b k r e h = rw e (omega arith)
 pub two-and : (a b k r : ℕ) → k ≡ 2 → r ≡ min a b → r ≡ highest k (a ∷ b ∷ [])
 unfolding highest
 two-and a b k r e h = rw e (omega arith)
-
-pub two-none : (a b k : ℕ) → (k ≡ 1 → ⊥) → (k ≡ 2 → ⊥) → 0 ≡ highest k (a ∷ b ∷ [])
-unfolding highest
-two-none a b zero n m = refl
-two-none a b (suc zero) n m = absurd (n refl)
-two-none a b (suc (suc zero)) n m = absurd (m refl)
-two-none a b (suc (suc (suc k))) n m = omega arith
-
-pub two-values : (xs : List ℕ) (k r : ℕ) → length xs ≡ 2 → r ≡ highest k (getD xs 0 0 ∷ getD xs 1 0 ∷ []) → r ≡ highest k xs
-two-values [] k r e h = absurd (omega arith)
-two-values (x ∷ []) k r e h = absurd (omega arith)
-two-values (x ∷ y ∷ []) k r e h = h
-two-values (x ∷ y ∷ z ∷ xs) k r e h = absurd (omega arith)

@@ -1,7 +1,7 @@
 -- The stack machine that runs compiled licensees, in the code's shape, and the ways of its functions. Assumes nothing.
 use mathlib.Core.Path.{_≡_, refl, sym, ap, _∙_}
 use mathlib.Core.List.{List, [], _∷_, _++_}
-use Prim.Native.Nat.{ℕ, zero, suc, _+_, _-_, _/_, _%_, _≤_, _<_, max}
+use Prim.Native.Nat.{ℕ, zero, suc, _+_, _-_, _/_, _%_, _≤_, _<_}
 use native.Mathlib.Omega.{arith}
 use native.Mathlib.Numerals.{add-one}
 use lib.Dec.{eqb, ltb}
@@ -10,8 +10,7 @@ use lib.Seq.{drop-cons, take-suc-set, length-take-le, getD-take, take-take}
 use borrow.Author.Tests.{lt-ltb, le-ltb, eq-eqb, ne-eqb}
 use Rattle.text.specs.Choice.{pick}
 use Rattle.compliance.specs.Highest.{highest}
-use Rattle.compliance.specs.Codes.{topCode, kOfBase, span, orCode}
-use Rattle.compliance.specs.Working.Highest.{two-or}
+use Rattle.compliance.specs.Codes.{topCode, kOfBase, span}
 
 -- the first sp numbers of the stack are the list
 pub record Live (stack : List ℕ) (sp : ℕ) (live : List ℕ) : Type 0 where
@@ -79,19 +78,6 @@ module _ (st : List ℕ) (sp k n : ℕ) (w : sp ≤ length st) (b : ℕ) (be : b
       let e : length (take sp st) ≡ sp = length-take-le sp st w in
       record { within = l .within; holds = l .holds ∙ rw (e, ← be, take-take b sp st (omega arith), drop-take b sp st, ← ve) }
 
-take-two : (b : ℕ) (l : List ℕ) → b + 2 ≤ length l → take 2 (drop b l) ≡ getD l b 0 ∷ getD l (b + 1) 0 ∷ []
-take-two b l h = rw (drop-cons l b 0 (omega arith), drop-cons l (suc b) 0 (omega arith), add-one b)
-
--- the topmost two give way to the greater
-pub either-is : (st : List ℕ) (sp g : ℕ) → sp ≤ length st → 2 ≤ sp → g ≡ max (getD st (sp - 2) 0) (getD st (sp - 1) 0)
-    → Live (set st (sp - 2) g) (sp - 1) (combined (length st) 1 2 (take sp st))
-either-is st sp g w h ge =
-    let b = sp - 2 in
-    let two : sp - b ≡ 2 = omega arith in
-    let one : sp - 1 ≡ b + 1 = omega arith in
-    let v : g ≡ highest 1 (take (sp - b) (drop b st)) = rw (two, take-two b st (omega arith)) (two-or (getD st b 0) (getD st (b + 1) 0) 1 g refl (rw (← one) ge)) in
-    rw one (combine-is st sp 1 2 w b refl g v (set st b g) (b + 1) (push-in st b g (omega arith) (omega arith)))
-
 module _ (ranks : List ℕ) (top depth op : ℕ) (live : List ℕ) (st : List ℕ) (r : ℕ) where
   pub step-rank : op < topCode → (i v : ℕ) → i ≡ op → v ≡ getD ranks i 0 → Live st r (pushed depth live v) → Live st r (stepped ranks top depth op live)
   unfolding stepped
@@ -100,10 +86,6 @@ module _ (ranks : List ℕ) (top depth op : ℕ) (live : List ℕ) (st : List �
   pub step-top : topCode ≤ op → op ≡ topCode → Live st r (pushed depth live top) → Live st r (stepped ranks top depth op live)
   unfolding stepped
   step-top h e l = rw (le-ltb op topCode h, eq-eqb op topCode e) l
-
-  pub step-either : topCode ≤ op → op ≡ orCode → Live st r (combined depth 1 2 live) → Live st r (stepped ranks top depth op live)
-  unfolding stepped
-  step-either h e l = rw e l
 
   pub step-combine : topCode ≤ op → (op ≡ topCode → ⊥) → (k n : ℕ) → k ≡ (op - kOfBase) / span → n ≡ (op - kOfBase) % span
       → Live st r (combined depth k n live) → Live st r (stepped ranks top depth op live)

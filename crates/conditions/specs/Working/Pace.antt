@@ -11,11 +11,11 @@ use borrow.Author.Tests.{ltb-true, ltb-false, leb-true, leb-false, eqb-true, eqb
 use Rattle.text.specs.Choice.{pick, split, clash}
 use Rattle.text.specs.Loop.{Step, next, done, loop, turns, after}
 use Rattle.lexical.specs.Kind
-use Rattle.lexical.specs.Bounds.{chosen}
+use Rattle.lexical.specs.Theorems.Bounds.{chosen}
 use Rattle.lexical.specs.Literal.{decodedAt}
 use Rattle.lexical.specs.Number as Number
 use Rattle.lexical.specs.Line.{tokenAt}
-use Rattle.lexical.specs.LineLaws.{token-real, token-fault, token-end}
+use Rattle.lexical.specs.Theorems.LineLaws.{token-real, token-fault, token-end}
 use Rattle.lexical.specs.declared.token.Token.{Token}
 use Rattle.syntax.specs.Op
 use Rattle.syntax.specs.Parsed.{refusal}

@@ -9,7 +9,7 @@ use borrow.Author.Tests.{leb-true, leb-false, eqb-true}
 use Rattle.text.specs.Choice.{split}
 use Rattle.text.specs.Loop.{Step}
 use Rattle.lexical.specs.Kind
-use Rattle.lexical.specs.Bounds.{chosen}
+use Rattle.lexical.specs.Theorems.Bounds.{chosen}
 use Rattle.lexical.specs.declared.token.Token.{Token}
 use Rattle.syntax.specs.Operator.{Unary, Binary, unaryGives, binaryGives}
 use Rattle.syntax.specs.Operation.{unaryNumber, binaryNumber}

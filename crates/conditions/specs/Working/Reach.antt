@@ -7,7 +7,7 @@ use lib.Dec.{eqb}
 use borrow.Author.Tests.{leb-true, eqb-true, eqb-false}
 use Rattle.text.specs.Choice.{pick, split, clash}
 use Rattle.lexical.specs.Kind
-use Rattle.lexical.specs.Bounds.{chosen}
+use Rattle.lexical.specs.Theorems.Bounds.{chosen}
 use Rattle.syntax.specs.Operator.{Unary, Binary, Side, a-string, an-integer, a-float, a-test, lookup, convert, negate, opposite, to-float, float-negate, join, power, times, over, remainder, plus, minus, comparison, matches, float-power, float-times, float-over, float-plus, float-minus, float-order, both, either, strings, integers}
 use Rattle.conditions.specs.Table.{PartSort, sorted, word, Want, want-any, want-string, want-number, want-integer, want-float, isAny, Infix, no-infix, between, Prefix, no-prefix, before}
 use Rattle.conditions.specs.Table

@@ -10,10 +10,10 @@ use borrow.Author.Tests.{ltb-true, ltb-false, eqb-true, eqb-false, lt-ltb, le-lt
 use Rattle.text.specs.Choice.{pick, split}
 use Rattle.text.specs.Loop.{Step, next, done, loop, turns, after}
 use Rattle.lexical.specs.Kind
-use Rattle.lexical.specs.Bounds.{chosen}
+use Rattle.lexical.specs.Theorems.Bounds.{chosen}
 use Rattle.lexical.specs.Token.{endOf}
 use Rattle.lexical.specs.Line.{tokenAt}
-use Rattle.lexical.specs.LineLaws.{token-real, token-fault, token-end}
+use Rattle.lexical.specs.Theorems.LineLaws.{token-real, token-fault, token-end}
 use Rattle.lexical.specs.declared.token.Token.{Token}
 use Rattle.syntax.specs.Expr.{Expr, name}
 use Rattle.syntax.specs.Code.{Codes, nameAt}

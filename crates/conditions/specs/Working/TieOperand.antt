@@ -9,7 +9,7 @@ use lib.ListN.{length}
 use borrow.Author.Tests.{eqb-true}
 use Rattle.text.specs.Choice.{pick, split}
 use Rattle.lexical.specs.Kind
-use Rattle.lexical.specs.Bounds.{chosen}
+use Rattle.lexical.specs.Theorems.Bounds.{chosen}
 use Rattle.lexical.specs.Literal.{decodedAt}
 use Rattle.lexical.specs.Number as Number
 use Rattle.lexical.specs.Word.{spells, word-true, word-false}

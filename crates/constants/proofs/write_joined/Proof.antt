@@ -5,8 +5,8 @@ use Rattle.constants.proofs.write_joined.Tie as tie
 use Rattle.constants.proofs.write_joined.Reads as reads
 use Rattle.constants.proofs.write_joined.Lts as lts
 use Rattle.constants.proofs.joined_length.Reads as joined-length-reads
-use Rattle.constants.proofs.store_count.Reads as store-count-reads
 use Rattle.text.proofs.join_at.Reads as join-at-reads
+use Rattle.text.proofs.put_pair.Reads as put-pair-reads
 
 joined-length-requires : tie.Need-joined-length-requires
 joined-length-requires c κs = search needs
@@ -32,8 +32,8 @@ sub-if4-2 c = search needs
 returns-4 : tie.Need-returns-4
 returns-4 c = search write-short
 
-store-count-requires : tie.Need-store-count-requires
-store-count-requires c κs = search needs
+put-pair-requires : tie.Need-put-pair-requires
+put-pair-requires c κs = search needs
 
 add-join-at : tie.Need-add-join-at
 add-join-at c = search needs
@@ -51,7 +51,7 @@ same-length : tie.Need-same-length
 same-length c = search needs
 
 returns-5 : tie.Need-returns-5
-returns-5 c = write-in _ _ _ _ (c .before .before .before .before .before .before .before .before .before .before .before .before .joined-length .ensures) (c .before .before .before .before .before .before .before .before .before .before .before .if1 .left) (c .before .before .before .before .before .before .before .before .before .before .if2 .left) (c .before .before .before .before .before .before .before .before .before .if3 .left) (c .before .before .before .before .before .before .before .before .if4 .left) _ (c .before .before .before .before .before .before .store-count .ensures) _ _ (c .before .before .join-at .ensures)
+returns-5 c = write-in _ _ _ _ (c .before .before .before .before .before .before .before .before .before .before .before .before .joined-length .ensures) (c .before .before .before .before .before .before .before .before .before .before .before .if1 .left) (c .before .before .before .before .before .before .before .before .before .before .if2 .left) (c .before .before .before .before .before .before .before .before .before .if3 .left) (c .before .before .before .before .before .before .before .before .if4 .left) _ _ (c .before .before .before .before .before .before .put-pair .ensures) _ _ (c .before .before .join-at .ensures)
 
 pub write-joined-spec : {M : Type 1} → statement M
 write-joined-spec =
@@ -65,7 +65,7 @@ write-joined-spec =
     sub-if4
     sub-if4-2
     returns-4
-    store-count-requires
+    put-pair-requires
     add-join-at
     join-at-requires
     add-result

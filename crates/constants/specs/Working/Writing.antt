@@ -6,13 +6,14 @@ use Prim.Native.Nat.{ℕ, suc, _+_, _-_, _/_, _%_, _<_, _≤_, min}
 use native.Mathlib.Omega.{arith}
 use native.Mathlib.Numerals.{add-one}
 use lib.Dec.{eqb}
-use lib.ListN.{length, getD, drop, set, length-set, length-append, drop-of-length-le}
-use lib.Seq.{drop-cons, sets-eq}
+use lib.ListN.{length, getD, drop, length-append, drop-of-length-le}
+use lib.Seq.{drop-cons}
 use borrow.Author.Tests.{lt-ltb, le-ltb, le-leb, lt-leb, eq-eqb, ne-eqb}
 use Rattle.text.specs.Choice.{pick}
 use Rattle.text.specs.Copy.{copied, put, copyAt}
 use Rattle.text.specs.CopyLaws.{put-append, put-length}
-use Rattle.text.specs.Counted.{counted}
+use Rattle.text.specs.Counted.{counted, pairBytes, putPair}
+use Rattle.text.specs.CountedLaws.{pair-put}
 use Rattle.text.specs.Join.{joined, followed}
 use Rattle.record.specs.Encode.{stringBytes}
 use Rattle.constants.specs.Constants.{written, countedInto, begunInto}
@@ -58,11 +59,6 @@ module _ (s ps : List ℕ) (i n total : ℕ) (inv : n + sizeRest s ps i ≡ tota
     pub size-more : n + c + length x + sizeRest s ps (i + 1) ≡ total
     size-more = omega (arith, rest-is)
 
--- two bytes stored are two bytes put
-pub put-two : (d : List ℕ) (at n k m : ℕ) → at + 2 ≤ length d → k ≡ n / 256 → m ≡ n % 256 → set (set d at k) (at + 1) m ≡ put d at (n / 256 ∷ n % 256 ∷ [])
-unfolding put
-put-two d at n k m h ke me = rw (add-one at, ← ke, ← me) (sets-eq (k ∷ m ∷ []) d at h)
-
 copied-is : {c c′ : Bool} {m m′ : List ℕ} → copied c m ≡ copied c′ m′ → m ≡ m′
 copied-is e = cc
 
@@ -88,10 +84,11 @@ module _ (dst : List ℕ) (at : ℕ) (b : List ℕ) (n : ℕ) (ne : n ≡ min (l
         pub write-short : length dst - at - 2 < n → written 0 dst ≡ countedInto dst at b
         write-short h = none (omega arith)
 
-        pub write-in : n ≤ length dst - at - 2 → (e : List ℕ) → e ≡ put dst at (n / 256 ∷ n % 256 ∷ []) → (c : Bool) (d : List ℕ)
+        pub write-in : n ≤ length dst - at - 2 → (u : Bool) (e : List ℕ) → copied u e ≡ putPair dst at n → (c : Bool) (d : List ℕ)
             → copied c d ≡ copyAt e (at + 2) b → written (at + 2 + n) d ≡ countedInto dst at b
-        unfolding countedInto copyAt stringBytes
-        write-in h e ee c d ce =
+        unfolding countedInto copyAt stringBytes pairBytes
+        write-in h u e ue c d ce =
+            let ee : e ≡ put dst at (n / 256 ∷ n % 256 ∷ []) = pair-put dst at n short (omega arith) u e ue in
             let q : n ≡ length b = omega arith in
             let l : length b ≤ 65535 = omega arith in
             let fits : at + 2 + length b ≤ length dst = omega arith in
@@ -100,10 +97,6 @@ module _ (dst : List ℕ) (at : ℕ) (b : List ℕ) (n : ℕ) (ne : n ≡ min (l
             let de : d ≡ put dst at ((n / 256 ∷ n % 256 ∷ []) ++ b)
             = copied-is t ∙ ap (λ (y : List ℕ). put y (at + 2) b) ee ∙ sym (put-append dst at (n / 256 ∷ n % 256 ∷ []) b in-d) in
             rw (le-ltb 65535 (length b) l, le-leb (at + 2 + length b) (length dst) fits, de, q)
-
--- both bytes of the length lie in the buffer
-pub write-second : (d : List ℕ) (at k : ℕ) → at + 2 ≤ length d → at + 1 < length (set d at k)
-write-second d at k h = rw length-set (omega arith)
 
 -- the ways out of `begin`
 module _ (dst a b : List ℕ) (p : ℕ) (d : List ℕ) (is : written p d ≡ countedInto dst 0 a) where

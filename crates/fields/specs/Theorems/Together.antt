@@ -14,8 +14,8 @@ use Rattle.text.specs.Loop.{Step, next, done, loop, loop-next, loop-done}
 use Rattle.lexical.specs.Kind
 use Rattle.lexical.specs.Literal.{decodedAt}
 use Rattle.lexical.specs.Line.{tokenAt}
-use Rattle.lexical.specs.LineLaws.{token-real, token-fault, token-end}
-use Rattle.lexical.specs.TokensLaws.{token-shorter}
+use Rattle.lexical.specs.Theorems.LineLaws.{token-real, token-fault, token-end}
+use Rattle.lexical.specs.Theorems.TokensLaws.{token-shorter}
 use Rattle.lexical.specs.declared.token.Token.{Token}
 use Rattle.syntax.specs.Parsed.{refusal}
 use Rattle.syntax.specs.Stood.{Stood}

@@ -8,7 +8,7 @@ use lib.ListN.{length}
 use borrow.Author.Tests.{eqb-true, ltb-false}
 use Rattle.text.specs.Equal.{equal}
 use Rattle.lexical.specs.Kind
-use Rattle.lexical.specs.Bounds.{chosen}
+use Rattle.lexical.specs.Theorems.Bounds.{chosen}
 use Rattle.lexical.specs.Literal.{decodedAt}
 use Rattle.lexical.specs.Number.{LIMIT, numberAt}
 use Rattle.lexical.specs.declared.token.Token.{Token}

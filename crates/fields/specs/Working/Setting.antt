@@ -15,7 +15,7 @@ use Rattle.lexical.specs.Kind
 use Rattle.lexical.specs.Line.{tokenAt}
 use Rattle.lexical.specs.Literal.{decodedAt}
 use Rattle.lexical.specs.Decode.{Ran, ran, decodeInto}
-use Rattle.lexical.specs.DecodeLaws.{decode-fits, decode-full}
+use Rattle.lexical.specs.Theorems.DecodeLaws.{decode-fits, decode-full}
 use Rattle.lexical.specs.declared.token.Token.{Token}
 use Rattle.index.specs.Working.Adding.{After, entered, addInto, countedInto, counted-long, counted-past, counted-two, counted-put, counted-none, second-byte, add-room}
 use Rattle.index.specs.declared.Entered.{Entered}

@@ -11,7 +11,7 @@ use Rattle.text.specs.Choice.{pick, clash}
 use Rattle.text.specs.Loop.{Step}
 use Rattle.record.specs.Query.{Attribute}
 use Rattle.lexical.specs.Kind
-use Rattle.lexical.specs.Bounds.{chosen}
+use Rattle.lexical.specs.Theorems.Bounds.{chosen}
 use Rattle.lexical.specs.Literal.{decodedAt}
 use Rattle.lexical.specs.declared.token.Token.{Token}
 use Rattle.syntax.specs.Parsed.{Parsed, ok, aside, refusal, unexpected}

@@ -9,7 +9,7 @@ use lib.Dec.{eqb}
 use Rattle.limits.specs.Limits.{mostBrackets}
 use Rattle.record.specs.Query.{Attribute}
 use Rattle.lexical.specs.Kind
-use Rattle.lexical.specs.Bounds.{chosen}
+use Rattle.lexical.specs.Theorems.Bounds.{chosen}
 use Rattle.lexical.specs.Line.{tokenAt}
 use Rattle.lexical.specs.declared.token.Token.{Token}
 use Rattle.syntax.specs.Expr.{Expr}

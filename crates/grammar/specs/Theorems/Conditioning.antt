@@ -10,7 +10,7 @@ use borrow.Author.Tests.{eqb-true, ne-eqb, leb-true}
 use Rattle.text.specs.Choice.{pick, split}
 use Rattle.text.specs.Loop.{Step}
 use Rattle.lexical.specs.Kind
-use Rattle.lexical.specs.Bounds.{chosen}
+use Rattle.lexical.specs.Theorems.Bounds.{chosen}
 use Rattle.lexical.specs.Line.{tokenAt}
 use Rattle.lexical.specs.declared.token.Token.{Token}
 use Rattle.syntax.specs.Expr.{Expr, Program, none, also, Clause, plain, valued, nested}

@@ -12,7 +12,7 @@ use Rattle.text.specs.Class.{inClass, digit, isDigit}
 use Rattle.text.specs.Loop.{Step, next, done, loop-ind}
 use Rattle.text.specs.Scan.{run, past, past-alike}
 use Rattle.lexical.specs.Kind
-use Rattle.lexical.specs.Bounds.{chosen}
+use Rattle.lexical.specs.Theorems.Bounds.{chosen}
 use Rattle.lexical.specs.Class.{or, within, markOf, classOf, BAR, TILDE, LETTER, DIGIT, QUOTE, BLANK, NEWLINE, HASH}
 use Rattle.lexical.specs.Run.{inRun, hasClass, BLANKS, FREE, NUMERALS}
 use Rattle.lexical.specs.Label.{labelKind, word-keynote-version, word-local-constants, word-authorizer, word-licensees, word-conditions, word-comment, word-signature}

@@ -11,14 +11,14 @@ use lib.Seq.{drop-cons}
 use borrow.Author.Tests.{eqb-true, eqb-false, leb-true, ltb-true, ltb-false, ne-eqb, eq-eqb}
 use Rattle.text.specs.Choice.{pick, split, clash}
 use Rattle.text.specs.Scan.{past, past-more, past-stop, past-from}
-use Rattle.lexical.specs.Bounds.{chosen}
+use Rattle.lexical.specs.Theorems.Bounds.{chosen}
 use Rattle.lexical.specs.Class.{classOf}
 use Rattle.lexical.specs.Run.{hasClass, inRun, WHITE}
 use Rattle.lexical.specs.declared.unit.Unit.{Unit}
 use Rattle.lexical.specs.Unit as U
 use Rattle.lexical.specs.Literal.{inside, units, unitsAt, closing, given, literalEnd, decodedAt}
-use Rattle.lexical.specs.UnitLaws.{unit-closing}
-use Rattle.lexical.specs.LiteralLaws.{Closed, closing-within}
+use Rattle.lexical.specs.Theorems.UnitLaws.{unit-closing}
+use Rattle.lexical.specs.Theorems.LiteralLaws.{Closed, closing-within}
 use Rattle.grammar.specs.Escape.{octal, white, leads, twoOctal, Control, Dropped, stopped, dropped, Other, other-byte, plain-byte, octalValue, Gives, ends, plain, control, joined, one-more, three, zero-1, zero-2, zero-3, other}
 use Rattle.grammar.specs.Escape as E
 

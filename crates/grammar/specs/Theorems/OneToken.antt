@@ -11,7 +11,7 @@ use borrow.Author.Tests.{eqb-true, eqb-false, ltb-false, leb-true}
 use Rattle.text.specs.Choice.{pick, split, clash}
 use Rattle.text.specs.Equal.{equal}
 use Rattle.lexical.specs.Kind
-use Rattle.lexical.specs.Bounds.{chosen}
+use Rattle.lexical.specs.Theorems.Bounds.{chosen}
 use Rattle.lexical.specs.Literal.{decodedAt}
 use Rattle.lexical.specs.Number.{LIMIT, numberAt}
 use Rattle.lexical.specs.declared.token.Token.{Token}

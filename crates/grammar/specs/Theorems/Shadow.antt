@@ -7,7 +7,7 @@ use native.Mathlib.Omega.{arith}
 use lib.Dec.{eqb}
 use Rattle.text.specs.Choice.{pick, split}
 use Rattle.lexical.specs.Kind
-use Rattle.lexical.specs.Bounds.{chosen}
+use Rattle.lexical.specs.Theorems.Bounds.{chosen}
 use Rattle.lexical.specs.Word.{word-true, word-false}
 use Rattle.lexical.specs.declared.token.Token.{Token}
 use Rattle.syntax.specs.Expr.{Expr}

@@ -9,12 +9,12 @@ use lib.Seq.{drop-drop, getD-drop}
 use borrow.Author.Tests.{ne-eqb, lt-leb, le-ltb}
 use Rattle.text.specs.Choice.{pick, split}
 use Rattle.text.specs.Scan.{past, past-more, past-stop}
-use Rattle.lexical.specs.Bounds.{chosen}
+use Rattle.lexical.specs.Theorems.Bounds.{chosen}
 use Rattle.lexical.specs.Run.{inRun, WHITE}
 use Rattle.lexical.specs.declared.unit.Unit.{Unit}
 use Rattle.lexical.specs.Unit as U
 use Rattle.lexical.specs.Literal.{unitsAt, closing, given, literalEnd, decodedAt}
-use Rattle.lexical.specs.LiteralLaws.{units-more, units-last}
+use Rattle.lexical.specs.Theorems.LiteralLaws.{units-more, units-last}
 use Rattle.grammar.specs.Escape.{octal, white, leads, twoOctal, Control, newline, return, tab, feed, Dropped, stopped, dropped, Other, other-byte, Plain, plain-byte, octalValue, Gives, ends, plain, control, joined, one-more, three, zero-1, zero-2, zero-3, other}
 use Rattle.grammar.specs.Theorems.Decoding.{white-is, octal-is, octal-range, octal-zero}
 

@@ -8,7 +8,7 @@ use lib.Dec.{eqb}
 use borrow.Author.Tests.{eqb-true, lt-leb, leb-false}
 use Rattle.text.specs.Choice.{pick, split}
 use Rattle.lexical.specs.Kind
-use Rattle.lexical.specs.Bounds.{chosen}
+use Rattle.lexical.specs.Theorems.Bounds.{chosen}
 use Rattle.lexical.specs.Word.{word-true, word-false}
 use Rattle.lexical.specs.declared.token.Token.{Token}
 use Rattle.syntax.specs.Operator.{Binary, Side, Relation, Ordering, Sort, a-string, an-integer, a-float, a-test, binaryTakes, binaryGives}

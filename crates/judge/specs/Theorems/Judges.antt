@@ -21,8 +21,8 @@ use Rattle.expression.specs.Theorems.Topmost.{conditions-most}
 use Rattle.machine.specs.Theorems.Runs.{run-conditions}
 use Rattle.conditions.specs.Word.{nextAt}
 use Rattle.conditions.specs.Program.{readProgram}
-use Rattle.conditions.specs.Compiled.{Compiled, refused, compiled, conditions-compiled}
-use Rattle.conditions.specs.Behind.{read-behind}
+use Rattle.conditions.specs.Working.Compiled.{Compiled, refused, compiled, conditions-compiled}
+use Rattle.conditions.specs.Working.Behind.{read-behind}
 use Rattle.conditions.specs.Working.Emit.{Ran}
 use Rattle.conditions.specs.Working.Program.{conditionsAt}
 use Rattle.judge.specs.Working.Judging.{leftBy, rankAt, judgedOf, judgedIn, codeSize, codeRoom, judgedHere}

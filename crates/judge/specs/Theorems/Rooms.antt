@@ -7,7 +7,7 @@ use native.Mathlib.Omega.{arith}
 use Rattle.lexical.specs.declared.token.Token.{Token}
 use Rattle.syntax.specs.Expr.{Program}
 use Rattle.syntax.specs.Parsed.{ok}
-use Rattle.machine.specs.Need.{programNeed, programRoom}
+use Rattle.machine.specs.Working.Need.{programNeed, programRoom}
 use Rattle.conditions.specs.Program.{DEPTH, readBlock, readProgram}
 use Rattle.judge.specs.Working.Fit.{Holds, holds-is}
 use Rattle.judge.specs.Working.FitProgram.{ProgramFits, block-at}

@@ -10,7 +10,7 @@ use borrow.Author.Tests.{eqb-true, leb-false}
 use Rattle.text.specs.Choice.{pick, split}
 use Rattle.text.specs.Loop.{Step}
 use Rattle.lexical.specs.Kind
-use Rattle.lexical.specs.Bounds.{chosen}
+use Rattle.lexical.specs.Theorems.Bounds.{chosen}
 use Rattle.lexical.specs.Literal.{decodedAt}
 use Rattle.lexical.specs.Number as Number
 use Rattle.lexical.specs.declared.token.Token.{Token}
@@ -18,7 +18,7 @@ use Rattle.syntax.specs.Operator.{Unary, Binary, Sort, a-string, an-integer, a-
 use Rattle.syntax.specs.Expr.{Expr, name, truth, unary, binary}
 use Rattle.syntax.specs.Code.{nameAt}
 use Rattle.syntax.specs.Parsed.{Parsed, ok, aside, andThen}
-use Rattle.machine.specs.Need.{need, span, room}
+use Rattle.machine.specs.Working.Need.{need, span, room}
 use Rattle.machine.specs.Theorems.Bounds.{need-some, span-most}
 use Rattle.conditions.specs.Table.{PartSort, sorted, word, Want, want-any, isAny}
 use Rattle.conditions.specs.Table

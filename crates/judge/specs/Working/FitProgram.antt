@@ -8,11 +8,11 @@ use lib.ListN.{length}
 use borrow.Author.Tests.{leb-false}
 use Rattle.text.specs.Loop.{Step}
 use Rattle.lexical.specs.Kind
-use Rattle.lexical.specs.Bounds.{chosen}
+use Rattle.lexical.specs.Theorems.Bounds.{chosen}
 use Rattle.lexical.specs.declared.token.Token.{Token}
 use Rattle.syntax.specs.Expr.{Expr, Program, none, also, Clause, plain, valued, nested}
 use Rattle.syntax.specs.Parsed.{Parsed, aside}
-use Rattle.machine.specs.Need.{need, span, room, programNeed, clauseNeed, programRoom, clauseRoom}
+use Rattle.machine.specs.Working.Need.{need, span, room, programNeed, clauseNeed, programRoom, clauseRoom}
 use Rattle.syntax.specs.Operator.{a-string, a-test}
 use Rattle.conditions.specs.Table.{PartSort, want-any, want-string, fits, stops}
 use Rattle.conditions.specs.Working.Reach.{string-any}

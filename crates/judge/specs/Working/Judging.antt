@@ -11,8 +11,8 @@ use Rattle.lexical.specs.declared.token.Token.{Token}
 use Rattle.expression.specs.Operands.{rankIn}
 use Rattle.expression.specs.Tables.{lookupIn}
 use Rattle.expression.specs.declared.value.Operand.{Operand}
-use Rattle.machine.specs.Machine.{on, exec, resultOf}
-use Rattle.machine.specs.Left.{leftIn}
+use Rattle.machine.specs.Working.Machine.{on, exec, resultOf}
+use Rattle.machine.specs.Working.Left.{leftIn}
 use Rattle.conditions.specs.Working.Emit.{Ran, ran}
 use Rattle.conditions.specs.Working.Program.{conditionsAt}
 use Rattle.conditions.specs.declared.emit.Out.{Out}

@@ -7,7 +7,7 @@ use lib.ListN.{length, take, replicate}
 use borrow.Author.Tests.{lt-ltb, le-ltb, le-leb, lt-leb}
 use Rattle.text.specs.Choice.{pick}
 use Rattle.lexical.specs.declared.token.Token.{Token}
-use Rattle.machine.specs.Given.{Gave, gave, stringIn}
+use Rattle.machine.specs.Working.Given.{Gave, gave, stringIn}
 use Rattle.machine.specs.declared.Given.{Given}
 use Rattle.machine.specs.declared.Given.the-variants.{Bytes, Stuck}
 use Rattle.conditions.specs.Program.{DEPTH}

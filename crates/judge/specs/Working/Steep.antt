@@ -6,10 +6,10 @@ use native.Mathlib.Omega.{arith}
 use lib.Dec.{eqb}
 use Rattle.text.specs.Choice.{clash}
 use Rattle.lexical.specs.Kind
-use Rattle.lexical.specs.Bounds.{chosen}
+use Rattle.lexical.specs.Theorems.Bounds.{chosen}
 use Rattle.syntax.specs.Operator.{Unary, Binary, Sort, a-string, an-integer, a-float, a-test, binaryTakes, unaryGives, binaryGives, strings}
 use Rattle.syntax.specs.Expr.{Expr, unary, binary}
-use Rattle.machine.specs.Need.{spanOf, span}
+use Rattle.machine.specs.Working.Need.{spanOf, span}
 use Rattle.machine.specs.Theorems.Bounds.{span-least}
 use Rattle.conditions.specs.Table.{PartSort, sorted, word, Infix, no-infix, between}
 use Rattle.conditions.specs.Table

@@ -10,12 +10,12 @@ use Rattle.record.specs.Read.{accepted, refused}
 use Rattle.record.specs.Record.{readRecord}
 use Rattle.keynote.specs.Answer.{readings}
 use Rattle.keynote.specs.Report.{report}
-use Rattle.keynote.specs.Outcome.{refusal, answer, needed, judged, outcome, written, pageAfter}
+use Rattle.keynote.specs.Outcome.{refusedWith, answer, needed, judged, outcome, written, pageAfter}
 use Rattle.keynote.specs.Theorems.Report.{report-needed}
 
 -- a refused record: its number and place, and an unchanged page
 module _ (s : List ℕ) (n p : ℕ) (is : readRecord s ≡ refused n p) where
-  pub outcome-refused : (room : ℕ) → outcome s room ≡ refusal n p
+  pub outcome-refused : (room : ℕ) → outcome s room ≡ refusedWith n p
   unfolding outcome judged
   outcome-refused room = rw is
 
@@ -25,7 +25,7 @@ module _ (s : List ℕ) (n p : ℕ) (is : readRecord s ≡ refused n p) where
 
 module _ (s : List ℕ) (q : Query) (is : readRecord s ≡ accepted q) where
   -- an accepted record, and a page that is too small
-  pub outcome-small : (room : ℕ) → room < needed q → outcome s room ≡ refusal 9 0
+  pub outcome-small : (room : ℕ) → room < needed q → outcome s room ≡ refusedWith 9 0
   unfolding outcome judged
   outcome-small room h = rw (is, lt-ltb room (needed q) h)
 

@@ -16,7 +16,7 @@ use Rattle.record.specs.RoundTrip.{Bytes}
 use Rattle.record.specs.declared.Reading.{Reading}
 use Rattle.record.specs.declared.Reading.the-variants.{Accepted, Refused}
 use Rattle.system.specs.Working.Solving.{solvedIn}
-use Rattle.keynote.specs.Outcome.{refusal, answer, needed, outcome, pageAfter}
+use Rattle.keynote.specs.Outcome.{refusedWith, answer, needed, outcome, pageAfter}
 use Rattle.keynote.specs.Report.{reportSize}
 use Rattle.keynote.specs.Working.Answering.{partOf, Given, givenBy, onSolved, answeredIn}
 use Rattle.keynote.specs.Theorems.Answered.{outcome-refused, page-refused, outcome-small, page-small, outcome-answered, page-answered}
@@ -30,7 +30,7 @@ abbrev pub Meant : List ℕ → List ℕ → Outcome → List ℕ → Type 0
 Meant s page r out = (r ≡ outcome s (length page)) × (out ≡ pageAfter s page)
 
 -- a record that is refused
-pub answer-refused : (s t table page : List ℕ) (m : Reading) (n p : ℕ) → told m table ≡ readInto s t → m ≡ Refused n p → (r : Outcome) → r ≡ refusal n p → Meant s page r page
+pub answer-refused : (s t table page : List ℕ) (m : Reading) (n p : ℕ) → told m table ≡ readInto s t → m ≡ Refused n p → (r : Outcome) → r ≡ refusedWith n p → Meant s page r page
 answer-refused s t table page m n p e k r re =
     let w : readRecord s ≡ refused n p = refused-record s t table n p (ap (λ (x : Reading). told x table) (sym k) ∙ e) .0 in
     (re ∙ sym (outcome-refused s n p w (length page)), sym (page-refused s n p w page))
@@ -39,7 +39,7 @@ answer-refused s t table page m n p e k r re =
 module _ (s : List ℕ) (bytes : Bytes s) (q : Query) (acc : readRecord s ≡ accepted q) (page : List ℕ) where
   abbrev parted : Given
   parted =
-      pick (ltb (length page) (3 + 3 * length (assertionsAt q))) (givenBy (refusal 9 0) page)
+      pick (ltb (length page) (3 + 3 * length (assertionsAt q))) (givenBy (refusedWith 9 0) page)
       (onSolved (solvedIn s (valuesAt q) (requestersAt q) (attributesAt q) (assertionsAt q) page))
 
   long : 3 + 3 * length (assertionsAt q) ≡ needed q
@@ -49,12 +49,12 @@ module _ (s : List ℕ) (bytes : Bytes s) (q : Query) (acc : readRecord s ≡ ac
   parted-is : (r : Outcome) (out : List ℕ) → givenBy r out ≡ parted → Meant s page r out
   unfolding answer
   parted-is r out e =
-      let f : givenBy r out ≡ pick (ltb (length page) (needed q)) (givenBy (refusal 9 0) page) (onSolved (solvedIn s (valuesAt q) (requestersAt q) (attributesAt q) (assertionsAt q) page))
+      let f : givenBy r out ≡ pick (ltb (length page) (needed q)) (givenBy (refusedWith 9 0) page) (onSolved (solvedIn s (valuesAt q) (requestersAt q) (attributesAt q) (assertionsAt q) page))
       = e ∙ rw long in
       split (ltb (length page) (needed q))
       (λ h. let k : length page < needed q = ltb-true _ _ h in
-      let g : givenBy r out ≡ givenBy (refusal 9 0) page = rw h at f in
-      let a : r ≡ refusal 9 0 = cc in
+      let g : givenBy r out ≡ givenBy (refusedWith 9 0) page = rw h at f in
+      let a : r ≡ refusedWith 9 0 = cc in
       let b : out ≡ page = cc in
       (a ∙ sym (outcome-small s q acc (length page) k), b ∙ sym (page-small s q acc page k)))
       (λ h. let k : needed q ≤ length page = ltb-false _ _ h in
@@ -74,11 +74,11 @@ answer-accepted s t table page m v n a c bytes h e k r out g =
 -- the same for the function's four ways out, from an empty table
 module _ (s table : List ℕ) (m : Reading) (e : told m table ≡ readInto s (replicate mostItems 0)) where
   module _ (page : List ℕ) (n p : ℕ) (k : m ≡ Refused n p) where
-    pub refused-outcome : (r : Outcome) → r ≡ refusal n p → r ≡ outcome s (length page)
+    pub refused-outcome : (r : Outcome) → r ≡ refusedWith n p → r ≡ outcome s (length page)
     refused-outcome r re = answer-refused s (replicate mostItems 0) table page m n p e k r re .0
 
     pub refused-page : page ≡ pageAfter s page
-    refused-page = answer-refused s (replicate mostItems 0) table page m n p e k (refusal n p) refl .1
+    refused-page = answer-refused s (replicate mostItems 0) table page m n p e k (refusedWith n p) refl .1
 
   module _ (bytes : Bytes s) (v n a c : ℕ) (k : m ≡ Accepted v n a c) where
     h : length (replicate {A = ℕ} mostItems 0) ≡ mostItems

@@ -23,7 +23,7 @@ use Rattle.compliance.specs.Theorems.Reach.{reach-sound, reach-distinct}
 use Rattle.expression.specs.Conditions.{top}
 use Rattle.assertion.specs.Assertion.{Assertion as Claim}
 use Rattle.assertion.specs.Read.{Read, kept, dropped}
-use Rattle.keynote.specs.Answer.{ranked, reading, readings, keptOf, system, classOf, roundsOf, reachedOf}
+use Rattle.keynote.specs.Answer.{ranked, reading, readings, keptOf, system, classGiven, roundsOf, reachedOf}
 use Rattle.keynote.specs.Theorems.Few.{FewRead, few-kept, few-dropped, assertion-few}
 use Rattle.keynote.specs.Theorems.Demand2.{rounds-few}
 use Rattle.keynote.specs.Outcome.{needed}
@@ -92,14 +92,14 @@ reached-few q =
     omega (arith, a, b, c)
 
 -- no class is over the top
-pub class-top : (q : Query) → classOf q ≤ length (q .values) - 1
-unfolding classOf rank system top
+pub class-top : (q : Query) → classGiven q ≤ length (q .values) - 1
+unfolding classGiven rank system top
 class-top q = round-le (system q) _ policy
 
 -- ---- a record that is accepted
 
 pub record Bounded (q : Query) : Type 0 where
-  pub rank : classOf q ≤ mostValues - 1
+  pub rank : classGiven q ≤ mostValues - 1
   pub reached : reachedOf q ≤ mostReached
   pub rounds : roundsOf q ≤ mostReached
   pub report : needed q ≤ mostReport

@@ -34,7 +34,7 @@ use Rattle.assertion.specs.Form.{formed, readAssertion}
 use Rattle.assertion.specs.Resolved.{meant}
 use Rattle.assertion.specs.Evaluates.{Evaluates}
 use Rattle.assertion.specs.Theorems.Evaluated.{evaluates-kept, kept-evaluates, SetAside, dropped-why}
-use Rattle.keynote.specs.Answer.{ranked, reading, readings, keptOf, system, classOf, roundsOf, reachedOf}
+use Rattle.keynote.specs.Answer.{ranked, reading, readings, keptOf, system, classGiven, roundsOf, reachedOf}
 use Rattle.keynote.specs.Report.{reasonOf, report, reportSize}
 use Rattle.keynote.specs.Outcome.{answer, needed, outcome, pageAfter}
 use Rattle.keynote.specs.declared.Outcome.{Outcome}
@@ -46,13 +46,13 @@ use Rattle.keynote.specs.Theorems.PlacesAssertion.{PlacedRead, assertion
 -- ---- the class
 
 -- "Least solution: ranks that satisfy the equations, none higher than in any other ranks that do"
-pub class-least : (q : Query) → Least (system q) (rank (system q)) × (classOf q ≡ rank (system q) policy)
-unfolding classOf
+pub class-least : (q : Query) → Least (system q) (rank (system q)) × (classGiven q ≡ rank (system q) policy)
+unfolding classGiven
 class-least q = (rank-least (system q), refl)
 
 -- whatever ranks are a least solution, the class is POLICY's
-pub class-is : (q : Query) (r : Rank) → Least (system q) r → classOf q ≡ r policy
-unfolding classOf
+pub class-is : (q : Query) (r : Rank) → Least (system q) r → classGiven q ≡ r policy
+unfolding classGiven
 class-is q r l = sym (least-unique (system q) r l policy)
 
 -- ---- the rounds

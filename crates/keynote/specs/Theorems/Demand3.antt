@@ -24,7 +24,7 @@ use Rattle.assertion.specs.Assertion.{Assertion, Conditions, absent, stated}
 use Rattle.assertion.specs.Said.{Said}
 use Rattle.assertion.specs.Form.{readAssertion}
 use Rattle.assertion.specs.Theorems.Agreed.{map-same, Agree, LicenseesAgree, SaidAgree, resolved-agree}
-use Rattle.keynote.specs.Answer.{worth, ranked, reading, readings, keptOf, system, classOf, roundsOf, reachedOf}
+use Rattle.keynote.specs.Answer.{worth, ranked, reading, readings, keptOf, system, classGiven, roundsOf, reachedOf}
 use Rattle.keynote.specs.Report.{report, reportSize}
 use Rattle.keynote.specs.Outcome.{answer, needed, outcome, pageAfter}
 use Rattle.keynote.specs.Secrets.{dereferences, anyReads, authorReads, licenseesRead, namingReads, Dereferenced, in-conditions, in-naming, AlikeWhere, AlikeBut}
@@ -122,8 +122,8 @@ module _ (q q′ : Query) (k : AlikeWhere (Dereferenced q) q q′) where
     topped = ap top (k .values);
   }
 
-  pub class-same : classOf q ≡ classOf q′
-  unfolding classOf
+  pub class-same : classGiven q ≡ classGiven q′
+  unfolding classGiven
   class-same = policy-same systems-alike
 
   pub rounds-alike : roundsOf q ≡ roundsOf q′

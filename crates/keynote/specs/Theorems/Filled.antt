@@ -45,12 +45,12 @@ use Rattle.system.specs.Working.Sizes.{Size, small, middle, large, middleMost, 
 use Rattle.system.specs.Working.Solving.{Solved, solvedBy, topOf, rowsGive, grownIn, onStretch, filledIn, filledLong}
 use Rattle.system.specs.declared.asked.Index.{Index}
 use Rattle.system.specs.declared.note.Ends.{Ends}
-use Rattle.keynote.specs.Answer.{ranked, reading, readings, keptOf, system, classOf, roundsOf, reachedOf}
+use Rattle.keynote.specs.Answer.{ranked, reading, readings, keptOf, system, classGiven, roundsOf, reachedOf}
 use Rattle.keynote.specs.Report.{pairBytes, entryBytes, entriesBytes, report, reportSize}
 use Rattle.keynote.specs.Outcome.{needed}
 use Rattle.keynote.specs.Theorems.PlacesAssertion.{Small, AllSmall, small∷, readings-small}
-use Rattle.keynote.specs.Theorems.Started.{Started, startNames}
-use Rattle.keynote.specs.Theorems.Stocked.{asked-covers}
+use Rattle.system.specs.Theorems.Started.{Started, startNames}
+use Rattle.system.specs.Theorems.Stocked.{asked-covers}
 use Rattle.keynote.specs.Theorems.Paged.{header-is}
 use Rattle.keynote.specs.Theorems.Made.{Made, Reached, joining, joining-is, before, noted-made}
 use Rattle.keynote.specs.Theorems.Grown.{Within, made-larger, small-middle, small-large, middle-large}
@@ -89,7 +89,7 @@ assertionsAt q = placesFrom assertionSize 3 (assertionsStart q) (q .assertions)
 
 -- the three numbers, and the page with the report in front
 abbrev pub solvedAs : Query → List ℕ → Solved
-solvedAs q page = solvedBy (record { rank = classOf q; rounds = roundsOf q; reached = reachedOf q }) (report (readings q) ++ drop (needed q) page)
+solvedAs q page = solvedBy (record { rank = classGiven q; rounds = roundsOf q; reached = reachedOf q }) (report (readings q) ++ drop (needed q) page)
 
 -- the three numbers of the system that those assertions make, and the page
 abbrev gives : Query → List Assertion → List ℕ → Solved
@@ -323,7 +323,7 @@ module _ (s : List ℕ) (q : Query) (page : List ℕ) (start : ℕ) (consts : Li
 
     page-is : _≡_ {A = Solved} (gives q (map (ranked q) (keptOf (map (reading q) (q .assertions)))) (((1 ∷ pairBytes (3 * length texts)) ++ entriesBytes (map (reading q) (q .assertions))) ++ drop (3 + 3 * (0 + length (q .assertions))) page))
         (solvedAs q page)
-    unfolding classOf roundsOf reachedOf system readings
+    unfolding classGiven roundsOf reachedOf system readings
     page-is = ap (solvedBy (record { rank = rank (system q) policy; rounds = rounds (system q); reached = reached (system q) })) (page-end q (length texts) page n)
 
     -- with so many rows

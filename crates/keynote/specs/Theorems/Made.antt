@@ -18,7 +18,8 @@ use Rattle.principal.specs.Members.{member}
 use Rattle.compliance.specs.System.{Assertion}
 use Rattle.compliance.specs.Licensees.{Expression, licensees}
 use Rattle.compliance.specs.Licensees.{given as stating}
-use Rattle.compliance.specs.Tables.{place, compiled, Formed}
+use Rattle.principal.specs.Places.{place}
+use Rattle.compliance.specs.Tables.{compiled, Formed}
 use Rattle.index.specs.Index.{enterAll, Holds}
 use Rattle.index.specs.EnterLaws.{place-below}
 use Rattle.expression.specs.Conditions.{top}
@@ -36,7 +37,7 @@ use Rattle.system.specs.declared.note.Ends.{Ends}
 use Rattle.keynote.specs.Answer.{worth, ranked, keptOf}
 use Rattle.keynote.specs.Report.{reasonOf, placeOf, entryBytes}
 use Rattle.keynote.specs.Theorems.PlacesAssertion.{Small}
-use Rattle.keynote.specs.Theorems.Stocked.{Stock, stock-all, stock-row}
+use Rattle.system.specs.Theorems.Stocked.{Stock, stock-all, stock-row}
 use Rattle.keynote.specs.Theorems.Paged.{front-long, entry-is}
 
 -- after i assertions: the kept ones l stand in the tables, which have so many rows

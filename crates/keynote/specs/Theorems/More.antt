@@ -23,7 +23,7 @@ use Rattle.naming.specs.Naming.{identified}
 use Rattle.assertion.specs.Read.{Read, kept, dropped}
 use Rattle.assertion.specs.Form.{readAssertion}
 use Rattle.assertion.specs.Theorems.Agreed.{map-same, Agree, resolved-agree}
-use Rattle.keynote.specs.Answer.{worth, ranked, reading, readings, keptOf, system, classOf, roundsOf, reachedOf}
+use Rattle.keynote.specs.Answer.{worth, ranked, reading, readings, keptOf, system, classGiven, roundsOf, reachedOf}
 use Rattle.keynote.specs.Paper.{EqualBut, ReadOutside, set-aside, unreached, Outside}
 use Rattle.keynote.specs.Report.{pairBytes, entryBytes, entriesBytes, report, reportSize}
 use Rattle.keynote.specs.Outcome.{answer, needed, outcome, pageAfter}
@@ -98,12 +98,12 @@ unfolding system
 within-of {q} {q′} k h = record { more = λ b m. system-moves k b m (λ x a n e f. h x n); asked = k .requesters; topped = ap top (k .values) }
 
 -- "adding an assertion never lowers the rank"
-pub class-grows : (q q′ : Query) → EqualBut q q′ → ((x : Supplied) → Mem x (q .assertions) → Mem x (q′ .assertions)) → classOf q ≤ classOf q′
-unfolding classOf
+pub class-grows : (q q′ : Query) → EqualBut q q′ → ((x : Supplied) → Mem x (q .assertions) → Mem x (q′ .assertions)) → classGiven q ≤ classGiven q′
+unfolding classGiven
 class-grows q q′ k h = rank-grows (system q) (system q′) (within-of k h) _
 
 pub class-added : (q q′ : Query) → EqualBut q q′ → (x : Supplied) (front back : List Supplied) → q .assertions ≡ front ++ back → q′ .assertions ≡ front ++ (x ∷ back)
-    → classOf q ≤ classOf q′
+    → classGiven q ≤ classGiven q′
 class-added q q′ k x front back e e′ = class-grows q q′ k (λ y m. subst (λ (l : List Supplied). Mem y l) (sym e′)
     (⊎-elim (λ n. Memᴰ·append-left (x ∷ back) n) (λ n. Memᴰ·append-right front (there n)) (mem-++ front (subst (λ (l : List Supplied). Mem y l) e m))))
 
@@ -136,7 +136,7 @@ module _ (q q′ : Query) (k : EqualBut q q′) (d : Perm (q .assertions) (q′ 
 
   -- "reordering assertions changes no rank, rounds or reached"
   pub answer-reordered : answer q ≡ answer q′
-  unfolding answer classOf roundsOf reachedOf
+  unfolding answer classGiven roundsOf reachedOf
   answer-reordered = cc (rank-order (system q) (system q′) forth back _, rounds-order (system q) (system q′) forth back, reached-order (system q) (system q′) forth back)
 
   -- "and permutes the report's entries"
@@ -196,7 +196,7 @@ module _ (q q′ : Query) (k : EqualBut q q′) (x y : Supplied) (front back : L
 
   -- "replacing an assertion outside the reach .. changes only its own report entry"
   pub answer-replaced : answer q ≡ answer q′
-  unfolding answer classOf roundsOf reachedOf
+  unfolding answer classGiven roundsOf reachedOf
   answer-replaced = cc (policy-within (system q) (system q′) systems-within, rounds-within (system q) (system q′) systems-within, reached-within (system q) (system q′) systems-within)
 
 -- a report up to the entry behind those of `front`, in all of n
@@ -241,8 +241,8 @@ module _ (s s′ : List ℕ) (q q′ : Query) (is : readRecord s ≡ accepted q)
   pub rank-added : ((x : Supplied) → Mem x (q .assertions) → Mem x (q′ .assertions)) → outcome s (length page) .rank ≤ outcome s′ (length page′) .rank
   unfolding answer
   rank-added h =
-      let a : outcome s (length page) .rank ≡ classOf q = ap (λ (o : Outcome). o .rank) told in
-      let b : outcome s′ (length page′) .rank ≡ classOf q′ = ap (λ (o : Outcome). o .rank) told′ in
+      let a : outcome s (length page) .rank ≡ classGiven q = ap (λ (o : Outcome). o .rank) told in
+      let b : outcome s′ (length page′) .rank ≡ classGiven q′ = ap (λ (o : Outcome). o .rank) told′ in
       omega (arith, a, b, class-grows q q′ k h)
 
   -- "reordering assertions changes no rank, rounds or reached, and permutes the report's entries"

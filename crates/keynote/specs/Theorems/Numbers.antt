@@ -21,7 +21,7 @@ use Rattle.record.specs.Read.{Read, got, bad, andThen, Verdict, accepted, refus
 use Rattle.record.specs.Field.{within, countAt, lengthAt, contentAt, fieldAt, nameFront, permitted, askable, among, distinct}
 use Rattle.record.specs.Item.{plainAt, valueAt, requesterAt, nameAt, attributeAt, assertionAt, itemsAt, groupAt}
 use Rattle.record.specs.Record.{queryAt, ended, readRecord}
-use Rattle.keynote.specs.Outcome.{refusal, answer, needed, judged, outcome}
+use Rattle.keynote.specs.Outcome.{refusedWith, answer, needed, judged, outcome}
 use Rattle.keynote.specs.declared.Outcome.{Outcome}
 
 -- the numbers of a record that is refused: up to 8, and 10
@@ -138,8 +138,8 @@ record-tabled s =
 
 -- the three cases of a record and a page
 pub data Case (s : List ℕ) (room : ℕ) : Type 0 where
-  is-refused : (n p : ℕ) → 1 ≤ n → RecordNumber n → readRecord s ≡ refused n p → outcome s room ≡ refusal n p → Case s room
-  is-small : (q : Query) → readRecord s ≡ accepted q → room < needed q → outcome s room ≡ refusal 9 0 → Case s room
+  is-refused : (n p : ℕ) → 1 ≤ n → RecordNumber n → readRecord s ≡ refused n p → outcome s room ≡ refusedWith n p → Case s room
+  is-small : (q : Query) → readRecord s ≡ accepted q → room < needed q → outcome s room ≡ refusedWith 9 0 → Case s room
   is-answered : (q : Query) → readRecord s ≡ accepted q → needed q ≤ room → outcome s room ≡ answer q → Case s room
 
 verdict-case : (s : List ℕ) (room : ℕ) {v : Verdict} → Tabled v → readRecord s ≡ v → Case s room
@@ -158,8 +158,8 @@ pub record Accepted (s : List ℕ) (room : ℕ) : Type 0 where
   pub read : readRecord s ≡ accepted query
   pub fits : needed query ≤ room
 
-refusal-number : (n p : ℕ) (o : Outcome) → o .number ≡ 0 → o ≡ refusal n p → n ≡ 0
-unfolding refusal
+refusal-number : (n p : ℕ) (o : Outcome) → o .number ≡ 0 → o ≡ refusedWith n p → n ≡ 0
+unfolding refusedWith
 refusal-number n p o e f = sym (ap (λ (x : Outcome). x .number) f) ∙ e
 
 from-case : {s : List ℕ} {room : ℕ} → outcome s room .number ≡ 0 → Case s room → Accepted s room

@@ -3,7 +3,7 @@ use mathlib.Core.Path.{_≡_, sym, _∙_}
 use mathlib.Core.List.{List, _∷_, _++_, map, List·Permᴰ as Perm}
 use Prim.Native.Nat.{_≤_}
 use Rattle.record.specs.Query.{Query, Supplied}
-use Rattle.keynote.specs.Answer.{readings, classOf}
+use Rattle.keynote.specs.Answer.{readings, classGiven}
 use Rattle.keynote.specs.Report.{entryBytes, report}
 use Rattle.keynote.specs.Outcome.{answer}
 use Rattle.keynote.specs.Paper.{EqualBut, Outside}
@@ -11,7 +11,7 @@ use Rattle.keynote.specs.Theorems.More.{class-added, answer-reordered, e
 
 -- "adding an assertion never lowers the rank"
 pub added : (q q′ : Query) → EqualBut q q′ → (x : Supplied) (front back : List Supplied) → q .assertions ≡ front ++ back → q′ .assertions ≡ front ++ (x ∷ back)
-    → classOf q ≤ classOf q′
+    → classGiven q ≤ classGiven q′
 added = class-added
 
 -- "reordering assertions changes no rank, rounds or reached, and permutes the report's entries"

@@ -14,7 +14,7 @@ use Rattle.record.specs.Query.{Attribute}
 use Rattle.limits.specs.Limits.{mostConstants, mostLiteral}
 use Rattle.lexical.specs.Kind
 use Rattle.lexical.specs.Line.{tokenAt}
-use Rattle.lexical.specs.LineLaws.{token-real, token-fault, token-end}
+use Rattle.lexical.specs.Theorems.LineLaws.{token-real, token-fault, token-end}
 use Rattle.lexical.specs.Literal.{decodedAt}
 use Rattle.lexical.specs.Number.{numberAt, LIMIT}
 use Rattle.lexical.specs.Token.{endOf}

@@ -29,10 +29,10 @@ use Rattle.system.specs.Working.Asking.{Asked, Begun, begun}
 use Rattle.system.specs.Working.Solving.{filledIn, filledLong, onAsked, onBegun, onWritten, solvedIn}
 use Rattle.keynote.specs.Outcome.{needed}
 use Rattle.keynote.specs.Theorems.Filled.{valuesAt, requestersAt, attributesAt, assertionsAt, solvedAs, long-is, filled-is}
-use Rattle.keynote.specs.Theorems.Started.{startNames, Started}
-use Rattle.keynote.specs.Theorems.Marked.{Stage, Staged, staged, all-staged}
+use Rattle.system.specs.Theorems.Started.{startNames, Started}
+use Rattle.system.specs.Theorems.Marked.{Stage, Staged, staged, all-staged}
 use Rattle.keynote.specs.Theorems.Parts.{places-length}
-use Rattle.keynote.specs.Theorems.Starting.{lie-strings, values-joined, requesters-joined, string-length, beginning, begun-fits, Rooted, rooted, begin-rooted}
+use Rattle.system.specs.Theorems.Starting.{lie-strings, values-joined, requesters-joined, string-length, beginning, begun-fits, Rooted, rooted, begin-rooted}
 
 -- that the assertions, read into tables that are started, give them
 abbrev pub Filled : List ℕ → Query → List ℕ → Type 0

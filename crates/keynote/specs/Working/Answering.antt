@@ -10,7 +10,7 @@ use borrow.Author.Tests.{lt-ltb, le-ltb}
 use Rattle.text.specs.Choice.{pick}
 use Rattle.compliance.specs.declared.Solution.{Solution}
 use Rattle.system.specs.Working.Solving.{Solved, solvedBy, solvedIn}
-use Rattle.keynote.specs.Outcome.{refusal}
+use Rattle.keynote.specs.Outcome.{refusedWith}
 use Rattle.keynote.specs.declared.Outcome.{Outcome}
 
 -- the entries from one to another
@@ -26,7 +26,7 @@ onSolved (solvedBy r page) = givenBy (record { number = 0; place = 0; rank = r .
 
 unfoldable pub answeredIn : List ℕ → List ℕ → ℕ → ℕ → ℕ → ℕ → List ℕ → Given
 answeredIn s table values requesters attributes assertions page =
-    pick (ltb (length page) (3 + 3 * length (partOf table attributes assertions))) (givenBy (refusal 9 0) page)
+    pick (ltb (length page) (3 + 3 * length (partOf table attributes assertions))) (givenBy (refusedWith 9 0) page)
     (onSolved (solvedIn s (partOf table 0 values) (partOf table values requesters) (partOf table requesters attributes) (partOf table attributes assertions) page))
 
 take-none : (n : ℕ) → _≡_ {A = List ℕ} [] (take n [])
@@ -34,8 +34,8 @@ take-none zero = refl
 take-none (suc n) = refl
 
 -- `refused`
-pub refused-is : (n p : ℕ) → record { number = n; place = p; rank = 0; rounds = 0; reached = 0 } ≡ refusal n p
-unfolding refusal
+pub refused-is : (n p : ℕ) → record { number = n; place = p; rank = 0; rounds = 0; reached = 0 } ≡ refusedWith n p
+unfolding refusedWith
 refused-is n p = refl
 
 -- `part`
@@ -53,12 +53,12 @@ module _ (table : List ℕ) (from to : ℕ) where
 
 -- `answered`
 module _ (s table : List ℕ) (values requesters attributes assertions : ℕ) (page texts : List ℕ) (te : texts ≡ partOf table attributes assertions) where
-  pub page-low : (r : Outcome) → length page < 3 → r ≡ refusal 9 0 → givenBy r page ≡ answeredIn s table values requesters attributes assertions page
+  pub page-low : (r : Outcome) → length page < 3 → r ≡ refusedWith 9 0 → givenBy r page ≡ answeredIn s table values requesters attributes assertions page
   unfolding answeredIn
   page-low r h e = rw (e, ← te, lt-ltb (length page) (3 + 3 * length texts) (omega (arith, h)))
 
   module _ (three : 3 ≤ length page) where
-    pub page-short : (r : Outcome) → (length page - 3) / 3 < length texts → r ≡ refusal 9 0 → givenBy r page ≡ answeredIn s table values requesters attributes assertions page
+    pub page-short : (r : Outcome) → (length page - 3) / 3 < length texts → r ≡ refusedWith 9 0 → givenBy r page ≡ answeredIn s table values requesters attributes assertions page
     unfolding answeredIn
     page-short r h e = rw (e, ← te, lt-ltb (length page) (3 + 3 * length texts) (omega (arith, h)))
 

@@ -8,7 +8,7 @@ use lib.ListN.{length, getD}
 use borrow.Author.Tests.{eq-eqb, ne-eqb}
 use Rattle.text.specs.Choice.{pick}
 use Rattle.text.specs.Scan.{past}
-use Rattle.lexical.specs.Bounds.{chosen}
+use Rattle.lexical.specs.Theorems.Bounds.{chosen}
 use Rattle.lexical.specs.Kind
 use Rattle.lexical.specs.Literal.{literalEnd}
 use Rattle.lexical.specs.Run.{inRun, FREE, NUMERALS}

@@ -1,7 +1,7 @@
 use mathlib.Core.Path.{_≡_, refl}
 use Prim.Native.Nat.{_-_, _≤_}
 use lib.ListN.{length, drop}
-use Rattle.machine.specs.Machine.{ended}
+use Rattle.machine.specs.Working.Machine.{ended}
 use Rattle.machine.specs.Working.Ending.{end-end, end-closed, end-more, begun-within}
 use borrow.Author.Needs.{needs}
 use Rattle.machine.proofs.finished.Statement.{statement}

@@ -1,7 +1,7 @@
 use mathlib.Core.Path.{_≡_, refl}
 use Prim.Native.Nat.{_-_, _≤_}
 use lib.ListN.{length, drop}
-use Rattle.machine.specs.Machine.{goOn}
+use Rattle.machine.specs.Working.Machine.{goOn}
 use Rattle.machine.specs.Working.Passing.{pass-end, pass-outer, pass-more, above-within}
 use borrow.Author.Needs.{needs}
 use Rattle.machine.proofs.passed.Statement.{statement}

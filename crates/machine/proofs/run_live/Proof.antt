@@ -4,7 +4,7 @@ use Prim.Native.Nat.{_-_, _≤_}
 use lib.ListN.{length, take}
 use Rattle.text.specs.Counted.{counted}
 use Rattle.expression.specs.Tables.{lookupIn}
-use Rattle.machine.specs.Machine.{exec, on}
+use Rattle.machine.specs.Working.Machine.{exec, on}
 use Rattle.machine.specs.Working.Running.{execFrom, exec-start, exec-live, push-stuck, push-more, act-stuck, act-more, exec-less, live-in, numbers-within, bytes-within}
 use borrow.Author.Needs.{needs}
 use Rattle.machine.proofs.run_live.Statement.{statement}

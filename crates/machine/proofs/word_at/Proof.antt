@@ -4,7 +4,7 @@ use Rattle.machine.proofs.word_at.Statement.{statement}
 use Rattle.machine.proofs.word_at.Tie as tie
 use Rattle.machine.proofs.word_at.Reads as reads
 use Rattle.machine.proofs.word_at.Lts as lts
-use Rattle.text.proofs.word_end_by_blocks.Reads as word-end-by-blocks-reads
+use Rattle.text.proofs.word_end.Reads as word-end-reads
 
 slice-aggregate-result : tie.Need-slice-aggregate-result
 slice-aggregate-result c = search needs
@@ -12,8 +12,8 @@ slice-aggregate-result c = search needs
 returns : tie.Need-returns
 returns c = search word-past
 
-word-end-by-blocks-requires : tie.Need-word-end-by-blocks-requires
-word-end-by-blocks-requires c κs = search needs
+word-end-requires : tie.Need-word-end-requires
+word-end-requires c κs = search needs
 
 sub-result : tie.Need-sub-result
 sub-result c = search word-from
@@ -33,7 +33,7 @@ word-at-spec =
     (tie.spec
     slice-aggregate-result
     returns
-    word-end-by-blocks-requires
+    word-end-requires
     sub-result
     part-result-start
     part-result-end

@@ -8,7 +8,7 @@ use Rattle.syntax.specs.Operator.{Sort, a-string, an-integer, a-float, a-test, 
 use Rattle.syntax.specs.Operation.{unaryNumber, binaryNumber}
 use Rattle.syntax.specs.Expr.{Expr, literal, name, number, truth, decimal, unary, binary, Program, none, also, Clause, plain, valued, nested}
 use Rattle.syntax.specs.Code.{entry, Codes, code-literal, code-name, code-number, code-true, code-false, code-decimal, code-unary, code-binary, ProgramCodes, code-none, code-also, ClauseCodes, code-plain, code-valued, code-nested}
-use Rattle.machine.specs.Need.{need, programNeed, clauseNeed, spanOf, span, room, programRoom, clauseRoom}
+use Rattle.machine.specs.Working.Need.{need, programNeed, clauseNeed, spanOf, span, room, programRoom, clauseRoom}
 
 append-two : (c d : List ℕ) (x : ℕ) → length (c ++ d ++ (x ∷ [])) ≡ length c + length d + 1
 append-two c d x = rw (length-append (c ++ d) (x ∷ []), length-append c d)

@@ -30,8 +30,8 @@ use Rattle.expression.specs.Theorems.Numbered.{unary-number, binary-number}
 use Rattle.expression.specs.Theorems.Topmost.{conditions-most}
 use Rattle.expression.specs.Theorems.Shown.{values-are, lookup-is as shown-is}
 use Rattle.expression.specs.declared.value.Operand.the-variants.{Rank}
-use Rattle.machine.specs.Machine.{State, on, raised, runAt, pushStep, isIdle, clauseStep, actOf, stepOf, stepped, isFalse, stopAt, goOn, isHighest, ended, needless, ahead, execBehind, exec, resultOf}
-use Rattle.machine.specs.Need.{need, programNeed, clauseNeed, spanOf, room, programRoom, clauseRoom}
+use Rattle.machine.specs.Working.Machine.{State, on, raised, runAt, pushStep, isIdle, clauseStep, actOf, stepOf, stepped, isFalse, stopAt, goOn, isHighest, ended, needless, ahead, execBehind, exec, resultOf}
+use Rattle.machine.specs.Working.Need.{need, programNeed, clauseNeed, spanOf, room, programRoom, clauseRoom}
 use Rattle.machine.specs.Theorems.Bounds.{need-some}
 use Rattle.machine.specs.Working.Kinds.{unranked, Said, value-said}
 use Rattle.machine.specs.Working.Widths.{plain-rank, plain-ranged, within-span}

@@ -14,10 +14,10 @@ use Rattle.expression.specs.Conditions.{top}
 use Rattle.expression.specs.Tables.{lookupIn}
 use Rattle.expression.specs.declared.value.Operand.{Operand}
 use Rattle.expression.specs.declared.value.Operand.the-variants.{Fault}
-use Rattle.machine.specs.Machine.{State, on, stuck, placed, textStep, topOf, below, unaryOn, unaryStep, lookupOn, lookupStep, settledOn, binaryOn, binaryStep, raised, pushStep, isIdle, clauseStep, actOf, stepOf, stepped, ahead, execBehind, exec, resultOf}
+use Rattle.machine.specs.Working.Machine.{State, on, stuck, placed, textStep, topOf, below, unaryOn, unaryStep, lookupOn, lookupStep, settledOn, binaryOn, binaryStep, raised, pushStep, isIdle, clauseStep, actOf, stepOf, stepped, ahead, execBehind, exec, resultOf}
 use Rattle.machine.specs.Working.Passing.{exec-stuck}
-use Rattle.machine.specs.Left.{leftIn}
-use Rattle.machine.specs.Given.{gave, stringOf, stringIn}
+use Rattle.machine.specs.Working.Left.{leftIn}
+use Rattle.machine.specs.Working.Given.{gave, stringOf, stringIn}
 use Rattle.machine.specs.declared.Given.the-variants.{Bytes}
 
 -- the machine could not go on, or is where it is with more room

@@ -19,8 +19,8 @@ use Rattle.expression.specs.Working.Operating.{does-equal, does-differ}
 use Rattle.expression.specs.declared.value.Operand.{Operand}
 use Rattle.expression.specs.declared.value.Operand.the-variants.{Text, Test}
 use Rattle.expression.specs.declared.value.Packed.{Packed}
-use Rattle.machine.specs.Machine.{State, on, stuck, placed, settledOn, binaryOn, binaryStep}
-use Rattle.machine.specs.Live.{Live, Landed, landed, putAt}
+use Rattle.machine.specs.Working.Machine.{State, on, stuck, placed, settledOn, binaryOn, binaryStep}
+use Rattle.machine.specs.Working.Live.{Live, Landed, landed, putAt}
 use Rattle.machine.specs.Working.Stepping.{drop-take, live-stuck, put-live, binary-two}
 use Rattle.machine.specs.Working.Quick.{putTwo, two-put, top-first, top-second, pick-both}
 use Rattle.machine.specs.declared.Tops.{Tops}

@@ -14,7 +14,7 @@ use Rattle.syntax.specs.Expr.{Expr, Program, none, also, Clause, plain, valued,
 use Rattle.syntax.specs.Operation.{unaryNumber, binaryNumber}
 use Rattle.syntax.specs.Theorems.Numbers.{unary-between, binary-between}
 use Rattle.syntax.specs.Code.{entry, Codes, code-literal, code-name, code-number, code-true, code-false, code-decimal, code-unary, code-binary, ProgramCodes, code-none, code-also, ClauseCodes, code-plain, code-valued, code-nested}
-use Rattle.machine.specs.Machine.{isFalse, goOn, isHighest, closing, begun, ended, needless}
+use Rattle.machine.specs.Working.Machine.{isFalse, goOn, isHighest, closing, begun, ended, needless}
 use Rattle.machine.specs.Working.Passing.{entry-op, on-shift}
 
 -- code that is passed by from k programs to k′

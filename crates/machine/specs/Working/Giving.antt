@@ -9,9 +9,9 @@ use lib.Seq.{length-take-le}
 use Rattle.text.specs.Counted.{counted}
 use Rattle.text.specs.Copy.{copied, copyAt}
 use Rattle.expression.specs.Tables.{lookupIn}
-use Rattle.machine.specs.Machine.{State, on, stuck, exec}
-use Rattle.machine.specs.Live.{Live}
-use Rattle.machine.specs.Given.{gave, bufferOf, stringOf, stringIn}
+use Rattle.machine.specs.Working.Machine.{State, on, stuck, exec}
+use Rattle.machine.specs.Working.Live.{Live}
+use Rattle.machine.specs.Working.Given.{gave, bufferOf, stringOf, stringIn}
 use Rattle.machine.specs.Working.Running.{live-in, live-out}
 use Rattle.machine.specs.Theorems.Wider.{string-wider}
 use Rattle.machine.specs.declared.Tops.{Tops}

@@ -18,8 +18,8 @@ use Rattle.expression.specs.Working.Clauses.{combined}
 use Rattle.expression.specs.Working.Operating.{join-over, join-in}
 use Rattle.expression.specs.declared.value.Operand.{Operand}
 use Rattle.expression.specs.declared.value.Operand.the-variants.{Text, Fault}
-use Rattle.machine.specs.Machine.{State, on, stuck, placed, settledOn, binaryOn, binaryStep}
-use Rattle.machine.specs.Live.{Live, Landed, landed, putAt}
+use Rattle.machine.specs.Working.Machine.{State, on, stuck, placed, settledOn, binaryOn, binaryStep}
+use Rattle.machine.specs.Working.Live.{Live, Landed, landed, putAt}
 use Rattle.machine.specs.Working.Stepping.{live-stuck, put-live, binary-two}
 use Rattle.machine.specs.Working.Quick.{top-first, top-second, pick-both}
 use Rattle.machine.specs.Working.Alike.{text-kind}

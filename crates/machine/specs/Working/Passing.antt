@@ -15,7 +15,7 @@ use Rattle.syntax.specs.Operation.{unaryNumber, binaryNumber}
 use Rattle.syntax.specs.Theorems.Numbers.{unary-between, binary-between}
 use Rattle.syntax.specs.Code.{entry, Codes, code-literal, code-name, code-number, code-true, code-false, code-decimal, code-unary, code-binary, ProgramCodes, code-none, code-also}
 use Rattle.expression.specs.Conditions.{top}
-use Rattle.machine.specs.Machine.{State, on, stuck, isFalse, outer, above, behindOf, stopAt, goOn, ahead, stepped, execBehind}
+use Rattle.machine.specs.Working.Machine.{State, on, stuck, isFalse, outer, above, behindOf, stopAt, goOn, ahead, stepped, execBehind}
 
 -- entries passed by are left out
 module _ (depth room : ℕ) (s : List ℕ) (look : List ℕ → List ℕ) (vals : List (List ℕ)) where

@@ -21,8 +21,8 @@ use Rattle.expression.specs.Working.Clauses.{applied, combined}
 use Rattle.expression.specs.declared.value.Operand.{Operand}
 use Rattle.expression.specs.declared.value.Operand.the-variants.{Number, Test, Rank}
 use Rattle.expression.specs.declared.value.Packed.{Packed}
-use Rattle.machine.specs.Machine.{on, placed, topOf, below, unaryOn, unaryStep, settledOn, binaryOn, binaryStep, raised}
-use Rattle.machine.specs.Live.{Live, Landed, landed, putAt}
+use Rattle.machine.specs.Working.Machine.{on, placed, topOf, below, unaryOn, unaryStep, settledOn, binaryOn, binaryStep, raised}
+use Rattle.machine.specs.Working.Live.{Live, Landed, landed, putAt}
 use Rattle.machine.specs.Working.Widths.{front-combined}
 use Rattle.machine.specs.Working.Stacking.{pair, topped, width-is, place-is, binary-is}
 use Rattle.machine.specs.Working.Stepping.{put-live, top-some, below-is, binary-two}
@@ -148,7 +148,7 @@ module _ (vals : List (List ℕ)) (op : ℕ) (x y : Operand) (sx : Still x) (sy 
 
   module _ (st m : List ℕ) (n t : ℕ) (hn : n ≤ length st) (ht : t ≤ length m) (four : 4 ≤ n) (xe : x ≡ topOf (take (n - 2) st)) (ye : y ≡ topOf (take n st))
       (v : Operand) (ve : v ≡ made) (r : Tops) (st′ : List ℕ) (is : landed r st′ ≡ putTwo st (n - 4) t (kindOf v) (sizeOf v)) where
-    pub still-live : Live r st′ m (binaryStep (length st) vals op (take n st) (take t m))
+    still-live : Live r st′ m (binaryStep (length st) vals op (take n st) (take t m))
     still-live =
         binary-two (length st) vals op st m n t hn st′ four y ye x xe r
         (rw (on-still (length st) (take (n - 4) st) (take t m), ← ve) (put-live st m (n - 4) t v (omega (arith, hn)) ht r st′ (is ∙ two-put st (n - 4) t v (omega (arith, four, hn)))))
@@ -158,11 +158,11 @@ natural-kind : (k m : ℕ) → k ≡ 1 → Number false m ≡ unpacked k m
 unfolding unpacked
 natural-kind k m e = rw e
 
-pub rank-kind : (k m : ℕ) → k ≡ 5 → Rank m ≡ unpacked k m
+rank-kind : (k m : ℕ) → k ≡ 5 → Rank m ≡ unpacked k m
 unfolding unpacked
 rank-kind k m e = rw e
 
-pub told-kind : (k m : ℕ) → isTold k ≡ true → Test (eqb k 4) ≡ unpacked k m
+told-kind : (k m : ℕ) → isTold k ≡ true → Test (eqb k 4) ≡ unpacked k m
 unfolding unpacked isTold
 told-kind k m h =
     split (eqb k 3)

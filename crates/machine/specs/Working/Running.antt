@@ -21,8 +21,8 @@ use Rattle.expression.specs.Integers.{ranged}
 use Rattle.expression.specs.Conditions.{top}
 use Rattle.expression.specs.declared.value.Operand.{Operand}
 use Rattle.expression.specs.declared.value.Operand.the-variants.{Test, Rank, Float, Fault}
-use Rattle.machine.specs.Machine.{State, on, stuck, textStep, topOf, unaryStep, lookupStep, binaryStep, raised, runAt, pushStep, isIdle, clauseStep, actOf, stepOf, stepped, needless, ahead, execBehind, exec, resultOf}
-use Rattle.machine.specs.Live.{Live, landed, putAt}
+use Rattle.machine.specs.Working.Machine.{State, on, stuck, textStep, topOf, unaryStep, lookupStep, binaryStep, raised, runAt, pushStep, isIdle, clauseStep, actOf, stepOf, stepped, needless, ahead, execBehind, exec, resultOf}
+use Rattle.machine.specs.Working.Live.{Live, landed, putAt}
 use Rattle.machine.specs.Working.Passing.{exec-stuck, exec-drop}
 use Rattle.machine.specs.Working.Stepping.{put-live, below-is}
 use Rattle.machine.specs.declared.Tops.{Tops}

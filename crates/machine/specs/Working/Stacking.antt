@@ -17,7 +17,7 @@ use Rattle.expression.specs.Operations.{held, unaryOf}
 use Rattle.expression.specs.Working.Clauses.{applied, combined}
 use Rattle.expression.specs.declared.value.Operand.{Operand}
 use Rattle.expression.specs.declared.value.Operand.the-variants.{Text, Float, Fault}
-use Rattle.machine.specs.Machine.{State, on, placed, textStep, topOf, below, isFalse, isHighest, isIdle, unaryOn, unaryStep, lookupOn, lookupStep, settledOn, binaryOn, binaryStep}
+use Rattle.machine.specs.Working.Machine.{State, on, placed, textStep, topOf, below, isFalse, isHighest, isIdle, unaryOn, unaryStep, lookupOn, lookupStep, settledOn, binaryOn, binaryStep}
 use Rattle.machine.specs.Working.Kinds.{Said}
 use Rattle.machine.specs.Working.Widths.{plain-applied, Front, front-combined}
 

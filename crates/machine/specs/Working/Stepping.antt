@@ -28,8 +28,8 @@ use Rattle.expression.specs.Operands.{kindOf, sizeOf, unpacked, width, valueOf,
 use Rattle.expression.specs.Working.Clauses.{applied, combined}
 use Rattle.expression.specs.declared.value.Operand.{Operand}
 use Rattle.expression.specs.declared.value.Operand.the-variants.{Text, Fault}
-use Rattle.machine.specs.Machine.{State, on, stuck, placed, textStep, topOf, below, unaryOn, unaryStep, lookupOn, lookupStep, settledOn, binaryOn, binaryStep, runAt}
-use Rattle.machine.specs.Live.{Live, landed, putAt, settled}
+use Rattle.machine.specs.Working.Machine.{State, on, stuck, placed, textStep, topOf, below, unaryOn, unaryStep, lookupOn, lookupStep, settledOn, binaryOn, binaryStep, runAt}
+use Rattle.machine.specs.Working.Live.{Live, landed, putAt, settled}
 use Rattle.machine.specs.declared.Tops.{Tops}
 use Rattle.machine.specs.declared.Tops.the-variants.{At, Stuck}
 

@@ -25,7 +25,7 @@ use Rattle.expression.specs.Working.Numbered.{textual, ofTexts, ofIntegers, ofF
 use Rattle.expression.specs.Conditions.{evaluate}
 use Rattle.expression.specs.Working.Clauses.{applied, combined}
 use Rattle.expression.specs.Theorems.Numbered.{binary-number}
-use Rattle.machine.specs.Need.{spanOf, span}
+use Rattle.machine.specs.Working.Need.{spanOf, span}
 use Rattle.machine.specs.Working.Kinds.{of-pick, of-text, of-ranged, of-integers, of-tests, of-converted, of-negative, of-opposite, of-floats, of-to-float, of-float-negative}
 
 -- a value without bytes

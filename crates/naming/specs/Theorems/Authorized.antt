@@ -13,7 +13,7 @@ use Rattle.text.specs.Choice.{split}
 use Rattle.record.specs.Query.{Query, Attribute}
 use Rattle.principal.specs.Principal.{Principal, same, same-left, policy}
 use Rattle.principal.specs.Members.{member}
-use Rattle.compliance.specs.Tables.{place}
+use Rattle.principal.specs.Places.{place}
 use Rattle.expression.specs.Names.{environment}
 use Rattle.expression.specs.Tables.{Shows}
 use Rattle.index.specs.Entry.{nameAt}

@@ -9,7 +9,7 @@ use borrow.Author.Tests.{eqb-true}
 use Rattle.text.specs.Choice.{split}
 use Rattle.limits.specs.Limits.{mostBrackets}
 use Rattle.lexical.specs.Kind
-use Rattle.lexical.specs.Bounds.{chosen}
+use Rattle.lexical.specs.Theorems.Bounds.{chosen}
 use Rattle.lexical.specs.declared.token.Token.{Token}
 use Rattle.syntax.specs.Expr.{Expr}
 use Rattle.syntax.specs.Parsed.{Parsed, aside}

@@ -12,7 +12,7 @@ use Rattle.text.specs.Choice.{split, clash}
 use Rattle.text.specs.Copy.{put, copyAt}
 use Rattle.text.specs.Loop.{loop-done}
 use Rattle.limits.specs.Limits.{mostIdentifier, mostCounted, mostNumbers}
-use Rattle.lexical.specs.Bounds.{chosen}
+use Rattle.lexical.specs.Theorems.Bounds.{chosen}
 use Rattle.lexical.specs.Kind
 use Rattle.lexical.specs.Literal.{decodedAt}
 use Rattle.lexical.specs.Plain.{bare-given}
@@ -38,7 +38,7 @@ use Rattle.conditions.specs.Expression.{readExpression, readOperand, readBracke
 use Rattle.conditions.specs.Program.{DEPTH}
 use Rattle.index.specs.Index.{Holds}
 use Rattle.index.specs.Working.Entering.{Kept}
-use Rattle.machine.specs.Given.{bufferOf}
+use Rattle.machine.specs.Working.Given.{bufferOf}
 use Rattle.judge.specs.Working.Saying.{Told, said}
 use Rattle.naming.specs.Working.Whole.{whole, inner, Whole, whole-is}
 use Rattle.naming.specs.Theorems.Entry.{EntryRead, entry-read}

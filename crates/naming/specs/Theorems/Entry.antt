@@ -12,7 +12,7 @@ use Rattle.record.specs.Encode.{stringBytes}
 use Rattle.limits.specs.Limits.{mostIdentifier, mostCounted, mostNumbers}
 use Rattle.principal.specs.Principal.{Principal}
 use Rattle.principal.specs.Members.{member}
-use Rattle.compliance.specs.Tables.{place}
+use Rattle.principal.specs.Places.{place}
 use Rattle.compliance.specs.Theorems.Fill.{place-added}
 use Rattle.index.specs.Index.{enter, Holds}
 use Rattle.index.specs.IndexLaws.{walk-known, fresh-entered, holds-front}

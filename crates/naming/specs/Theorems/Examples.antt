@@ -14,7 +14,7 @@ use Rattle.lexical.specs.Token.{token, widthOf, operatorAt, operatorToken, toke
 use Rattle.lexical.specs.Line.{visible, inLine, tokenAt}
 use Rattle.principal.specs.Canonical.{front, behind, canonicalWith, canonical}
 use Rattle.principal.specs.Principal.{Principal, same, same-refl, policy}
-use Rattle.compliance.specs.Tables.{place}
+use Rattle.principal.specs.Places.{place}
 use Rattle.conditions.specs.Table.{beginsString}
 use Rattle.conditions.specs.Word.{nextAt}
 use Rattle.compliance.specs.Licensees as Compliance

@@ -10,7 +10,7 @@ use lib.Seq.{take-take, take-at, length-take-le}
 use Rattle.limits.specs.Limits.{mostLicensees, mostCounted, mostNumbers, mostCode}
 use Rattle.principal.specs.Principal.{Principal, policy}
 use Rattle.principal.specs.Members.{member}
-use Rattle.compliance.specs.Tables.{place}
+use Rattle.principal.specs.Places.{place}
 use Rattle.compliance.specs.Theorems.Fill.{place-stays}
 use Rattle.index.specs.Index.{enterAll, Holds}
 use Rattle.index.specs.EnterLaws.{enter-all-is, enter-all-append, enter-all-keeps, freshAll}

@@ -13,7 +13,8 @@ use Rattle.principal.specs.Principal.{Principal, policy}
 use Rattle.principal.specs.Members.{member}
 use Rattle.compliance.specs.Codes.{zeroCode}
 use Rattle.compliance.specs.Licensees as Compliance
-use Rattle.compliance.specs.Tables.{place, compiled, Formed}
+use Rattle.principal.specs.Places.{place}
+use Rattle.compliance.specs.Tables.{compiled, Formed}
 use Rattle.expression.specs.Names.{environment}
 use Rattle.expression.specs.Tables.{Shows}
 use Rattle.index.specs.Index.{enterAll, Holds}

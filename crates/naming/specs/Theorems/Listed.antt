@@ -13,7 +13,8 @@ use Rattle.limits.specs.Limits.{mostLicensees, mostCounted}
 use Rattle.principal.specs.Principal.{Principal, policy}
 use Rattle.compliance.specs.Codes.{kOfCode}
 use Rattle.compliance.specs.Licensees as Compliance
-use Rattle.compliance.specs.Tables.{place, compile, Formed, f-kOf}
+use Rattle.principal.specs.Places.{place}
+use Rattle.compliance.specs.Tables.{compile, Formed, f-kOf}
 use Rattle.compliance.specs.Theorems.Fill.{places-stay}
 use Rattle.expression.specs.Names.{Environment}
 use Rattle.expression.specs.Tables.{Shows}

@@ -12,7 +12,7 @@ use Rattle.text.specs.Counted.{counted}
 use Rattle.text.specs.Copy.{copyAt}
 use Rattle.lexical.specs.Kind
 use Rattle.lexical.specs.Line.{tokenAt}
-use Rattle.lexical.specs.LineLaws.{token-real, token-fault, token-end}
+use Rattle.lexical.specs.Theorems.LineLaws.{token-real, token-fault, token-end}
 use Rattle.lexical.specs.declared.token.Token.{Token}
 use Rattle.syntax.specs.Operator.{Sort, a-string}
 use Rattle.syntax.specs.Expr.{Expr}
@@ -36,9 +36,9 @@ use Rattle.conditions.specs.Working.TieExpression.{expression-same}
 use Rattle.conditions.specs.Working.Pace.{Sound, sound, within, Paced, paced-aside, paced-found}
 use Rattle.conditions.specs.Working.PaceExpression.{expression-paced}
 use Rattle.conditions.specs.declared.emit.Out.the-variants.{Found, Aside as Refused}
-use Rattle.machine.specs.Machine.{State, on, execBehind, exec}
-use Rattle.machine.specs.Given.{Gave, gave, bufferOf, stringOf, stringIn}
-use Rattle.machine.specs.Need as Need
+use Rattle.machine.specs.Working.Machine.{State, on, execBehind, exec}
+use Rattle.machine.specs.Working.Given.{Gave, gave, bufferOf, stringOf, stringIn}
+use Rattle.machine.specs.Working.Need as Need
 use Rattle.machine.specs.Theorems.Runs.{run-expression}
 use Rattle.machine.specs.Working.Stacking.{topped}
 use Rattle.machine.specs.declared.Given.the-variants.{Bytes}

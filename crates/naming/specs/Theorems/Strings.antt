@@ -10,7 +10,7 @@ use borrow.Author.Tests.{lt-leb, eqb-true}
 use Rattle.text.specs.Choice.{pick, split, clash}
 use Rattle.text.specs.Loop.{Step, next, done, loop}
 use Rattle.lexical.specs.Kind
-use Rattle.lexical.specs.Bounds.{chosen}
+use Rattle.lexical.specs.Theorems.Bounds.{chosen}
 use Rattle.lexical.specs.Literal.{decodedAt}
 use Rattle.lexical.specs.declared.token.Token.{Token}
 use Rattle.syntax.specs.Operator.{Unary, Binary, a-string, unaryTakes, unaryGives, binaryTakes, binaryGives}

@@ -11,9 +11,9 @@ use Rattle.text.specs.Class.{inClass, isWord}
 use Rattle.text.specs.Counted.{part}
 use Rattle.text.specs.Loop.{Step, next, done, loop-ind}
 use Rattle.text.specs.Scan.{run, past, past-alike}
-use Rattle.lexical.specs.Bounds.{chosen}
+use Rattle.lexical.specs.Theorems.Bounds.{chosen}
 use Rattle.lexical.specs.Kind
-use Rattle.lexical.specs.KindLaws.{pair-width}
+use Rattle.lexical.specs.Theorems.KindLaws.{pair-width}
 use Rattle.lexical.specs.Class.{classOf, LETTER, DIGIT, QUOTE, BLANK, NEWLINE, HASH}
 use Rattle.lexical.specs.Run.{inRun, WORD, NUMERALS, BLANKS, FREE}
 use Rattle.lexical.specs.Runs.{word-same}

@@ -11,7 +11,7 @@ use Rattle.text.specs.Choice.{split, clash}
 use Rattle.text.specs.Loop.{loop-next, loop-done}
 use Rattle.limits.specs.Limits.{mostCode}
 use Rattle.lexical.specs.Kind
-use Rattle.lexical.specs.Bounds.{chosen}
+use Rattle.lexical.specs.Theorems.Bounds.{chosen}
 use Rattle.lexical.specs.Line.{tokenAt}
 use Rattle.lexical.specs.Token.{token}
 use Rattle.lexical.specs.declared.token.Token.{Token}

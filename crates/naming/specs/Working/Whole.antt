@@ -15,7 +15,7 @@ use borrow.Author.Tests.{lt-ltb, le-ltb, le-leb, lt-leb, eq-eqb, ne-eqb, eqb-tru
 use Rattle.text.specs.Choice.{pick, split, clash, bool-iff}
 use Rattle.text.specs.Scan.{past, past-more, past-stop}
 use Rattle.text.specs.All.{all, all-empty, all-fails, all-passes}
-use Rattle.lexical.specs.Bounds.{chosen}
+use Rattle.lexical.specs.Theorems.Bounds.{chosen}
 use Rattle.lexical.specs.Kind
 use Rattle.lexical.specs.Unit.{barred}
 use Rattle.lexical.specs.Plain.{plain, bareEnd}

@@ -1,18 +1,26 @@
 -- The ways out of the functions that note what became of an assertion. Assumes nothing.
-use mathlib.Core.Path.{_≡_, refl, sym, ap, _∙_}
+use mathlib.Core.Path.{_≡_}
+use mathlib.Core.Bool.{Bool}
 use mathlib.Core.List.{List, [], _∷_}
 use Prim.Native.Nat.{ℕ, _+_, _-_, _*_, _/_, _%_, _<_, _≤_}
 use native.Mathlib.Omega.{arith}
-use lib.Dec.{leb, ltb}
-use lib.ListN.{length, set, length-set}
+use lib.ListN.{length, set}
 use borrow.Author.Tests.{le-leb, lt-leb, lt-ltb, le-ltb}
-use Rattle.text.specs.Choice.{pick}
-use Rattle.text.specs.Copy.{put}
-use Rattle.text.specs.CopyLaws.{put-front, put-nil}
+use Rattle.text.specs.Copy.{copied, put}
+use Rattle.text.specs.CopyLaws.{put-front}
+use Rattle.text.specs.Counted.{pairBytes, putPair}
+use Rattle.text.specs.CountedLaws.{pair-put}
 use Rattle.assertion.specs.declared.Reading.{Reading}
 use Rattle.assertion.specs.declared.Reading.the-variants.{Kept, Dropped}
-use Rattle.system.specs.Working.Noting.{entryInto, headerInto, Rowed, rowed, rowInto, Noted, noted, endsOf, noteIn}
+use Rattle.system.specs.Working.Noting.{entryInto, headerInto, rowed, rowInto, noted, endsOf, noteIn}
 use Rattle.system.specs.declared.note.Ends.{Ends}
+
+-- the two bytes of a number's last two
+high-of : (m p : ℕ) → m ≡ p % 65536 → m / 256 ≡ p / 256 % 256
+high-of m p e = omega arith
+
+low-of : (m p : ℕ) → m ≡ p % 65536 → m % 256 ≡ p % 256
+low-of m p e = omega arith
 
 -- `put_entry`
 module _ (page : List ℕ) (i reason place : ℕ) where
@@ -25,39 +33,27 @@ module _ (page : List ℕ) (i reason place : ℕ) where
   entry-far h k = rw (lt-ltb (length page) (3 * i + 6) (omega arith))
 
   module _ (h : 6 ≤ length page) (k : i ≤ (length page - 6) / 3) where
-    pub entry-second : (n y : ℕ) → 3 + 3 * i + 1 < length (set page n y)
-    entry-second n y = rw (length-set page n y) (omega arith)
-
-    pub entry-third : (n y m x : ℕ) → 3 + 3 * i < length (set (set page n y) m x)
-    entry-third n y m x = rw (length-set (set page n y) m x, length-set page n y) (omega arith)
-
-    pub entry-in : (x y : ℕ) → x ≡ place / 256 % 256 → y ≡ place % 256 → set (set (set page (3 + 3 * i + 2) y) (3 + 3 * i + 1) x) (3 + 3 * i) reason ≡ entryInto page i reason place
-    unfolding entryInto
-    entry-in x y xe ye =
+    pub entry-in : (m : ℕ) → m ≡ place % 65536 → (u : Bool) (e : List ℕ) → copied u e ≡ putPair page (3 + 3 * i + 1) m → set e (3 + 3 * i) reason ≡ entryInto page i reason place
+    unfolding entryInto pairBytes
+    entry-in m me u e ue =
         let at : ℕ = 3 + 3 * i in
-        let z2 : at + 1 + 1 ≡ at + 2 = omega arith in
-        let z3 : at + 2 + 1 ≡ at + 3 = omega arith in
-        let one : set page (at + 2) y ≡ put page (at + 2) (y ∷ []) = ap (λ (m : List ℕ). set m (at + 2) y) (sym (put-nil page (at + 2 + 1))) ∙ put-front page (at + 2) y [] (omega arith) in
-        let two : set (put page (at + 2) (y ∷ [])) (at + 1) x ≡ put page (at + 1) (x ∷ y ∷ []) = ap (λ (n : ℕ). set (put page n (y ∷ [])) (at + 1) x) (sym z2) ∙ put-front page (at + 1) x (y ∷ []) (omega arith) in
-        rw (le-ltb (length page) (3 * i + 6) (omega arith), ← xe, ← ye) (rw (one, two) (put-front page at reason (x ∷ y ∷ []) (omega arith)))
+        let x : m / 256 ≡ place / 256 % 256 = high-of m place me in
+        let y : m % 256 ≡ place % 256 = low-of m place me in
+        let ee : e ≡ put page (at + 1) (m / 256 ∷ m % 256 ∷ []) = pair-put page (at + 1) m (omega arith) (omega arith) u e ue in
+        rw (le-ltb (length page) (3 * i + 6) (omega arith), ← x, ← y, ee) (put-front page at reason (m / 256 ∷ m % 256 ∷ []) (omega arith))
 
 -- `put_header`
 pub header-none : (page : List ℕ) (n : ℕ) → length page < 3 → page ≡ headerInto page n
 unfolding headerInto
 header-none page n h = rw (lt-ltb _ _ h)
 
-pub header-second : (page : List ℕ) (n y : ℕ) → 3 ≤ length page → 1 < length (set page n y)
-header-second page n y h = rw (length-set page n y) (omega (arith, h))
-
-pub header-third : (page : List ℕ) (n y m x : ℕ) → 3 ≤ length page → 0 < length (set (set page n y) m x)
-header-third page n y m x h = rw (length-set (set page n y) m x, length-set page n y) (omega (arith, h))
-
-pub header-in : (page : List ℕ) (n size x y : ℕ) → 3 ≤ length page → size ≡ 3 * (n % 65536) → x ≡ size / 256 % 256 → y ≡ size % 256 → set (set (set page 2 y) 1 x) 0 1 ≡ headerInto page n
-unfolding headerInto
-header-in page n size x y h se xe ye =
-    let one : set page 2 y ≡ put page 2 (y ∷ []) = ap (λ (m : List ℕ). set m 2 y) (sym (put-nil page 3)) ∙ put-front page 2 y [] (omega (arith, h)) in
-    let two : set (put page 2 (y ∷ [])) 1 x ≡ put page 1 (x ∷ y ∷ []) = put-front page 1 x (y ∷ []) (omega (arith, h)) in
-    rw (le-ltb _ _ h, ← se, ← xe, ← ye) (rw (one, two) (put-front page 0 1 (x ∷ y ∷ []) (omega (arith, h))))
+pub header-in : (page : List ℕ) (n m : ℕ) → 3 ≤ length page → m ≡ 3 * (n % 65536) % 65536 → (u : Bool) (e : List ℕ) → copied u e ≡ putPair page 1 m → set e 0 1 ≡ headerInto page n
+unfolding headerInto pairBytes
+header-in page n m h me u e ue =
+    let x : m / 256 ≡ 3 * (n % 65536) / 256 % 256 = high-of m (3 * (n % 65536)) me in
+    let y : m % 256 ≡ 3 * (n % 65536) % 256 = low-of m (3 * (n % 65536)) me in
+    let ee : e ≡ put page 1 (m / 256 ∷ m % 256 ∷ []) = pair-put page 1 m (omega (arith, me)) (omega (arith, h)) u e ue in
+    rw (le-ltb _ _ h, ← x, ← y, ee) (put-front page 0 1 (m / 256 ∷ m % 256 ∷ []) (omega (arith, h)))
 
 -- `put_row`
 module _ (a c d : List ℕ) (k author rank size : ℕ) where

@@ -55,17 +55,17 @@ module _ (x y : List ℕ) (u v : ℕ) (h : length x ≡ length y) where
   byte-like e = append-like x y (u ∷ []) (v ∷ []) h (equal-byte u v ∙ eq-eqb u v e)
 
 -- what lies behind a part
-pub behind : (c : List ℕ) (i n : ℕ) → drop i c ≡ take n (drop i c) ++ drop (i + n) c
+behind : (c : List ℕ) (i n : ℕ) → drop i c ≡ take n (drop i c) ++ drop (i + n) c
 behind c i n = sym (take-append-drop n (drop i c)) ∙ ap (λ (k : List ℕ). take n (drop i c) ++ k) (drop-drop n i c)
 
 -- a part, and the part that is one byte longer
 module _ (c : List ℕ) (i j n : ℕ) (h : i + n ≤ length c) (l : j < n) where
-  pub part-more : take (j + 1) (drop i c) ≡ take j (drop i c) ++ (getD c (i + j) 0 ∷ [])
+  part-more : take (j + 1) (drop i c) ≡ take j (drop i c) ++ (getD c (i + j) 0 ∷ [])
   part-more =
       let k : j < length (drop i c) = rw (length-drop i c) (omega (arith, h, l)) in
       rw (add-one j) (take-suc (drop i c) j 0 k ∙ ap (λ (x : ℕ). take j (drop i c) ++ (x ∷ [])) (getD-drop i c j 0))
 
-  pub part-length : length (take j (drop i c)) ≡ j
+  part-length : length (take j (drop i c)) ≡ j
   part-length = length-take-le j (drop i c) (rw (length-drop i c) (omega (arith, h, l)))
 
 -- the ways out of `same_part`

@@ -1,37 +1,56 @@
-use Rattle.compliance.specs.Working.Highest.{two-values}
 use borrow.Author.Needs.{needs}
+use mathlib.Core.Path.{_≡_}
+use Prim.Native.Nat.{_-_}
+use lib.ListN.{length}
+use Rattle.compliance.specs.Highest.{highest}
+use Rattle.compliance.specs.Working.Highest.{bestFrom, best-none, best-begin, best-more, best-end}
 use Rattle.compliance.proofs.highest.kth_highest.Statement.{statement}
 use Rattle.compliance.proofs.highest.kth_highest.Tie as tie
 use Rattle.compliance.proofs.highest.kth_highest.Reads as reads
 use Rattle.compliance.proofs.highest.kth_highest.Lts as lts
-use Rattle.compliance.proofs.highest.kth_of_many.Reads as kth-of-many-reads
-use Rattle.compliance.proofs.highest.kth_of_two.Reads as kth-of-two-reads
+use Rattle.compliance.proofs.highest.better.Reads as better-reads
 
-shared-slice-read-kth-of-two : tie.Need-shared-slice-read-kth-of-two
-shared-slice-read-kth-of-two c = search needs
+abbrev Inv-loop : tie.InvT-loop
+Inv-loop values k best₀ i₀ best i = bestFrom k values i best ≡ highest k values
 
-shared-slice-read-kth-of-two-2 : tie.Need-shared-slice-read-kth-of-two-2
-shared-slice-read-kth-of-two-2 c = search needs
+abbrev μ-loop : tie.MeasureT-loop
+μ-loop values k best₀ i₀ best i = length values - i
 
-kth-of-two-requires : tie.Need-kth-of-two-requires
-kth-of-two-requires c κs = search needs
+returns : tie.Need-returns Inv-loop μ-loop
+returns c = search best-none
 
-returns : tie.Need-returns
-returns c = search two-values
+loop-holds : tie.Need-loop-holds Inv-loop μ-loop
+loop-holds c = search best-begin
 
-kth-of-many-requires : tie.Need-kth-of-many-requires
-kth-of-many-requires c κs = search needs
+shared-slice-read-better : tie.Need-shared-slice-read-better Inv-loop μ-loop
+shared-slice-read-better c = search needs
 
-returns-2 : tie.Need-returns-2
-returns-2 c = search needs
+better-requires : tie.Need-better-requires Inv-loop μ-loop
+better-requires c κs = search needs
+
+add-i : tie.Need-add-i Inv-loop μ-loop
+add-i c = search needs
+
+loop-less : tie.Need-loop-less Inv-loop μ-loop
+loop-less c = search needs
+
+loop-again : tie.Need-loop-again Inv-loop μ-loop
+loop-again c = search best-more
+
+returns-2 : tie.Need-returns-2 Inv-loop μ-loop
+returns-2 c = search best-end
 
 pub kth-highest-spec : {M : Type 1} → statement M
 kth-highest-spec =
     tie.close
     (tie.spec
-    shared-slice-read-kth-of-two
-    shared-slice-read-kth-of-two-2
-    kth-of-two-requires
+    Inv-loop
+    μ-loop
     returns
-    kth-of-many-requires
+    loop-holds
+    shared-slice-read-better
+    better-requires
+    add-i
+    loop-less
+    loop-again
     returns-2)

@@ -1,11 +1,10 @@
-use Rattle.compliance.specs.Working.Machine.{step-rank, step-top, step-either, step-combine}
+use Rattle.compliance.specs.Working.Machine.{step-rank, step-top, step-combine}
 use borrow.Author.Needs.{needs}
 use Rattle.compliance.proofs.machine.step.Statement.{statement}
 use Rattle.compliance.proofs.machine.step.Tie as tie
 use Rattle.compliance.proofs.machine.step.Reads as reads
 use Rattle.compliance.proofs.machine.step.Lts as lts
 use Rattle.compliance.proofs.machine.combine.Reads as combine-reads
-use Rattle.compliance.proofs.machine.either.Reads as either-reads
 use Rattle.compliance.proofs.machine.number_at.Reads as number-at-reads
 use Rattle.compliance.proofs.machine.push.Reads as push-reads
 use Rattle.compliance.proofs.machine.wide.Reads as wide-reads
@@ -34,15 +33,6 @@ same-length-2 c = search needs
 returns-2 : tie.Need-returns-2
 returns-2 c = search step-top
 
-either-requires : tie.Need-either-requires
-either-requires c κs = search needs
-
-same-length-3 : tie.Need-same-length-3
-same-length-3 c = search needs
-
-returns-3 : tie.Need-returns-3
-returns-3 c = search step-either
-
 sub-x : tie.Need-sub-x
 sub-x c = search needs
 
@@ -55,11 +45,11 @@ wide-requires-3 c κs = search needs
 combine-requires : tie.Need-combine-requires
 combine-requires c κs = search needs
 
-same-length-4 : tie.Need-same-length-4
-same-length-4 c = search needs
+same-length-3 : tie.Need-same-length-3
+same-length-3 c = search needs
 
-returns-4 : tie.Need-returns-4
-returns-4 c = search step-combine
+returns-3 : tie.Need-returns-3
+returns-3 c = search step-combine
 
 pub step-spec : {M : Type 1} → statement M
 step-spec =
@@ -73,12 +63,9 @@ step-spec =
     push-requires-2
     same-length-2
     returns-2
-    either-requires
-    same-length-3
-    returns-3
     sub-x
     wide-requires-2
     wide-requires-3
     combine-requires
-    same-length-4
-    returns-4)
+    same-length-3
+    returns-3)

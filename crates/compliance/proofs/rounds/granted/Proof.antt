@@ -5,7 +5,7 @@ use Rattle.compliance.proofs.rounds.granted.Tie as tie
 use Rattle.compliance.proofs.rounds.granted.Reads as reads
 use Rattle.compliance.proofs.rounds.granted.Lts as lts
 use Rattle.compliance.proofs.machine.number_at.Reads as number-at-reads
-use Rattle.compliance.proofs.machine.worth_of.Reads as worth-of-reads
+use Rattle.compliance.proofs.fast.worth_of.Reads as worth-of-reads
 use Rattle.compliance.proofs.highest.lesser.Reads as lesser-reads
 use Rattle.compliance.proofs.tables.program.Reads as program-reads
 

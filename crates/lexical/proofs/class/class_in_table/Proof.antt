@@ -1,4 +1,4 @@
-use Rattle.lexical.specs.Classes.{class-rule}
+use Rattle.lexical.specs.Theorems.Classes.{class-rule}
 use borrow.Author.Needs.{needs}
 use Rattle.lexical.proofs.class.class_in_table.Statement.{statement}
 use Rattle.lexical.proofs.class.class_in_table.Tie as tie

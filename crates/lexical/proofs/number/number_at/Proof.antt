@@ -1,45 +1,69 @@
-use Rattle.lexical.proofs.NumberWays.{number-none, number-out, number-one}
+use Rattle.lexical.proofs.NumberWays.{numberRest, number-start, number-end, number-past, number-more, number-low}
+use Rattle.lexical.specs.Number.{LIMIT, numberAt}
+use Prim.Native.Nat.{_≤_}
+use Prim.Native.Nat.{_-_}
+use mathlib.Core.Path.{_≡_}
 use borrow.Author.Needs.{needs}
 use Rattle.lexical.proofs.number.number_at.Statement.{statement}
 use Rattle.lexical.proofs.number.number_at.Tie as tie
 use Rattle.lexical.proofs.number.number_at.Reads as reads
 use Rattle.lexical.proofs.number.number_at.Lts as lts
 use Rattle.lexical.proofs.number.digit.Reads as digit-reads
-use Rattle.lexical.proofs.number.number_from.Reads as number-from-reads
+use Rattle.lexical.proofs.number.hold.Reads as hold-reads
 
-returns : tie.Need-returns
-returns c = search number-out
+abbrev Inv-loop : tie.InvT-loop
+Inv-loop s start end i₀ v₀ i v = (numberRest s i end v ≡ numberAt s start end) × (v ≤ LIMIT)
 
-returns-2 : tie.Need-returns-2
-returns-2 c = search number-none
+abbrev μ-loop : tie.MeasureT-loop
+μ-loop s start end i₀ v₀ i v = end - i
 
-sub-if3 : tie.Need-sub-if3
-sub-if3 c = search needs
+loop-holds : tie.Need-loop-holds Inv-loop μ-loop
+loop-holds c = (search number-start, search needs)
 
-number-from-requires : tie.Need-number-from-requires
-number-from-requires c κs = search needs
+returns : tie.Need-returns Inv-loop μ-loop
+returns c = search number-past
 
-returns-3 : tie.Need-returns-3
-returns-3 c = search needs
+mul-hold : tie.Need-mul-hold Inv-loop μ-loop
+mul-hold c = search needs
 
-shared-slice-read-digit : tie.Need-shared-slice-read-digit
+shared-slice-read-digit : tie.Need-shared-slice-read-digit Inv-loop μ-loop
 shared-slice-read-digit c = search needs
 
-digit-requires : tie.Need-digit-requires
+digit-requires : tie.Need-digit-requires Inv-loop μ-loop
 digit-requires c κs = search needs
 
-returns-4 : tie.Need-returns-4
-returns-4 c = search number-one
+add-hold : tie.Need-add-hold Inv-loop μ-loop
+add-hold c = search needs
+
+hold-requires : tie.Need-hold-requires Inv-loop μ-loop
+hold-requires c κs = search needs
+
+add-i : tie.Need-add-i Inv-loop μ-loop
+add-i c = search needs
+
+loop-less : tie.Need-loop-less Inv-loop μ-loop
+loop-less c = search needs
+
+loop-again : tie.Need-loop-again Inv-loop μ-loop
+loop-again c = (search number-more, search number-low)
+
+returns-2 : tie.Need-returns-2 Inv-loop μ-loop
+returns-2 c = search number-end
 
 pub number-at-spec : {M : Type 1} → statement M
 number-at-spec =
     tie.close
     (tie.spec
+    Inv-loop
+    μ-loop
+    loop-holds
     returns
-    returns-2
-    sub-if3
-    number-from-requires
-    returns-3
+    mul-hold
     shared-slice-read-digit
     digit-requires
-    returns-4)
+    add-hold
+    hold-requires
+    add-i
+    loop-less
+    loop-again
+    returns-2)

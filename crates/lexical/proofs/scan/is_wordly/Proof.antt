@@ -4,11 +4,11 @@ use Rattle.lexical.proofs.scan.is_wordly.Statement.{statement}
 use Rattle.lexical.proofs.scan.is_wordly.Tie as tie
 use Rattle.lexical.proofs.scan.is_wordly.Reads as reads
 use Rattle.lexical.proofs.scan.is_wordly.Lts as lts
-use Rattle.lexical.proofs.class.is_letter.Reads as is-letter-reads
+use Rattle.lexical.proofs.class.is_name_letter.Reads as is-name-letter-reads
 use Rattle.lexical.proofs.class.is_numeral.Reads as is-numeral-reads
 
-is-letter-requires : tie.Need-is-letter-requires
-is-letter-requires c κs = search needs
+is-name-letter-requires : tie.Need-is-name-letter-requires
+is-name-letter-requires c κs = search needs
 
 returns : tie.Need-returns
 returns c = search word-letter
@@ -20,4 +20,4 @@ returns-2 : tie.Need-returns-2
 returns-2 c = search word-numeral
 
 pub is-wordly-spec : {M : Type 1} → statement M
-is-wordly-spec = tie.close (tie.spec is-letter-requires returns is-numeral-requires returns-2)
+is-wordly-spec = tie.close (tie.spec is-name-letter-requires returns is-numeral-requires returns-2)

@@ -10,7 +10,7 @@ use Rattle.lexical.proofs.class.is_quote.Reads as is-quote-reads
 use Rattle.lexical.proofs.scan.byte_at.Reads as byte-at-reads
 use Rattle.lexical.proofs.token.common_pair.Reads as common-pair-reads
 use Rattle.lexical.proofs.token.literal_token.Reads as literal-token-reads
-use Rattle.lexical.proofs.token.mark_token.Reads as mark-token-reads
+use Rattle.lexical.proofs.fast.mark_token.Reads as mark-token-reads
 use Rattle.lexical.proofs.token.number_token.Reads as number-token-reads
 use Rattle.text.proofs.word_end.Reads as word-end-reads
 

@@ -3,9 +3,8 @@ use Rattle.system.proofs.note.put_entry.Statement.{statement}
 use Rattle.system.proofs.note.put_entry.Tie as tie
 use Rattle.system.proofs.note.put_entry.Reads as reads
 use Rattle.system.proofs.note.put_entry.Lts as lts
-use Rattle.system.proofs.note.low.Reads as low-reads
+use Rattle.text.proofs.put_pair.Reads as put-pair-reads
 use Rattle.system.specs.Working.NotingWays.{entry-none, entry-far, entry-in}
-use Rattle.system.specs.Working.NotingWays.{entry-second, entry-third}
 
 returns : tie.Need-returns
 returns c = search entry-none
@@ -22,26 +21,14 @@ mul-at c = search needs
 add-at : tie.Need-add-at
 add-at c = search needs
 
-low-requires : tie.Need-low-requires
-low-requires c κs = search needs
+add-put-pair : tie.Need-add-put-pair
+add-put-pair c = search needs
 
-add-page : tie.Need-add-page
-add-page c = search needs
+put-pair-requires : tie.Need-put-pair-requires
+put-pair-requires c κs = search needs
 
 slice-write-page : tie.Need-slice-write-page
 slice-write-page c = search needs
-
-low-requires-2 : tie.Need-low-requires-2
-low-requires-2 c κs = search needs
-
-add-page-2 : tie.Need-add-page-2
-add-page-2 c = search needs
-
-slice-write-page-2 : tie.Need-slice-write-page-2
-slice-write-page-2 c = search entry-second
-
-slice-write-page-3 : tie.Need-slice-write-page-3
-slice-write-page-3 c = search entry-third
 
 same-length : tie.Need-same-length
 same-length c = search needs
@@ -58,12 +45,8 @@ put-entry-spec =
     returns-2
     mul-at
     add-at
-    low-requires
-    add-page
+    add-put-pair
+    put-pair-requires
     slice-write-page
-    low-requires-2
-    add-page-2
-    slice-write-page-2
-    slice-write-page-3
     same-length
     returns-3)

@@ -1,0 +1,13 @@
+pub mod Between
+pub mod Bounds
+pub mod Classes
+pub mod DecodeLaws
+pub mod Decoded
+pub mod Examples
+pub mod KindLaws
+pub mod LineLaws
+pub mod LiteralLaws
+pub mod TokenExamples
+pub mod TokenLaws
+pub mod TokensLaws
+pub mod UnitLaws

@@ -1,0 +1,4 @@
+pub mod Stocked
+pub mod Started
+pub mod Marked
+pub mod Starting
