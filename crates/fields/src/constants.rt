@@ -96,8 +96,7 @@ fn put_literal(s: &[u8], start: usize, n: usize, buf: &mut [u8], at: usize) -> b
         return false;
     }
     if decode_into(s, start, buf, at + 2) {
-        buf[at] = (n / 256 % 256) as u8;
-        buf[at + 1] = (n % 256) as u8;
+        text::put_pair(buf, at, n);
         return true;
     }
     false

@@ -3,6 +3,7 @@ use mathlib.Core.List.{List, [], _∷_, _++_}
 use Prim.Native.Nat.{ℕ, _+_, _*_, _/_, _%_}
 use lib.ListN.{length}
 use Rattle.assertion.specs.Read.{Read, kept, dropped}
+use Rattle.text.specs.Counted.{pairBytes}
 
 -- "Reasons (0 is kept [..] with place 0)"
 unfoldable pub reasonOf : Read → ℕ
@@ -12,10 +13,6 @@ reasonOf (dropped r p) = r
 unfoldable pub placeOf : Read → ℕ
 placeOf (kept a) = 0
 placeOf (dropped r p) = p
-
--- two bytes, big-endian
-unfoldable pub pairBytes : ℕ → List ℕ
-pairBytes n = n / 256 ∷ n % 256 ∷ []
 
 -- "for each of n assertions a reason byte and a two-byte place"
 unfoldable pub entryBytes : Read → List ℕ

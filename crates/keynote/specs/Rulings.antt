@@ -17,7 +17,8 @@ use Rattle.assertion.specs.Read.{dropped}
 use Rattle.syntax.specs.Parsed as SyntaxParsed
 use Rattle.compliance.specs.Highest.{highest}
 use Rattle.keynote.specs.Answer.{worth, ranked, reading, readings, keptOf, system, classGiven, roundsOf, reachedOf}
-use Rattle.keynote.specs.Report.{reasonOf, placeOf, pairBytes, entryBytes, entriesBytes, report, reportSize}
+use Rattle.text.specs.Counted.{pairBytes}
+use Rattle.keynote.specs.Report.{reasonOf, placeOf, entryBytes, entriesBytes, report, reportSize}
 use Rattle.keynote.specs.Outcome.{refusedWith, answer, needed, judged, outcome, written, pageAfter}
 use Rattle.keynote.specs.Secrets.{dereferences, anyReads, authorReads, licenseesRead, namingReads}
 use Rattle.keynote.specs.Mission.{standing, computed, anyNames, anyComputes, authorNames, licenseesName, licenseesCompute, naming, namingComputed}

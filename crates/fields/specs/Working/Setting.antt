@@ -17,7 +17,9 @@ use Rattle.lexical.specs.Literal.{decodedAt}
 use Rattle.lexical.specs.Decode.{Ran, ran, decodeInto}
 use Rattle.lexical.specs.Theorems.DecodeLaws.{decode-fits, decode-full}
 use Rattle.lexical.specs.declared.token.Token.{Token}
-use Rattle.index.specs.Working.Adding.{After, entered, addInto, countedInto, counted-long, counted-past, counted-two, counted-put, counted-none, second-byte, add-room}
+use Rattle.text.specs.Counted.{putPair}
+use Rattle.text.specs.Working.Pairs.{counted-large, counted-past, counted-half, counted-put, counted-none}
+use Rattle.index.specs.Working.Adding.{After, entered, addInto, countedInto, counted-is, add-room}
 use Rattle.index.specs.declared.Entered.{Entered}
 use Rattle.index.specs.declared.Entered.the-variants.{Now, Full}
 use Rattle.expression.specs.Tables.{firstFrom}
@@ -151,25 +153,26 @@ decode-copy s start m at t e is =
 
 module _ (s : List ℕ) (start : ℕ) (m : List ℕ) (at n : ℕ) (ne : n ≡ length (decodedAt s start)) where
   pub put-long : 65535 < n → copied false m ≡ countedInto m at (decodedAt s start)
-  put-long h = counted-long m at (decodedAt s start) (omega (arith, ne))
+  put-long h = counted-large m at (decodedAt s start) (omega (arith, ne)) ∙ counted-is m at (decodedAt s start)
 
   module _ (short : n ≤ 65535) where
     d : length (decodedAt s start) ≤ 65535
     d = omega (arith, ne)
 
     pub put-past : length m < at → copied false m ≡ countedInto m at (decodedAt s start)
-    put-past h = counted-past m at (decodedAt s start) d h
+    put-past h = counted-past m at (decodedAt s start) d h ∙ counted-is m at (decodedAt s start)
 
     module _ (h : at ≤ length m) where
       pub put-two : length m - at < 2 → copied false m ≡ countedInto m at (decodedAt s start)
-      put-two k = counted-two m at (decodedAt s start) d h k
+      put-two k = counted-half m at (decodedAt s start) d h k ∙ counted-is m at (decodedAt s start)
 
       module _ (two : 2 ≤ length m - at) (t : Bool) (e : List ℕ) (is : ran t e ≡ decodeInto s start m (at + 2)) where
-        pub put-done : t ≡ true → copied true (set (set e at (n / 256 % 256)) (at + 1) (n % 256)) ≡ countedInto m at (decodedAt s start)
-        put-done y = rw ne (counted-put m at (decodedAt s start) d h two t e (decode-copy s start m (at + 2) t e is) y)
+        pub put-done : t ≡ true → (u : Bool) (f : List ℕ) → copied u f ≡ putPair e at n → copied true f ≡ countedInto m at (decodedAt s start)
+        put-done y u f fe =
+            counted-put m at (decodedAt s start) d h two t e (decode-copy s start m (at + 2) t e is) y u f (fe ∙ ap (λ (k : ℕ). putPair e at k) ne) ∙ counted-is m at (decodedAt s start)
 
         pub put-none : t ≡ false → copied false e ≡ countedInto m at (decodedAt s start)
-        put-none y = counted-none m at (decodedAt s start) d h two t e (decode-copy s start m (at + 2) t e is) y
+        put-none y = counted-none m at (decodedAt s start) d h two t e (decode-copy s start m (at + 2) t e is) y ∙ counted-is m at (decodedAt s start)
 
 -- `store`
 pub put-room : (m : List ℕ) (at : ℕ) (value : List ℕ) (t : Bool) (e : List ℕ) → copied t e ≡ countedInto m at value → t ≡ true → at + 2 + length value ≤ length m

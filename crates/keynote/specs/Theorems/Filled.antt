@@ -13,7 +13,7 @@ use borrow.Author.Tests.{le-leb, le-ltb, lt-ltb, leb-true}
 use Rattle.limits.specs.Limits.{mostAssertions, mostText, mostNamed, mostEntered, mostJoined, mostLengths, mostCode, mostPrograms}
 use Rattle.text.specs.Choice.{split, clash}
 use Rattle.text.specs.Join.{joined}
-use Rattle.text.specs.Counted.{counted}
+use Rattle.text.specs.Counted.{counted, pairBytes}
 use Rattle.record.specs.Query.{Query, Supplied}
 use Rattle.record.specs.Read.{accepted}
 use Rattle.record.specs.Record.{readRecord}
@@ -46,7 +46,7 @@ use Rattle.system.specs.Working.Solving.{Solved, solvedBy, topOf, rowsGive, gro
 use Rattle.system.specs.declared.asked.Index.{Index}
 use Rattle.system.specs.declared.note.Ends.{Ends}
 use Rattle.keynote.specs.Answer.{ranked, reading, readings, keptOf, system, classGiven, roundsOf, reachedOf}
-use Rattle.keynote.specs.Report.{pairBytes, entryBytes, entriesBytes, report, reportSize}
+use Rattle.keynote.specs.Report.{entryBytes, entriesBytes, report, reportSize}
 use Rattle.keynote.specs.Outcome.{needed}
 use Rattle.keynote.specs.Theorems.PlacesAssertion.{Small, AllSmall, small∷, readings-small}
 use Rattle.system.specs.Theorems.Started.{Started, startNames}

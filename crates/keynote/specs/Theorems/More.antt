@@ -7,7 +7,7 @@ use mathlib.Core.List.{List, [], _∷_, _++_, map, append-assoc, List·Memᴰ as
 use Prim.Native.Nat.{ℕ, suc, _+_, _*_, _≤_}
 use native.Mathlib.Omega.{arith}
 use lib.ListN.{length, getD, getElem?, take, length-append, length-map}
-use Rattle.text.specs.Counted.{pairAt}
+use Rattle.text.specs.Counted.{pairAt, pairBytes}
 use Rattle.record.specs.Query.{Query, Supplied, Attribute}
 use Rattle.record.specs.Read.{accepted}
 use Rattle.record.specs.Record.{readRecord}
@@ -25,7 +25,7 @@ use Rattle.assertion.specs.Form.{readAssertion}
 use Rattle.assertion.specs.Theorems.Agreed.{map-same, Agree, resolved-agree}
 use Rattle.keynote.specs.Answer.{worth, ranked, reading, readings, keptOf, system, classGiven, roundsOf, reachedOf}
 use Rattle.keynote.specs.Paper.{EqualBut, ReadOutside, set-aside, unreached, Outside}
-use Rattle.keynote.specs.Report.{pairBytes, entryBytes, entriesBytes, report, reportSize}
+use Rattle.keynote.specs.Report.{entryBytes, entriesBytes, report, reportSize}
 use Rattle.keynote.specs.Outcome.{answer, needed, outcome, pageAfter}
 use Rattle.keynote.specs.declared.Outcome.{Outcome}
 use Rattle.keynote.specs.Theorems.Report.{Entry, entries-length, report-entry}

@@ -10,7 +10,8 @@ use Rattle.limits.specs.Limits.{mostAssertions}
 use Rattle.text.specs.Copy.{put}
 use Rattle.assertion.specs.Read.{Read}
 use Rattle.system.specs.Working.Noting.{entryInto, headerInto}
-use Rattle.keynote.specs.Report.{reasonOf, placeOf, pairBytes, entryBytes}
+use Rattle.text.specs.Counted.{pairBytes}
+use Rattle.keynote.specs.Report.{reasonOf, placeOf, entryBytes}
 
 -- the first three bytes
 pub header-is : (page : List ℕ) (n : ℕ) → 3 ≤ length page → n ≤ mostAssertions → headerInto page n ≡ (1 ∷ pairBytes (3 * n)) ++ drop 3 page

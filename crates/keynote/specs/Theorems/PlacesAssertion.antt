@@ -34,7 +34,8 @@ use Rattle.assertion.specs.Sketch.{Sketch, labelled, withConstants, withAuthor,
 use Rattle.assertion.specs.Form.{Form, formed, unformed, signedBy, finished, onSignature, field, State, onField, turn, fieldsFrom, readAssertion}
 use Rattle.assertion.specs.Resolved.{faultOf, judged, resolved}
 use Rattle.keynote.specs.Answer.{reading, readings}
-use Rattle.keynote.specs.Report.{reasonOf, placeOf, pairBytes, entryBytes, entriesBytes, report}
+use Rattle.text.specs.Counted.{pairBytes}
+use Rattle.keynote.specs.Report.{reasonOf, placeOf, entryBytes, entriesBytes, report}
 use Rattle.keynote.specs.Theorems.Keeping.{Keeps, k-next, k-done, keeps-pick, loop-keeps}
 use Rattle.keynote.specs.Theorems.Places.{In, token-in, Placed, p-ok, p-aside, refusal-small, refusal-some, version-placed, signature-placed, constants-placed}
 use Rattle.keynote.specs.Theorems.PlacesConditions.{program-placed, program-reasoned}

@@ -5,12 +5,12 @@ use mathlib.Core.List.{List, [], _∷_, map}
 use Prim.Native.Nat.{ℕ, zero, suc, _+_, _*_, _/_, _%_}
 use native.Mathlib.Omega.{arith}
 use lib.ListN.{length, getD, getElem?, length-map}
-use Rattle.text.specs.Counted.{pairAt}
+use Rattle.text.specs.Counted.{pairAt, pairBytes}
 use Rattle.record.specs.Query.{Query}
 use Rattle.assertion.specs.Read.{Read}
 use Rattle.keynote.specs.Answer.{reading, readings}
 use Rattle.keynote.specs.Outcome.{needed}
-use Rattle.keynote.specs.Report.{reasonOf, placeOf, pairBytes, entryBytes, entriesBytes, report, reportSize}
+use Rattle.keynote.specs.Report.{reasonOf, placeOf, entryBytes, entriesBytes, report, reportSize}
 
 pub entries-length : (l : List Read) → length (entriesBytes l) ≡ 3 * length l
 unfolding entriesBytes entryBytes pairBytes

@@ -1,11 +1,11 @@
 use Rattle.fields.proofs.constants.put_literal.Statement.{statement}
 use Rattle.fields.specs.Working.Setting.{put-done, put-long, put-none, put-past, put-two}
-use Rattle.index.specs.Working.Adding.{second-byte}
 use borrow.Author.Needs.{needs}
 use Rattle.fields.proofs.constants.put_literal.Tie as tie
 use Rattle.fields.proofs.constants.put_literal.Reads as reads
 use Rattle.fields.proofs.constants.put_literal.Lts as lts
 use Rattle.lexical.proofs.decode_into.Reads as decode-into-reads
+use Rattle.text.proofs.put_pair.Reads as put-pair-reads
 
 returns : tie.Need-returns
 returns c = search put-long
@@ -25,20 +25,8 @@ add-decode-into c = search needs
 decode-into-requires : tie.Need-decode-into-requires
 decode-into-requires c κs = search needs
 
-cast-buf : tie.Need-cast-buf
-cast-buf c = search needs
-
-slice-write-buf : tie.Need-slice-write-buf
-slice-write-buf c = search needs
-
-cast-buf-2 : tie.Need-cast-buf-2
-cast-buf-2 c = search needs
-
-add-buf : tie.Need-add-buf
-add-buf c = search needs
-
-slice-write-buf-2 : tie.Need-slice-write-buf-2
-slice-write-buf-2 c = search (needs, second-byte)
+put-pair-requires : tie.Need-put-pair-requires
+put-pair-requires c κs = search needs
 
 same-length : tie.Need-same-length
 same-length c = search needs
@@ -62,11 +50,7 @@ put-literal-spec =
     returns-3
     add-decode-into
     decode-into-requires
-    cast-buf
-    slice-write-buf
-    cast-buf-2
-    add-buf
-    slice-write-buf-2
+    put-pair-requires
     same-length
     returns-4
     same-length-2
