@@ -11,7 +11,7 @@ use Rattle.lexical.specs.Number as Number
 use Rattle.lexical.specs.declared.token.Token.{Token}
 use Rattle.syntax.specs.Operator.{Sort, a-string, an-integer, a-float, a-test}
 use Rattle.syntax.specs.Expr.{Expr, literal, name, number, truth, decimal}
-use Rattle.syntax.specs.Code.{nameAt, numberAt, decimalAt}
+use Rattle.syntax.specs.Code.{nameAt, numberFrom, decimalAt}
 use Rattle.conditions.specs.Table.{PartSort, sorted, word, Want, fits}
 use Rattle.conditions.specs.Word.{nextAt, wordSort}
 use Rattle.syntax.specs.Parsed.{Parsed, ok, aside, unexpected}
@@ -30,7 +30,7 @@ readName s want t = ok (part (wordSort s want (t .start) (t .end)) (name (nameAt
 unfoldable pub readDigits : List ℕ → Token → Parsed Part
 readDigits s t =
     pick (leb Number.LIMIT (Number.numberAt s (t .start) (t .end))) (aside 5 (t .start))
-    (ok (part (sorted an-integer) (number (numberAt s (t .start)))) (nextAt s (t .end)))
+    (ok (part (sorted an-integer) (number (numberFrom s (t .start)))) (nextAt s (t .end)))
 
 -- reason 7: "Literals [..] of at most 18 digits", which is 19 bytes with the point
 unfoldable pub readFloat : List ℕ → Token → Parsed Part

@@ -601,7 +601,7 @@ fn push_step<'a>(
         return push_text(stack, n, bytes, t, b);
     }
     if op == syntax::NUMBER {
-        let m = text::number_at(s, at);
+        let m = text::number_from(s, at);
         return put(stack, n, t, in_range(false, m));
     }
     if op == syntax::DECIMAL {

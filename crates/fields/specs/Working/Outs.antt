@@ -2,7 +2,7 @@
 use mathlib.Core.Path.{_≡_, refl, sym, ap, _∙_}
 use mathlib.Core.Bool.{Bool, true, false, not}
 use mathlib.Core.List.{List, [], _∷_, append-nil}
-use Prim.Native.Nat.{ℕ, zero, suc, _+_, _-_, _<_, _≤_}
+use Prim.Native.Nat.{ℕ, zero, suc, _+_, _-_, _<_, _≤_, min}
 use native.Mathlib.Omega.{arith}
 use lib.Dec.{eqb, leb, ltb}
 use lib.ListN.{length, getD, take, drop, length-drop, drop-of-length-le}
@@ -76,22 +76,26 @@ module _ (s : List ℕ) (t : Token) where
   word-whole = refl
 
 -- `by_number`
-module _ (s : List ℕ) (t : Token) (n : ℕ) (ne : n ≡ numberAt s (t .start) (t .end)) where
+module _ (s : List ℕ) (t : Token) (n : ℕ) (ne : n ≡ min (numberAt s (t .start) (t .end)) 2147483648) where
   abbrev number-is : Out
   number-is = outOf (versionNumber s t (numberAt s (t .start) (t .end)))
 
   pub number-high : LIMIT ≤ n → Aside 5 (t .start) ≡ number-is
   unfolding versionNumber
-  number-high h = simp (sym ne, le-leb _ _ h)
+  number-high h = rw (le-leb LIMIT (numberAt s (t .start) (t .end)) (omega (arith, ne, h)))
 
   module _ (low : n < LIMIT) where
+    -- a number below the limit was not held
+    low-is : numberAt s (t .start) (t .end) ≡ n
+    low-is = omega (arith, ne, low)
+
     pub number-two : (u : Token) → u ≡ tokenAt s Kind.IN-FIELD (t .end) → (r : Out) → n ≡ 2 → r ≡ endedOut u → r ≡ number-is
     unfolding versionNumber
-    number-two u ue r h re = re ∙ ended-is {A = ℕ} 2 u ∙ simp (sym ne, lt-leb _ _ low, eq-eqb _ _ h, sym ue)
+    number-two u ue r h re = re ∙ ended-is {A = ℕ} 2 u ∙ simp (low-is, lt-leb _ _ low, eq-eqb _ _ h, sym ue)
 
     pub number-other : (n ≡ 2 → ⊥) → Aside 6 (t .start) ≡ number-is
     unfolding versionNumber
-    number-other h = simp (sym ne, lt-leb _ _ low, ne-eqb _ _ h)
+    number-other h = simp (low-is, lt-leb _ _ low, ne-eqb _ _ h)
 
 -- `is_two`
 long-two : (v : List ℕ) → (length v ≡ 1 → ⊥) → false ≡ equal v two

@@ -7,7 +7,7 @@ use lib.ListN.{length, getD, take, drop}
 use Rattle.text.specs.Choice.{pick}
 use Rattle.text.specs.Scan.{run}
 use Rattle.text.specs.Class.{inClass, digit, word}
-use Rattle.text.specs.Digits.{value, limit}
+use Rattle.text.specs.Digits.{value}
 use Rattle.lexical.specs.Literal.{decodedAt}
 use Rattle.float.specs.Written.{floatOf}
 use Rattle.syntax.specs.Code.{decimalAt}
@@ -88,7 +88,7 @@ unfoldable pub pushStep : ℕ → ℕ → List ℕ → (List ℕ → List ℕ) �
 pushStep depth room s look op at vs bs =
     pick (eqb op LITERAL) (textStep depth room (decodedAt s at) vs bs)
     (pick (eqb op NAME) (textStep depth room (look (runAt word s at)) vs bs)
-    (pick (eqb op NUMBER) (placed depth vs bs (operand (ranged false (min (value (runAt digit s at)) limit))))
+    (pick (eqb op NUMBER) (placed depth vs bs (operand (ranged false (value (runAt digit s at)))))
     (pick (eqb op DECIMAL) (placed depth vs bs (Float (floatOf (decimalAt s at))))
     (placed depth vs bs (Test (eqb op TRUE))))))
 

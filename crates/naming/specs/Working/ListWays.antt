@@ -2,7 +2,7 @@
 use mathlib.Core.Path.{_≡_, refl, sym, ap, _∙_}
 use mathlib.Core.Bool.{Bool, true, false}
 use mathlib.Core.List.{List, []}
-use Prim.Native.Nat.{ℕ, zero, suc, _+_, _-_, _^_, _<_, _≤_}
+use Prim.Native.Nat.{ℕ, zero, suc, _+_, _-_, _^_, _<_, _≤_, min}
 use native.Mathlib.Omega.{arith}
 use lib.Dec.{eqb, leb, ltb}
 use lib.ListN.{length, set, take, drop, length-drop}
@@ -435,22 +435,26 @@ module _ (left : ℕ) (s : List ℕ) (look : Sight) (k : ℕ) (pool places code 
         opened-list u v e r re = re ∙ ap (λ (v : Licensed). resumed s look (left - 1) k (st .listed) (ran v p q m)) (sym e) ∙ we .leads look (left - 1) k (st .listed) ∙ all
 
 -- `threshold`
-module _ (left : ℕ) (s : List ℕ) (look : Sight) (pool places code : List ℕ) (st : State) (t : Token) (k : ℕ) (ke : k ≡ numberAt s (t .start) (t .end)) where
+module _ (left : ℕ) (s : List ℕ) (look : Sight) (pool places code : List ℕ) (st : State) (t : Token) (k : ℕ) (ke : k ≡ min (numberAt s (t .start) (t .end)) 2147483648) where
   pub threshold-none : k ≡ 0 → ran (Aside 5 (t .start)) pool places code ≡ thresholdIn left s look pool places code st t
   unfolding thresholdIn
-  threshold-none z = simp (sym ke, eq-eqb _ _ z)
+  threshold-none z = rw (eq-eqb (numberAt s (t .start) (t .end)) 0 (omega (arith, ke, z)))
 
   module _ (nz : k ≡ 0 → ⊥) where
     pub threshold-high : 16 < k → ran (Aside 5 (t .start)) pool places code ≡ thresholdIn left s look pool places code st t
     unfolding thresholdIn
-    threshold-high h = simp (sym ke, ne-eqb _ _ nz, lt-ltb _ _ h)
+    threshold-high h = rw (lt-ltb 16 (numberAt s (t .start) (t .end)) (omega (arith, ke, h)), ne-eqb (numberAt s (t .start) (t .end)) 0 (λ z. omega (arith, ke, h, z)))
 
     module _ (low : k ≤ 16) (o : Token) (oe : o ≡ tokenAt s Kind.IN-LICENSEES (t .end)) where
+      -- a number that is small was not held
+      small-is : numberAt s (t .start) (t .end) ≡ k
+      small-is = omega (arith, ke, low)
+
       pub threshold-not : (r : Licensed) → (o .kind ≡ Kind.OF → ⊥) → r ≡ refusedLicensed o → ran r pool places code ≡ thresholdIn left s look pool places code st t
       unfolding thresholdIn
-      threshold-not r h re = rw re (simp (sym ke, ne-eqb _ _ nz, le-ltb _ _ low, sym oe, ne-eqb _ _ h))
+      threshold-not r h re = rw re (simp (small-is, ne-eqb _ _ nz, le-ltb _ _ low, sym oe, ne-eqb _ _ h))
 
       pub threshold-of : (n : Token) (x : ℕ) (r : Ran) → o .kind ≡ Kind.OF → n ≡ tokenAt s Kind.IN-LICENSEES (o .end) → x ≡ k → r ≡ openedIn left s look x pool places code st n
           → r ≡ thresholdIn left s look pool places code st t
       unfolding thresholdIn
-      threshold-of n x r h ne xe re = re ∙ rw xe (simp (sym ke, ne-eqb _ _ nz, le-ltb _ _ low, sym oe, eq-eqb _ _ h, ne))
+      threshold-of n x r h ne xe re = re ∙ rw xe (simp (small-is, ne-eqb _ _ nz, le-ltb _ _ low, sym oe, eq-eqb _ _ h, ne))

@@ -1,18 +1,18 @@
 use mathlib.Core.Path.{_≡_}
 use Prim.Native.Nat.{_-_, min}
 use lib.ListN.{length}
-use Rattle.text.specs.Digits.{digitsAt, value, limit}
-use Rattle.text.specs.Working.Holding.{holdDigits, digits-start, digits-more, digits-stop, digits-end}
+use Rattle.text.specs.Digits.{digitsAt, value}
+use Rattle.text.specs.Working.Holding.{mostHeld, holdDigits, digits-start, digits-more, digits-stop, digits-end}
 use borrow.Author.Needs.{needs}
-use Rattle.text.proofs.number_at.Statement.{statement}
-use Rattle.text.proofs.number_at.Tie as tie
-use Rattle.text.proofs.number_at.Reads as reads
-use Rattle.text.proofs.number_at.Lts as lts
+use Rattle.text.proofs.number_from.Statement.{statement}
+use Rattle.text.proofs.number_from.Tie as tie
+use Rattle.text.proofs.number_from.Reads as reads
+use Rattle.text.proofs.number_from.Lts as lts
 use Rattle.text.proofs.hold_digit.Reads as hold-digit-reads
 use Rattle.text.proofs.is_digit.Reads as is-digit-reads
 
 abbrev Inv-loop : tie.InvT-loop
-Inv-loop s at v₀ i₀ v i = holdDigits s i v ≡ min (value (digitsAt s at)) limit
+Inv-loop s at v₀ i₀ v i = holdDigits s i v ≡ min (value (digitsAt s at)) mostHeld
 
 abbrev μ-loop : tie.MeasureT-loop
 μ-loop s at v₀ i₀ v i = length s - i
@@ -47,8 +47,8 @@ returns c = search digits-stop
 returns-2 : tie.Need-returns-2 Inv-loop μ-loop
 returns-2 c = search digits-end
 
-pub number-at-spec : {M : Type 1} → statement M
-number-at-spec =
+pub number-from-spec : {M : Type 1} → statement M
+number-from-spec =
     tie.close
     (tie.spec
     Inv-loop
