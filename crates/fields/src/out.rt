@@ -3,7 +3,8 @@ use lexical::kind;
 use lexical::token::Token;
 ghost use mathlib.Core.Path.{_≡_};
 ghost use Rattle.syntax.specs.Parsed.{refusal};
-ghost use Rattle.fields.specs.Parsed.{ending, wordOf};
+ghost use Rattle.fields.specs.Parsed.{ending};
+ghost use Rattle.fields.specs.Working.Word.{wordOf};
 ghost use Rattle.fields.specs.Working.Outs.{endedOut, refusedOut};
 
 // The reason where lent room does not suffice.

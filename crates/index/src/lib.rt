@@ -6,7 +6,7 @@ ghost use Prim.Native.Nat.{_<_};
 ghost use lib.Dec.{ltb};
 ghost use lib.ListN.{set};
 ghost use Rattle.principal.specs.Tag.{tag};
-ghost use Rattle.index.specs.Entry.{nameAt, isAt, child, linked};
+ghost use Rattle.index.specs.Entry.{identifierAt, isAt, child, linked};
 ghost use Rattle.index.specs.Working.Walking.{walked};
 ghost use Rattle.index.specs.Working.Adding.{entered, addInto, principalInto};
 ghost use Rattle.index.specs.Working.Entering.{linkInto, numbered, enterNew, enterIn};
@@ -20,7 +20,7 @@ fn is_entry(pool: &[u8], e: usize, id: &[u8], t: usize) -> bool
     ensures { λ r. ⌜ r ≡ isAt (now (pool .entry)) (now (id .entry)) e ⌝ }
 {
     if e % 1048576 == t {
-        return principal::same_principal(id, name_at(pool, e));
+        return principal::same_principal(id, identifier_at(pool, e));
     }
     false
 }
@@ -90,8 +90,8 @@ fn walk_tree(pool: &[u8], places: &[usize], n: usize, id: &[u8], t: usize) -> Wa
 }
 
 // The identifier of an entry.
-pub fn name_at(pool: &[u8], e: usize) -> &[u8]
-    ensures { λ r. ⌜ now r ≡ nameAt (now (pool .entry)) e ⌝ }
+pub fn identifier_at(pool: &[u8], e: usize) -> &[u8]
+    ensures { λ r. ⌜ now r ≡ identifierAt (now (pool .entry)) e ⌝ }
 {
     text::counted_at(pool, e / 1048576 % 1048576)
 }

@@ -45,7 +45,7 @@ fn is_policy(pool: &[u8], places: &[usize], number: usize) -> bool
         return false;
     }
     let e = places[number];
-    principal::same_principal(index::name_at(pool, e), b"POLICY")
+    principal::same_principal(index::identifier_at(pool, e), b"POLICY")
 }
 
 // Is it one that may not authorize an assertion of that standing?

@@ -27,14 +27,17 @@ use Rattle.lexical.specs.declared.token.Token.{Token}
 use Rattle.index.specs.Working.Adding.{entered, addInto, countedInto}
 use Rattle.index.specs.declared.Entered.the-variants.{Now}
 use Rattle.expression.specs.Tables.{firstFrom}
+use Rattle.syntax.specs.Code.{nameAt}
 use Rattle.syntax.specs.Parsed.{Parsed, ok, aside, refusal, unexpected}
 use Rattle.syntax.specs.Stood.{Stood, stood-at, stood-end}
 use Rattle.limits.specs.Limits.{mostConstants, mostLiteral, mostRecord, mostLengths}
-use Rattle.fields.specs.Parsed.{behind, ending, wordOf}
+use Rattle.fields.specs.Parsed.{behind, ending}
+use Rattle.fields.specs.Working.Word.{wordOf}
 use Rattle.fields.specs.Constants.{isSet, constantValue, assigned, nameFault, constant, constantsTurn, onConstant, constantsFrom}
 use Rattle.fields.specs.Working.Setting.{Stored, stored, State, takenIn, constantFaultIn, storeIn, valueIn, assignedIn, settingTurn, onAssigned, onStored, assignedFrom, constantsIn, refusedSettings}
 use Rattle.fields.specs.declared.constants.Settings.the-variants.{On, Aside}
 use Rattle.fields.specs.Theorems.Together.{both, Steps, both-next, both-done, loop-same, refusal-some, behind-from, stood-start, stood-wide, stood-literal, word-short}
+use Rattle.fields.specs.Theorems.Words.{word-is}
 
 -- a search that starts one further on ends one further on
 first-suc : (s name : List ℕ) (i : ℕ) (ps : List ℕ) → firstFrom s name (suc i) ps ≡ suc (firstFrom s name i ps)
@@ -155,7 +158,10 @@ module _ (s m q : List ℕ) (start : ℕ) (short : length s ≤ mostRecord) (pla
 
     fault-as : constantFaultIn s m′ q′ c t ≡ nameFault s cs t
     unfolding constantFaultIn nameFault
-    fault-as = rw (taken-as (wordOf s t))
+    fault-as =
+        split (eqb (t .kind) Kind.NAME)
+        (λ f. rw (f, word-is (laid .stood) (eqb-true _ _ f), taken-as (nameAt s (t .start))))
+        (λ f. rw f)
 
 -- where there is room, a name and its value are put behind the others
 store-is : (m q : List ℕ) (c e : ℕ) (a : Attribute) → c < length q → length (a .name) ≤ 65535 → length (a .value) ≤ 65535
@@ -256,10 +262,12 @@ module _ (s m q : List ℕ) (start : ℕ) (short : length s ≤ mostRecord) (pla
           value-one (tokenAt s Kind.IN-FIELD (a .end)) (stood-at s Kind.IN-FIELD (a .end)) (omega arith))
           (λ f. one-aside (refusal (a .kind)) (a .start) (refusal-some (a .kind)))
 
-      pub one-read : One (assigned s (wordOf s t) (behind s Kind.IN-FIELD t)) (assignedIn s m′ q′ c e t)
+      pub one-read : One (assigned s (nameAt s (t .start)) (behind s Kind.IN-FIELD t)) (assignedIn s m′ q′ c e t)
       unfolding assignedIn
-      one-read = assigned-one (tokenAt s Kind.IN-FIELD (t .end)) (stood-at s Kind.IN-FIELD (t .end))
-          (behind-from s Kind.IN-FIELD (t .end) (stood-end (laid .stood) (omega (arith, name))))
+      one-read =
+          rw (← word-is (laid .stood) name)
+          (assigned-one (tokenAt s Kind.IN-FIELD (t .end)) (stood-at s Kind.IN-FIELD (t .end))
+          (behind-from s Kind.IN-FIELD (t .end) (stood-end (laid .stood) (omega (arith, name)))))
 
 fault-name : (s : List ℕ) (cs : List Attribute) (t : Token) → nameFault s cs t ≡ 0 → t .kind ≡ Kind.NAME
 unfolding nameFault
@@ -285,7 +293,7 @@ module _ (s m q : List ℕ) (start : ℕ) (short : length s ≤ mostRecord) (pla
         both-next (cs ++ (a ∷ []), n) (c + 1, e′, n, m″, q″) (held (cs ++ (a ∷ [])) n (c + 1) e′ m″ q″ l) (omega (arith, few, laid .number)) (omega (arith, few))
 
     named-turn : nameFault s cs t ≡ 0
-        → Turns (cs, t) (c, e, t, m′, q′) (onConstant cs (pick (leb mostConstants (length cs)) (aside 7 (t .start)) (assigned s (wordOf s t) (behind s Kind.IN-FIELD t))))
+        → Turns (cs, t) (c, e, t, m′, q′) (onConstant cs (pick (leb mostConstants (length cs)) (aside 7 (t .start)) (assigned s (nameAt s (t .start)) (behind s Kind.IN-FIELD t))))
         (pick (leb mostConstants c) (done (stored (Aside 7 (t .start)) m′ q′)) (onAssigned c (assignedIn s m′ q′ c e t)))
     named-turn z =
         split (leb mostConstants c)

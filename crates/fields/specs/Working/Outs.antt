@@ -20,7 +20,8 @@ use Rattle.lexical.specs.Line.{tokenAt}
 use Rattle.lexical.specs.declared.token.Token.{Token}
 use Rattle.limits.specs.Limits.{mostLiteral}
 use Rattle.syntax.specs.Parsed.{Parsed, ok, aside, refusal}
-use Rattle.fields.specs.Parsed.{behind, ending, ended, wordOf}
+use Rattle.fields.specs.Parsed.{behind, ending, ended}
+use Rattle.fields.specs.Working.Word.{wordOf}
 use Rattle.fields.specs.Version.{two, versionNumber, versionLiteral, version}
 use Rattle.fields.specs.Signature.{signature}
 use Rattle.fields.specs.declared.out.Out.{Out}

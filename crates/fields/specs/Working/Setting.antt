@@ -25,7 +25,8 @@ use Rattle.index.specs.declared.Entered.the-variants.{Now, Full}
 use Rattle.expression.specs.Tables.{firstFrom}
 use Rattle.limits.specs.Limits.{mostConstants, mostLiteral}
 use Rattle.syntax.specs.Parsed.{refusal}
-use Rattle.fields.specs.Parsed.{behind, ending, wordOf}
+use Rattle.fields.specs.Parsed.{behind, ending}
+use Rattle.fields.specs.Working.Word.{wordOf}
 use Rattle.fields.specs.Constants.{reserved}
 use Rattle.fields.specs.declared.constants.Settings.{Settings}
 use Rattle.fields.specs.declared.constants.Settings.the-variants.{On, Aside}

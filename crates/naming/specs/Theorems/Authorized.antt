@@ -16,7 +16,7 @@ use Rattle.principal.specs.Members.{member}
 use Rattle.principal.specs.Places.{place}
 use Rattle.expression.specs.Names.{environment}
 use Rattle.expression.specs.Tables.{Shows}
-use Rattle.index.specs.Entry.{nameAt}
+use Rattle.index.specs.Entry.{identifierAt}
 use Rattle.index.specs.Index.{enter, Holds}
 use Rattle.index.specs.IndexLaws.{names-are}
 use Rattle.index.specs.EnterLaws.{fresh, enter-is, enter-member, place-same, place-below}
@@ -63,12 +63,12 @@ policy-is : {pool places : List ℕ} {c e : ℕ} {names : List Principal} → Ho
 unfolding policyAt
 policy-is {pool} {places} {c} {e} {names} holds p m =
     let b : place names p < c = omega (arith, place-below names p m, holds .counted) in
-    let a : map (nameAt pool) (take c places) ≡ names = names-are holds in
-    let g : nameAt pool (getD places (place names p) 0) ≡ getD names (place names p) (nameAt pool 0)
-    = ap (nameAt pool) (sym (getD-take c places (place names p) 0 b)) ∙ sym (List·getD-map (nameAt pool) (take c places) (place names p) 0)
-    ∙ ap (λ (l : List Principal). getD l (place names p) (nameAt pool 0)) a in
+    let a : map (identifierAt pool) (take c places) ≡ names = names-are holds in
+    let g : identifierAt pool (getD places (place names p) 0) ≡ getD names (place names p) (identifierAt pool 0)
+    = ap (identifierAt pool) (sym (getD-take c places (place names p) 0 b)) ∙ sym (List·getD-map (identifierAt pool) (take c places) (place names p) 0)
+    ∙ ap (λ (l : List Principal). getD l (place names p) (identifierAt pool 0)) a in
     rw (lt-leb (length places) (place names p) (omega (arith, holds .inTable)), g)
-    (sym (same-left p (getD names (place names p) (nameAt pool 0)) policy (place-same names p (nameAt pool 0) m)))
+    (sym (same-left p (getD names (place names p) (identifierAt pool 0)) policy (place-same names p (identifierAt pool 0) m)))
 
 module _ (standing : ℕ) (q : Query) (constants : List Attribute) (s pool places : List ℕ) (count end : ℕ) (names : List Principal) (holds : Holds pool places count end names) where
   abbrev Read : Parsed Author → Made → Type 0

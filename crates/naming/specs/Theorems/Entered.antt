@@ -50,7 +50,7 @@ use Rattle.naming.specs.Working.Identifying.{sight, Done, named, ofKept,
 use Rattle.judge.specs.declared.string.Said.the-variants.{On}
 use Rattle.naming.specs.declared.identifier.Named.the-variants.{Nobody, Aside}
 use Rattle.naming.specs.Theorems.Says.{Saying, said-not, said-value, string-field-read}
-use Rattle.naming.specs.Theorems.Words.{word-is}
+use Rattle.fields.specs.Theorems.Words.{word-is}
 
 -- no operator that binds a string goes on behind another token than "."
 not-bound : (k : ℕ) → (k ≡ Kind.DOT → ⊥) → Table.binds 3 (Table.operator (sorted a-string) k) ≡ false

@@ -8,7 +8,7 @@ use lib.ListN.{length, getD}
 use borrow.Author.Tests.{le-leb, lt-leb, eq-eqb, ne-eqb}
 use Rattle.text.specs.Choice.{pick, split}
 use Rattle.limits.specs.Limits.{mostBrackets}
-use Rattle.index.specs.Entry.{nameAt}
+use Rattle.index.specs.Entry.{identifierAt}
 use Rattle.lexical.specs.Kind
 use Rattle.lexical.specs.Line.{tokenAt}
 use Rattle.lexical.specs.declared.token.Token.{Token}
@@ -27,7 +27,7 @@ use Rattle.naming.specs.declared.authorizer.Author.{Author}
 use Rattle.naming.specs.declared.authorizer.Author.the-variants.{On, Aside}
 
 unfoldable pub policyAt : List ℕ → List ℕ → ℕ → Bool
-policyAt pool places i = pick (leb (length places) i) false (same (nameAt pool (getD places i 0)) policy)
+policyAt pool places i = pick (leb (length places) i) false (same (identifierAt pool (getD places i 0)) policy)
 
 unfoldable pub barredAt : ℕ → List ℕ → List ℕ → ℕ → Bool
 barredAt standing pool places i = pick (eqb standing verified) (policyAt pool places i) false
@@ -69,7 +69,7 @@ module _ (pool places : List ℕ) (i : ℕ) where
   unfolding policyAt
   policy-out h = simp (le-leb _ _ h)
 
-  pub policy-in : (b : Bool) (p : ℕ) (x : List ℕ) → i < length places → p ≡ getD places i 0 → x ≡ nameAt pool p
+  pub policy-in : (b : Bool) (p : ℕ) (x : List ℕ) → i < length places → p ≡ getD places i 0 → x ≡ identifierAt pool p
       → b ≡ same x (80 ∷ 79 ∷ 76 ∷ 73 ∷ 67 ∷ 89 ∷ []) → b ≡ policyAt pool places i
   unfolding policyAt policy
   policy-in b p x h pe xe be = be ∙ simp (lt-leb _ _ h, xe, pe)

@@ -15,7 +15,7 @@ use Rattle.lexical.specs.declared.token.Token.{Token}
 use Rattle.principal.specs.Principal.{Principal}
 use Rattle.limits.specs.Limits.{mostIdentifier}
 use Rattle.expression.specs.Tables.{lookupIn}
-use Rattle.fields.specs.Parsed.{wordOf}
+use Rattle.fields.specs.Working.Word.{wordOf}
 use Rattle.naming.specs.Working.Whole.{whole, inner, whole-some, whole-fits, whole-from, whole-within}
 use Rattle.index.specs.Working.Entering.{Kept, numbered, enterIn}
 use Rattle.index.specs.declared.Numbered.{Numbered}

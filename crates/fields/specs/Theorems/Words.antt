@@ -1,13 +1,13 @@
 -- A name in the text is the run of its letters, digits and underscores. Assumes nothing.
 use mathlib.Core.Path.{_≡_, refl, sym, subst, _∙_}
-use mathlib.Core.List.{List}
+use mathlib.Core.List.{List, [], _∷_}
 use Prim.Native.Nat.{ℕ, _+_, _-_, _<_}
 use native.Mathlib.Omega.{arith}
 use lib.Dec.{eqb, leb, ltb}
 use lib.ListN.{length, getD, drop}
 use borrow.Author.Tests.{eqb-false, ltb-false}
 use Rattle.text.specs.Choice.{pick}
-use Rattle.text.specs.Class.{inClass, isWord}
+use Rattle.text.specs.Class.{inClass, isDigit, isLetter, isWord}
 use Rattle.text.specs.Counted.{part}
 use Rattle.text.specs.Loop.{Step, next, done, loop-ind}
 use Rattle.text.specs.Scan.{run, past, past-alike}
@@ -15,7 +15,7 @@ use Rattle.lexical.specs.Theorems.Bounds.{chosen}
 use Rattle.lexical.specs.Kind
 use Rattle.lexical.specs.Theorems.KindLaws.{pair-width}
 use Rattle.lexical.specs.Class.{classOf, LETTER, DIGIT, QUOTE, BLANK, NEWLINE, HASH}
-use Rattle.lexical.specs.Run.{inRun, WORD, NUMERALS, BLANKS, FREE}
+use Rattle.lexical.specs.Run.{hasClass, inRun, WORD, NUMERALS, BLANKS, FREE}
 use Rattle.lexical.specs.Runs.{word-same}
 use Rattle.lexical.specs.Word.{stands}
 use Rattle.lexical.specs.Label.{labelKind}
@@ -26,7 +26,7 @@ use Rattle.lexical.specs.Line.{restOfLine, visible, inLine, blankTo, indented, 
 use Rattle.lexical.specs.declared.token.Token.{Token}
 use Rattle.syntax.specs.Code.{nameAt}
 use Rattle.syntax.specs.Stood.{Stood}
-use Rattle.fields.specs.Parsed.{wordOf}
+use Rattle.fields.specs.Working.Word.{wordOf}
 
 -- a kind other than a name's
 Other : ℕ → Type 0
@@ -168,3 +168,32 @@ word-is {s} {t} st n =
     let f : t .end ≡ t .start + run isWord (drop (t .start) s) = e ∙ past-alike (inRun WORD) isWord word-same s (t .start) in
     let k : t .end - t .start ≡ run isWord (drop (t .start) s) = omega (arith, f) in
     rw k
+
+-- worked: in " ab+" the token behind 1 is a name, and both are "ab"
+abbrev summed : List ℕ
+summed = 32 ∷ 97 ∷ 98 ∷ 43 ∷ []
+
+name-found : tokenAt summed Kind.IN-FIELD 1 ≡ token Kind.NAME 1 3
+unfolding tokenAt inLine visible tokenFrom classOf hasClass inRun past
+name-found = refl
+
+name-whole : (wordOf summed (token Kind.NAME 1 3) ≡ 97 ∷ 98 ∷ []) × (nameAt summed 1 ≡ 97 ∷ 98 ∷ [])
+unfolding wordOf part nameAt inClass isWord isLetter isDigit
+name-whole = (refl, refl)
+
+-- a token of that kind that isn't found there: "a" of "ab"
+name-cut : wordOf summed (token Kind.NAME 1 2) ≡ 97 ∷ []
+unfolding wordOf part
+name-cut = refl
+
+-- a token that is no name: " 1.5" is found whole, and "1" is the word that starts there
+abbrev fraction : List ℕ
+fraction = 32 ∷ 49 ∷ 46 ∷ 53 ∷ []
+
+other-found : tokenAt fraction Kind.IN-FIELD 1 ≡ token Kind.FLOAT 1 4
+unfolding tokenAt inLine visible tokenFrom numberToken floatEnd classOf hasClass inRun past
+other-found = refl
+
+other-apart : (wordOf fraction (token Kind.FLOAT 1 4) ≡ 49 ∷ 46 ∷ 53 ∷ []) × (nameAt fraction 1 ≡ 49 ∷ [])
+unfolding wordOf part nameAt inClass isWord isLetter isDigit
+other-apart = (refl, refl)
