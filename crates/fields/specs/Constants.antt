@@ -9,12 +9,13 @@ use Rattle.text.specs.Equal.{equal}
 use Rattle.text.specs.Loop.{Step, next, done, loop}
 use Rattle.record.specs.Query.{Attribute}
 use Rattle.lexical.specs.Kind
+use Rattle.lexical.specs.Kind.{ending}
 use Rattle.lexical.specs.Literal.{decodedAt}
 use Rattle.lexical.specs.declared.token.Token.{Token}
 use Rattle.limits.specs.Limits.{mostConstants, mostLiteral}
 use Rattle.syntax.specs.Code.{nameAt}
 use Rattle.syntax.specs.Parsed.{Parsed, ok, aside, refusal, unexpected}
-use Rattle.fields.specs.Parsed.{behind, ending}
+use Rattle.fields.specs.Parsed.{behind}
 
 -- has one of the constants that name?
 unfoldable pub isSet : List Attribute → List ℕ → Bool

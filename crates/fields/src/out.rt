@@ -3,7 +3,7 @@ use lexical::kind;
 use lexical::token::Token;
 ghost use mathlib.Core.Path.{_≡_};
 ghost use Rattle.syntax.specs.Parsed.{refusal};
-ghost use Rattle.fields.specs.Parsed.{ending};
+ghost use Rattle.lexical.specs.Kind.{ending};
 ghost use Rattle.fields.specs.Working.Word.{wordOf};
 ghost use Rattle.fields.specs.Working.Outs.{endedOut, refusedOut};
 

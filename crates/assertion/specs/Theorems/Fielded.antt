@@ -11,6 +11,7 @@ use Rattle.limits.specs.Limits.{mostCounted}
 use Rattle.text.specs.Choice.{split}
 use Rattle.record.specs.Query.{Query, Attribute}
 use Rattle.lexical.specs.Kind
+use Rattle.lexical.specs.Kind.{ending}
 use Rattle.lexical.specs.Line.{tokenAt}
 use Rattle.lexical.specs.declared.token.Token.{Token}
 use Rattle.principal.specs.Principal.{Principal}
@@ -29,7 +30,7 @@ use Rattle.conditions.specs.Word.{nextAt}
 use Rattle.conditions.specs.Program.{readProgram}
 use Rattle.judge.specs.Theorems.Judges.{Judging, judged-aside, judged-on, judge-field-read}
 use Rattle.judge.specs.declared.Judged.{Judged}
-use Rattle.fields.specs.Parsed.{ending, ended}
+use Rattle.fields.specs.Parsed.{ended}
 use Rattle.fields.specs.Constants.{constantsFrom}
 use Rattle.naming.specs.Source.{Author, Licensees}
 use Rattle.naming.specs.Authorizer.{authorizer}

@@ -14,6 +14,7 @@ use Rattle.text.specs.Loop.{Step, done}
 use Rattle.record.specs.Query.{Query}
 use Rattle.record.specs.Lies.{lie[]}
 use Rattle.lexical.specs.Kind
+use Rattle.lexical.specs.Kind.{ending}
 use Rattle.lexical.specs.Line.{tokenAt}
 use Rattle.lexical.specs.declared.token.Token.{Token}
 use Rattle.principal.specs.Principal.{Principal}
@@ -26,7 +27,6 @@ use Rattle.compliance.specs.Tables.{compiled, Formed}
 use Rattle.index.specs.Index.{enterAll}
 use Rattle.syntax.specs.Parsed.{Parsed, refusal}
 use Rattle.syntax.specs.Stood.{Stood, stood-at}
-use Rattle.fields.specs.Parsed.{ending}
 use Rattle.fields.specs.Signature.{signature}
 use Rattle.fields.specs.Working.Outs.{outOf}
 use Rattle.naming.specs.Working.Code.{above, pushed}

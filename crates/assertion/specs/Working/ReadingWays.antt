@@ -11,11 +11,11 @@ use borrow.Author.Tests.{eq-eqb, ne-eqb, eqb-true, eqb-false}
 use Rattle.text.specs.Choice.{pick, split, clash}
 use Rattle.text.specs.Loop.{Step, next, done, loop, loop-next, loop-done}
 use Rattle.lexical.specs.Kind
+use Rattle.lexical.specs.Kind.{ending}
 use Rattle.lexical.specs.Line.{tokenAt}
 use Rattle.lexical.specs.declared.token.Token.{Token}
 use Rattle.compliance.specs.Codes.{topCode}
 use Rattle.syntax.specs.Parsed.{refusal}
-use Rattle.fields.specs.Parsed.{ending}
 use Rattle.fields.specs.Signature.{signature}
 use Rattle.fields.specs.Working.Outs.{outOf}
 use Rattle.naming.specs.Working.Code.{above, pushed}

@@ -46,8 +46,8 @@ module _ (s : List ℕ) (short : length s < 65536) where
     ended-codes : (c d : List ℕ) → L c → Then P (entry op 0) d → ClauseCodes s q (c ++ d)
     ended-codes c _ l (then d p) = rw (sym (append-assoc c d (entry op 0 ∷ []))) (f c d l p)
 
-    pub ended-same : (t : Token) → SameClause m₀ top₀ (Read.ending s q t) (endedAt s b u op t)
-    unfolding Read.ending endedAt
+    pub ended-same : (t : Token) → SameClause m₀ top₀ (Read.clauseEnd s q t) (endedAt s b u op t)
+    unfolding Read.clauseEnd endedAt
     ended-same t =
         both (SameClause m₀ top₀) (eqb (t .kind) Kind.SEMICOLON) _ _ _ _
         (λ k. as-ok q TEST 0 (above b u) (nextAt s (t .end)) (put b u op 0) (start-within s (t .end))
@@ -57,7 +57,7 @@ module _ (s : List ℕ) (short : length s < 65536) where
         (λ k. as-refused (ClauseCodes s) s m₀ top₀ t b (under g (kept h)))
 
   plain-same : (m₀ : List ℕ) (top₀ : ℕ) (b : List ℕ) (u : ℕ) (e : Expr) (t : Token) → Grown m₀ top₀ b u (Codes s e)
-      → SameClause m₀ top₀ (Read.ending s (plain e) t) (endedAt s b u Op.PLAIN t)
+      → SameClause m₀ top₀ (Read.clauseEnd s (plain e) t) (endedAt s b u Op.PLAIN t)
   plain-same m₀ top₀ b u e t g =
       ended-same m₀ top₀ m₀ top₀ b u (λ c. c ≡ []) (Codes s e) (plain e) Op.PLAIN (omega arith) (λ c d l p. rw l (code-plain p))
       (grown-none m₀ top₀ (λ c. c ≡ []) refl) g t
@@ -163,7 +163,7 @@ module _ (s : List ℕ) (short : length s < 65536) where
         both (SameClause m₀ top₀) (leb 16 nest) _ _ _ _ (λ h. as-aside 7 (t .start) m (kept g))
         (λ h. as-on (SameClause m₀ top₀) s m top (λ r p b k. as-aside r p b (under g k)) (ProgramCodes s) (Read.readBlock d s (nest + 1) (nextAt s (t .end)))
         (Write.programAt d s m top (nest + 1) (nextAt s (t .end)))
-        (λ p n. Read.ending s (nested e p) (nextAt s (n .end))) (λ x p u n b. endedAt s b u Op.NESTED (nextAt s (n .end)))
+        (λ p n. Read.clauseEnd s (nested e p) (nextAt s (n .end))) (λ x p u n b. endedAt s b u Op.NESTED (nextAt s (n .end)))
         (λ p x i u n b within h. ended-same m₀ top₀ m top b u (Codes s e) (ProgramCodes s p) (nested e p) Op.NESTED (omega arith) (λ c k l q. code-nested l q) g h (nextAt s (n .end)))
         (block-same d m top (nest + 1) (nextAt s (t .end)) (start-within s (t .end))))
 

@@ -21,6 +21,7 @@ use Rattle.record.specs.Stands.{Stands, stands-left, stands-right, counted-at}
 use Rattle.record.specs.Query.{Attribute}
 use Rattle.record.specs.Lies.{Lie, lie[], lie∷, AttributeAt}
 use Rattle.lexical.specs.Kind
+use Rattle.lexical.specs.Kind.{ending}
 use Rattle.lexical.specs.Literal.{decodedAt}
 use Rattle.lexical.specs.Line.{tokenAt}
 use Rattle.lexical.specs.declared.token.Token.{Token}
@@ -31,7 +32,7 @@ use Rattle.syntax.specs.Code.{nameAt}
 use Rattle.syntax.specs.Parsed.{Parsed, ok, aside, refusal, unexpected}
 use Rattle.syntax.specs.Stood.{Stood, stood-at, stood-end}
 use Rattle.limits.specs.Limits.{mostConstants, mostLiteral, mostRecord, mostLengths}
-use Rattle.fields.specs.Parsed.{behind, ending}
+use Rattle.fields.specs.Parsed.{behind}
 use Rattle.fields.specs.Working.Word.{wordOf}
 use Rattle.fields.specs.Constants.{isSet, constantValue, assigned, nameFault, constant, constantsTurn, onConstant, constantsFrom}
 use Rattle.fields.specs.Working.Setting.{Stored, stored, State, takenIn, constantFaultIn, storeIn, valueIn, assignedIn, settingTurn, onAssigned, onStored, assignedFrom, constantsIn, refusedSettings}

@@ -13,6 +13,7 @@ use Rattle.text.specs.Counted.{part}
 use Rattle.text.specs.Equal.{equal}
 use Rattle.lexical.specs.Short.{sized, sized-length}
 use Rattle.lexical.specs.Kind
+use Rattle.lexical.specs.Kind.{ending}
 use Rattle.lexical.specs.Literal.{decodedAt}
 use Rattle.lexical.specs.Decode.{Ran, ran, decodeInto}
 use Rattle.lexical.specs.Number.{LIMIT, numberAt}
@@ -20,7 +21,7 @@ use Rattle.lexical.specs.Line.{tokenAt}
 use Rattle.lexical.specs.declared.token.Token.{Token}
 use Rattle.limits.specs.Limits.{mostLiteral}
 use Rattle.syntax.specs.Parsed.{Parsed, ok, aside, refusal}
-use Rattle.fields.specs.Parsed.{behind, ending, ended}
+use Rattle.fields.specs.Parsed.{behind, ended}
 use Rattle.fields.specs.Working.Word.{wordOf}
 use Rattle.fields.specs.Version.{two, versionNumber, versionLiteral, version}
 use Rattle.fields.specs.Signature.{signature}

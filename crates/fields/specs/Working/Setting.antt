@@ -12,6 +12,7 @@ use Rattle.text.specs.Choice.{pick, split}
 use Rattle.text.specs.Copy.{Copied, copied, put, copyAt}
 use Rattle.text.specs.Loop.{Step, next, done, loop, loop-next, loop-done}
 use Rattle.lexical.specs.Kind
+use Rattle.lexical.specs.Kind.{ending}
 use Rattle.lexical.specs.Line.{tokenAt}
 use Rattle.lexical.specs.Literal.{decodedAt}
 use Rattle.lexical.specs.Decode.{Ran, ran, decodeInto}
@@ -25,7 +26,7 @@ use Rattle.index.specs.declared.Entered.the-variants.{Now, Full}
 use Rattle.expression.specs.Tables.{firstFrom}
 use Rattle.limits.specs.Limits.{mostConstants, mostLiteral}
 use Rattle.syntax.specs.Parsed.{refusal}
-use Rattle.fields.specs.Parsed.{behind, ending}
+use Rattle.fields.specs.Parsed.{behind}
 use Rattle.fields.specs.Working.Word.{wordOf}
 use Rattle.fields.specs.Constants.{reserved}
 use Rattle.fields.specs.declared.constants.Settings.{Settings}

@@ -13,6 +13,7 @@ use Rattle.text.specs.Equal.{equal}
 use Rattle.record.specs.Query.{Attribute}
 use Rattle.limits.specs.Limits.{mostConstants, mostLiteral}
 use Rattle.lexical.specs.Kind
+use Rattle.lexical.specs.Kind.{ending}
 use Rattle.lexical.specs.Line.{tokenAt}
 use Rattle.lexical.specs.Theorems.LineLaws.{token-real, token-fault, token-end}
 use Rattle.lexical.specs.Literal.{decodedAt}
@@ -21,7 +22,7 @@ use Rattle.lexical.specs.Token.{endOf}
 use Rattle.lexical.specs.declared.token.Token.{Token}
 use Rattle.syntax.specs.Code.{nameAt}
 use Rattle.syntax.specs.Parsed.{Parsed, ok, aside, andThen, refusal, unexpected}
-use Rattle.fields.specs.Parsed.{behind, ending, ended}
+use Rattle.fields.specs.Parsed.{behind, ended}
 use Rattle.fields.specs.Version.{two, versionNumber, versionLiteral, version}
 use Rattle.fields.specs.Constants.{isSet, reserved, constantValue, assigned, nameFault as constantFault, constant, onConstant, constantsTurn, constantsFrom}
 use Rattle.fields.specs.Signature.{signature}

@@ -22,7 +22,7 @@ use Rattle.conditions.specs.Operand.{readLiteral, readName, readDigits, readFlo
 use Rattle.conditions.specs.Expression as E
 use Rattle.conditions.specs.Expression.{readExpression, readOperand, readPrefixed, readBracketed, readChain, readJoined, closing, onJoined, chainTurn}
 use Rattle.conditions.specs.Program as P
-use Rattle.conditions.specs.Program.{ending, valuing, stopping, onClause, clausesTurn, DEPTH, readClause, readTested, readValue, readNested, readBlock, readClauses, readProgram}
+use Rattle.conditions.specs.Program.{clauseEnd, valuing, stopping, onClause, clausesTurn, DEPTH, readClause, readTested, readValue, readNested, readBlock, readClauses, readProgram}
 use Rattle.syntax.specs.Code.{ProgramCodes}
 use Rattle.syntax.specs.Stood.{Stood}
 use Rattle.text.specs.Choice.{clash}
@@ -124,8 +124,8 @@ module _ (s : List ℕ) where
 
   -- ---- programs
 
-  ending-placed : (q : Clause) (t : Token) → In s t → Placed s 0 (ending s q t)
-  unfolding ending
+  ending-placed : (q : Clause) (t : Token) → In s t → Placed s 0 (clauseEnd s q t)
+  unfolding clauseEnd
   ending-placed q t i = placed-pick (eqb (t .kind) Kind.SEMICOLON) (p-ok q _ (next-in (t .end))) (nowhere t i)
 
   valuing-placed : (e : Expr) (sort : PartSort) (f : Expr) (t : Token) → In s t → Placed s 0 (valuing s e sort f t)

@@ -22,11 +22,12 @@ use Rattle.index.specs.IndexLaws.{names-are}
 use Rattle.index.specs.EnterLaws.{fresh, enter-is, enter-member, place-same, place-below}
 use Rattle.index.specs.Working.Entering.{Kept}
 use Rattle.lexical.specs.Kind
+use Rattle.lexical.specs.Kind.{ending}
 use Rattle.lexical.specs.declared.token.Token.{Token}
 use Rattle.syntax.specs.Parsed.{Parsed, ok, aside, andThen, refusal}
 use Rattle.syntax.specs.Stood.{Stood}
 use Rattle.conditions.specs.Word.{nextAt}
-use Rattle.fields.specs.Parsed.{ending, ended}
+use Rattle.fields.specs.Parsed.{ended}
 use Rattle.fields.specs.Theorems.Together.{refusal-some}
 use Rattle.naming.specs.Theorems.Entry.{holds-before, EntryRead, entry-at}
 use Rattle.naming.specs.Source.{Source, Author}

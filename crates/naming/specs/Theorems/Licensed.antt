@@ -21,7 +21,8 @@ use Rattle.index.specs.Index.{enterAll, Holds}
 use Rattle.lexical.specs.declared.token.Token.{Token}
 use Rattle.syntax.specs.Parsed.{Parsed, ok, aside, andThen, refusal}
 use Rattle.syntax.specs.Stood.{Stood}
-use Rattle.fields.specs.Parsed.{ending, ended}
+use Rattle.lexical.specs.Kind.{ending}
+use Rattle.fields.specs.Parsed.{ended}
 use Rattle.naming.specs.Working.Code.{above, pushed}
 use Rattle.fields.specs.Theorems.Together.{both, refusal-some}
 use Rattle.naming.specs.Theorems.Code.{compile-short}

@@ -10,12 +10,12 @@ use Rattle.text.specs.Choice.{pick, split}
 use Rattle.limits.specs.Limits.{mostBrackets}
 use Rattle.index.specs.Entry.{identifierAt}
 use Rattle.lexical.specs.Kind
+use Rattle.lexical.specs.Kind.{ending}
 use Rattle.lexical.specs.Line.{tokenAt}
 use Rattle.lexical.specs.declared.token.Token.{Token}
 use Rattle.principal.specs.Principal.{same, policy}
 use Rattle.syntax.specs.Parsed.{refusal}
 use Rattle.conditions.specs.Word.{nextAt}
-use Rattle.fields.specs.Parsed.{ending}
 use Rattle.naming.specs.String.{plainFrom}
 use Rattle.naming.specs.Fault.{verified}
 use Rattle.naming.specs.Working.Faults.{against, clearAt}

@@ -9,9 +9,9 @@ use Rattle.text.specs.Choice.{pick}
 use Rattle.text.specs.Loop.{Step, next, done, loop}
 use Rattle.limits.specs.Limits.{mostLicensees, mostBrackets, mostCode}
 use Rattle.lexical.specs.Kind
+use Rattle.lexical.specs.Kind.{ending}
 use Rattle.lexical.specs.declared.token.Token.{Token}
 use Rattle.compliance.specs.Codes.{andCode, orCode, zeroCode}
-use Rattle.fields.specs.Parsed.{ending}
 use Rattle.naming.specs.Licensees.{after}
 use Rattle.naming.specs.Working.Code.{above, pushed}
 use Rattle.naming.specs.Working.Faults.{clearAt}

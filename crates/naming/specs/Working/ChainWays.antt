@@ -11,12 +11,12 @@ use Rattle.text.specs.Choice.{split, clash}
 use Rattle.text.specs.Loop.{loop-next, loop-done}
 use Rattle.limits.specs.Limits.{mostCode}
 use Rattle.lexical.specs.Kind
+use Rattle.lexical.specs.Kind.{ending}
 use Rattle.lexical.specs.Theorems.Bounds.{chosen}
 use Rattle.lexical.specs.Line.{tokenAt}
 use Rattle.lexical.specs.Token.{token}
 use Rattle.lexical.specs.declared.token.Token.{Token}
 use Rattle.compliance.specs.Codes.{andCode, orCode, zeroCode}
-use Rattle.fields.specs.Parsed.{ending}
 use Rattle.naming.specs.Working.Code.{above, pushed}
 use Rattle.conditions.specs.Word.{nextAt}
 use Rattle.naming.specs.String.{nestOf}
