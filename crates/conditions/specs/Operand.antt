@@ -16,11 +16,12 @@ use Rattle.conditions.specs.Table.{PartSort, sorted, word, Want, fits}
 use Rattle.conditions.specs.Word.{nextAt, wordSort}
 use Rattle.syntax.specs.Parsed.{Parsed, ok, aside, unexpected}
 use Rattle.conditions.specs.Parsed.{Part, part}
+use Rattle.limits.specs.Limits.{mostFloat, mostLiteral}
 
 -- reason 7: "literal 2,048 decoded bytes"
 unfoldable pub readLiteral : List ℕ → Token → Parsed Part
 readLiteral s t =
-    pick (ltb 2048 (length (decodedAt s (t .start)))) (aside 7 (t .start)) (ok (part (sorted a-string) (literal (decodedAt s (t .start)))) (nextAt s (t .end)))
+    pick (ltb mostLiteral (length (decodedAt s (t .start)))) (aside 7 (t .start)) (ok (part (sorted a-string) (literal (decodedAt s (t .start)))) (nextAt s (t .end)))
 
 -- a name, or a bare word where a test may stand too
 unfoldable pub readName : List ℕ → Want → Token → Parsed Part
@@ -34,7 +35,7 @@ readDigits s t =
 
 -- reason 7: "Literals [..] of at most 18 digits", which is 19 bytes with the point
 unfoldable pub readFloat : List ℕ → Token → Parsed Part
-readFloat s t = pick (ltb 19 (t .end - t .start)) (aside 7 (t .start)) (ok (part (sorted a-float) (decimal (decimalAt s (t .start)))) (nextAt s (t .end)))
+readFloat s t = pick (ltb mostFloat (t .end - t .start)) (aside 7 (t .start)) (ok (part (sorted a-float) (decimal (decimalAt s (t .start)))) (nextAt s (t .end)))
 
 unfoldable pub readLeaf : List ℕ → Want → Token → Parsed Part
 readLeaf s want t =

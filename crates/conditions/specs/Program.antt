@@ -1,6 +1,6 @@
 -- Programs: "clauses ended by ";", each a test, test -> string expression, or test -> { clauses }". Assumes nothing.
 use mathlib.Core.List.{List}
-use Prim.Native.Nat.{ℕ, zero, suc, _+_, _-_}
+use Prim.Native.Nat.{ℕ, zero, suc, _+_, _-_, _*_}
 use lib.Dec.{eqb, leb}
 use lib.ListN.{length}
 use Rattle.text.specs.Choice.{pick}
@@ -15,6 +15,7 @@ use Rattle.syntax.specs.Parsed.{Parsed, ok, aside, unexpected, andThen}
 use Rattle.conditions.specs.Parsed.{onPart}
 use Rattle.conditions.specs.Operand.{settledTree}
 use Rattle.conditions.specs.Expression.{readExpression}
+use Rattle.limits.specs.Limits.{mostBrackets, mostPrefixes}
 
 -- the ";" that ends a clause
 unfoldable pub clauseEnd : List ℕ → Clause → Token → Parsed Clause
@@ -42,7 +43,7 @@ valueOf d block s nest e t =
 -- reason 7: "16 brackets open (round and curly together)"
 abbrev pub nestedOf : (ℕ → Token → Parsed Program) → List ℕ → ℕ → Expr → Token → Parsed Clause
 nestedOf program s nest e t =
-    pick (leb 16 nest) (aside 7 (t .start))
+    pick (leb mostBrackets nest) (aside 7 (t .start))
     (andThen (program (nest + 1) (nextAt s (t .end))) (λ p n. clauseEnd s (nested e p) (nextAt s (n .end))))
 
 -- the token, and the clauses before it
@@ -92,7 +93,7 @@ unfoldable mutual
 
 -- a depth that no text exhausts
 abbrev pub DEPTH : ℕ
-DEPTH = 6076
+DEPTH = 10 + 3 * (7 * (mostPrefixes + 1) * mostBrackets + 6 * (mostPrefixes + 1) + mostPrefixes)
 
 -- a Conditions field, from the token behind its label on
 unfoldable pub readProgram : List ℕ → Token → Parsed Program

@@ -26,7 +26,7 @@ use Rattle.index.specs.Tree.{Reaches, Tree, Ends, ends-low, tree-first, 
 use Rattle.index.specs.Entry.{packed, plain, identifierAt, isAt, linked, entriesFrom, plain-at, plain-name, plain-none, at-tag, linked-plain, packed-place, packed-tag, packed-plain, packed-is}
 use Rattle.index.specs.EnterLaws.{place-same, place-below}
 use Rattle.index.specs.Working.Walking.{walked, walk-found, Stops, walk-stops}
-use Rattle.index.specs.Working.Adding.{entered, countedInto, addInto, principalInto}
+use Rattle.index.specs.Working.Adding.{entered, countedInto, appendInto, principalInto}
 use Rattle.index.specs.Working.Entering.{numbered, linkInto, enterNew, onWalked, enterIn}
 use Rattle.index.specs.declared.Walk.the-variants.{Found}
 use Rattle.index.specs.declared.Numbered.the-variants.{At}
@@ -157,8 +157,8 @@ module _ {pool places : List ℕ} {count end : ℕ} {names : List Principal} (ho
 
   -- where there is room, an identifier is entered behind the others
   add-gives : (last rest : ℕ) → enterNew pool places count end id last rest
-      ≡ numbered (At count (count + 1) (end + 2 + length id)) (put pool end (stringBytes id)) (after last rest)
-  unfolding enterNew principalInto addInto countedInto copyAt
+      ≡ numbered (At (count + 1) count (end + 2 + length id)) (put pool end (stringBytes id)) (after last rest)
+  unfolding enterNew principalInto appendInto countedInto copyAt
   add-gives last rest =
       rw (
         lt-leb 4096 count few,
@@ -219,7 +219,7 @@ module _ {pool places : List ℕ} {count end : ℕ} {names : List Principal} (ho
   -- a principal that isn't there is entered behind the others
   pub record Fresh : Type 0 where
     pub table : List ℕ
-    pub gives : enterIn pool places count end id ≡ numbered (At count (count + 1) (end + 2 + length id)) (put pool end (stringBytes id)) table
+    pub gives : enterIn pool places count end id ≡ numbered (At (count + 1) count (end + 2 + length id)) (put pool end (stringBytes id)) table
     pub held : Holds (put pool end (stringBytes id)) table (count + 1) (end + 2 + length id) (names ++ (id ∷ []))
     pub long : length table ≡ length places
 

@@ -18,6 +18,7 @@ use Rattle.conditions.specs.Word.{nextAt}
 use Rattle.conditions.specs.Expression.{readExpression}
 use Rattle.conditions.specs.Working.Keeping.{Kept, kept-next, kept-done, loop-keeps}
 use Rattle.conditions.specs.Program.{State, clauseEnd, valuing, stopping, onClause, clausesTurn, readClause, readTested, readValue, readNested, readBlock, readClauses, readProgram, DEPTH}
+use Rattle.limits.specs.Limits.{mostBrackets}
 
 -- a fault, or a token of the text behind what was read
 pub data Behind {A : Type 0} (s : List ℕ) : Parsed A → Type 0 where
@@ -46,7 +47,7 @@ module _ (s : List ℕ) where
   unfolding readNested
   nested-behind zero nest e t = behind-aside _ _
   nested-behind (suc d) nest e t =
-      chosen (Behind s) (leb 16 nest) _ _ (λ h. behind-aside _ _) (λ h. then-behind (readBlock d s (nest + 1) (nextAt s (t .end))) (λ p n. clauseEnd s (nested e p) (nextAt s (n .end))) (λ p n. ended-behind (nested e p) (nextAt s (n .end))))
+      chosen (Behind s) (leb mostBrackets nest) _ _ (λ h. behind-aside _ _) (λ h. then-behind (readBlock d s (nest + 1) (nextAt s (t .end))) (λ p n. clauseEnd s (nested e p) (nextAt s (n .end))) (λ p n. ended-behind (nested e p) (nextAt s (n .end))))
 
   value-behind : (d nest : ℕ) (e : Expr) (t : Token) → Behind s (readValue d s nest e t)
   unfolding readValue

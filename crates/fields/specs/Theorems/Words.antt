@@ -16,7 +16,7 @@ use Rattle.lexical.specs.Kind
 use Rattle.lexical.specs.Theorems.KindLaws.{pair-width}
 use Rattle.lexical.specs.Class.{classOf, LETTER, DIGIT, QUOTE, BLANK, NEWLINE, HASH}
 use Rattle.lexical.specs.Run.{hasClass, inRun, WORD, NUMERALS, BLANKS, FREE}
-use Rattle.lexical.specs.Runs.{word-same}
+use Rattle.lexical.specs.Working.Runs.{word-same}
 use Rattle.lexical.specs.Word.{stands}
 use Rattle.lexical.specs.Label.{labelKind}
 use Rattle.lexical.specs.Operator.{pairOf, markKind, isOf, operatorKind}

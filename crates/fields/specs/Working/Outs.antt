@@ -11,7 +11,7 @@ use borrow.Author.Tests.{lt-ltb, le-ltb, le-leb, lt-leb, eq-eqb, ne-eqb, leb-tru
 use Rattle.text.specs.Choice.{pick, split, clash}
 use Rattle.text.specs.Counted.{part}
 use Rattle.text.specs.Equal.{equal}
-use Rattle.lexical.specs.Short.{sized, sized-length}
+use Rattle.lexical.specs.Working.Short.{sized, sized-length}
 use Rattle.lexical.specs.Kind
 use Rattle.lexical.specs.Kind.{ending}
 use Rattle.lexical.specs.Literal.{decodedAt}
@@ -27,14 +27,15 @@ use Rattle.fields.specs.Version.{two, versionNumber, versionLiteral, ver
 use Rattle.fields.specs.Signature.{signature}
 use Rattle.fields.specs.declared.out.Out.{Out}
 use Rattle.fields.specs.declared.out.Out.the-variants.{On, Aside}
+use Rattle.syntax.specs.Working.Faults.{against, misplacedAt}
 
 -- the answer to a reading
 abbrev pub outOf : {A : Type 0} → Parsed A → Out
 outOf (ok a t) = On t
-outOf (aside r p) = Aside r p
+outOf (aside r p) = Aside (against r p)
 
 abbrev pub refusedOut : Token → Out
-refusedOut t = Aside (refusal (t .kind)) (t .start)
+refusedOut t = Aside (misplacedAt t)
 
 unfoldable pub endedOut : Token → Out
 endedOut t = pick (ending (t .kind)) (On t) (refusedOut t)
@@ -82,7 +83,7 @@ module _ (s : List ℕ) (t : Token) (n : ℕ) (ne : n ≡ min (numberAt s (t .st
   abbrev number-is : Out
   number-is = outOf (versionNumber s t (numberAt s (t .start) (t .end)))
 
-  pub number-high : LIMIT ≤ n → Aside 5 (t .start) ≡ number-is
+  pub number-high : LIMIT ≤ n → Aside (against 5 (t .start)) ≡ number-is
   unfolding versionNumber
   number-high h = rw (le-leb LIMIT (numberAt s (t .start) (t .end)) (omega (arith, ne, h)))
 
@@ -95,7 +96,7 @@ module _ (s : List ℕ) (t : Token) (n : ℕ) (ne : n ≡ min (numberAt s (t .st
     unfolding versionNumber
     number-two u ue r h re = re ∙ ended-is {A = ℕ} 2 u ∙ simp (low-is, lt-leb _ _ low, eq-eqb _ _ h, sym ue)
 
-    pub number-other : (n ≡ 2 → ⊥) → Aside 6 (t .start) ≡ number-is
+    pub number-other : (n ≡ 2 → ⊥) → Aside (against 6 (t .start)) ≡ number-is
     unfolding versionNumber
     number-other h = simp (low-is, lt-leb _ _ low, ne-eqb _ _ h)
 
@@ -134,7 +135,7 @@ module _ (s : List ℕ) (t : Token) (b : Bool) (be : b ≡ equal (decodedAt s (t
   unfolding versionLiteral
   literal-two u ue r y re = re ∙ ended-is {A = ℕ} 2 u ∙ simp (sym be, y, sym ue)
 
-  pub literal-other : b ≡ false → Aside 6 (t .start) ≡ outOf (versionLiteral s t (decodedAt s (t .start)))
+  pub literal-other : b ≡ false → Aside (against 6 (t .start)) ≡ outOf (versionLiteral s t (decodedAt s (t .start)))
   unfolding versionLiteral
   literal-other n = simp (sym be, n)
 
@@ -166,7 +167,7 @@ module _ (s : List ℕ) (start : ℕ) where
   fitting-told n ne r e = e ∙ ap (λ (k : ℕ). leb k mostLiteral) ne
 
 module _ (s : List ℕ) (t : Token) (is : t .kind ≡ Kind.LITERAL) (b : Bool) (be : b ≡ leb (length (decodedAt s (t .start))) mostLiteral) where
-  pub signature-long : not b ≡ true → Aside 7 (t .start) ≡ outOf (signature s t)
+  pub signature-long : not b ≡ true → Aside (against 7 (t .start)) ≡ outOf (signature s t)
   unfolding signature
   signature-long h = simp (eq-eqb _ _ is, lt-ltb mostLiteral (length (decodedAt s (t .start))) (leb-false (length (decodedAt s (t .start))) mostLiteral (sym be ∙ not-true b h)))
 

@@ -25,6 +25,7 @@ use Rattle.grammar.specs.Viable.{Viable, Open, opens, Kinds, here, furth
 use Rattle.grammar.specs.Working.Automaton.{run, run-append, not-viable, not-longer}
 use Rattle.grammar.specs.Working.Looping.{Turned, turned-next, turned-done, loop-turned, kinds-append, kinds-one}
 use Rattle.grammar.specs.Theorems.OneToken.{ends-ending, ending-ends, judged-stop, opens-end}
+use Rattle.limits.specs.Limits.{mostLiteral}
 
 -- states: 1 before a name or the end, 2 before "=", 3 before a literal, 4 behind the token that ends the field, 0 none
 unfoldable setStep : ℕ → ℕ → ℕ
@@ -132,7 +133,7 @@ module _ (s : List ℕ) (cs : List Attribute) (u : Token) where
   unfolding constantValue
   value-set name n e few =
       chosen Set (eqb (behind s Kind.IN-FIELD (behind s Kind.IN-FIELD u) .kind) Kind.LITERAL) _ _
-      (λ l. chosen Set (ltb 2048 (length (decodedAt s (behind s Kind.IN-FIELD (behind s Kind.IN-FIELD u) .start)))) _ _
+      (λ l. chosen Set (ltb mostLiteral (length (decodedAt s (behind s Kind.IN-FIELD (behind s Kind.IN-FIELD u) .start)))) _ _
       (λ f. other-set 7 _ (λ z. let bad : ⊥ = omega (arith, z) in bad)) (λ f. one-set n e (eqb-true _ _ l) few _))
       (λ l. wrong-3 n e l)
 

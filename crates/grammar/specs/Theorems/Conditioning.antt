@@ -44,6 +44,7 @@ use Rattle.grammar.specs.Working.Openings as O
 use Rattle.grammar.specs.Working.Reading.{Real, real-token, runs, runs-on, run-one, runs-last, Reading, got, halted, otherwise, expression-reads}
 use Rattle.grammar.specs.Working.Known.{next-real}
 use Rattle.grammar.specs.Working.ProgramStack.{one-program}
+use Rattle.limits.specs.Limits.{mostBrackets}
 
 -- the automaton where a clause begins and ends
 clause-wrong : (d : ℕ) (sort : PartSort) (k : ℕ) → Fits a-test sort → Table.binds 0 (Table.operator sort k) ≡ false → eqb k Kind.ARROW ≡ false → eqb k Kind.SEMICOLON ≡ false
@@ -343,7 +344,7 @@ module _ (s : List ℕ) where
         → runs s (p-any (in-clause nest)) ts u ≡ p-arrow nest → nextAt s (u .end) .kind ≡ Kind.OPEN-BRACE → ClauseRead nest t (P.readNested d s nest e (nextAt s (u .end)))
     blocks-read zero nest t ts u e p tree z led h = c-otherwise 0 (nextAt s (u .end) .start) nothing
     blocks-read (suc d) nest t ts u e p tree z led h =
-        chosen (ClauseRead nest t) (leb 16 nest) _ _ (λ k. c-otherwise 7 (nextAt s (u .end) .start) (λ y. let bad : ⊥ = omega (arith, y) in bad))
+        chosen (ClauseRead nest t) (leb mostBrackets nest) _ _ (λ k. c-otherwise 7 (nextAt s (u .end) .start) (λ y. let bad : ⊥ = omega (arith, y) in bad))
         (λ k. nested-reads nest t ts u e p tree z led h (P.readBlock d s (nest + 1) (nextAt s (nextAt s (u .end) .end))) (block-reads d (nest + 1) (nextAt s (nextAt s (u .end) .end)) (next-real s (nextAt s (u .end) .end))))
 
     block-reads : (d nest : ℕ) (t : Token) → Real s t → BlockRead nest t (P.readBlock d s nest t)

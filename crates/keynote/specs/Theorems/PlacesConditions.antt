@@ -13,6 +13,8 @@ use Rattle.lexical.specs.declared.token.Token.{Token}
 use Rattle.syntax.specs.Operator.{Unary, Binary, Sort, a-string, a-test, unaryTakes, unaryGives, binaryTakes, binaryGives}
 use Rattle.syntax.specs.Expr.{Expr, Program, none, also, Clause, nested, unary, binary}
 use Rattle.syntax.specs.Parsed.{Parsed, ok, aside, refusal, unexpected}
+use Rattle.syntax.specs.Working.Faults.{against}
+use Rattle.syntax.specs.declared.fault.Fault.{Fault}
 use Rattle.conditions.specs.Table.{PartSort, Want, want-any, want-string, isAny}
 use Rattle.conditions.specs.Table
 use Rattle.conditions.specs.Working.Cases.{infix-cases, prefix-cases}
@@ -218,8 +220,8 @@ program-reasoned s short at =
 
 -- ---- the same of a string expression by itself
 
-not-none : (s : List ℕ) (a b c r p : ℕ) (m : List ℕ) (x : Ran) → Paced s a b c x → x ≡ ran (Refused r p) m → r ≡ 0 → ⊥
-not-none s a b c r p m _ (paced-aside r′ p′ b′ h) e z = h (let q : r′ ≡ r = cc e in q ∙ z)
+not-none : (s : List ℕ) (a b c r p : ℕ) (m : List ℕ) (x : Ran) → Paced s a b c x → x ≡ ran (Refused (against r p)) m → r ≡ 0 → ⊥
+not-none s a b c r p m _ (paced-aside r′ p′ b′ h) e z = h (let q : against r′ p′ ≡ against r p = cc e in ap (λ (f : Fault). f .reason) q ∙ z)
 not-none s a b c r p m _ (paced-found _ _ _ _ _ _ _ _) e z = absurd (let q : _≡_ {A = ℕ} 0 1 = cc e in omega (arith, q))
 
 raised-part : (s m : List ℕ) (top a b c : ℕ) (q : Parsed Part) (x : Ran) → Same s m top q x → Paced s a b c x → Placed s 0 q → Placed s 1 q

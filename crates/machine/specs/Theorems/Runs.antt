@@ -39,6 +39,7 @@ use Rattle.machine.specs.Working.Widths.{plain-rank, plain-ranged, withi
 use Rattle.machine.specs.Working.Passing.{exec-pass, on-clause, on-none, on-both, on-other, entry-op, on-code, on-program, stop-same, on-shift}
 use Rattle.machine.specs.Working.Ending.{end-here, across-clause, end-shift}
 use Rattle.machine.specs.Working.Stacking.{pair, topped, count-is, top-is, false-top, high-top, below-is, idle-top, idle-not, place-is, text-is, unary-is, lookup-is, binary-is}
+use Rattle.limits.specs.Limits.{mostString}
 
 combined-is : (vals : List (List ℕ)) (op : Binary) (v w : Value) → combined vals (binaryNumber op) v w ≡ binaryOf op v w
 unfolding combined
@@ -201,11 +202,11 @@ module _ (depth space : ℕ) (s : List ℕ) (look : List ℕ → List ℕ) (env 
         (λ f. (rw (rank-top, rank-high, f) refl) ∙ go)
 
   module _ (vs bs : List ℕ) (h : length vs + 2 ≤ depth) where
-    literal-step : (at : ℕ) → length bs + 4096 ≤ space → stepOf depth space s look (env .values) 0 at vs bs ≡ topped vs bs (held (decodedAt s at))
+    literal-step : (at : ℕ) → length bs + mostString ≤ space → stepOf depth space s look (env .values) 0 at vs bs ≡ topped vs bs (held (decodedAt s at))
     unfolding stepOf pushStep
     literal-step at k = text-is depth vs h space bs (decodedAt s at) k
 
-    name-step : (at : ℕ) → length bs + 4096 ≤ space → stepOf depth space s look (env .values) 1 at vs bs ≡ topped vs bs (held (lookup env (nameAt s at)))
+    name-step : (at : ℕ) → length bs + mostString ≤ space → stepOf depth space s look (env .values) 1 at vs bs ≡ topped vs bs (held (lookup env (nameAt s at)))
     unfolding stepOf pushStep runAt nameAt
     name-step at k = text-is depth vs h space bs _ k ∙ ap (λ (b : List ℕ). topped vs bs (held b)) (same _)
 

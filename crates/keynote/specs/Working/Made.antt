@@ -30,10 +30,13 @@ use Rattle.assertion.specs.Working.Reading.{Result}
 use Rattle.assertion.specs.Theorems.Ready.{After, ReadAs, as-dropped, as-kept}
 use Rattle.assertion.specs.Theorems.Ready.{worth as rankOf}
 use Rattle.assertion.specs.Theorems.Left.{enter-all-length, First, first-more}
-use Rattle.system.specs.Working.Noting.{entryInto, rowed, rowInto, endsOf, noteIn}
+use Rattle.system.specs.Working.Noting.{entryInto, rowed, rowInto, endsAt, noteIn}
 use Rattle.system.specs.Working.Each.{Store, store, oneOf, Each, eachBy, onOne}
 use Rattle.system.specs.Working.Sizes.{Size}
 use Rattle.system.specs.declared.note.Ends.{Ends}
+use Rattle.syntax.specs.Working.Faults.{against}
+use Rattle.naming.specs.Working.Faults.{clearAt}
+use Rattle.index.specs.Working.Adding.{indexOf}
 use Rattle.keynote.specs.Answer.{worth, ranked, keptOf}
 use Rattle.keynote.specs.Report.{reasonOf, placeOf, entryBytes}
 use Rattle.keynote.specs.Theorems.PlacesAssertion.{Small}
@@ -43,11 +46,11 @@ use Rattle.keynote.specs.Theorems.Paged.{front-long, entry-is}
 -- after i assertions: the kept ones l stand in the tables, which have so many rows
 pub record Made (size : Size) (room : ℕ) (q : Query) (start : ℕ) (direct : List ℕ) (l : List Assertion) (i : ℕ) (e : Ends) (x : Store) (a c d : List ℕ) : Type 0 where
   pub names : List Principal
-  pub holds : Holds (x .pool) (x .places) (e .count) (e .end) names
+  pub holds : Holds (x .pool) (x .places) (e .index .count) (e .index .end) names
   pub stock : Stock (size .places) (q .requesters) (top (q .values)) direct (take (e .kept) a) (take (e .kept) c) (take (e .kept) d) (take (e .size) (x .code)) l names
-  pub tight : e .end ≤ mostCounted * e .count
+  pub tight : e .index .end ≤ mostCounted * e .index .count
   pub first : First names
-  pub few : e .count ≤ mostAsking + mostNamed * i
+  pub few : e .index .count ≤ mostAsking + mostNamed * i
   pub low : e .size ≤ mostCode * i
   pub rows : e .kept ≤ i
   pub authors-long : length a ≡ room
@@ -98,12 +101,12 @@ abbrev stored : Tables → Store
 stored y = store (y .consts) (y .pool) (y .places) (y .code)
 
 module _ {size : Size} {room : ℕ} {q : Query} {start : ℕ} {direct : List ℕ} {l : List Assertion} {i : ℕ} {e : Ends} {x : Store} {a c d : List ℕ} (made : Made size room q start direct l i e x a c d)
-    (more : i < room) (all : room ≤ mostAssertions) (wide : e .count + mostNamed ≤ size .places) (g : Given) (ge : g .start ≡ start) where
+    (more : i < room) (all : room ≤ mostAssertions) (wide : e .index .count + mostNamed ≤ size .places) (g : Given) (ge : g .start ≡ start) where
   begun-after : (y : Tables) → After g (before x) y → take start (y .consts) ≡ stringBytes (joined (q .values)) ++ stringBytes (joined (q .requesters))
   begun-after y after = subst (λ (n : ℕ). take n (y .consts) ≡ take n (x .consts)) ge (after .begun) ∙ made .begun
 
   -- an assertion that is dropped
-  made-dropped : (y : Tables) → After g (before x) y → Holds (y .pool) (y .places) (e .count) (e .end) (made .names) → take (e .size) (y .code) ≡ take (e .size) (x .code)
+  made-dropped : (y : Tables) → After g (before x) y → Holds (y .pool) (y .places) (e .index .count) (e .index .end) (made .names) → take (e .size) (y .code) ≡ take (e .size) (x .code)
       → Made size room q start direct l (suc i) e (stored y) a c d
   made-dropped y after holds code = record {
     names = made .names;
@@ -168,7 +171,7 @@ module _ {size : Size} {room : ℕ} {q : Query} {start : ℕ} {direct : List ℕ
         (omega (arith, made .rows, more, made .ends-long)) low-end)
         wrote
 
-    made-kept : Made size room q start direct (l ++ (ranked q s ∷ [])) (suc i) (endsOf n m z (e .kept + 1)) (stored y) (set a (e .kept) (u % 65536)) (set c (e .kept) k) (set d (e .kept) (z % 65536))
+    made-kept : Made size room q start direct (l ++ (ranked q s ∷ [])) (suc i) (endsAt (indexOf n m) z (e .kept + 1)) (stored y) (set a (e .kept) (u % 65536)) (set c (e .kept) k) (set d (e .kept) (z % 65536))
     made-kept = record {
       names = enterAll (made .names) ps;
       holds = holds;
@@ -190,14 +193,14 @@ module _ {size : Size} {room : ℕ} {q : Query} {start : ℕ} {direct : List ℕ
 
   -- what was read of it is noted: its row where it is kept, and its entry
   pub noted-made : (t : ℕ) → t ≡ top (q .values) → (front sheet page : List ℕ) → length front ≡ 3 + 3 * i → page ≡ front ++ drop (3 + 3 * i) sheet → 3 * i + 6 ≤ length sheet
-      → (r : Read) (w : Result) → Small r → ReadAs q g t (before x) (made .names) (e .count) (e .end) (e .size) r w
+      → (r : Read) (w : Result) → Small r → ReadAs q g t (before x) (made .names) (e .index .count) (e .index .end) (e .size) r w
       → Reached size room q start direct sheet (joining q l r) (suc i) (front ++ entryBytes r) (onOne a c d page i e (oneOf w))
   unfolding noteIn joining reasonOf placeOf
   noted-made t te front sheet page fe pe fits _ _ small (as-dropped r p y some after holds code) =
-      reached e (stored y) a c d (entryInto page i r p) (made-dropped y after holds code) (front-long front i (dropped r p) fe)
-      (rw pe (entry-is front sheet i (dropped r p) fe fits (small .place)))
+      reached e (stored y) a c d (entryInto page i (against r p)) (made-dropped y after holds code) (front-long front i (dropped r p) fe)
+      (rw pe (entry-is front sheet i (dropped r p) fe fits small))
   noted-made t te front sheet page fe pe fits _ _ small (as-kept s ps u k n m z y after few holds tight ue known named formed sixteen wrote ends most ke) =
       rw (row-in a c d (e .kept) u k z room (made .authors-long) (made .conds-long) (made .ends-long) (omega (arith, made .rows, more)))
-      (reached (endsOf n m z (e .kept + 1)) (stored y) (set a (e .kept) (u % 65536)) (set c (e .kept) k) (set d (e .kept) (z % 65536)) (entryInto page i 0 0)
+      (reached (endsAt (indexOf n m) z (e .kept + 1)) (stored y) (set a (e .kept) (u % 65536)) (set c (e .kept) k) (set d (e .kept) (z % 65536)) (entryInto page i clearAt)
       (made-kept s ps u k n m z y after few holds tight ue known named formed sixteen wrote ends most (ke ∙ worth-same t q (s .conditions) te)) (front-long front i (kept s) fe)
-      (rw pe (entry-is front sheet i (kept s) fe fits (small .place))))
+      (rw pe (entry-is front sheet i (kept s) fe fits small)))

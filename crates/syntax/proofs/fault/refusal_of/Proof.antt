@@ -1,10 +1,10 @@
+use Rattle.syntax.proofs.fault.refusal_of.Statement.{statement}
 use Rattle.syntax.specs.Parsed.{refusal}
-use borrow.Author.Needs.{needs}
 use Rattle.text.specs.Choice.{tests}
-use Rattle.conditions.proofs.table.refusal_of.Statement.{statement}
-use Rattle.conditions.proofs.table.refusal_of.Tie as tie
-use Rattle.conditions.proofs.table.refusal_of.Reads as reads
-use Rattle.conditions.proofs.table.refusal_of.Lts as lts
+use borrow.Author.Needs.{needs}
+use Rattle.syntax.proofs.fault.refusal_of.Tie as tie
+use Rattle.syntax.proofs.fault.refusal_of.Reads as reads
+use Rattle.syntax.proofs.fault.refusal_of.Lts as lts
 
 returns : tie.Need-returns
 unfolding refusal

@@ -11,7 +11,7 @@ use Rattle.lexical.specs.Kind.{ILLEGAL, OPEN, ASSIGN, NOT, LESS, GREATER
 use Rattle.lexical.specs.Class.{BAR, TILDE}
 use Rattle.lexical.specs.Operator.{equalPair, pairOf, markKind, isOf, operatorKind}
 use Rattle.lexical.specs.Token.{widthOf}
-use Rattle.lexical.specs.Plain.{open-not}
+use Rattle.lexical.specs.Working.Plain.{open-not}
 
 -- is it the class of such an operator?
 unfoldable pub lone : ℕ → Bool

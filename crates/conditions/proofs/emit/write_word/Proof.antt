@@ -1,13 +1,13 @@
-use Rattle.conditions.proofs.EmitWays.{settle-top, settle-kept, settle-above, settle-name, settle-true, settle-false}
+use Rattle.conditions.proofs.EmitWays.{write-word-top, write-word-kept, write-word-above, write-word-name, write-word-true, write-word-false}
 use borrow.Author.Needs.{needs}
-use Rattle.conditions.proofs.emit.settle.Statement.{statement}
-use Rattle.conditions.proofs.emit.settle.Tie as tie
-use Rattle.conditions.proofs.emit.settle.Reads as reads
-use Rattle.conditions.proofs.emit.settle.Lts as lts
+use Rattle.conditions.proofs.emit.write_word.Statement.{statement}
+use Rattle.conditions.proofs.emit.write_word.Tie as tie
+use Rattle.conditions.proofs.emit.write_word.Reads as reads
+use Rattle.conditions.proofs.emit.write_word.Lts as lts
 use Rattle.conditions.proofs.emit.push.Reads as push-reads
 
 returns : tie.Need-returns
-returns c = (search settle-top, search settle-kept)
+returns c = (search write-word-top, search write-word-kept)
 
 push-requires : tie.Need-push-requires
 push-requires c κs = search needs
@@ -16,7 +16,7 @@ same-length : tie.Need-same-length
 same-length c = search needs
 
 returns-2 : tie.Need-returns-2
-returns-2 c = (search settle-above, search settle-name)
+returns-2 c = (search write-word-above, search write-word-name)
 
 push-requires-2 : tie.Need-push-requires-2
 push-requires-2 c κs = search needs
@@ -25,7 +25,7 @@ same-length-2 : tie.Need-same-length-2
 same-length-2 c = search needs
 
 returns-3 : tie.Need-returns-3
-returns-3 c = (search settle-above, search settle-true)
+returns-3 c = (search write-word-above, search write-word-true)
 
 push-requires-3 : tie.Need-push-requires-3
 push-requires-3 c κs = search needs
@@ -34,10 +34,10 @@ same-length-3 : tie.Need-same-length-3
 same-length-3 c = search needs
 
 returns-4 : tie.Need-returns-4
-returns-4 c = (search settle-above, search settle-false)
+returns-4 c = (search write-word-above, search write-word-false)
 
-pub settle-spec : {M : Type 1} → statement M
-settle-spec =
+pub write-word-spec : {M : Type 1} → statement M
+write-word-spec =
     tie.close
     (tie.spec
     returns

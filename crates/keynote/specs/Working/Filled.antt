@@ -39,11 +39,11 @@ use Rattle.assertion.specs.Working.Reading.{readIn}
 use Rattle.assertion.specs.Theorems.Left.{first-alone, first-more}
 use Rattle.assertion.specs.Theorems.Ready.{Ready, ReadAs}
 use Rattle.assertion.specs.Theorems.Reads.{read-as}
-use Rattle.system.specs.Working.Noting.{endsOf, headerInto}
+use Rattle.system.specs.Working.Noting.{endsAt, headerInto}
 use Rattle.system.specs.Working.Each.{Fixed, fixed, Store, store, oneIn, Each, onOne, full, fullAt, eachFrom}
 use Rattle.system.specs.Working.Sizes.{Size, small, middle, large, middleMost, someRows, someCode}
 use Rattle.system.specs.Working.Solving.{Solved, solvedBy, topOf, rowsGive, grownIn, onStretch, filledIn, filledLong}
-use Rattle.system.specs.declared.asked.Index.{Index}
+use Rattle.index.specs.declared.Index.{Index}
 use Rattle.system.specs.declared.note.Ends.{Ends}
 use Rattle.keynote.specs.Answer.{ranked, reading, readings, keptOf, system, classGiven, roundsOf, reachedOf}
 use Rattle.keynote.specs.Report.{entryBytes, entriesBytes, report, reportSize}
@@ -52,9 +52,9 @@ use Rattle.keynote.specs.Theorems.PlacesAssertion.{Small, AllSmall, smal
 use Rattle.system.specs.Theorems.Started.{Started, startNames}
 use Rattle.system.specs.Theorems.Stocked.{asked-covers}
 use Rattle.keynote.specs.Theorems.Paged.{header-is}
-use Rattle.keynote.specs.Theorems.Made.{Made, Reached, joining, joining-is, before, noted-made}
-use Rattle.keynote.specs.Theorems.Grown.{Within, made-larger, small-middle, small-large, middle-large}
-use Rattle.keynote.specs.Theorems.Made.{reached as reached-at}
+use Rattle.keynote.specs.Working.Made.{Made, Reached, joining, joining-is, before, noted-made}
+use Rattle.keynote.specs.Working.Grown.{Within, made-larger, small-middle, small-large, middle-large}
+use Rattle.keynote.specs.Working.Made.{reached as reached-at}
 
 -- as many places as items
 lie-length : {A : Type 0} {At : ℕ → A → Type 0} {vs : List ℕ} {l : List A} → Lie At vs l → length vs ≡ length l
@@ -103,9 +103,9 @@ solved-at : {size : Size} {room : ℕ} {q : Query} {start : ℕ} {direct : List 
     → solvedBy (rowsGive a c d (x .code) direct e t) page ≡ gives q l (front ++ drop (3 + 3 * i) sheet)
 unfolding rowsGive
 solved-at {size = size} {q = q} {direct = direct} {l = l} {i = i} {e = e} {x = x} {a = a} {c = c} {d = d} t te made front sheet pe =
-    let m : take (e .count) direct ≡ map (asking (q .requesters)) (made .names)
-    = ap (take (e .count)) (made .stock .marks)
-    ∙ take-at (map (asking (q .requesters)) (made .names)) (replicate (size .places - length (made .names)) 0) (e .count) (length-map (made .names) (asking (q .requesters)) ∙ sym (made .holds .counted)) in
+    let m : take (e .index .count) direct ≡ map (asking (q .requesters)) (made .names)
+    = ap (take (e .index .count)) (made .stock .marks)
+    ∙ take-at (map (asking (q .requesters)) (made .names)) (replicate (size .places - length (made .names)) 0) (e .index .count) (length-map (made .names) (asking (q .requesters)) ∙ sym (made .holds .counted)) in
     rw (te, pe, m)
     (ap (λ (w : Solution). solvedBy w (front ++ drop (3 + 3 * i) sheet))
     (represented (made .names) (take (e .kept) a) (take (e .kept) c) (take (e .kept) d) (take (e .size) (x .code)) (map (asking (q .requesters)) (made .names)) (top (q .values))
@@ -146,9 +146,9 @@ module _ {s : List ℕ} {q : Query} {values names : List ℕ} {start t : ℕ} {s
 
   -- there is room for one assertion more
   ready : {size : Size} {direct : List ℕ} {l : List Assertion} {i : ℕ} {e : Ends} {x : Store} {a c d : List ℕ} (made : Made size room q start direct l i e x a c d) → i < room
-      → (v : ℕ) → length (counted s v) ≤ mostText → fullAt all v e x ≡ false → Ready q (givenAt v) (before x) (made .names) (e .count) (e .end) (e .size)
+      → (v : ℕ) → length (counted s v) ≤ mostText → fullAt all v e x ≡ false → Ready q (givenAt v) (before x) (made .names) (e .index .count) (e .index .end) (e .size)
   ready {e = e} {x = x} made h v short not =
-      let free = full-not (length (x .consts)) start (length (counted s v)) (length (x .pool)) (e .end) (length (x .places)) (e .count) not in
+      let free = full-not (length (x .consts)) start (length (counted s v)) (length (x .pool)) (e .index .end) (length (x .places)) (e .index .count) not in
       record {
         short = short;
         values = fit .values-lie;
@@ -176,18 +176,18 @@ module _ {s : List ℕ} {q : Query} {values names : List ℕ} {start t : ℕ} {s
   -- one assertion more
   step : {size : Size} {direct : List ℕ} {l : List Assertion} {i : ℕ} {e : Ends} {x : Store} {a c d : List ℕ} (made : Made size room q start direct l i e x a c d) → i < most → (v : ℕ) (u : Supplied) → AssertionAt s v u
       → fullAt all v e x ≡ false → length (u .text) ≤ mostText → Small (reading q u) → (front page : List ℕ) → length front ≡ 3 + 3 * i → page ≡ front ++ drop (3 + 3 * i) sheet
-      → Reached size room q start direct sheet (joining q l (reading q u)) (suc i) (front ++ entryBytes (reading q u)) (onOne a c d page i e (oneIn all v x (e .count) (e .end) (e .size)))
+      → Reached size room q start direct sheet (joining q l (reading q u)) (suc i) (front ++ entryBytes (reading q u)) (onOne a c d page i e (oneIn all v x (e .index .count) (e .index .end) (e .size)))
   unfolding oneIn
   step {size = size} {i = i} {e = e} {x = x} made h v u at not short few front page fe pe =
       let less : i < room = omega (arith, h, fit .at-most) in
-      let free = full-not (length (x .consts)) start (length (counted s v)) (length (x .pool)) (e .end) (length (x .places)) (e .count) not in
-      let wide : e .count + mostNamed ≤ size .places = omega (arith, free .2, made .places-long) in
+      let free = full-not (length (x .consts)) start (length (counted s v)) (length (x .pool)) (e .index .end) (length (x .places)) (e .index .count) not in
+      let wide : e .index .count + mostNamed ≤ size .places = omega (arith, free .2, made .places-long) in
       let b : length (counted s v) ≤ mostText = omega (arith, short, ap length (at .0)) in
-      let r : ReadAs q (givenAt v) t (before x) (made .names) (e .count) (e .end) (e .size) (reading q u) (readIn (givenAt v) t (before x) (e .count) (e .end) (e .size))
-      = subst (λ (w : Read). ReadAs q (givenAt v) t (before x) (made .names) (e .count) (e .end) (e .size) w (readIn (givenAt v) t (before x) (e .count) (e .end) (e .size)))
+      let r : ReadAs q (givenAt v) t (before x) (made .names) (e .index .count) (e .index .end) (e .size) (reading q u) (readIn (givenAt v) t (before x) (e .index .count) (e .index .end) (e .size))
+      = subst (λ (w : Read). ReadAs q (givenAt v) t (before x) (made .names) (e .index .count) (e .index .end) (e .size) w (readIn (givenAt v) t (before x) (e .index .count) (e .index .end) (e .size)))
       (same-reading v u at) (read-as t (ready made less v b not)) in
       noted-made made less (fit .all) wide (givenAt v) refl t (fit .top-is) front sheet page fe pe (omega (arith, h, fit .paper)) (reading q u)
-      (readIn (givenAt v) t (before x) (e .count) (e .end) (e .size)) few r
+      (readIn (givenAt v) t (before x) (e .index .count) (e .index .end) (e .size)) few r
 
   at-short : (v : ℕ) (u : Supplied) → AssertionAt s v u → length (u .text) ≤ mostText → length (counted s v) ≤ mostText
   at-short v u at short = omega (arith, short, ap length (at .0))
@@ -199,8 +199,8 @@ module _ {s : List ℕ} {q : Query} {values names : List ℕ} {start t : ℕ} {s
   never-full {e = e} {x = x} made h v short =
       rw (
         le-leb (start + mostLengths + length (counted s v)) (length (x .consts)) (omega (arith, fit .start-low, short, made .consts-long)),
-        le-leb (e .end + mostEntered) (length (x .pool)) (omega (arith, made .tight, made .few, h, fit .all, made .pool-long)),
-        le-leb (e .count + mostNamed) (length (x .places)) (omega (arith, made .few, h, fit .all, made .places-long)),
+        le-leb (e .index .end + mostEntered) (length (x .pool)) (omega (arith, made .tight, made .few, h, fit .all, made .pool-long)),
+        le-leb (e .index .count + mostNamed) (length (x .places)) (omega (arith, made .few, h, fit .all, made .places-long)),
       )
 
   -- that the assertions from the one with the number i on, read into tables of a size and then of the sizes behind it, give the answer
@@ -238,7 +238,7 @@ module _ {s : List ℕ} {q : Query} {values names : List ℕ} {start t : ℕ} {s
       let k : suc i + length m ≡ i + suc (length m) = omega arith in
       rw not
       (each-last texts vs m _ lies oks (small-tail smalls) direct (joining q l (reading q u)) (suc i) (front ++ entryBytes (reading q u))
-      (onOne a c d page i e (oneIn all v x (e .count) (e .end) (e .size))) (omega (arith, h)) (k ∙ n) (drop-next texts i v vs de)
+      (onOne a c d page i e (oneIn all v x (e .index .count) (e .index .end) (e .size))) (omega (arith, h)) (k ∙ n) (drop-next texts i v vs de)
       (step made (omega (arith, h)) v u at not (ok .1 .1) (small-head smalls) front page fe pe)
       ∙ next-same m l i front u)
 
@@ -256,7 +256,7 @@ module _ {s : List ℕ} {q : Query} {values names : List ℕ} {start t : ℕ} {s
         (λ f. let k : suc i + length m ≡ i + suc (length m) = omega arith in
         rw f
         (each-more texts vs m _ lies oks (small-tail smalls) direct (joining q l (reading q u)) (suc i) (front ++ entryBytes (reading q u))
-        (onOne a c d page i e (oneIn all v x (e .count) (e .end) (e .size))) (omega (arith, h)) (k ∙ n) (drop-next texts i v vs de)
+        (onOne a c d page i e (oneIn all v x (e .index .count) (e .index .end) (e .size))) (omega (arith, h)) (k ∙ n) (drop-next texts i v vs de)
         (step made (omega (arith, h)) v u at f (ok .1 .1) (small-head smalls) front page fe pe)
         ∙ next-same m l i front u))
 
@@ -269,7 +269,7 @@ module _ {s : List ℕ} {q : Query} {values names : List ℕ} {start t : ℕ} {s
 -- before the first
 start-made : (s : List ℕ) (q : Query) (start : ℕ) (consts : List ℕ) (x : Index) (pool places direct : List ℕ) → Started s q start consts x pool places direct
     → (room : ℕ) (code a c d : List ℕ) → length code ≡ room * mostCode → length a ≡ room → length c ≡ room → length d ≡ room
-    → Made small room q start direct [] 0 (endsOf (x .count) (x .end) 0 0) (store consts pool places code) a c d
+    → Made small room q start direct [] 0 (endsAt x 0 0) (store consts pool places code) a c d
 start-made s q start consts x pool places direct st room code a c d ke ae ce de = record {
   names = startNames q;
   holds = st .holds;
@@ -342,7 +342,7 @@ module _ (s : List ℕ) (q : Query) (page : List ℕ) (start : ℕ) (consts : Li
         paper = paper;
       }
 
-      made : Made small room q start direct [] 0 (endsOf (x .count) (x .end) 0 0) (store consts pool places (replicate (room * mostCode) 0)) (replicate room 0) (replicate room 0) (replicate room 0)
+      made : Made small room q start direct [] 0 (endsAt x 0 0) (store consts pool places (replicate (room * mostCode) 0)) (replicate room 0) (replicate room 0) (replicate room 0)
       made = start-made s q start consts x pool places direct st room (replicate (room * mostCode) 0) (replicate room 0) (replicate room 0) (replicate room 0)
           (length-replicate {A = ℕ} (room * mostCode) 0) (length-replicate {A = ℕ} room 0) (length-replicate {A = ℕ} room 0) (length-replicate {A = ℕ} room 0)
 
@@ -355,7 +355,7 @@ module _ (s : List ℕ) (q : Query) (page : List ℕ) (start : ℕ) (consts : Li
     unfolding filledIn
     filled-from few =
         each-small (fit someRows few (omega arith)) texts texts (q .assertions) [] tl oks smalls direct [] 0 (1 ∷ pairBytes (3 * length texts)) _ (omega arith) (omega (arith, n)) refl
-        (reached-at (endsOf (x .count) (x .end) 0 0) (store consts pool places (replicate someCode 0)) (replicate someRows 0) (replicate someRows 0) (replicate someRows 0) (headerInto page (length texts))
+        (reached-at (endsAt x 0 0) (store consts pool places (replicate someCode 0)) (replicate someRows 0) (replicate someRows 0) (replicate someRows 0) (headerInto page (length texts))
         (made someRows few (omega arith)) (front-start (3 * length texts)) (head-is someRows few (omega arith)))
         ∙ page-is
 
@@ -363,12 +363,12 @@ module _ (s : List ℕ) (q : Query) (page : List ℕ) (start : ℕ) (consts : Li
     module _ (few : length (q .assertions) ≤ mostAssertions) where
       grown-from : (size : Size) (sizes : List Size) → Within small size → Solves (fit mostAssertions few (omega arith)) size sizes
           → grownIn size sizes (fixed s values names (topOf values) start) texts (take start consts) (take (x .end) pool) (take (x .count) places) (take (x .count) direct)
-          (replicate mostPrograms 0) (replicate mostAssertions 0) (replicate mostAssertions 0) (replicate mostAssertions 0) (headerInto page (length texts)) 0 (endsOf (x .count) (x .end) 0 0)
+          (replicate mostPrograms 0) (replicate mostAssertions 0) (replicate mostAssertions 0) (replicate mostAssertions 0) (headerInto page (length texts)) 0 (endsAt x 0 0)
           ≡ solvedAs q page
       unfolding grownIn
       grown-from size sizes within solves =
           solves texts texts (q .assertions) [] tl oks smalls _ [] 0 (1 ∷ pairBytes (3 * length texts)) _ (omega arith) (omega (arith, n)) refl
-          (reached-at (endsOf (x .count) (x .end) 0 0) _ (replicate mostAssertions 0) (replicate mostAssertions 0) (replicate mostAssertions 0) (headerInto page (length texts))
+          (reached-at (endsAt x 0 0) _ (replicate mostAssertions 0) (replicate mostAssertions 0) (replicate mostAssertions 0) (headerInto page (length texts))
           (made-larger (made mostAssertions few (omega arith)) size within (st .start-low)) (front-start (3 * length texts)) (head-is mostAssertions few (omega arith)))
           ∙ page-is
 

@@ -23,12 +23,12 @@ use Rattle.record.specs.RoundTrip.{Bytes, read-back}
 use Rattle.constants.specs.Constants.{Written, written, begunInto}
 use Rattle.constants.specs.Theorems.Begun.{begun-is}
 use Rattle.expression.specs.Conditions.{top}
-use Rattle.system.specs.declared.asked.Index.{Index}
+use Rattle.index.specs.declared.Index.{Index}
 use Rattle.system.specs.Working.Sizes.{small, someRows, longRecord}
 use Rattle.system.specs.Working.Asking.{Asked, Begun, begun}
 use Rattle.system.specs.Working.Solving.{filledIn, filledLong, onAsked, onBegun, onWritten, solvedIn}
 use Rattle.keynote.specs.Outcome.{needed}
-use Rattle.keynote.specs.Theorems.Filled.{valuesAt, requestersAt, attributesAt, assertionsAt, solvedAs, long-is, filled-is}
+use Rattle.keynote.specs.Working.Filled.{valuesAt, requestersAt, attributesAt, assertionsAt, solvedAs, long-is, filled-is}
 use Rattle.system.specs.Theorems.Started.{startNames, Started}
 use Rattle.system.specs.Theorems.Marked.{Stage, Staged, staged, all-staged}
 use Rattle.keynote.specs.Theorems.Parts.{places-length}

@@ -15,7 +15,7 @@ use Rattle.lexical.specs.Theorems.UnitLaws.{Quoteless, unit-case, unit-m
 use Rattle.lexical.specs.Literal.{unitsAt, given, decodedAt}
 use Rattle.lexical.specs.Theorems.LiteralLaws.{units-more, units-last}
 use Rattle.lexical.specs.Theorems.Decoded.{given-cons}
-use Rattle.lexical.specs.Plain.{plain, quote-units, plain-some}
+use Rattle.lexical.specs.Working.Plain.{plain, quote-units, plain-some}
 
 module _ (s : List ℕ) (j : ℕ) (q : getD s (j + 1) 0 ≡ 34) (n : getD s j 0 ≡ 92 → ⊥) where
   -- such a quote stands in no unit

@@ -19,7 +19,7 @@ use Rattle.system.specs.Working.Each.{Store}
 use Rattle.system.specs.Working.Sizes.{Size, small, middle, large}
 use Rattle.system.specs.Working.Solving.{laid, larger}
 use Rattle.system.specs.declared.note.Ends.{Ends}
-use Rattle.keynote.specs.Theorems.Made.{Made}
+use Rattle.keynote.specs.Working.Made.{Made}
 
 module _ (m old : List ℕ) (fits : length old ≤ length m) where
   laid-front : laid m old ≡ old ++ drop (length old) m
@@ -62,47 +62,47 @@ module _ {size : Size} {room : ℕ} {q : Query} {start : ℕ} {direct : List ℕ
   begin : start ≤ next .consts
   begin = omega (arith, low, within .begins, within .consts)
 
-  short : e .end ≤ next .pool
+  short : e .index .end ≤ next .pool
   short = omega (arith, made .holds .inPool, made .pool-long, within .pool)
 
-  few : e .count ≤ next .places
+  few : e .index .count ≤ next .places
   few = omega (arith, made .holds .inTable, made .places-long, within .places)
 
   abbrev after : Store
-  after = larger next (take start (x .consts)) (take (e .end) (x .pool)) (take (e .count) (x .places)) (x .code)
+  after = larger next (take start (x .consts)) (take (e .index .end) (x .pool)) (take (e .index .count) (x .places)) (x .code)
 
-  holds : Holds (after .pool) (after .places) (e .count) (e .end) (made .names)
+  holds : Holds (after .pool) (after .places) (e .index .count) (e .index .end) (made .names)
   holds = record {
-    bytes = grown-front (x .pool) (e .end) (next .pool) (made .holds .inPool) short ∙ made .holds .bytes;
-    entries = ap (map plain) (grown-front (x .places) (e .count) (next .places) (made .holds .inTable) few) ∙ made .holds .entries;
-    tree = tree-front (grown-front (x .places) (e .count) (next .places) (made .holds .inTable) few) (made .holds .tree);
+    bytes = grown-front (x .pool) (e .index .end) (next .pool) (made .holds .inPool) short ∙ made .holds .bytes;
+    entries = ap (map plain) (grown-front (x .places) (e .index .count) (next .places) (made .holds .inTable) few) ∙ made .holds .entries;
+    tree = tree-front (grown-front (x .places) (e .index .count) (next .places) (made .holds .inTable) few) (made .holds .tree);
     distinct = made .holds .distinct;
     counted = made .holds .counted;
     ends = made .holds .ends;
-    inPool = omega (arith, short, grown-length (x .pool) (e .end) (next .pool) (made .holds .inPool) short);
-    inTable = omega (arith, few, grown-length (x .places) (e .count) (next .places) (made .holds .inTable) few);
+    inPool = omega (arith, short, grown-length (x .pool) (e .index .end) (next .pool) (made .holds .inPool) short);
+    inTable = omega (arith, few, grown-length (x .places) (e .index .count) (next .places) (made .holds .inTable) few);
     near = made .holds .near;
   }
 
   abbrev marks : List ℕ
   marks = map (asking (q .requesters)) (made .names)
 
-  marks-long : length marks ≡ e .count
+  marks-long : length marks ≡ e .index .count
   marks-long = length-map (made .names) (asking (q .requesters)) ∙ sym (made .holds .counted)
 
-  marked : take (e .count) direct ≡ marks
-  marked = ap (take (e .count)) (made .stock .marks) ∙ take-at marks (replicate (size .places - length (made .names)) 0) (e .count) marks-long
+  marked : take (e .index .count) direct ≡ marks
+  marked = ap (take (e .index .count)) (made .stock .marks) ∙ take-at marks (replicate (size .places - length (made .names)) 0) (e .index .count) marks-long
 
   marks-fit : length marks ≤ length (replicate {A = ℕ} (next .places) 0)
   marks-fit = omega (arith, marks-long, few, length-replicate {A = ℕ} (next .places) 0)
 
-  again : laid (replicate (next .places) 0) (take (e .count) direct) ≡ marks ++ replicate (next .places - length (made .names)) 0
+  again : laid (replicate (next .places) 0) (take (e .index .count) direct) ≡ marks ++ replicate (next .places - length (made .names)) 0
   again =
       let n : length marks ≡ length (made .names) = length-map (made .names) (asking (q .requesters)) in
       ap (laid (replicate (next .places) 0)) marked ∙ laid-front (replicate (next .places) 0) marks marks-fit
       ∙ ap (λ (m : List ℕ). marks ++ m) (drop-blank (length marks) (next .places)) ∙ ap (λ (k : ℕ). marks ++ replicate (next .places - k) 0) n
 
-  pub made-larger : Made next room q start (laid (replicate (next .places) 0) (take (e .count) direct)) l i e after a c d
+  pub made-larger : Made next room q start (laid (replicate (next .places) 0) (take (e .index .count) direct)) l i e after a c d
   made-larger = record {
     names = made .names;
     holds = holds;
@@ -116,8 +116,8 @@ module _ {size : Size} {room : ℕ} {q : Query} {start : ℕ} {direct : List ℕ
     conds-long = made .conds-long;
     ends-long = made .ends-long;
     consts-long = grown-length (x .consts) start (next .consts) begins begin;
-    pool-long = grown-length (x .pool) (e .end) (next .pool) (made .holds .inPool) short;
-    places-long = grown-length (x .places) (e .count) (next .places) (made .holds .inTable) few;
+    pool-long = grown-length (x .pool) (e .index .end) (next .pool) (made .holds .inPool) short;
+    places-long = grown-length (x .places) (e .index .count) (next .places) (made .holds .inTable) few;
     code-long = made .code-long;
     begun = grown-front (x .consts) start (next .consts) begins begin ∙ made .begun;
   }
