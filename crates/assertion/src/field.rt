@@ -4,15 +4,16 @@ use fields::constants::constants as local_constants;
 use fields::out::Out;
 use fields::out::ended;
 use fields::version::version;
+use index::Index;
 use judge::Judged;
 use judge::judge_field;
 use lexical::kind;
 use lexical::token::Token;
 use naming::authorizer::Author;
 use naming::authorizer::authorizer;
-use naming::fault::Fault;
 use naming::licensees::licensees;
 use naming::list::Licensed;
+use syntax::fault::Fault;
 ghost use mathlib.Core.Path.{_≡_};
 ghost use lib.ListN.{take};
 ghost use Rattle.judge.specs.Working.Judging.{judgedHere};
@@ -22,25 +23,25 @@ ghost use Rattle.naming.specs.Working.Authorizing.{authorizerIn};
 ghost use Rattle.naming.specs.Working.Chain.{fieldIn};
 ghost use Rattle.assertion.specs.Working.Field.{given, tabled, moved, passedOn, settled, settledAs, madeAs, listed, listedAs, onJudged, fieldAt};
 
-// What is read so far: whether there was an Authorizer and its number, whether there were Licensees, the rank of Conditions, how many
-// constants are known, the ends of the index and of the licensees' programs, and what is against the identifiers of either field.
+// What is read so far: the ends of the index and of the licensees' programs, the authorizer's number, how many constants are known, what is against the
+// identifiers of either field, whether there were an Authorizer and Licensees, and the rank of Conditions. The bytes stand last: where a `Fault` of `Went`
+// has a word and this a byte, the bytes beside it are copied in pieces.
 pub struct Partial {
-    pub authored: bool,
-    pub author: usize,
-    pub licensed: bool,
-    pub rank: u8,
-    pub known: usize,
-    pub count: usize,
-    pub end: usize,
+    pub index: Index,
     pub size: usize,
+    pub author: usize,
+    pub known: usize,
     pub against: Fault,
     pub besides: Fault,
+    pub authored: bool,
+    pub licensed: bool,
+    pub rank: u8,
 }
 
 // What is read with one field more and the token behind it, or the first fault.
 pub enum Went {
     On { partial: Partial, next: Token },
-    Aside { reason: u8, place: usize },
+    Aside { fault: Fault },
 }
 
 // A field that says nothing to the tables.
@@ -48,7 +49,7 @@ fn passed(d: Partial, o: Out) -> Went
     ensures { λ r. ⌜ r ≡ passedOn d o ⌝ }
 {
     match o {
-        Out::Aside { reason, place } => Went::Aside { reason, place },
+        Out::Aside { fault } => Went::Aside { fault },
         Out::On { next } => Went::On { partial: d, next },
     }
 }
@@ -73,23 +74,19 @@ fn constants_field(
 ) -> Went
     ensures { λ r. ⌜ settled r (now (consts .exit)) (now (constants .exit)) ≡ settledAs d (constantsIn (now (s .entry)) (now (consts .entry)) (now (constants .entry)) 0 start t) ⌝ }
 {
+    let index = d.index;
     let against = d.against;
     let besides = d.besides;
     match local_constants(s, consts, constants, start, t) {
-        Settings::Aside { reason, place } => Went::Aside { reason, place },
-        Settings::On {
-            count,
-            end: _,
-            next,
-        } => Went::On {
+        Settings::Aside { fault } => Went::Aside { fault },
+        Settings::On { index: known, next } => Went::On {
             partial: Partial {
                 authored: d.authored,
                 author: d.author,
                 licensed: d.licensed,
                 rank: d.rank,
-                known: count,
-                count: d.count,
-                end: d.end,
+                known: known.count,
+                index,
                 size: d.size,
                 against,
                 besides,
@@ -112,7 +109,7 @@ fn authorizer_field<'a>(
     d: Partial,
     t: Token,
 ) -> Went
-    ensures { λ r. ⌜ settled r (now (pool .exit)) (now (places .exit)) ≡ madeAs d (authorizerIn (now (s .entry)) standing (sight (now (query .entry)) (now (consts .entry)) (now (values .entry)) (now (names .entry)) (take (d .known) (now (constants .entry)))) (now (pool .entry)) (now (places .entry)) (d .count) (d .end) t) ⌝ }
+    ensures { λ r. ⌜ settled r (now (pool .exit)) (now (places .exit)) ≡ madeAs d (authorizerIn (now (s .entry)) standing (sight (now (query .entry)) (now (consts .entry)) (now (values .entry)) (now (names .entry)) (take (d .known) (now (constants .entry)))) (now (pool .entry)) (now (places .entry)) (d .index .count) (d .index .end) t) ⌝ }
 {
     let besides = d.besides;
     match authorizer(
@@ -125,15 +122,13 @@ fn authorizer_field<'a>(
         front(constants, d.known),
         pool,
         places,
-        d.count,
-        d.end,
+        d.index,
         t,
     ) {
-        Author::Aside { reason, place } => Went::Aside { reason, place },
+        Author::Aside { fault } => Went::Aside { fault },
         Author::On {
             number,
-            count,
-            end,
+            index,
             fault,
             next,
         } => Went::On {
@@ -143,8 +138,7 @@ fn authorizer_field<'a>(
                 licensed: d.licensed,
                 rank: d.rank,
                 known: d.known,
-                count,
-                end,
+                index,
                 size: d.size,
                 against: fault,
                 besides,
@@ -167,7 +161,7 @@ fn licensees_field<'a>(
     d: Partial,
     t: Token,
 ) -> Went
-    ensures { λ r. ⌜ listed r (now (pool .exit)) (now (places .exit)) (now (code .exit)) ≡ listedAs d (fieldIn (now (s .entry)) (sight (now (query .entry)) (now (consts .entry)) (now (values .entry)) (now (names .entry)) (take (d .known) (now (constants .entry)))) (now (pool .entry)) (now (places .entry)) (now (code .entry)) (d .count) (d .end) (d .size) t) ⌝ }
+    ensures { λ r. ⌜ listed r (now (pool .exit)) (now (places .exit)) (now (code .exit)) ≡ listedAs d (fieldIn (now (s .entry)) (sight (now (query .entry)) (now (consts .entry)) (now (values .entry)) (now (names .entry)) (take (d .known) (now (constants .entry)))) (now (pool .entry)) (now (places .entry)) (now (code .entry)) (d .index .count) (d .index .end) (d .size) t) ⌝ }
 {
     let against = d.against;
     match licensees(
@@ -180,13 +174,13 @@ fn licensees_field<'a>(
         pool,
         places,
         code,
-        d.count,
-        d.end,
+        d.index,
         d.size,
         t,
     ) {
-        Licensed::Aside { reason, place } => Went::Aside { reason, place },
+        Licensed::Aside { fault } => Went::Aside { fault },
         Licensed::On { state, next } => {
+            let index = state.index;
             let besides = state.fault;
             Went::On {
                 partial: Partial {
@@ -195,8 +189,7 @@ fn licensees_field<'a>(
                     licensed: true,
                     rank: d.rank,
                     known: d.known,
-                    count: state.count,
-                    end: state.end,
+                    index,
                     size: state.size,
                     against,
                     besides,
@@ -219,6 +212,7 @@ fn conditions_field<'a>(
 ) -> Went
     ensures { λ r. ⌜ r ≡ onJudged d (judgedHere (now (s .entry)) t (now (query .entry)) (now (consts .entry)) (now (values .entry)) (now (names .entry)) (take (d .known) (now (constants .entry)))) ⌝ }
 {
+    let index = d.index;
     let against = d.against;
     let besides = d.besides;
     match judge_field(
@@ -230,7 +224,7 @@ fn conditions_field<'a>(
         names,
         front(constants, d.known),
     ) {
-        Judged::Aside { reason, place } => Went::Aside { reason, place },
+        Judged::Aside { fault } => Went::Aside { fault },
         Judged::On { rank, next } => Went::On {
             partial: Partial {
                 authored: d.authored,
@@ -238,8 +232,7 @@ fn conditions_field<'a>(
                 licensed: d.licensed,
                 rank,
                 known: d.known,
-                count: d.count,
-                end: d.end,
+                index,
                 size: d.size,
                 against,
                 besides,

@@ -10,62 +10,61 @@ use crate::label::use_label;
 use compliance::machine::TOP;
 use fields::out::Out;
 use fields::out::is_ending;
-use fields::out::refusal_of;
 use fields::signature::signature;
+use index::Index;
 use lexical::kind;
 use lexical::line::token_at;
 use lexical::token::Token;
 use naming::code::push;
 use naming::fault::clear;
 use naming::fault::earlier;
-use naming::fault::reason_of;
+use syntax::fault::Fault;
+use syntax::fault::UNVERIFIED;
+use syntax::fault::WRONG_LINE;
+use syntax::fault::misplaced;
 ghost use mathlib.Core.Path.{_≡_};
 ghost use Rattle.assertion.specs.Labels.{without};
 ghost use Rattle.assertion.specs.Read.{first};
 ghost use Rattle.assertion.specs.Working.Field.{given, tabled, moved, fieldAt};
 ghost use Rattle.assertion.specs.Working.Reading.{readBy, finishedBy, keptIn, finishedIn, signedIn, lastAt, lastIn, fieldsIn, readIn};
 
-// A kept assertion: its authorizer's number, the rank of its Conditions, and the ends of the index and of the code; or the reason against
-// it and the place.
-pub enum Reading {
+// A kept assertion: its authorizer's number, the ends of the index and of the code, and the rank of its Conditions; or what is against it.
+pub enum Assessment {
     Kept {
         author: usize,
-        rank: u8,
-        count: usize,
-        end: usize,
+        index: Index,
         size: usize,
+        rank: u8,
     },
     Dropped {
-        reason: u8,
-        place: usize,
+        fault: Fault,
     },
 }
 
 // A kept assertion. Missing Licensees are an instruction of their own.
-fn kept(code: &mut [u16], d: Partial) -> Reading
+fn kept(code: &mut [u16], d: Partial) -> Assessment
     ensures { λ r. ⌜ finishedBy r (now (code .exit)) ≡ keptIn (now (code .entry)) d ⌝ }
 {
+    let index = d.index;
     if d.licensed {
-        return Reading::Kept {
+        return Assessment::Kept {
             author: d.author,
             rank: d.rank,
-            count: d.count,
-            end: d.end,
+            index,
             size: d.size,
         };
     }
     let size = push(code, d.size, TOP);
-    Reading::Kept {
+    Assessment::Kept {
         author: d.author,
         rank: d.rank,
-        count: d.count,
-        end: d.end,
+        index,
         size,
     }
 }
 
 // The end of what is read. What is against the identifiers counts only here, in a text that is otherwise well formed.
-fn finished(code: &mut [u16], d: Partial, end: usize) -> Reading
+fn finished(code: &mut [u16], d: Partial, end: usize) -> Assessment
     ensures { λ r. ⌜ finishedBy r (now (code .exit)) ≡ finishedIn (now (code .entry)) d end ⌝ }
 {
     if d.authored {
@@ -73,25 +72,24 @@ fn finished(code: &mut [u16], d: Partial, end: usize) -> Reading
         let besides = d.besides;
         let f = earlier(against, besides);
         if f.reason != 0 {
-            return Reading::Dropped {
-                reason: reason_of(f),
-                place: f.place,
-            };
+            return Assessment::Dropped { fault: f };
         }
         return kept(code, d);
     }
-    Reading::Dropped {
-        reason: 3,
-        place: end,
+    Assessment::Dropped {
+        fault: Fault {
+            reason: WRONG_LINE,
+            place: end,
+        },
     }
 }
 
 // Signature, whose first token is t: nothing is read behind it.
-fn signed(s: &[u8], code: &mut [u16], d: Partial, t: Token) -> Reading
+fn signed(s: &[u8], code: &mut [u16], d: Partial, t: Token) -> Assessment
     ensures { λ r. ⌜ finishedBy r (now (code .exit)) ≡ signedIn (now (s .entry)) (now (code .entry)) d t ⌝ }
 {
     match signature(s, t) {
-        Out::Aside { reason, place } => Reading::Dropped { reason, place },
+        Out::Aside { fault } => Assessment::Dropped { fault },
         Out::On { next } => finished(code, d, next.end),
     }
 }
@@ -113,7 +111,7 @@ fn is_last(free: &[u8], k: usize) -> bool
 }
 
 // What comes of an assertion where t is the last to be looked at.
-fn last(s: &[u8], free: &[u8], code: &mut [u16], d: Partial, t: Token) -> Reading
+fn last(s: &[u8], free: &[u8], code: &mut [u16], d: Partial, t: Token) -> Assessment
     ensures { λ r. ⌜ finishedBy r (now (code .exit)) ≡ lastIn (now (s .entry)) (now (free .entry)) (now (code .entry)) d t ⌝ }
 {
     if t.kind == kind::END {
@@ -124,14 +122,15 @@ fn last(s: &[u8], free: &[u8], code: &mut [u16], d: Partial, t: Token) -> Readin
             let n = token_at(s, kind::mode_of(t.kind), t.end);
             return signed(s, code, d, n);
         }
-        return Reading::Dropped {
-            reason: 3,
-            place: t.start,
+        return Assessment::Dropped {
+            fault: Fault {
+                reason: WRONG_LINE,
+                place: t.start,
+            },
         };
     }
-    Reading::Dropped {
-        reason: refusal_of(t.kind),
-        place: t.start,
+    Assessment::Dropped {
+        fault: misplaced(t),
     }
 }
 
@@ -191,7 +190,7 @@ fn fields(
     code: &mut [u16],
     partial: Partial,
     from: Token,
-) -> Reading
+) -> Assessment
     ensures { λ r. ⌜ readBy r (tabled (now (consts .exit)) (now (constants .exit)) (now (pool .exit)) (now (places .exit)) (now (code .exit))) ≡ fieldsIn (given (now (s .entry)) standing (now (query .entry)) (now (values .entry)) (now (names .entry)) start) (now (free .entry)) (tabled (now (consts .entry)) (now (constants .entry)) (now (pool .entry)) (now (places .entry)) (now (code .entry))) partial from ⌝ }
 {
     let mut d = partial;
@@ -216,8 +215,8 @@ fn fields(
             d,
             t,
         ) {
-            Went::Aside { reason, place } => {
-                return Reading::Dropped { reason, place };
+            Went::Aside { fault } => {
+                return Assessment::Dropped { fault };
             }
             Went::On { partial: u, next } => {
                 d = u;
@@ -241,17 +240,18 @@ pub fn read(
     constants: &mut [usize],
     pool: &mut [u8],
     places: &mut [usize],
-    count: usize,
-    end: usize,
+    index: Index,
     code: &mut [u16],
     size: usize,
-) -> Reading
-    ensures { λ r. ⌜ readBy r (tabled (now (consts .exit)) (now (constants .exit)) (now (pool .exit)) (now (places .exit)) (now (code .exit))) ≡ readIn (given (now (s .entry)) standing (now (query .entry)) (now (values .entry)) (now (names .entry)) start) top (tabled (now (consts .entry)) (now (constants .entry)) (now (pool .entry)) (now (places .entry)) (now (code .entry))) count end size ⌝ }
+) -> Assessment
+    ensures { λ r. ⌜ readBy r (tabled (now (consts .exit)) (now (constants .exit)) (now (pool .exit)) (now (places .exit)) (now (code .exit))) ≡ readIn (given (now (s .entry)) standing (now (query .entry)) (now (values .entry)) (now (names .entry)) start) top (tabled (now (consts .entry)) (now (constants .entry)) (now (pool .entry)) (now (places .entry)) (now (code .entry))) (index .count) (index .end) size ⌝ }
 {
     if standing == 0 {
-        return Reading::Dropped {
-            reason: 9,
-            place: 0,
+        return Assessment::Dropped {
+            fault: Fault {
+                reason: UNVERIFIED,
+                place: 0,
+            },
         };
     }
     let mut free = [0u8, 0, 0, 0, 1, 1, 1, 1, 1, 1, 1];
@@ -261,8 +261,7 @@ pub fn read(
         licensed: false,
         rank: top,
         known: 0,
-        count,
-        end,
+        index,
         size,
         against: clear(),
         besides: clear(),

@@ -1,8 +1,8 @@
 // What promises the same as another function of this crate, and is here for speed alone.
 use crate::Solution;
 use crate::machine::TOP;
-use crate::machine::number_at;
 use crate::machine::run;
+use crate::machine::value_at;
 use crate::machine::wide;
 use crate::solve_in;
 use limits::MOST_ASSERTIONS;
@@ -60,7 +60,7 @@ pub(crate) fn worth_of(code: &[u16], ranks: &[u8], top: u8, stack: &mut [u8]) ->
     if code.len() == 1 {
         if 0 < stack.len() {
             if code[0] < TOP {
-                return number_at(ranks, wide(code[0]));
+                return value_at(ranks, wide(code[0]));
             }
         }
     }

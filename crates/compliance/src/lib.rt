@@ -12,7 +12,7 @@ use fast::solve_few;
 use limits::MOST_ASSERTIONS;
 use limits::MOST_LICENSEES;
 use limits::MOST_PRINCIPALS;
-use machine::number_at;
+use machine::value_at;
 use reach::find_reach;
 use rounds::settle;
 use words::count;
@@ -63,7 +63,7 @@ pub(crate) fn solve_in(
         stack,
         reached,
     );
-    let rank = number_at(ranks, 0);
+    let rank = value_at(ranks, 0);
     Solution {
         rank,
         rounds,

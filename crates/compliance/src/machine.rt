@@ -33,8 +33,8 @@ pub(crate) fn wide(x: u16) -> usize
     x as usize
 }
 
-// The number at i, and 0 past the end.
-pub(crate) fn number_at(s: &[u8], i: usize) -> u8
+// The value at i, and 0 past the end.
+pub(crate) fn value_at(s: &[u8], i: usize) -> u8
     ensures { λ r. ⌜ r ≡ getD (now (s .entry)) i 0 ⌝ }
 {
     if i < s.len() {
@@ -91,7 +91,7 @@ fn step(op: u16, ranks: &[u8], top: u8, stack: &mut [u8], sp: usize) -> usize
     ensures { λ r. ⌜ Live (now (stack .exit)) r (stepped (now (ranks .entry)) top (length (now (stack .entry))) op (take sp (now (stack .entry)))) ⌝ }
 {
     if op < TOP {
-        return push(stack, sp, number_at(ranks, wide(op)));
+        return push(stack, sp, value_at(ranks, wide(op)));
     }
     if op == TOP {
         return push(stack, sp, top);

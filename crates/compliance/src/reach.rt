@@ -1,7 +1,7 @@
 // The reach: POLICY and, repeatedly, the licensees of assertions whose authorizer is in it. One bit for each of n principals.
 use crate::machine::TOP;
 use crate::machine::index_at;
-use crate::machine::number_at;
+use crate::machine::value_at;
 use crate::machine::wide;
 use crate::tables::program;
 use crate::words::flag;
@@ -51,7 +51,7 @@ fn reached_at(n: usize, reach: &[u64], i: usize) -> u64
 fn is_open(authors: &[u16], done: &[u8], n: usize, reach: &[u64], j: usize) -> bool
     ensures { λ r. ⌜ r ≡ openAt (now (authors .entry)) (now (done .entry)) (flagsIn n (now (reach .entry))) j ⌝ }
 {
-    if number_at(done, j) == 0 {
+    if value_at(done, j) == 0 {
         return reached_at(n, reach, index_at(authors, j)) == 1;
     }
     false

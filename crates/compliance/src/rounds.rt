@@ -3,7 +3,7 @@ use crate::fast::worth_of;
 use crate::highest::greater;
 use crate::highest::lesser;
 use crate::machine::index_at;
-use crate::machine::number_at;
+use crate::machine::value_at;
 use crate::tables::program;
 use crate::words::flag;
 ghost use mathlib.Core.Path.{_≡_};
@@ -24,7 +24,7 @@ fn granted(
     ensures { λ r. ⌜ r ≡ grantedOf (now (conds .entry)) (now (ends .entry)) (now (code .entry)) top (length (now (stack .entry))) (now (ranks .entry)) j ⌝ }
 {
     let licensed = worth_of(program(ends, code, j), ranks, top, stack);
-    lesser(number_at(conds, j), licensed)
+    lesser(value_at(conds, j), licensed)
 }
 
 // Raises the rank at i to v. Past the end there is none.
@@ -53,7 +53,7 @@ fn relax(
 {
     let p = index_at(authors, j);
     if flag(reach, p) == 1 {
-        if number_at(next, p) < number_at(conds, j) {
+        if value_at(next, p) < value_at(conds, j) {
             let v = granted(conds, ends, code, top, ranks, stack, j);
             raise(next, p, v);
         }
@@ -97,7 +97,7 @@ fn direct_rank(direct: &[u8], reach: &[u64], top: u8, i: usize) -> u8
     ensures { λ r. ⌜ r ≡ directAt (now (direct .entry)) (flagsOf (now (reach .entry))) top i ⌝ }
 {
     let f = flag(reach, i);
-    let d = number_at(direct, i);
+    let d = value_at(direct, i);
     if f == 1 {
         if d == 1 {
             return top;

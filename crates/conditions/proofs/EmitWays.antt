@@ -15,9 +15,11 @@ use Rattle.syntax.specs.Parsed.{refusal}
 use Rattle.conditions.specs.Working.Numbered.{TEST, TEXT, TRUE, fits}
 use Rattle.conditions.specs.Working.Numbered.{operandOf, resultOf, prefixOf}
 use Rattle.conditions.specs.Word.{nextAt}
-use Rattle.conditions.specs.Working.Emit.{slotOf, above, put, settledTop, settled, Ran, ran, refused, finishAt, endedAt, valuedAt, closedAt}
+use Rattle.conditions.specs.Working.Emit.{slotOf, above, put, wordTop, wordWritten, Ran, ran, refused, finishAt, endedAt, valuedAt, closedAt}
 use Rattle.conditions.specs.declared.emit.Out.{Out}
 use Rattle.conditions.specs.declared.emit.Out.the-variants.{Found, Aside}
+use Rattle.syntax.specs.Working.Faults.{misplacedAt}
+use Rattle.syntax.specs.declared.fault.Fault.{Fault}
 
 module _ (op at : ℕ) where
   pub slot-far : 65536 ≤ at → 0 ≡ slotOf op at
@@ -51,41 +53,41 @@ module _ (m : List ℕ) (top op at : ℕ) where
   push-set x h e = simp (lt-leb _ _ h, e)
 
 module _ (m : List ℕ) (top wanted sort place : ℕ) where
-  pub settle-top : sort < TRUE → top ≡ settledTop m top sort
-  unfolding settledTop
-  settle-top h = simp (lt-ltb _ _ h)
+  pub write-word-top : sort < TRUE → top ≡ wordTop m top sort
+  unfolding wordTop
+  write-word-top h = simp (lt-ltb _ _ h)
 
-  pub settle-kept : sort < TRUE → m ≡ settled m top wanted sort place
-  unfolding settled
-  settle-kept h = simp (lt-ltb _ _ h)
+  pub write-word-kept : sort < TRUE → m ≡ wordWritten m top wanted sort place
+  unfolding wordWritten
+  write-word-kept h = simp (lt-ltb _ _ h)
 
   module _ (h : TRUE ≤ sort) where
-    pub settle-above : (r : ℕ) → r ≡ above m top → r ≡ settledTop m top sort
-    unfolding settledTop
-    settle-above r e = simp (le-ltb _ _ h) e
+    pub write-word-above : (r : ℕ) → r ≡ above m top → r ≡ wordTop m top sort
+    unfolding wordTop
+    write-word-above r e = simp (le-ltb _ _ h) e
 
     module _ (b : List ℕ) where
-      pub settle-name : wanted ≡ TEXT → b ≡ put m top Op.NAME place → b ≡ settled m top wanted sort place
-      unfolding settled
-      settle-name w e = simp (le-ltb _ _ h, eq-eqb _ _ w) e
+      pub write-word-name : wanted ≡ TEXT → b ≡ put m top Op.NAME place → b ≡ wordWritten m top wanted sort place
+      unfolding wordWritten
+      write-word-name w e = simp (le-ltb _ _ h, eq-eqb _ _ w) e
 
-      pub settle-true : (wanted ≡ TEXT → ⊥) → sort ≡ TRUE → b ≡ put m top Op.TRUE 0 → b ≡ settled m top wanted sort place
-      unfolding settled
-      settle-true w t e = simp (le-ltb _ _ h, ne-eqb _ _ w, eq-eqb _ _ t) e
+      pub write-word-true : (wanted ≡ TEXT → ⊥) → sort ≡ TRUE → b ≡ put m top Op.TRUE 0 → b ≡ wordWritten m top wanted sort place
+      unfolding wordWritten
+      write-word-true w t e = simp (le-ltb _ _ h, ne-eqb _ _ w, eq-eqb _ _ t) e
 
-      pub settle-false : (wanted ≡ TEXT → ⊥) → (sort ≡ TRUE → ⊥) → b ≡ put m top Op.FALSE 0 → b ≡ settled m top wanted sort place
-      unfolding settled
-      settle-false w t e = simp (le-ltb _ _ h, ne-eqb _ _ w, ne-eqb _ _ t) e
+      pub write-word-false : (wanted ≡ TEXT → ⊥) → (sort ≡ TRUE → ⊥) → b ≡ put m top Op.FALSE 0 → b ≡ wordWritten m top wanted sort place
+      unfolding wordWritten
+      write-word-false w t e = simp (le-ltb _ _ h, ne-eqb _ _ w, ne-eqb _ _ t) e
 
-pub settle-needed : (m : List ℕ) (top op sort place w : ℕ) (b : List ℕ) → w ≡ operandOf op → b ≡ settled m top w sort place → b ≡ settled m top (operandOf op) sort place
-settle-needed m top op sort place w b we be = be ∙ ap (λ (y : ℕ). settled m top y sort place) we
+pub write-word-needed : (m : List ℕ) (top op sort place w : ℕ) (b : List ℕ) → w ≡ operandOf op → b ≡ wordWritten m top w sort place → b ≡ wordWritten m top (operandOf op) sort place
+write-word-needed m top op sort place w b we be = be ∙ ap (λ (y : ℕ). wordWritten m top y sort place) we
 
-pub unexpected-made : (t : Token) (r : ℕ) → r ≡ refusal (t .kind) → Aside r (t .start) ≡ refused t
+pub unexpected-made : (t : Token) (f : Fault) → f ≡ misplacedAt t → Aside f ≡ refused t
 unfolding refused
-unexpected-made t r e = simp e
+unexpected-made t f e = simp e
 
 module _ (m : List ℕ) (top op sort place : ℕ) (next : Token) (w : ℕ) (we : w ≡ operandOf op) (f : Bool) (fe : f ≡ fits w sort) where
-  pub finish-made : f ≡ true → (u : ℕ) (b : List ℕ) → u ≡ settledTop m top sort → b ≡ settled m top (operandOf op) sort place
+  pub finish-made : f ≡ true → (u : ℕ) (b : List ℕ) → u ≡ wordTop m top sort → b ≡ wordWritten m top (operandOf op) sort place
       → (v x : ℕ) (c : List ℕ) → v ≡ above b u → c ≡ put b u op 0 → x ≡ resultOf op
       → ran (Found x 0 v next) c ≡ finishAt m top op sort place next
   unfolding finishAt
@@ -102,7 +104,7 @@ module _ (m : List ℕ) (top op sort place : ℕ) (next : Token) (h : sort < TRU
 
   pub finish-quick : sort ≡ w → (v x : ℕ) (c : List ℕ) → v ≡ above m top → c ≡ put m top op 0 → x ≡ resultOf op
       → ran (Found x 0 v (token (next .kind) (next .start) (next .end))) c ≡ finishAt m top op sort place next
-  unfolding finishAt fits settled settledTop
+  unfolding finishAt fits wordWritten wordTop
   finish-quick e v x c ve ce xe = simp (sym we, eq-eqb _ _ e, lt-ltb _ _ h, sym ve, sym ce, sym xe)
 
 module _ (s m : List ℕ) (top op : ℕ) (t : Token) where
@@ -116,7 +118,7 @@ module _ (s m : List ℕ) (top op : ℕ) (t : Token) where
   ended-made h u b n ue be ne = simp (eq-eqb _ _ h, sym ue, sym be, sym ne)
 
 module _ (s m : List ℕ) (top sort place : ℕ) (t : Token) (f : Bool) (fe : f ≡ fits TEXT sort) where
-  pub valued-made : f ≡ true → (u : ℕ) (b : List ℕ) → u ≡ settledTop m top sort → b ≡ settled m top TEXT sort place
+  pub valued-made : f ≡ true → (u : ℕ) (b : List ℕ) → u ≡ wordTop m top sort → b ≡ wordWritten m top TEXT sort place
       → (r : Ran) → r ≡ endedAt s b u Op.VALUED t → r ≡ valuedAt s m top sort place t
   unfolding valuedAt
   valued-made h u b ue be r e = simp (sym fe, h, sym ue, sym be) e

@@ -12,11 +12,14 @@ use Rattle.lexical.specs.Kind
 use Rattle.lexical.specs.declared.token.Token.{Token}
 use Rattle.conditions.specs.Working.Numbered
 use Rattle.conditions.specs.Word.{nextAt}
-use Rattle.conditions.specs.Working.Emit.{Ran, ran, settledTop, settled, refused, finishAt, closedAt}
+use Rattle.conditions.specs.Working.Emit.{Ran, ran, wordTop, wordWritten, refused, finishAt, closedAt}
 use Rattle.conditions.specs.Working.Leaf.{leafRead}
 use Rattle.conditions.specs.Working.Expression.{exprAt, operandAt, prefixedAt, bracketedAt, chainAt, joinedAt, exprBody, operandBody, prefixedBody, bracketedBody, joinedBody, chainLoop, chainRest}
 use Rattle.conditions.specs.declared.emit.Out.{Out}
 use Rattle.conditions.specs.declared.emit.Out.the-variants.{Found, Aside}
+use Rattle.syntax.specs.Working.Faults.{against}
+use Rattle.syntax.specs.declared.fault.Fault.{Fault}
+use Rattle.limits.specs.Limits.{mostBrackets, mostPrefixes}
 
 less : (d : ℕ) → suc d - 1 ≡ d
 less d = omega arith
@@ -65,34 +68,34 @@ module _ (s m : List ℕ) (top nest : ℕ) where
       ap (λ (k : ℕ). chainLoop (λ m top op nest sort place at. joinedAt k s m top op nest sort place at) s m top level nest sort place t) (less d)
 
 module _ (d : ℕ) (s m : List ℕ) (top : ℕ) where
-  pub expr-0 : (level want row nest : ℕ) (t : Token) → d ≡ 0 → ran (Aside 0 (t .start)) m ≡ exprAt d s m top level want row nest t
+  pub expr-0 : (level want row nest : ℕ) (t : Token) → d ≡ 0 → ran (Aside (against 0 (t .start))) m ≡ exprAt d s m top level want row nest t
   unfolding exprAt
   expr-0 level want row nest t z = rw z
 
-  pub operand-0 : (want row nest : ℕ) (t : Token) → d ≡ 0 → ran (Aside 0 (t .start)) m ≡ operandAt d s m top want row nest t
+  pub operand-0 : (want row nest : ℕ) (t : Token) → d ≡ 0 → ran (Aside (against 0 (t .start))) m ≡ operandAt d s m top want row nest t
   unfolding exprAt
   operand-0 want row nest t z = rw z
 
-  pub prefixed-0 : (op want row nest : ℕ) (t : Token) → d ≡ 0 → ran (Aside 0 (t .start)) m ≡ prefixedAt d s m top op want row nest t
+  pub prefixed-0 : (op want row nest : ℕ) (t : Token) → d ≡ 0 → ran (Aside (against 0 (t .start))) m ≡ prefixedAt d s m top op want row nest t
   unfolding exprAt
   prefixed-0 op want row nest t z = rw z
 
-  pub bracketed-0 : (want nest : ℕ) (t : Token) → d ≡ 0 → ran (Aside 0 (t .start)) m ≡ bracketedAt d s m top want nest t
+  pub bracketed-0 : (want nest : ℕ) (t : Token) → d ≡ 0 → ran (Aside (against 0 (t .start))) m ≡ bracketedAt d s m top want nest t
   unfolding exprAt
   bracketed-0 want nest t z = rw z
 
-  pub joined-0 : (op nest sort place at : ℕ) → d ≡ 0 → ran (Aside 0 at) m ≡ joinedAt d s m top op nest sort place at
+  pub joined-0 : (op nest sort place at : ℕ) → d ≡ 0 → ran (Aside (against 0 at)) m ≡ joinedAt d s m top op nest sort place at
   unfolding exprAt
   joined-0 op nest sort place at z = rw z
 
-  pub chain-0 : (level nest sort place : ℕ) (t : Token) → d ≡ 0 → ran (Aside 0 (t .start)) m ≡ chainAt d s m top level nest sort place t
+  pub chain-0 : (level nest sort place : ℕ) (t : Token) → d ≡ 0 → ran (Aside (against 0 (t .start))) m ≡ chainAt d s m top level nest sort place t
   unfolding exprAt
   chain-0 level nest sort place t z = rw z
 
 module _ (d : ℕ) (s m : List ℕ) (top level want row nest : ℕ) (t : Token) (nz : d ≡ 0 → ⊥)
     (r : Out) (b : List ℕ) (re : ran r b ≡ operandAt (d - 1) s m top want row nest t) where
-  pub expr-aside : (x p : ℕ) → r ≡ Aside x p → ran (Aside x p) b ≡ exprAt d s m top level want row nest t
-  expr-aside x p e = simp (expr-unfold s m top nest d nz, sym re, e)
+  pub expr-aside : (f : Fault) → r ≡ Aside f → ran (Aside f) b ≡ exprAt d s m top level want row nest t
+  expr-aside f e = simp (expr-unfold s m top nest d nz, sym re, e)
 
   pub expr-found : (x p u : ℕ) (n : Token) → r ≡ Found x p u n → (y : Ran) → y ≡ chainAt (d - 1) s b u level nest x p n → y ≡ exprAt d s m top level want row nest t
   expr-found x p u n e y ye = simp (expr-unfold s m top nest d nz, sym re, e) ye
@@ -113,34 +116,34 @@ module _ (d : ℕ) (s m : List ℕ) (top want row nest : ℕ) (t : Token) (nz : 
       operand-leaf h ye = simp (operand-unfold s m top nest d nz, sym ae, at, sym oe, eq-eqb _ _ on, ne-eqb _ _ h) ye
 
 module _ (d : ℕ) (s m : List ℕ) (top op want row nest : ℕ) (t : Token) (nz : d ≡ 0 → ⊥) where
-  pub prefixed-row : 16 ≤ row → ran (Aside 7 (t .start)) m ≡ prefixedAt d s m top op want row nest t
+  pub prefixed-row : mostPrefixes ≤ row → ran (Aside (against 7 (t .start))) m ≡ prefixedAt d s m top op want row nest t
   prefixed-row h = simp (prefixed-unfold s m top nest d nz, le-leb _ _ h)
 
-  module _ (h : row < 16) (n : Token) (ne : n ≡ nextAt s (t .end)) (l w : ℕ) (le : l ≡ Numbered.operandLevel op) (we : w ≡ Numbered.operandWant op want)
+  module _ (h : row < mostPrefixes) (n : Token) (ne : n ≡ nextAt s (t .end)) (l w : ℕ) (le : l ≡ Numbered.operandLevel op) (we : w ≡ Numbered.operandWant op want)
       (r : Out) (b : List ℕ) (re : ran r b ≡ exprAt (d - 1) s m top l w (row + 1) nest n) where
-    pub prefixed-aside : (x p : ℕ) → r ≡ Aside x p → ran (Aside x p) b ≡ prefixedAt d s m top op want row nest t
-    prefixed-aside x p e = simp (prefixed-unfold s m top nest d nz, lt-leb _ _ h, sym ne, sym le, sym we, sym re, e)
+    pub prefixed-aside : (f : Fault) → r ≡ Aside f → ran (Aside f) b ≡ prefixedAt d s m top op want row nest t
+    prefixed-aside f e = simp (prefixed-unfold s m top nest d nz, lt-leb _ _ h, sym ne, sym le, sym we, sym re, e)
 
     pub prefixed-found : (x p u : ℕ) (k : Token) → r ≡ Found x p u k → (y : Ran) → y ≡ finishAt b u (Numbered.prefixOf op x) x p k → y ≡ prefixedAt d s m top op want row nest t
     prefixed-found x p u k e y ye = simp (prefixed-unfold s m top nest d nz, lt-leb _ _ h, sym ne, sym le, sym we, sym re, e) ye
 
 module _ (d : ℕ) (s m : List ℕ) (top want nest : ℕ) (t : Token) (nz : d ≡ 0 → ⊥) where
-  pub bracketed-full : 16 ≤ nest → ran (Aside 7 (t .start)) m ≡ bracketedAt d s m top want nest t
+  pub bracketed-full : mostBrackets ≤ nest → ran (Aside (against 7 (t .start))) m ≡ bracketedAt d s m top want nest t
   bracketed-full h = simp (bracketed-unfold s m top nest d nz, le-leb _ _ h)
 
-  module _ (h : nest < 16) (n : Token) (ne : n ≡ nextAt s (t .end)) (l : ℕ) (le : l ≡ Numbered.insideLevel want)
+  module _ (h : nest < mostBrackets) (n : Token) (ne : n ≡ nextAt s (t .end)) (l : ℕ) (le : l ≡ Numbered.insideLevel want)
       (r : Out) (b : List ℕ) (re : ran r b ≡ exprAt (d - 1) s m top l want 0 (nest + 1) n) where
-    pub bracketed-aside : (x p : ℕ) → r ≡ Aside x p → ran (Aside x p) b ≡ bracketedAt d s m top want nest t
-    bracketed-aside x p e = simp (bracketed-unfold s m top nest d nz, lt-leb _ _ h, sym ne, sym le, sym re, e)
+    pub bracketed-aside : (f : Fault) → r ≡ Aside f → ran (Aside f) b ≡ bracketedAt d s m top want nest t
+    bracketed-aside f e = simp (bracketed-unfold s m top nest d nz, lt-leb _ _ h, sym ne, sym le, sym re, e)
 
     pub bracketed-found : (x p u : ℕ) (k : Token) → r ≡ Found x p u k → (o : Out) → o ≡ closedAt s x p u k → ran o b ≡ bracketedAt d s m top want nest t
     bracketed-found x p u k e o oe = simp (bracketed-unfold s m top nest d nz, lt-leb _ _ h, sym ne, sym le, sym re, e, oe)
 
 module _ (d : ℕ) (s m : List ℕ) (top op nest sort place at : ℕ) (nz : d ≡ 0 → ⊥)
-    (q : ℕ) (c : List ℕ) (qe : q ≡ settledTop m top sort) (ce : c ≡ settled m top (Numbered.operandOf op) sort place) (n : Token) (ne : n ≡ nextAt s at)
+    (q : ℕ) (c : List ℕ) (qe : q ≡ wordTop m top sort) (ce : c ≡ wordWritten m top (Numbered.operandOf op) sort place) (n : Token) (ne : n ≡ nextAt s at)
     (l v : ℕ) (le : l ≡ Numbered.rightLevel op) (ve : v ≡ Numbered.rightWant op) (r : Out) (b : List ℕ) (re : ran r b ≡ exprAt (d - 1) s c q l v 0 nest n) where
-  pub joined-aside : (x p : ℕ) → r ≡ Aside x p → ran (Aside x p) b ≡ joinedAt d s m top op nest sort place at
-  joined-aside x p e = simp (joined-unfold s m top nest d nz, sym qe, sym ce, sym ne, sym le, sym ve, sym re, e)
+  pub joined-aside : (f : Fault) → r ≡ Aside f → ran (Aside f) b ≡ joinedAt d s m top op nest sort place at
+  joined-aside f e = simp (joined-unfold s m top nest d nz, sym qe, sym ce, sym ne, sym le, sym ve, sym re, e)
 
   pub joined-found : (x p u : ℕ) (k : Token) → r ≡ Found x p u k → (y : Ran) → y ≡ finishAt b u op x p k → y ≡ joinedAt d s m top op nest sort place at
   joined-found x p u k e y ye = simp (joined-unfold s m top nest d nz, sym qe, sym ce, sym ne, sym le, sym ve, sym re, e) ye
@@ -164,16 +167,16 @@ module _ (k : ℕ) (s m : List ℕ) (top level nest sort place : ℕ) (t : Token
 
     module _ (ff : f ≡ false) where
       module _ (r : Out) (b : List ℕ) (re : ran r b ≡ joinedAt k s m top o nest sort place (t .end)) where
-        pub chain-aside : (x p : ℕ) → r ≡ Aside x p → ran (Aside x p) b ≡ a
+        pub chain-aside : (w : Fault) → r ≡ Aside w → ran (Aside w) b ≡ a
         unfolding chainRest
-        chain-aside x p e =
-            sym (loop-done _ _ _ (t, sort, place, top, m) (ran (Aside x p) b) (simp (lt-leb _ _ in-s, sym oe, bound level o f fe ff, sym re, e))) ∙ inv
+        chain-aside w e =
+            sym (loop-done _ _ _ (t, sort, place, top, m) (ran (Aside w) b) (simp (lt-leb _ _ in-s, sym oe, bound level o f fe ff, sym re, e))) ∙ inv
 
         module _ (x p u : ℕ) (n : Token) (e : r ≡ Found x p u n) where
-          pub chain-stuck : n .start ≤ t .start → ran (Aside 0 (t .start)) b ≡ a
+          pub chain-stuck : n .start ≤ t .start → ran (Aside (against 0 (t .start))) b ≡ a
           unfolding chainRest
           chain-stuck h =
-              sym (loop-done _ _ _ (t, sort, place, top, m) (ran (Aside 0 (t .start)) b) (simp (lt-leb _ _ in-s, sym oe, bound level o f fe ff, sym re, e, le-leb _ _ h))) ∙ inv
+              sym (loop-done _ _ _ (t, sort, place, top, m) (ran (Aside (against 0 (t .start))) b) (simp (lt-leb _ _ in-s, sym oe, bound level o f fe ff, sym re, e, le-leb _ _ h))) ∙ inv
 
           pub chain-more : t .start < n .start → chainRest k s b u level nest x p n ≡ a
           unfolding chainRest

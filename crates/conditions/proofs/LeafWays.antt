@@ -19,6 +19,8 @@ use Rattle.conditions.specs.Working.Emit.{Ran, ran, above, put}
 use Rattle.conditions.specs.Working.Leaf.{literalRead, nameRead, digitsRead, floatRead, leafRead}
 use Rattle.conditions.specs.declared.emit.Out.{Out}
 use Rattle.conditions.specs.declared.emit.Out.the-variants.{Found, Aside}
+use Rattle.syntax.specs.Working.Faults.{against}
+use Rattle.limits.specs.Limits.{mostFloat, mostLiteral}
 
 module _ (s : List ℕ) (want start end : ℕ) where
   pub word-settled : (want ≡ ANY → ⊥) → TEXT ≡ wordSort s want start end
@@ -40,18 +42,18 @@ module _ (s : List ℕ) (want start end : ℕ) where
       word-other h = simp (eq-eqb _ _ w, sym te, tn, sym fe, h)
 
 module _ (s m : List ℕ) (top : ℕ) (t : Token) where
-  module _ (f : Bool) (fe : f ≡ leb (length (decodedAt s (t .start))) 2048) where
+  module _ (f : Bool) (fe : f ≡ leb (length (decodedAt s (t .start))) mostLiteral) where
     pub literal-made : f ≡ true → (u : ℕ) (b : List ℕ) (x : Token) → u ≡ above m top → b ≡ put m top Op.LITERAL (t .start) → x ≡ nextAt s (t .end)
         → ran (Found TEXT 0 u x) b ≡ literalRead s m top t
     unfolding literalRead
-    literal-made h u b x ue be xe = simp (le-ltb _ _ (leb-true (length (decodedAt s (t .start))) 2048 (sym fe ∙ h)), sym ue, sym be, sym xe)
+    literal-made h u b x ue be xe = simp (le-ltb _ _ (leb-true (length (decodedAt s (t .start))) mostLiteral (sym fe ∙ h)), sym ue, sym be, sym xe)
 
-    pub literal-long : f ≡ false → ran (Aside 7 (t .start)) m ≡ literalRead s m top t
+    pub literal-long : f ≡ false → ran (Aside (against 7 (t .start))) m ≡ literalRead s m top t
     unfolding literalRead
-    literal-long h = simp (lt-ltb _ _ (leb-false (length (decodedAt s (t .start))) 2048 (sym fe ∙ h)))
+    literal-long h = simp (lt-ltb _ _ (leb-false (length (decodedAt s (t .start))) mostLiteral (sym fe ∙ h)))
 
   module _ (v : Bool) (ve : v ≡ leb LIMIT (numberAt s (t .start) (t .end))) where
-    pub digits-large : v ≡ true → ran (Aside 5 (t .start)) m ≡ digitsRead s m top t
+    pub digits-large : v ≡ true → ran (Aside (against 5 (t .start))) m ≡ digitsRead s m top t
     unfolding digitsRead
     digits-large h = simp (sym ve, h)
 
@@ -69,11 +71,11 @@ module _ (s m : List ℕ) (top : ℕ) (t : Token) where
     unfolding nameRead
     name-made h u b ue be = simp (sym we, eq-eqb _ _ h, sym ue, sym be, sym xe)
 
-pub wide-none : (start end : ℕ) → end ≤ start → false ≡ ltb 19 (end - start)
-wide-none start end h = sym (le-ltb 19 (end - start) (omega (arith, h)))
+pub wide-none : (start end : ℕ) → end ≤ start → false ≡ ltb mostFloat (end - start)
+wide-none start end h = sym (le-ltb mostFloat (end - start) (omega (arith, h)))
 
-module _ (s m : List ℕ) (top : ℕ) (t : Token) (v : Bool) (ve : v ≡ ltb 19 (t .end - t .start)) where
-  pub float-wide : v ≡ true → ran (Aside 7 (t .start)) m ≡ floatRead s m top t
+module _ (s m : List ℕ) (top : ℕ) (t : Token) (v : Bool) (ve : v ≡ ltb mostFloat (t .end - t .start)) where
+  pub float-wide : v ≡ true → ran (Aside (against 7 (t .start))) m ≡ floatRead s m top t
   unfolding floatRead
   float-wide h = simp (sym ve, h)
 

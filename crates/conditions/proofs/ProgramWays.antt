@@ -13,12 +13,15 @@ use Rattle.syntax.specs.Op
 use Rattle.conditions.specs.Table.{stops}
 use Rattle.conditions.specs.Working.Numbered.{ANY, TEST, TEXT, fits}
 use Rattle.conditions.specs.Word.{nextAt}
-use Rattle.conditions.specs.Working.Emit.{Ran, ran, above, put, settledTop, settled, refused, endedAt, valuedAt}
+use Rattle.conditions.specs.Working.Emit.{Ran, ran, above, put, wordTop, wordWritten, refused, endedAt, valuedAt}
 use Rattle.conditions.specs.Working.Expression.{exprAt}
 use Rattle.conditions.specs.Program.{DEPTH}
 use Rattle.conditions.specs.Working.Program.{clauseAt, testedAt, valueAt, nestedAt, programAt, clauseBody, testedBody, valueBody, nestedBody, programBody, clausesAt, clausesLoop, clausesRest, lastAt, conditionsAt}
 use Rattle.conditions.specs.declared.emit.Out.{Out}
 use Rattle.conditions.specs.declared.emit.Out.the-variants.{Found, Aside}
+use Rattle.syntax.specs.Working.Faults.{against}
+use Rattle.syntax.specs.declared.fault.Fault.{Fault}
+use Rattle.limits.specs.Limits.{mostBrackets}
 
 less : (d : ℕ) → suc d - 1 ≡ d
 less d = omega arith
@@ -60,34 +63,34 @@ module _ (s m : List ℕ) (top nest : ℕ) where
   clauses-start (suc d) nz t = ap (λ (k : ℕ). clausesLoop (λ m top nest t. clauseAt k s m top nest t) s m top nest t) (less d)
 
 module _ (d : ℕ) (s m : List ℕ) (top nest : ℕ) (t : Token) (z : d ≡ 0) where
-  pub clause-0 : ran (Aside 0 (t .start)) m ≡ clauseAt d s m top nest t
+  pub clause-0 : ran (Aside (against 0 (t .start))) m ≡ clauseAt d s m top nest t
   unfolding clauseAt
   clause-0 = rw z
 
-  pub tested-0 : (sort place : ℕ) → ran (Aside 0 (t .start)) m ≡ testedAt d s m top nest sort place t
+  pub tested-0 : (sort place : ℕ) → ran (Aside (against 0 (t .start))) m ≡ testedAt d s m top nest sort place t
   unfolding clauseAt
   tested-0 sort place = rw z
 
-  pub value-0 : ran (Aside 0 (t .start)) m ≡ valueAt d s m top nest t
+  pub value-0 : ran (Aside (against 0 (t .start))) m ≡ valueAt d s m top nest t
   unfolding clauseAt
   value-0 = rw z
 
-  pub nested-0 : ran (Aside 0 (t .start)) m ≡ nestedAt d s m top nest t
+  pub nested-0 : ran (Aside (against 0 (t .start))) m ≡ nestedAt d s m top nest t
   unfolding clauseAt
   nested-0 = rw z
 
-  pub program-0 : ran (Aside 0 (t .start)) m ≡ programAt d s m top nest t
+  pub program-0 : ran (Aside (against 0 (t .start))) m ≡ programAt d s m top nest t
   unfolding clauseAt
   program-0 = rw z
 
-  pub clauses-0 : ran (Aside 0 (t .start)) m ≡ clausesAt d s m top nest t
+  pub clauses-0 : ran (Aside (against 0 (t .start))) m ≡ clausesAt d s m top nest t
   unfolding clauseAt
   clauses-0 = rw z
 
 module _ (d : ℕ) (s m : List ℕ) (top nest : ℕ) (t : Token) (nz : d ≡ 0 → ⊥) where
   module _ (r : Out) (b : List ℕ) (re : ran r b ≡ exprAt (d - 1) s m top 0 ANY 0 nest t) where
-    pub clause-aside : (x p : ℕ) → r ≡ Aside x p → ran (Aside x p) b ≡ clauseAt d s m top nest t
-    clause-aside x p e = simp (clause-unfold s m top nest d nz, sym re, e)
+    pub clause-aside : (f : Fault) → r ≡ Aside f → ran (Aside f) b ≡ clauseAt d s m top nest t
+    clause-aside f e = simp (clause-unfold s m top nest d nz, sym re, e)
 
     pub clause-found : (x p u : ℕ) (n : Token) → r ≡ Found x p u n → (y : Ran) → y ≡ testedAt (d - 1) s b u nest x p n → y ≡ clauseAt d s m top nest t
     clause-found x p u n e y ye = simp (clause-unfold s m top nest d nz, sym re, e) ye
@@ -96,7 +99,7 @@ module _ (d : ℕ) (s m : List ℕ) (top nest : ℕ) (t : Token) (nz : d ≡ 0 �
     pub tested-not : f ≡ false → (r : Out) → r ≡ refused t → ran r m ≡ testedAt d s m top nest sort place t
     tested-not h r e = simp (tested-unfold s m top nest d nz, sym fe, h, e)
 
-    module _ (ft : f ≡ true) (u : ℕ) (b : List ℕ) (ue : u ≡ settledTop m top sort) (be : b ≡ settled m top TEST sort place) (y : Ran) where
+    module _ (ft : f ≡ true) (u : ℕ) (b : List ℕ) (ue : u ≡ wordTop m top sort) (be : b ≡ wordWritten m top TEST sort place) (y : Ran) where
       pub tested-value : t .kind ≡ Kind.ARROW → (n : Token) → n ≡ nextAt s (t .end) → y ≡ valueAt (d - 1) s b u nest n → y ≡ testedAt d s m top nest sort place t
       tested-value h n ne ye = simp (tested-unfold s m top nest d nz, sym fe, ft, sym ue, sym be, eq-eqb _ _ h, sym ne) ye
 
@@ -107,18 +110,18 @@ module _ (d : ℕ) (s m : List ℕ) (top nest : ℕ) (t : Token) (nz : d ≡ 0 �
   value-nested h y ye = simp (value-unfold s m top nest d nz, eq-eqb _ _ h) ye
 
   module _ (h : t .kind ≡ Kind.OPEN-BRACE → ⊥) (r : Out) (b : List ℕ) (re : ran r b ≡ exprAt (d - 1) s m top 3 TEXT 0 nest t) where
-    pub value-aside : (x p : ℕ) → r ≡ Aside x p → ran (Aside x p) b ≡ valueAt d s m top nest t
-    value-aside x p e = simp (value-unfold s m top nest d nz, ne-eqb _ _ h, sym re, e)
+    pub value-aside : (f : Fault) → r ≡ Aside f → ran (Aside f) b ≡ valueAt d s m top nest t
+    value-aside f e = simp (value-unfold s m top nest d nz, ne-eqb _ _ h, sym re, e)
 
     pub value-found : (x p u : ℕ) (n : Token) → r ≡ Found x p u n → (y : Ran) → y ≡ valuedAt s b u x p n → y ≡ valueAt d s m top nest t
     value-found x p u n e y ye = simp (value-unfold s m top nest d nz, ne-eqb _ _ h, sym re, e) ye
 
-  pub nested-full : 16 ≤ nest → ran (Aside 7 (t .start)) m ≡ nestedAt d s m top nest t
+  pub nested-full : mostBrackets ≤ nest → ran (Aside (against 7 (t .start))) m ≡ nestedAt d s m top nest t
   nested-full h = simp (nested-unfold s m top nest d nz, le-leb _ _ h)
 
-  module _ (h : nest < 16) (k : Token) (ke : k ≡ nextAt s (t .end)) (r : Out) (b : List ℕ) (re : ran r b ≡ programAt (d - 1) s m top (nest + 1) k) where
-    pub nested-aside : (x p : ℕ) → r ≡ Aside x p → ran (Aside x p) b ≡ nestedAt d s m top nest t
-    nested-aside x p e = simp (nested-unfold s m top nest d nz, lt-leb _ _ h, sym ke, sym re, e)
+  module _ (h : nest < mostBrackets) (k : Token) (ke : k ≡ nextAt s (t .end)) (r : Out) (b : List ℕ) (re : ran r b ≡ programAt (d - 1) s m top (nest + 1) k) where
+    pub nested-aside : (f : Fault) → r ≡ Aside f → ran (Aside f) b ≡ nestedAt d s m top nest t
+    nested-aside f e = simp (nested-unfold s m top nest d nz, lt-leb _ _ h, sym ke, sym re, e)
 
     pub nested-found : (x p u : ℕ) (n : Token) → r ≡ Found x p u n → (j : Token) → j ≡ nextAt s (n .end) → (y : Ran) → y ≡ endedAt s b u Op.NESTED j → y ≡ nestedAt d s m top nest t
     nested-found x p u n e j je y ye = simp (nested-unfold s m top nest d nz, lt-leb _ _ h, sym ke, sym re, e, sym je) ye
@@ -147,26 +150,26 @@ module _ (k : ℕ) (s m : List ℕ) (top nest : ℕ) (t : Token) (a : Ran) (inv 
     clauses-stop h = sym (loop-done _ _ _ (t, top, m) _ (simp (lt-leb _ _ in-s, sym fe, h))) ∙ inv
 
     module _ (ff : f ≡ false) (r : Out) (b : List ℕ) (re : ran r b ≡ clauseAt k s m top nest t) where
-      pub clauses-aside : (x p : ℕ) → r ≡ Aside x p → ran (Aside x p) b ≡ a
+      pub clauses-aside : (f : Fault) → r ≡ Aside f → ran (Aside f) b ≡ a
       unfolding clausesRest
-      clauses-aside x p e = sym (loop-done _ _ _ (t, top, m) (ran (Aside x p) b) (simp (lt-leb _ _ in-s, sym fe, ff, sym re, e))) ∙ inv
+      clauses-aside f e = sym (loop-done _ _ _ (t, top, m) (ran (Aside f) b) (simp (lt-leb _ _ in-s, sym fe, ff, sym re, e))) ∙ inv
 
       module _ (x p u : ℕ) (n : Token) (e : r ≡ Found x p u n) where
-        pub clauses-stuck : n .start ≤ t .start → ran (Aside 0 (t .start)) b ≡ a
+        pub clauses-stuck : n .start ≤ t .start → ran (Aside (against 0 (t .start))) b ≡ a
         unfolding clausesRest
-        clauses-stuck h = sym (loop-done _ _ _ (t, top, m) (ran (Aside 0 (t .start)) b) (simp (lt-leb _ _ in-s, sym fe, ff, sym re, e, le-leb _ _ h))) ∙ inv
+        clauses-stuck h = sym (loop-done _ _ _ (t, top, m) (ran (Aside (against 0 (t .start))) b) (simp (lt-leb _ _ in-s, sym fe, ff, sym re, e, le-leb _ _ h))) ∙ inv
 
         pub clauses-more : t .start < n .start → clausesRest k s b u nest n ≡ a
         unfolding clausesRest
         clauses-more h = sym (loop-next _ _ _ (t, top, m) (n, u, b) (simp (lt-leb _ _ in-s, sym fe, ff, sym re, e, lt-leb _ _ h)) (omega arith)) ∙ inv
 
 module _ (s m : List ℕ) (top : ℕ) (t : Token) where
-  pub conditions-none : length m < top → ran (Aside 0 (t .start)) m ≡ conditionsAt s m top t
+  pub conditions-none : length m < top → ran (Aside (against 0 (t .start))) m ≡ conditionsAt s m top t
   unfolding conditionsAt
   conditions-none h = simp (lt-ltb _ _ h)
 
   module _ (h : top ≤ length m) (n : ℕ) (ne : n ≡ length s - t .start) where
-    pub conditions-short : length m - top < n → ran (Aside 0 (t .start)) m ≡ conditionsAt s m top t
+    pub conditions-short : length m - top < n → ran (Aside (against 0 (t .start))) m ≡ conditionsAt s m top t
     unfolding conditionsAt
     conditions-short k = simp (le-ltb _ _ h, sym ne, lt-ltb _ _ k)
 

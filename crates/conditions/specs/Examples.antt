@@ -4,7 +4,7 @@ use mathlib.Core.Bool.{true, false}
 use mathlib.Core.List.{List, [], _∷_}
 use Prim.Native.Nat.{ℕ}
 use Rattle.text.specs.Scan.{past}
-use Rattle.text.specs.Digits.{value, valueFrom}
+use Rattle.text.specs.Digits.{digitsAt, value, valueFrom}
 use Rattle.text.specs.Class.{inClass, isDigit, isWord, isLetter}
 use Rattle.text.specs.Loop.{loop, turns}
 use Rattle.lexical.specs.Kind
@@ -17,7 +17,7 @@ use Rattle.lexical.specs.Token.{token, widthOf, operatorAt, operatorToken, floa
 use Rattle.lexical.specs.Line.{visible, inLine, tokenAt}
 use Rattle.syntax.specs.Operator as Operator
 use Rattle.syntax.specs.Expr.{Expr, name, number, truth, decimal, unary, binary}
-use Rattle.syntax.specs.Code.{nameAt, numberAt, decimalAt}
+use Rattle.syntax.specs.Code.{nameAt, numberFrom, decimalAt}
 use Rattle.conditions.specs.Table
 use Rattle.conditions.specs.Word.{nextAt, wordSort}
 use Rattle.syntax.specs.Parsed.{Parsed, ok, aside}
@@ -31,7 +31,7 @@ powers = 32 ∷ 45 ∷ 50 ∷ 94 ∷ 51 ∷ 94 ∷ 50 ∷ 61 ∷ 61 ∷ 52 ∷ 5
 
 powers-group : readExpression 20 powers 0 Table.want-any 0 0 (nextAt powers 1)
     ≡ ok (part (Table.sorted Operator.a-test) (binary (Operator.comparison Operator.integers Operator.equal) (binary Operator.power (binary Operator.power (unary Operator.negate (number 2)) (number 3)) (number 2)) (number 4))) (token Kind.SEMICOLON 10 11)
-unfolding readExpression readLeaf readDigits settledTree applied loop turns tokenAt inLine visible tokenFrom numberToken floatEnd operatorToken operatorAt operatorKind equalPair pairOf markKind isOf widthOf classOf hasClass inRun past Number.numberAt Number.held Number.decimal numberAt value valueFrom inClass isDigit Table.allows Table.beginsString Table.beginsNumber Table.beginsFloat Table.prefixOperator Table.operandLevel Table.operandWant Table.fits Table.operator Table.numberOperator Table.textOperator Table.testOperator Table.comparison Table.binds Table.levelOf Table.rightLevel Table.rightWant
+unfolding readExpression readLeaf readDigits settledTree applied loop turns tokenAt inLine visible tokenFrom numberToken floatEnd operatorToken operatorAt operatorKind equalPair pairOf markKind isOf widthOf classOf hasClass inRun past Number.numberAt numberFrom digitsAt value valueFrom inClass isDigit Table.allows Table.beginsString Table.beginsNumber Table.beginsFloat Table.prefixOperator Table.operandLevel Table.operandWant Table.fits Table.operator Table.numberOperator Table.textOperator Table.testOperator Table.comparison Table.binds Table.levelOf Table.rightLevel Table.rightWant
 powers-group = refl
 
 -- `!1==2-3-4*5&&true||false;` is ((!(1 == (2 - 3) - (4 * 5))) && true) || false
@@ -42,7 +42,7 @@ tests-group : readExpression 30 tests 0 Table.want-any 0 0 (nextAt tests 1)
     ≡ ok (part (Table.sorted Operator.a-test) (binary Operator.either
     (binary Operator.both (unary Operator.opposite (binary (Operator.comparison Operator.integers Operator.equal) (number 1) (binary Operator.minus (binary Operator.minus (number 2) (number 3)) (binary Operator.times (number 4) (number 5))))) (truth true))
     (truth false))) (token Kind.SEMICOLON 25 26)
-unfolding readExpression readLeaf readName readDigits wordSort spells stands lower settledTree applied loop turns tokenAt inLine visible tokenFrom numberToken floatEnd operatorToken operatorAt operatorKind equalPair pairOf markKind isOf widthOf classOf hasClass inRun past Number.numberAt Number.held Number.decimal numberAt value valueFrom inClass isDigit Table.allows Table.beginsString Table.beginsNumber Table.beginsFloat Table.prefixOperator Table.operandLevel Table.operandWant Table.fits Table.operator Table.numberOperator Table.textOperator Table.testOperator Table.comparison Table.binds Table.levelOf Table.rightLevel Table.rightWant
+unfolding readExpression readLeaf readName readDigits wordSort spells stands lower settledTree applied loop turns tokenAt inLine visible tokenFrom numberToken floatEnd operatorToken operatorAt operatorKind equalPair pairOf markKind isOf widthOf classOf hasClass inRun past Number.numberAt numberFrom digitsAt value valueFrom inClass isDigit Table.allows Table.beginsString Table.beginsNumber Table.beginsFloat Table.prefixOperator Table.operandLevel Table.operandWant Table.fits Table.operator Table.numberOperator Table.textOperator Table.testOperator Table.comparison Table.binds Table.levelOf Table.rightLevel Table.rightWant
 tests-group = refl
 
 -- `-(1.5)<-&x+4.0;`: each unary "-" is that of floats

@@ -15,6 +15,7 @@ use Rattle.conditions.specs.Word.{nextAt}
 use Rattle.syntax.specs.Parsed.{Parsed, ok, aside, unexpected}
 use Rattle.conditions.specs.Parsed.{Part, part, onPart}
 use Rattle.conditions.specs.Operand.{readLeaf, settledTree, applied}
+use Rattle.limits.specs.Limits.{mostBrackets, mostPrefixes}
 
 -- level, want, prefix operators in a row, open brackets, token
 abbrev pub Reader : Type 0
@@ -35,7 +36,7 @@ operandOf prefixed bracketed s want row nest t =
 -- reason 7: "16 prefix operators in a row"
 abbrev pub prefixedOf : Reader → List ℕ → Unary → Want → ℕ → ℕ → Token → Parsed Part
 prefixedOf expression s op want row nest t =
-    pick (leb 16 row) (aside 7 (t .start))
+    pick (leb mostPrefixes row) (aside 7 (t .start))
     (onPart (expression (Table.operandLevel op) (Table.operandWant op want) (row + 1) nest (nextAt s (t .end)))
     (λ sort e n. applied (unary (Table.prefixOf op sort)) (unaryTakes (Table.prefixOf op sort)) (unaryGives (Table.prefixOf op sort)) sort e n))
 
@@ -45,7 +46,7 @@ closing s sort e t = pick (eqb (t .kind) Kind.CLOSE) (ok (part sort e) (nextAt s
 -- reason 7: "16 brackets open (round and curly together)"
 abbrev pub bracketedOf : Reader → List ℕ → Want → ℕ → Token → Parsed Part
 bracketedOf expression s want nest t =
-    pick (leb 16 nest) (aside 7 (t .start))
+    pick (leb mostBrackets nest) (aside 7 (t .start))
     (onPart (expression (Table.insideLevel want) want 0 (nest + 1) (nextAt s (t .end))) (λ sort e n. closing s sort e n))
 
 -- the operator's right operand, behind the place `at`

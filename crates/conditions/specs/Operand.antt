@@ -11,16 +11,17 @@ use Rattle.lexical.specs.Number as Number
 use Rattle.lexical.specs.declared.token.Token.{Token}
 use Rattle.syntax.specs.Operator.{Sort, a-string, an-integer, a-float, a-test}
 use Rattle.syntax.specs.Expr.{Expr, literal, name, number, truth, decimal}
-use Rattle.syntax.specs.Code.{nameAt, numberAt, decimalAt}
+use Rattle.syntax.specs.Code.{nameAt, numberFrom, decimalAt}
 use Rattle.conditions.specs.Table.{PartSort, sorted, word, Want, fits}
 use Rattle.conditions.specs.Word.{nextAt, wordSort}
 use Rattle.syntax.specs.Parsed.{Parsed, ok, aside, unexpected}
 use Rattle.conditions.specs.Parsed.{Part, part}
+use Rattle.limits.specs.Limits.{mostFloat, mostLiteral}
 
 -- reason 7: "literal 2,048 decoded bytes"
 unfoldable pub readLiteral : List ℕ → Token → Parsed Part
 readLiteral s t =
-    pick (ltb 2048 (length (decodedAt s (t .start)))) (aside 7 (t .start)) (ok (part (sorted a-string) (literal (decodedAt s (t .start)))) (nextAt s (t .end)))
+    pick (ltb mostLiteral (length (decodedAt s (t .start)))) (aside 7 (t .start)) (ok (part (sorted a-string) (literal (decodedAt s (t .start)))) (nextAt s (t .end)))
 
 -- a name, or a bare word where a test may stand too
 unfoldable pub readName : List ℕ → Want → Token → Parsed Part
@@ -30,11 +31,11 @@ readName s want t = ok (part (wordSort s want (t .start) (t .end)) (name (nameAt
 unfoldable pub readDigits : List ℕ → Token → Parsed Part
 readDigits s t =
     pick (leb Number.LIMIT (Number.numberAt s (t .start) (t .end))) (aside 5 (t .start))
-    (ok (part (sorted an-integer) (number (numberAt s (t .start)))) (nextAt s (t .end)))
+    (ok (part (sorted an-integer) (number (numberFrom s (t .start)))) (nextAt s (t .end)))
 
 -- reason 7: "Literals [..] of at most 18 digits", which is 19 bytes with the point
 unfoldable pub readFloat : List ℕ → Token → Parsed Part
-readFloat s t = pick (ltb 19 (t .end - t .start)) (aside 7 (t .start)) (ok (part (sorted a-float) (decimal (decimalAt s (t .start)))) (nextAt s (t .end)))
+readFloat s t = pick (ltb mostFloat (t .end - t .start)) (aside 7 (t .start)) (ok (part (sorted a-float) (decimal (decimalAt s (t .start)))) (nextAt s (t .end)))
 
 unfoldable pub readLeaf : List ℕ → Want → Token → Parsed Part
 readLeaf s want t =

@@ -1,6 +1,6 @@
 -- Programs: "clauses ended by ";", each a test, test -> string expression, or test -> { clauses }". Assumes nothing.
 use mathlib.Core.List.{List}
-use Prim.Native.Nat.{ℕ, zero, suc, _+_, _-_}
+use Prim.Native.Nat.{ℕ, zero, suc, _+_, _-_, _*_}
 use lib.Dec.{eqb, leb}
 use lib.ListN.{length}
 use Rattle.text.specs.Choice.{pick}
@@ -15,24 +15,25 @@ use Rattle.syntax.specs.Parsed.{Parsed, ok, aside, unexpected, andThen}
 use Rattle.conditions.specs.Parsed.{onPart}
 use Rattle.conditions.specs.Operand.{settledTree}
 use Rattle.conditions.specs.Expression.{readExpression}
+use Rattle.limits.specs.Limits.{mostBrackets, mostPrefixes}
 
 -- the ";" that ends a clause
-unfoldable pub ending : List ℕ → Clause → Token → Parsed Clause
-ending s q t = pick (eqb (t .kind) Kind.SEMICOLON) (ok q (nextAt s (t .end))) (unexpected t)
+unfoldable pub clauseEnd : List ℕ → Clause → Token → Parsed Clause
+clauseEnd s q t = pick (eqb (t .kind) Kind.SEMICOLON) (ok q (nextAt s (t .end))) (unexpected t)
 
 -- a clause's test must be a test, or a bare word
 abbrev pub clauseOf : ℕ → (ℕ → PartSort → Expr → Token → Parsed Clause) → List ℕ → ℕ → Token → Parsed Clause
 clauseOf d tested s nest t = onPart (readExpression d s 0 want-any 0 nest t) (λ sort e n. tested nest sort e n)
 
 abbrev pub testedWith : (ℕ → Expr → Token → Parsed Clause) → List ℕ → ℕ → Expr → Token → Parsed Clause
-testedWith value s nest e t = pick (eqb (t .kind) Kind.ARROW) (value nest e (nextAt s (t .end))) (ending s (plain e) t)
+testedWith value s nest e t = pick (eqb (t .kind) Kind.ARROW) (value nest e (nextAt s (t .end))) (clauseEnd s (plain e) t)
 
 abbrev pub testedOf : (ℕ → Expr → Token → Parsed Clause) → List ℕ → ℕ → PartSort → Expr → Token → Parsed Clause
 testedOf value s nest sort e t = pick (fits a-test sort) (testedWith value s nest (settledTree a-test sort e) t) (unexpected t)
 
 -- a value is a string
 unfoldable pub valuing : List ℕ → Expr → PartSort → Expr → Token → Parsed Clause
-valuing s e sort f t = pick (fits a-string sort) (ending s (valued e (settledTree a-string sort f)) t) (unexpected t)
+valuing s e sort f t = pick (fits a-string sort) (clauseEnd s (valued e (settledTree a-string sort f)) t) (unexpected t)
 
 -- or a program in brackets
 abbrev pub valueOf : ℕ → (ℕ → Expr → Token → Parsed Clause) → List ℕ → ℕ → Expr → Token → Parsed Clause
@@ -42,8 +43,8 @@ valueOf d block s nest e t =
 -- reason 7: "16 brackets open (round and curly together)"
 abbrev pub nestedOf : (ℕ → Token → Parsed Program) → List ℕ → ℕ → Expr → Token → Parsed Clause
 nestedOf program s nest e t =
-    pick (leb 16 nest) (aside 7 (t .start))
-    (andThen (program (nest + 1) (nextAt s (t .end))) (λ p n. ending s (nested e p) (nextAt s (n .end))))
+    pick (leb mostBrackets nest) (aside 7 (t .start))
+    (andThen (program (nest + 1) (nextAt s (t .end))) (λ p n. clauseEnd s (nested e p) (nextAt s (n .end))))
 
 -- the token, and the clauses before it
 abbrev pub State : Type 0
@@ -92,7 +93,7 @@ unfoldable mutual
 
 -- a depth that no text exhausts
 abbrev pub DEPTH : ℕ
-DEPTH = 6076
+DEPTH = 10 + 3 * (7 * (mostPrefixes + 1) * mostBrackets + 6 * (mostPrefixes + 1) + mostPrefixes)
 
 -- a Conditions field, from the token behind its label on
 unfoldable pub readProgram : List ℕ → Token → Parsed Program

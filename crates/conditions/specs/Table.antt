@@ -1,7 +1,7 @@
 -- What may stand where in Conditions, and what each operator takes and gives. Assumes nothing.
 use mathlib.Core.Bool.{Bool, true, false}
 use Prim.Native.Nat.{ℕ, _+_}
-use lib.Dec.{eqb, ltb, leb}
+use lib.Dec.{eqb, leb}
 use Rattle.text.specs.Choice.{pick}
 use Rattle.lexical.specs.Kind
 use Rattle.syntax.specs.Operator.{Unary, Binary, Side, Sort, a-string, an-integer, a-float, a-test, binaryTakes}
@@ -249,8 +249,6 @@ unfoldable pub fits : Sort → PartSort → Bool
 fits wanted (sorted x) = sameSort wanted x
 fits wanted (word b) = ofWord wanted
 
--- a program ends before "}" if it stands in brackets, else before a label and at the end
+-- a program ends before "}" if it stands in brackets, else with its field
 unfoldable pub stops : ℕ → ℕ → Bool
-stops nest k =
-    pick (eqb nest 0) (pick (eqb k Kind.END) true (pick (ltb k Kind.KEYNOTE-VERSION) false (leb k Kind.SIGNATURE)))
-    (eqb k Kind.CLOSE-BRACE)
+stops nest k = pick (eqb nest 0) (Kind.ending k) (eqb k Kind.CLOSE-BRACE)

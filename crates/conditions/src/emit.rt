@@ -5,16 +5,17 @@ use crate::table::TRUE;
 use crate::table::is_fit;
 use crate::table::operand_of;
 use crate::table::prefix_of;
-use crate::table::refusal_of;
 use crate::table::result_of;
 use lexical::kind;
 use lexical::line::token_at;
 use lexical::token::Token;
 use syntax;
+use syntax::fault::Fault;
+use syntax::fault::misplaced;
 ghost use mathlib.Core.Path.{_≡_};
 ghost use Prim.Native.Nat.{_<_};
 ghost use Rattle.conditions.specs.Working.Numbered.{operandOf, prefixOf};
-ghost use Rattle.conditions.specs.Working.Emit.{slotOf, above, put, settledTop, settled, ran, refused, finishAt, endedAt, valuedAt, closedAt};
+ghost use Rattle.conditions.specs.Working.Emit.{slotOf, above, put, wordTop, wordWritten, ran, refused, finishAt, endedAt, valuedAt, closedAt};
 
 // What was read: its sort, the place of a bare word that is not settled yet, the end of the code, and the token behind it. Or the
 // first fault: reason 0 is that of a reader that was given too little.
@@ -26,8 +27,7 @@ pub enum Out {
         next: Token,
     },
     Aside {
-        reason: u8,
-        at: usize,
+        fault: Fault,
     },
 }
 
@@ -65,9 +65,9 @@ pub fn push(code: &mut [u32], top: usize, op: u32, at: usize) -> usize
 }
 
 // Writes a bare word as the test or the string that is wanted; anything else is written already.
-pub fn settle(code: &mut [u32], top: usize, wanted: u8, sort: u8, place: usize) -> usize
-    ensures { λ r. ⌜ r ≡ settledTop (now (code .entry)) top sort ⌝ }
-    ensures { λ _. ⌜ now (code .exit) ≡ settled (now (code .entry)) top wanted sort place ⌝ }
+pub fn write_word(code: &mut [u32], top: usize, wanted: u8, sort: u8, place: usize) -> usize
+    ensures { λ r. ⌜ r ≡ wordTop (now (code .entry)) top sort ⌝ }
+    ensures { λ _. ⌜ now (code .exit) ≡ wordWritten (now (code .entry)) top wanted sort place ⌝ }
 {
     if sort < TRUE {
         return top;
@@ -82,15 +82,15 @@ pub fn settle(code: &mut [u32], top: usize, wanted: u8, sort: u8, place: usize) 
 }
 
 // Writes a bare word as what the operator takes.
-pub fn settle_for(code: &mut [u32], top: usize, op: u32, sort: u8, place: usize) -> usize
-    ensures { λ r. ⌜ r ≡ settledTop (now (code .entry)) top sort ⌝ }
-    ensures { λ _. ⌜ now (code .exit) ≡ settled (now (code .entry)) top (operandOf op) sort place ⌝ }
+pub fn write_word_for(code: &mut [u32], top: usize, op: u32, sort: u8, place: usize) -> usize
+    ensures { λ r. ⌜ r ≡ wordTop (now (code .entry)) top sort ⌝ }
+    ensures { λ _. ⌜ now (code .exit) ≡ wordWritten (now (code .entry)) top (operandOf op) sort place ⌝ }
 {
     if sort < TRUE {
         return top;
     }
     let w = operand_of(op);
-    settle(code, top, w, sort, place)
+    write_word(code, top, w, sort, place)
 }
 
 // A token that may not stand where it stands.
@@ -98,8 +98,7 @@ pub fn unexpected(t: Token) -> Out
     ensures { λ r. ⌜ r ≡ refused t ⌝ }
 {
     Out::Aside {
-        reason: refusal_of(t.kind),
-        at: t.start,
+        fault: misplaced(t),
     }
 }
 
@@ -109,7 +108,7 @@ pub fn finish_any(code: &mut [u32], top: usize, op: u32, sort: u8, place: usize,
 {
     let w = operand_of(op);
     if is_fit(w, sort) {
-        let u = settle_for(code, top, op, sort, place);
+        let u = write_word_for(code, top, op, sort, place);
         let v = push(code, u, op, 0);
         return Out::Found {
             sort: result_of(op),
@@ -181,7 +180,7 @@ pub fn valued(s: &[u8], code: &mut [u32], top: usize, sort: u8, place: usize, t:
     ensures { λ r. ⌜ ran r (now (code .exit)) ≡ valuedAt (now (s .entry)) (now (code .entry)) top sort place t ⌝ }
 {
     if is_fit(TEXT, sort) {
-        let u = settle(code, top, TEXT, sort, place);
+        let u = write_word(code, top, TEXT, sort, place);
         return ended(s, code, u, syntax::VALUED, t);
     }
     unexpected(t)

@@ -3,9 +3,8 @@ use crate::emit::Out;
 use crate::emit::closed;
 use crate::emit::finish;
 use crate::emit::finish_prefix;
-use crate::emit::settle_for;
 use crate::emit::unexpected;
-use crate::leaf::ROW;
+use crate::emit::write_word_for;
 use crate::leaf::leaf;
 use crate::table::NONE;
 use crate::table::inside_level;
@@ -20,12 +19,14 @@ use crate::table::right_want;
 use lexical::kind;
 use lexical::line::token_at;
 use lexical::token::Token;
+use limits::MOST_BRACKETS;
+use limits::MOST_PREFIXES;
+use syntax::fault::Fault;
+use syntax::fault::NO_ROOM;
+use syntax::fault::OVER_LIMIT;
 ghost use mathlib.Core.Path.{_≡_};
 ghost use Rattle.conditions.specs.Working.Emit.{ran};
 ghost use Rattle.conditions.specs.Working.Expression.{exprAt, operandAt, prefixedAt, bracketedAt, chainAt, joinedAt};
-
-// The most brackets that may be open.
-pub const BRACKETS: usize = 16;
 
 // An operand and what operators of this level or above join to it.
 pub fn expression(
@@ -43,18 +44,20 @@ pub fn expression(
 {
     if d == 0 {
         return Out::Aside {
-            reason: 0,
-            at: t.start,
+            fault: Fault {
+                reason: NO_ROOM,
+                place: t.start,
+            },
         };
     }
     match operand(s, code, top, want, row, nest, t, d - 1) {
-        Out::Aside { reason, at } => Out::Aside { reason, at },
         Out::Found {
             sort,
             place,
             top: u,
             next,
         } => chain(s, code, u, level, nest, sort, place, next, d - 1),
+        Out::Aside { fault } => Out::Aside { fault },
     }
 }
 
@@ -73,8 +76,10 @@ fn operand(
 {
     if d == 0 {
         return Out::Aside {
-            reason: 0,
-            at: t.start,
+            fault: Fault {
+                reason: NO_ROOM,
+                place: t.start,
+            },
         };
     }
     if is_allowed(want, t.kind) {
@@ -106,14 +111,18 @@ fn prefixed(
 {
     if d == 0 {
         return Out::Aside {
-            reason: 0,
-            at: t.start,
+            fault: Fault {
+                reason: NO_ROOM,
+                place: t.start,
+            },
         };
     }
-    if ROW <= row {
+    if MOST_PREFIXES <= row {
         return Out::Aside {
-            reason: 7,
-            at: t.start,
+            fault: Fault {
+                reason: OVER_LIMIT,
+                place: t.start,
+            },
         };
     }
     let n = token_at(s, kind::IN_FIELD, t.end);
@@ -125,13 +134,13 @@ fn prefixed(
         end: n.end,
     };
     match expression(s, code, top, l, w, row + 1, nest, first, d - 1) {
-        Out::Aside { reason, at } => Out::Aside { reason, at },
         Out::Found {
             sort,
             place,
             top: u,
             next,
         } => finish_prefix(code, u, op, sort, place, next),
+        Out::Aside { fault } => Out::Aside { fault },
     }
 }
 
@@ -149,14 +158,18 @@ fn bracketed(
 {
     if d == 0 {
         return Out::Aside {
-            reason: 0,
-            at: t.start,
+            fault: Fault {
+                reason: NO_ROOM,
+                place: t.start,
+            },
         };
     }
-    if BRACKETS <= nest {
+    if MOST_BRACKETS <= nest {
         return Out::Aside {
-            reason: 7,
-            at: t.start,
+            fault: Fault {
+                reason: OVER_LIMIT,
+                place: t.start,
+            },
         };
     }
     let n = token_at(s, kind::IN_FIELD, t.end);
@@ -167,13 +180,13 @@ fn bracketed(
         end: n.end,
     };
     match expression(s, code, top, l, want, 0, nest + 1, first, d - 1) {
-        Out::Aside { reason, at } => Out::Aside { reason, at },
         Out::Found {
             sort,
             place,
             top: u,
             next,
         } => closed(s, sort, place, u, next),
+        Out::Aside { fault } => Out::Aside { fault },
     }
 }
 
@@ -193,8 +206,10 @@ fn chain(
 {
     if d == 0 {
         return Out::Aside {
-            reason: 0,
-            at: first.start,
+            fault: Fault {
+                reason: NO_ROOM,
+                place: first.start,
+            },
         };
     }
     let mut sort = before;
@@ -212,9 +227,6 @@ fn chain(
             };
         }
         match joined(s, code, top, o, nest, sort, place, t.end, d - 1) {
-            Out::Aside { reason, at } => {
-                return Out::Aside { reason, at };
-            }
             Out::Found {
                 sort: x,
                 place: p,
@@ -223,14 +235,19 @@ fn chain(
             } => {
                 if next.start <= t.start {
                     return Out::Aside {
-                        reason: 0,
-                        at: t.start,
+                        fault: Fault {
+                            reason: NO_ROOM,
+                            place: t.start,
+                        },
                     };
                 }
                 sort = x;
                 place = p;
                 top = u;
                 t = next;
+            }
+            Out::Aside { fault } => {
+                return Out::Aside { fault };
             }
         }
     }
@@ -258,9 +275,14 @@ fn joined(
     ensures { λ r. ⌜ ran r (now (code .exit)) ≡ joinedAt d (now (s .entry)) (now (code .entry)) top op nest sort place at ⌝ }
 {
     if d == 0 {
-        return Out::Aside { reason: 0, at };
+        return Out::Aside {
+            fault: Fault {
+                reason: NO_ROOM,
+                place: at,
+            },
+        };
     }
-    let u = settle_for(code, top, op, sort, place);
+    let u = write_word_for(code, top, op, sort, place);
     let n = token_at(s, kind::IN_FIELD, at);
     let l = right_level(op);
     let v = right_want(op);
@@ -270,12 +292,12 @@ fn joined(
         end: n.end,
     };
     match expression(s, code, u, l, v, 0, nest, right, d - 1) {
-        Out::Aside { reason, at: p } => Out::Aside { reason, at: p },
         Out::Found {
             sort: x,
             place: p,
             top: q,
             next,
         } => finish(code, q, op, x, p, next),
+        Out::Aside { fault } => Out::Aside { fault },
     }
 }

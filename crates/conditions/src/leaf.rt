@@ -14,27 +14,25 @@ use lexical::number::is_large;
 use lexical::token::Token;
 use lexical::word::is_false;
 use lexical::word::is_true;
+use limits::MOST_FLOAT;
+use limits::MOST_LITERAL;
 use syntax;
+use syntax::fault::Fault;
+use syntax::fault::OUT_OF_RANGE;
+use syntax::fault::OVER_LIMIT;
 ghost use mathlib.Core.Path.{_≡_};
 ghost use Prim.Native.Nat.{_-_};
 ghost use lib.Dec.{ltb};
+ghost use Rattle.limits.specs.Limits.{mostFloat};
 ghost use Rattle.conditions.specs.Working.Numbered.{wordSort};
 ghost use Rattle.conditions.specs.Working.Emit.{ran};
 ghost use Rattle.conditions.specs.Working.Leaf.{literalRead, nameRead, digitsRead, floatRead, leafRead};
-
-// The most bytes that a literal may give, the most bytes of a float literal, which are 18 digits and a point, and the most prefix operators in
-// a row.
-pub const LONGEST: usize = 2048;
-
-pub const WIDEST: usize = 19;
-
-pub const ROW: usize = 16;
 
 // A literal.
 fn literal(s: &[u8], code: &mut [u32], top: usize, t: Token) -> Out
     ensures { λ r. ⌜ ran r (now (code .exit)) ≡ literalRead (now (s .entry)) (now (code .entry)) top t ⌝ }
 {
-    if is_short(s, t.start, t.end, LONGEST) {
+    if is_short(s, t.start, t.end, MOST_LITERAL) {
         let u = push(code, top, syntax::LITERAL, t.start);
         let next = token_at(s, kind::IN_FIELD, t.end);
         return Out::Found {
@@ -45,8 +43,10 @@ fn literal(s: &[u8], code: &mut [u32], top: usize, t: Token) -> Out
         };
     }
     Out::Aside {
-        reason: 7,
-        at: t.start,
+        fault: Fault {
+            reason: OVER_LIMIT,
+            place: t.start,
+        },
     }
 }
 
@@ -95,8 +95,10 @@ fn digits(s: &[u8], code: &mut [u32], top: usize, t: Token) -> Out
 {
     if is_large(s, t.start, t.end) {
         return Out::Aside {
-            reason: 5,
-            at: t.start,
+            fault: Fault {
+                reason: OUT_OF_RANGE,
+                place: t.start,
+            },
         };
     }
     let u = push(code, top, syntax::NUMBER, t.start);
@@ -111,12 +113,12 @@ fn digits(s: &[u8], code: &mut [u32], top: usize, t: Token) -> Out
 
 // Are there more bytes than a float literal may have?
 fn is_wide(start: usize, end: usize) -> bool
-    ensures { λ r. ⌜ r ≡ ltb 19 (end - start) ⌝ }
+    ensures { λ r. ⌜ r ≡ ltb mostFloat (end - start) ⌝ }
 {
     if end <= start {
         return false;
     }
-    WIDEST < end - start
+    MOST_FLOAT < end - start
 }
 
 // A float literal.
@@ -125,8 +127,10 @@ fn float(s: &[u8], code: &mut [u32], top: usize, t: Token) -> Out
 {
     if is_wide(t.start, t.end) {
         return Out::Aside {
-            reason: 7,
-            at: t.start,
+            fault: Fault {
+                reason: OVER_LIMIT,
+                place: t.start,
+            },
         };
     }
     let u = push(code, top, syntax::DECIMAL, t.start);

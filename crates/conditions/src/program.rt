@@ -2,10 +2,9 @@
 use crate::emit::Out;
 use crate::emit::ended;
 use crate::emit::push;
-use crate::emit::settle;
 use crate::emit::unexpected;
 use crate::emit::valued;
-use crate::expression::BRACKETS;
+use crate::emit::write_word;
 use crate::expression::expression;
 use crate::table::ANY;
 use crate::table::TEST;
@@ -15,7 +14,12 @@ use crate::table::is_stop;
 use lexical::kind;
 use lexical::line::token_at;
 use lexical::token::Token;
+use limits::MOST_BRACKETS;
+use limits::MOST_PREFIXES;
 use syntax;
+use syntax::fault::Fault;
+use syntax::fault::NO_ROOM;
+use syntax::fault::OVER_LIMIT;
 ghost use mathlib.Core.Path.{_≡_};
 ghost use Prim.Native.Nat.{_-_};
 ghost use lib.ListN.{length};
@@ -23,7 +27,8 @@ ghost use Rattle.conditions.specs.Working.Emit.{ran};
 ghost use Rattle.conditions.specs.Working.Program.{clauseAt, testedAt, valueAt, nestedAt, programAt, clausesAt, lastAt, conditionsAt};
 
 // A depth that no text exhausts.
-pub const DEPTH: usize = 6076;
+pub const DEPTH: usize = 10
+    + 3 * (7 * (MOST_PREFIXES + 1) * MOST_BRACKETS + 6 * (MOST_PREFIXES + 1) + MOST_PREFIXES);
 
 // A clause.
 fn clause(s: &[u8], code: &mut [u32], top: usize, nest: usize, t: Token, d: usize) -> Out
@@ -31,8 +36,10 @@ fn clause(s: &[u8], code: &mut [u32], top: usize, nest: usize, t: Token, d: usiz
 {
     if d == 0 {
         return Out::Aside {
-            reason: 0,
-            at: t.start,
+            fault: Fault {
+                reason: NO_ROOM,
+                place: t.start,
+            },
         };
     }
     let first = Token {
@@ -41,13 +48,13 @@ fn clause(s: &[u8], code: &mut [u32], top: usize, nest: usize, t: Token, d: usiz
         end: t.end,
     };
     match expression(s, code, top, 0, ANY, 0, nest, first, d - 1) {
-        Out::Aside { reason, at } => Out::Aside { reason, at },
         Out::Found {
             sort,
             place,
             top: u,
             next,
         } => tested(s, code, u, nest, sort, place, next, d - 1),
+        Out::Aside { fault } => Out::Aside { fault },
     }
 }
 
@@ -66,12 +73,14 @@ fn tested(
 {
     if d == 0 {
         return Out::Aside {
-            reason: 0,
-            at: t.start,
+            fault: Fault {
+                reason: NO_ROOM,
+                place: t.start,
+            },
         };
     }
     if is_fit(TEST, sort) {
-        let u = settle(code, top, TEST, sort, place);
+        let u = write_word(code, top, TEST, sort, place);
         if t.kind == kind::ARROW {
             let n = token_at(s, kind::IN_FIELD, t.end);
             return value(s, code, u, nest, n, d - 1);
@@ -87,8 +96,10 @@ fn value(s: &[u8], code: &mut [u32], top: usize, nest: usize, t: Token, d: usize
 {
     if d == 0 {
         return Out::Aside {
-            reason: 0,
-            at: t.start,
+            fault: Fault {
+                reason: NO_ROOM,
+                place: t.start,
+            },
         };
     }
     if t.kind == kind::OPEN_BRACE {
@@ -100,13 +111,13 @@ fn value(s: &[u8], code: &mut [u32], top: usize, nest: usize, t: Token, d: usize
         end: t.end,
     };
     match expression(s, code, top, 3, TEXT, 0, nest, first, d - 1) {
-        Out::Aside { reason, at } => Out::Aside { reason, at },
         Out::Found {
             sort,
             place,
             top: u,
             next,
         } => valued(s, code, u, sort, place, next),
+        Out::Aside { fault } => Out::Aside { fault },
     }
 }
 
@@ -116,19 +127,22 @@ fn nested(s: &[u8], code: &mut [u32], top: usize, nest: usize, t: Token, d: usiz
 {
     if d == 0 {
         return Out::Aside {
-            reason: 0,
-            at: t.start,
+            fault: Fault {
+                reason: NO_ROOM,
+                place: t.start,
+            },
         };
     }
-    if BRACKETS <= nest {
+    if MOST_BRACKETS <= nest {
         return Out::Aside {
-            reason: 7,
-            at: t.start,
+            fault: Fault {
+                reason: OVER_LIMIT,
+                place: t.start,
+            },
         };
     }
     let n = token_at(s, kind::IN_FIELD, t.end);
     match program(s, code, top, nest + 1, n, d - 1) {
-        Out::Aside { reason, at } => Out::Aside { reason, at },
         Out::Found {
             sort: _,
             place: _,
@@ -138,6 +152,7 @@ fn nested(s: &[u8], code: &mut [u32], top: usize, nest: usize, t: Token, d: usiz
             let e = token_at(s, kind::IN_FIELD, next.end);
             ended(s, code, u, syntax::NESTED, e)
         }
+        Out::Aside { fault } => Out::Aside { fault },
     }
 }
 
@@ -162,8 +177,10 @@ fn program(s: &[u8], code: &mut [u32], top: usize, nest: usize, t: Token, d: usi
 {
     if d == 0 {
         return Out::Aside {
-            reason: 0,
-            at: t.start,
+            fault: Fault {
+                reason: NO_ROOM,
+                place: t.start,
+            },
         };
     }
     let u = push(code, top, syntax::BEGIN, 0);
@@ -176,8 +193,10 @@ fn clauses(s: &[u8], code: &mut [u32], from: usize, nest: usize, first: Token, d
 {
     if d == 0 {
         return Out::Aside {
-            reason: 0,
-            at: first.start,
+            fault: Fault {
+                reason: NO_ROOM,
+                place: first.start,
+            },
         };
     }
     let mut top = from;
@@ -192,9 +211,6 @@ fn clauses(s: &[u8], code: &mut [u32], from: usize, nest: usize, first: Token, d
             };
         }
         match clause(s, code, top, nest, t, d - 1) {
-            Out::Aside { reason, at } => {
-                return Out::Aside { reason, at };
-            }
             Out::Found {
                 sort: _,
                 place: _,
@@ -203,12 +219,17 @@ fn clauses(s: &[u8], code: &mut [u32], from: usize, nest: usize, first: Token, d
             } => {
                 if next.start <= t.start {
                     return Out::Aside {
-                        reason: 0,
-                        at: t.start,
+                        fault: Fault {
+                            reason: NO_ROOM,
+                            place: t.start,
+                        },
                     };
                 }
                 top = u;
                 t = next;
+            }
+            Out::Aside { fault } => {
+                return Out::Aside { fault };
             }
         }
     }
@@ -232,14 +253,18 @@ pub fn conditions(s: &[u8], code: &mut [u32], top: usize, t: Token) -> Out
 {
     if code.len() < top {
         return Out::Aside {
-            reason: 0,
-            at: t.start,
+            fault: Fault {
+                reason: NO_ROOM,
+                place: t.start,
+            },
         };
     }
     if code.len() - top < bytes_left(s, t.start) {
         return Out::Aside {
-            reason: 0,
-            at: t.start,
+            fault: Fault {
+                reason: NO_ROOM,
+                place: t.start,
+            },
         };
     }
     program(s, code, top, 0, t, DEPTH)

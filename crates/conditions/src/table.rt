@@ -104,19 +104,6 @@ pub fn is_float(k: usize) -> bool
     k == kind::AMPERSAND
 }
 
-// The reason for a token that may not stand where it stands.
-pub fn refusal_of(k: usize) -> u8
-    ensures { λ r. ⌜ r ≡ refusal k ⌝ }
-{
-    if k == kind::ILLEGAL {
-        return 1;
-    }
-    if k == kind::BAD_LINE {
-        return 3;
-    }
-    2
-}
-
 // The comparison of strings, or NONE.
 pub fn comparison_of(k: usize) -> u32
     ensures { λ r. ⌜ r ≡ comparison k ⌝ }

@@ -5,6 +5,7 @@ use lexical::kind;
 use lexical::label::label_kind;
 use lexical::line::token_at;
 use libc::STDOUT_FILENO;
+use syntax::fault::Fault;
 
 // The longest text.
 const MOST: usize = 8192;
@@ -13,11 +14,11 @@ fn put(b: &[u8]) {
     io::write_all(STDOUT_FILENO, b);
 }
 
-fn put_fault(reason: u8, at: usize) {
+fn put_fault(fault: Fault) {
     put(b"reason ");
-    io::print_decimal(STDOUT_FILENO, reason as u64);
+    io::print_decimal(STDOUT_FILENO, fault.reason as u64);
     put(b" at ");
-    io::print_decimal(STDOUT_FILENO, at as u64);
+    io::print_decimal(STDOUT_FILENO, fault.place as u64);
     put(b"\n");
 }
 
@@ -44,8 +45,8 @@ fn read(s: &[u8], code: &mut [u32]) {
         } => {
             put(b"kept\n");
         }
-        Out::Aside { reason, at } => {
-            put_fault(reason, at);
+        Out::Aside { fault } => {
+            put_fault(fault);
         }
     }
 }

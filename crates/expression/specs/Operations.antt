@@ -22,10 +22,11 @@ use Rattle.syntax.specs.Operator.{Unary, Binary, Relation, Ordering}
 use Rattle.syntax.specs.Operator as Operator
 use Rattle.expression.specs.Value.{Value, text, integer, test, float, fault, onText, onInteger, onTest, onFloat}
 use Rattle.expression.specs.Integers.{plus, minus, times, over, remainder, power, negated, compared}
+use Rattle.limits.specs.Limits.{mostString}
 
 -- "string over 4,096 bytes" is a fault
 unfoldable pub held : List ℕ → Value
-held b = pick (ltb 4096 (length b)) fault (text b)
+held b = pick (ltb mostString (length b)) fault (text b)
 
 -- a comparison, by how its sides stand to each other
 abbrev pub isLess : Order → Bool

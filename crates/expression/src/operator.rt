@@ -22,6 +22,7 @@ use crate::value::pack_operand;
 use crate::value::rank_in;
 use crate::value::told;
 use float::operation::Computed;
+use limits::MOST_STRING;
 use pattern::Answer;
 use text::Integer;
 use text::Order;
@@ -40,9 +41,6 @@ ghost use Rattle.expression.specs.Operations.{isLess, isEqual, isGreater
 ghost use Rattle.expression.specs.Working.Numbered.{relatesBy, arithmetic, textual, logical, orderedBy, floating, ofTexts, ofIntegers, ofFloats, ofTests, isTextual, binaryBy};
 ghost use Rattle.expression.specs.Conditions.{rankOf};
 ghost use Rattle.expression.specs.Working.Clauses.{applied, combined};
-
-// "string over 4,096 bytes" is a fault.
-pub const LONGEST: usize = 4096;
 
 fn is_less(o: Order) -> bool
     ensures { λ r. ⌜ r ≡ isLess o ⌝ }
@@ -202,14 +200,14 @@ pub fn of_naturals(op: u32, x: u64, y: u64) -> Packed
 fn join(a: &[u8], b: &[u8]) -> Operand
     ensures { λ r. ⌜ r ≡ operand (held (now (a .entry) ++ now (b .entry))) ⌝ }
 {
-    if LONGEST < a.len() {
+    if MOST_STRING < a.len() {
         return Operand::Fault;
     }
-    if LONGEST < b.len() {
+    if MOST_STRING < b.len() {
         return Operand::Fault;
     }
     let n = a.len() + b.len();
-    if LONGEST < n {
+    if MOST_STRING < n {
         return Operand::Fault;
     }
     Operand::Text { length: n }

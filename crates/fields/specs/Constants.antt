@@ -9,11 +9,13 @@ use Rattle.text.specs.Equal.{equal}
 use Rattle.text.specs.Loop.{Step, next, done, loop}
 use Rattle.record.specs.Query.{Attribute}
 use Rattle.lexical.specs.Kind
+use Rattle.lexical.specs.Kind.{ending}
 use Rattle.lexical.specs.Literal.{decodedAt}
 use Rattle.lexical.specs.declared.token.Token.{Token}
 use Rattle.limits.specs.Limits.{mostConstants, mostLiteral}
+use Rattle.syntax.specs.Code.{nameAt}
 use Rattle.syntax.specs.Parsed.{Parsed, ok, aside, refusal, unexpected}
-use Rattle.fields.specs.Parsed.{behind, wordOf, ending}
+use Rattle.fields.specs.Parsed.{behind}
 
 -- has one of the constants that name?
 unfoldable pub isSet : List Attribute → List ℕ → Bool
@@ -39,13 +41,13 @@ assigned s name t = pick (eqb (t .kind) Kind.ASSIGN) (constantValue s name (behi
 -- 4 "a Local-Constants name repeated or starting with "_"": the reason against t as a constant's name, or 0
 unfoldable pub nameFault : List ℕ → List Attribute → Token → ℕ
 nameFault s constants t =
-    pick (eqb (t .kind) Kind.NAME) (pick (reserved (wordOf s t)) 4 (pick (isSet constants (wordOf s t)) 4 0)) (refusal (t .kind))
+    pick (eqb (t .kind) Kind.NAME) (pick (reserved (nameAt s (t .start))) 4 (pick (isSet constants (nameAt s (t .start))) 4 0)) (refusal (t .kind))
 
 -- one more constant behind those, from its name on; 7 "16 constants"
 unfoldable pub constant : List ℕ → List Attribute → Token → Parsed Attribute
 constant s constants t =
     pick (eqb (nameFault s constants t) 0)
-    (pick (leb mostConstants (length constants)) (aside 7 (t .start)) (assigned s (wordOf s t) (behind s Kind.IN-FIELD t)))
+    (pick (leb mostConstants (length constants)) (aside 7 (t .start)) (assigned s (nameAt s (t .start)) (behind s Kind.IN-FIELD t)))
     (aside (nameFault s constants t) (t .start))
 
 abbrev pub onConstant : List Attribute → Parsed Attribute → Step (List Attribute × Token) (Parsed (List Attribute))

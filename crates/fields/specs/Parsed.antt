@@ -1,11 +1,8 @@
 -- The tokens with which fields go on and end. Assumes nothing.
-use mathlib.Core.Bool.{Bool, true, false}
 use mathlib.Core.List.{List}
-use Prim.Native.Nat.{ℕ, _-_}
-use lib.Dec.{eqb, leb, ltb}
+use Prim.Native.Nat.{ℕ}
 use Rattle.text.specs.Choice.{pick}
-use Rattle.text.specs.Counted.{part}
-use Rattle.lexical.specs.Kind
+use Rattle.lexical.specs.Kind.{ending}
 use Rattle.lexical.specs.Line.{tokenAt}
 use Rattle.lexical.specs.declared.token.Token.{Token}
 use Rattle.syntax.specs.Parsed.{Parsed, ok, unexpected}
@@ -13,14 +10,6 @@ use Rattle.syntax.specs.Parsed.{Parsed, ok, unexpected}
 -- the token behind t
 abbrev pub behind : List ℕ → ℕ → Token → Token
 behind s mode t = tokenAt s mode (t .end)
-
--- the bytes of a token
-unfoldable pub wordOf : List ℕ → Token → List ℕ
-wordOf s t = part s (t .start) (t .end - t .start)
-
--- "a label [..] (it ends the field before)"; "the end of text is a token"
-unfoldable pub ending : ℕ → Bool
-ending kind = pick (eqb kind Kind.END) true (pick (ltb kind Kind.KEYNOTE-VERSION) false (leb kind Kind.SIGNATURE))
 
 -- the field ends at t
 abbrev pub ended : {A : Type 0} → A → Token → Parsed A

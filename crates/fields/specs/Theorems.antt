@@ -1,3 +1,4 @@
 pub mod Together
+pub mod Words
 pub mod Constanted
 pub mod Versioned

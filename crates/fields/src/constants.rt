@@ -1,18 +1,23 @@
 // Local-Constants: each constant goes into a lent buffer as two strings behind their lengths, its name and its value, and the place of its name
 // into a lent table.
-use crate::out::NO_ROOM;
 use crate::out::is_ending;
-use crate::out::refusal_of;
 use crate::out::word;
 use crate::signature::is_fitting;
 use expression::name::find;
 use index::Entered;
+use index::Index;
 use lexical::kind;
 use lexical::line::token_at;
 use lexical::literal::decode_into;
 use lexical::literal::literal_length;
 use lexical::token::Token;
 use limits::MOST_CONSTANTS;
+use syntax::fault::Fault;
+use syntax::fault::NO_ROOM;
+use syntax::fault::OVER_LIMIT;
+use syntax::fault::WRONG_NAME;
+use syntax::fault::misplaced;
+use syntax::fault::refusal_of;
 ghost use mathlib.Core.Path.{_≡_};
 ghost use lib.ListN.{length};
 ghost use Rattle.text.specs.Copy.{copied};
@@ -21,25 +26,17 @@ ghost use Rattle.index.specs.Working.Adding.{countedInto, entered};
 ghost use Rattle.fields.specs.Constants.{reserved};
 ghost use Rattle.fields.specs.Working.Setting.{takenIn, constantFaultIn, refusedSettings, storeIn, valueIn, assignedIn, stored, constantsIn};
 
-// The number of constants, the end of their bytes and the token behind them; or the first fault.
+// The index of the constants and the token behind them; or the first fault.
 pub enum Settings {
-    On {
-        count: usize,
-        end: usize,
-        next: Token,
-    },
-    Aside {
-        reason: u8,
-        place: usize,
-    },
+    On { index: Index, next: Token },
+    Aside { fault: Fault },
 }
 
 fn refused(t: Token) -> Settings
     ensures { λ r. ⌜ r ≡ refusedSettings t ⌝ }
 {
     Settings::Aside {
-        reason: refusal_of(t.kind),
-        place: t.start,
+        fault: misplaced(t),
     }
 }
 
@@ -65,7 +62,7 @@ fn is_taken(consts: &[u8], places: &[usize], count: usize, name: &[u8]) -> bool
 }
 
 // The reason against t as the name of one more constant, or 0.
-fn name_fault(s: &[u8], consts: &[u8], places: &[usize], count: usize, t: Token) -> u8
+fn name_fault(s: &[u8], consts: &[u8], places: &[usize], count: usize, t: Token) -> usize
     ensures { λ r. ⌜ r ≡ constantFaultIn (now (s .entry)) (now (consts .entry)) (now (places .entry)) count t ⌝ }
 {
     if t.kind != kind::NAME {
@@ -73,10 +70,10 @@ fn name_fault(s: &[u8], consts: &[u8], places: &[usize], count: usize, t: Token)
     }
     let name = word(s, t);
     if is_reserved(name) {
-        return 4;
+        return WRONG_NAME;
     }
     if is_taken(consts, places, count, name) {
-        return 4;
+        return WRONG_NAME;
     }
     0
 }
@@ -107,21 +104,22 @@ fn store(
     s: &[u8],
     consts: &mut [u8],
     places: &mut [usize],
-    count: usize,
-    end: usize,
+    index: Index,
     name: &[u8],
     start: usize,
 ) -> Entered
-    ensures { λ r. ⌜ entered r (now (consts .exit)) (now (places .exit)) ≡ storeIn (now (consts .entry)) (now (places .entry)) count end (now (name .entry)) (decodedAt (now (s .entry)) start) ⌝ }
+    ensures { λ r. ⌜ entered r (now (consts .exit)) (now (places .exit)) ≡ storeIn (now (consts .entry)) (now (places .entry)) (index .count) (index .end) (now (name .entry)) (decodedAt (now (s .entry)) start) ⌝ }
 {
-    match index::add(consts, places, count, end, name) {
+    match index::append(consts, places, index, name) {
         Entered::Full => Entered::Full,
-        Entered::Now { count: c, end: e } => {
+        Entered::Now { index: named } => {
             let n = literal_length(s, start);
-            if put_literal(s, start, n, consts, e) {
+            if put_literal(s, start, n, consts, named.end) {
                 return Entered::Now {
-                    count: c,
-                    end: e + 2 + n,
+                    index: Index {
+                        count: named.count,
+                        end: named.end + 2 + n,
+                    },
                 };
             }
             Entered::Full
@@ -134,53 +132,48 @@ fn valued(
     s: &[u8],
     consts: &mut [u8],
     places: &mut [usize],
-    count: usize,
-    end: usize,
+    index: Index,
     t: Token,
     v: Token,
 ) -> Settings
-    ensures { λ r. ⌜ stored r (now (consts .exit)) (now (places .exit)) ≡ valueIn (now (s .entry)) (now (consts .entry)) (now (places .entry)) count end t v ⌝ }
+    ensures { λ r. ⌜ stored r (now (consts .exit)) (now (places .exit)) ≡ valueIn (now (s .entry)) (now (consts .entry)) (now (places .entry)) (index .count) (index .end) t v ⌝ }
 {
     if v.kind != kind::LITERAL {
         return refused(v);
     }
     if !is_fitting(s, v) {
         return Settings::Aside {
-            reason: 7,
-            place: v.start,
+            fault: Fault {
+                reason: OVER_LIMIT,
+                place: v.start,
+            },
         };
     }
     let name = word(s, t);
-    match store(s, consts, places, count, end, name, v.start) {
+    match store(s, consts, places, index, name, v.start) {
         Entered::Full => Settings::Aside {
-            reason: NO_ROOM,
-            place: 0,
+            fault: Fault {
+                reason: NO_ROOM,
+                place: 0,
+            },
         },
-        Entered::Now { count: c, end: e } => Settings::On {
-            count: c,
-            end: e,
+        Entered::Now { index: next } => Settings::On {
+            index: next,
             next: token_at(s, kind::IN_FIELD, v.end),
         },
     }
 }
 
 // The constant whose name is t, behind that name.
-fn assigned(
-    s: &[u8],
-    consts: &mut [u8],
-    places: &mut [usize],
-    count: usize,
-    end: usize,
-    t: Token,
-) -> Settings
-    ensures { λ r. ⌜ stored r (now (consts .exit)) (now (places .exit)) ≡ assignedIn (now (s .entry)) (now (consts .entry)) (now (places .entry)) count end t ⌝ }
+fn assigned(s: &[u8], consts: &mut [u8], places: &mut [usize], index: Index, t: Token) -> Settings
+    ensures { λ r. ⌜ stored r (now (consts .exit)) (now (places .exit)) ≡ assignedIn (now (s .entry)) (now (consts .entry)) (now (places .entry)) (index .count) (index .end) t ⌝ }
 {
     let a = token_at(s, kind::IN_FIELD, t.end);
     if a.kind != kind::ASSIGN {
         return refused(a);
     }
     let v = token_at(s, kind::IN_FIELD, a.end);
-    valued(s, consts, places, count, end, t, v)
+    valued(s, consts, places, index, t, v)
 }
 
 // The field whose first token is t. The constants go into `consts` from `start` on.
@@ -193,42 +186,42 @@ pub fn constants(
 ) -> Settings
     ensures { λ r. ⌜ stored r (now (consts .exit)) (now (places .exit)) ≡ constantsIn (now (s .entry)) (now (consts .entry)) (now (places .entry)) 0 start from ⌝ }
 {
-    let mut count: usize = 0;
-    let mut end = start;
+    let mut index = Index {
+        count: 0,
+        end: start,
+    };
     let mut t = from;
     loop {
         if is_ending(t.kind) {
-            return Settings::On {
-                count,
-                end,
-                next: t,
-            };
+            return Settings::On { index, next: t };
         }
-        let f = name_fault(s, consts, places, count, t);
+        let f = name_fault(s, consts, places, index.count, t);
         if f != 0 {
             return Settings::Aside {
-                reason: f,
-                place: t.start,
+                fault: Fault {
+                    reason: f,
+                    place: t.start,
+                },
             };
         }
-        if MOST_CONSTANTS <= count {
+        if MOST_CONSTANTS <= index.count {
             return Settings::Aside {
-                reason: 7,
-                place: t.start,
+                fault: Fault {
+                    reason: OVER_LIMIT,
+                    place: t.start,
+                },
             };
         }
-        match assigned(s, consts, places, count, end, t) {
-            Settings::Aside { reason, place } => {
-                return Settings::Aside { reason, place };
-            }
-            Settings::On {
-                count: _,
-                end: e,
-                next,
-            } => {
-                count += 1;
-                end = e;
+        match assigned(s, consts, places, index, t) {
+            Settings::On { index: u, next } => {
+                index = Index {
+                    count: index.count + 1,
+                    end: u.end,
+                };
                 t = next;
+            }
+            aside => {
+                return aside;
             }
         }
     }

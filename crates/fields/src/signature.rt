@@ -6,6 +6,8 @@ use lexical::literal::is_sized;
 use lexical::literal::literal_length;
 use lexical::token::Token;
 use limits::MOST_LITERAL;
+use syntax::fault::Fault;
+use syntax::fault::OVER_LIMIT;
 ghost use mathlib.Core.Path.{_≡_};
 ghost use lib.Dec.{leb};
 ghost use lib.ListN.{length};
@@ -33,8 +35,10 @@ pub fn signature(s: &[u8], t: Token) -> Out
     }
     if !is_fitting(s, t) {
         return Out::Aside {
-            reason: 7,
-            place: t.start,
+            fault: Fault {
+                reason: OVER_LIMIT,
+                place: t.start,
+            },
         };
     }
     Out::On { next: t }

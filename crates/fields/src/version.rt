@@ -9,6 +9,9 @@ use lexical::literal::literal_length;
 use lexical::number::LIMIT;
 use lexical::number::number_at;
 use lexical::token::Token;
+use syntax::fault::Fault;
+use syntax::fault::OUT_OF_RANGE;
+use syntax::fault::WRONG_VERSION;
 ghost use mathlib.Core.Path.{_≡_};
 ghost use Rattle.text.specs.Equal.{equal};
 ghost use Rattle.lexical.specs.Literal.{decodedAt};
@@ -23,16 +26,20 @@ fn by_number(s: &[u8], t: Token) -> Out
     let n = number_at(s, t.start, t.end);
     if LIMIT <= n {
         return Out::Aside {
-            reason: 5,
-            place: t.start,
+            fault: Fault {
+                reason: OUT_OF_RANGE,
+                place: t.start,
+            },
         };
     }
     if n == 2 {
         return ended(token_at(s, kind::IN_FIELD, t.end));
     }
     Out::Aside {
-        reason: 6,
-        place: t.start,
+        fault: Fault {
+            reason: WRONG_VERSION,
+            place: t.start,
+        },
     }
 }
 
@@ -57,8 +64,10 @@ fn by_literal(s: &[u8], t: Token) -> Out
         return ended(token_at(s, kind::IN_FIELD, t.end));
     }
     Out::Aside {
-        reason: 6,
-        place: t.start,
+        fault: Fault {
+            reason: WRONG_VERSION,
+            place: t.start,
+        },
     }
 }
 

@@ -10,7 +10,7 @@ use Rattle.lexical.specs.Word.{word-true, word-false}
 use Rattle.lexical.specs.declared.token.Token.{Token}
 use Rattle.syntax.specs.Operator.{Binary, Relation, Ordering}
 use Rattle.syntax.specs.Operator as Operator
-use Rattle.syntax.specs.Code.{nameAt, numberAt, decimalAt}
+use Rattle.syntax.specs.Code.{nameAt, numberFrom, decimalAt}
 use Rattle.syntax.specs.Expr.{Expr, literal, name, number, truth, decimal, unary, binary, Program, none, also, Clause, plain, valued, nested}
 use Rattle.grammar.specs.Conditions.{Class, operand, power, product, conjunction, whole}
 use Rattle.grammar.specs.Spelled.{spelled}
@@ -37,7 +37,7 @@ pub data SumOp : ℕ → Binary → Type 0 where
 
 -- "Integers: unary -, then ^, then * / %, then + -, left to right in a class; @ and $ bind as unary -"
 pub data IntTree (s : List ℕ) : Class → List Token → Expr → Type 0 where
-  number-tree : (t : Token) → t .kind ≡ Kind.DIGITS → IntTree s operand (t ∷ []) (number (numberAt s (t .start)))
+  number-tree : (t : Token) → t .kind ≡ Kind.DIGITS → IntTree s operand (t ∷ []) (number (numberFrom s (t .start)))
   negate-tree : (t : Token) (ts : List Token) (e : Expr) → t .kind ≡ Kind.MINUS → IntTree s operand ts e → IntTree s operand (t ∷ ts) (unary Operator.negate e)
   convert-tree : (t : Token) (ts : List Token) (e : Expr) → t .kind ≡ Kind.AT → StrTree s operand ts e → IntTree s operand (t ∷ ts) (unary Operator.convert e)
   number-bracket : (t u : Token) (ts : List Token) (e : Expr) → t .kind ≡ Kind.OPEN → u .kind ≡ Kind.CLOSE → IntTree s whole ts e → IntTree s operand (t ∷ ts ++ u ∷ []) e

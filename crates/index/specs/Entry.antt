@@ -25,8 +25,8 @@ unfoldable pub placeIn : ℕ → ℕ
 placeIn e = e / 1048576 % 1048576
 
 -- the identifier that an entry is of
-unfoldable pub nameAt : List ℕ → ℕ → List ℕ
-nameAt pool e = counted pool (placeIn e)
+unfoldable pub identifierAt : List ℕ → ℕ → List ℕ
+identifierAt pool e = counted pool (placeIn e)
 
 -- the entries of principals that lie one behind the other, each behind its two-byte length
 unfoldable pub entriesFrom : ℕ → List Principal → List ℕ
@@ -35,7 +35,7 @@ entriesFrom at (b ∷ l) = packed (at + 2) (tag b) ∷ entriesFrom (at + stringS
 
 -- is it the principal's entry? Where the tags differ it isn't
 unfoldable pub isAt : List ℕ → Principal → ℕ → Bool
-isAt pool p e = pick (eqb (e % 1048576) (tag p)) (same p (nameAt pool e)) false
+isAt pool p e = pick (eqb (e % 1048576) (tag p)) (same p (identifierAt pool e)) false
 
 -- the further entry for tags whose next bit is t's
 unfoldable pub child : ℕ → ℕ → ℕ
@@ -64,8 +64,8 @@ plain-place : (e : ℕ) → placeIn (plain e) ≡ placeIn e
 unfolding plain placeIn
 plain-place e = omega arith
 
-pub plain-name : (pool : List ℕ) (e : ℕ) → nameAt pool (plain e) ≡ nameAt pool e
-unfolding nameAt
+pub plain-name : (pool : List ℕ) (e : ℕ) → identifierAt pool (plain e) ≡ identifierAt pool e
+unfolding identifierAt
 plain-name pool e = rw (plain-place e)
 
 pub plain-at : (pool : List ℕ) (p : Principal) (e : ℕ) → isAt pool p (plain e) ≡ isAt pool p e
@@ -109,7 +109,7 @@ module _ (place : ℕ) (near : place < 1048576) (b : Principal) where
   packed-plain = omega (arith, near, tag-low b)
 
   pub packed-is : (pool : List ℕ) (p : Principal) → counted pool place ≡ b → isAt pool p (packed place (tag b)) ≡ same p b
-  unfolding isAt nameAt
+  unfolding isAt identifierAt
   packed-is pool p e =
       rw (packed-place, packed-tag, e)
       (split (same p b)

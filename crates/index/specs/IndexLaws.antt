@@ -23,10 +23,10 @@ use Rattle.principal.specs.Places.{place}
 use Rattle.principal.specs.Theorems.Added.{distinct-added}
 use Rattle.index.specs.Index.{Holds}
 use Rattle.index.specs.Tree.{Reaches, Tree, Ends, ends-low, tree-first, tree-fewer, tree-more}
-use Rattle.index.specs.Entry.{packed, plain, nameAt, isAt, linked, entriesFrom, plain-at, plain-name, plain-none, at-tag, linked-plain, packed-place, packed-tag, packed-plain, packed-is}
+use Rattle.index.specs.Entry.{packed, plain, identifierAt, isAt, linked, entriesFrom, plain-at, plain-name, plain-none, at-tag, linked-plain, packed-place, packed-tag, packed-plain, packed-is}
 use Rattle.index.specs.EnterLaws.{place-same, place-below}
 use Rattle.index.specs.Working.Walking.{walked, walk-found, Stops, walk-stops}
-use Rattle.index.specs.Working.Adding.{entered, countedInto, addInto, principalInto}
+use Rattle.index.specs.Working.Adding.{entered, countedInto, appendInto, principalInto}
 use Rattle.index.specs.Working.Entering.{numbered, linkInto, enterNew, onWalked, enterIn}
 use Rattle.index.specs.declared.Walk.the-variants.{Found}
 use Rattle.index.specs.declared.Numbered.the-variants.{At}
@@ -58,13 +58,13 @@ module _ (pool : List ℕ) where
   entry-at id (b ∷ l) at p n st zero h = packed-is (at + 2) (omega (arith, n, lies-near b l at p st)) b pool id (lies-at b l at p st)
   entry-at id (b ∷ l) at p n st (suc j) h = entry-at id l (at + (2 + length b)) p n (lies-on b l at p st) j (omega (arith, h))
 
-  names-at : (l : List Principal) (at p : ℕ) → p < 1048576 → Stands pool at (itemsBytes stringBytes l) p → map (nameAt pool) (entriesFrom at l) ≡ l
-  unfolding entriesFrom nameAt stringSize
+  names-at : (l : List Principal) (at p : ℕ) → p < 1048576 → Stands pool at (itemsBytes stringBytes l) p → map (identifierAt pool) (entriesFrom at l) ≡ l
+  unfolding entriesFrom identifierAt stringSize
   names-at [] at p n st = refl
   names-at (b ∷ l) at p n st =
       rw (packed-place (at + 2) (omega (arith, n, lies-near b l at p st)) b, lies-at b l at p st, names-at l (at + (2 + length b)) p n (lies-on b l at p st))
 
-  plain-names : (es : List ℕ) → map (nameAt pool) (map plain es) ≡ map (nameAt pool) es
+  plain-names : (es : List ℕ) → map (identifierAt pool) (map plain es) ≡ map (identifierAt pool) es
   plain-names [] = refl
   plain-names (e ∷ es) = rw (plain-name pool e, plain-names es)
 
@@ -120,7 +120,7 @@ module _ {pool places : List ℕ} {count end : ℕ} {names : List Principal} (ho
       (λ y. clash (member-at id names a (omega (arith, h, holds .counted)) (sym (entry-is id a h) ∙ y)) m) (λ y. y))
       count 0 (tag id) some (omega arith)
 
-  pub names-are : map (nameAt pool) (take count places) ≡ names
+  pub names-are : map (identifierAt pool) (take count places) ≡ names
   names-are = sym (plain-names pool (take count places)) ∙ rw (holds .entries) (names-at pool names 0 end (holds .near) stands)
 
 map-take : (f : ℕ → ℕ) (n : ℕ) (l : List ℕ) → map f (take n l) ≡ take n (map f l)
@@ -157,8 +157,8 @@ module _ {pool places : List ℕ} {count end : ℕ} {names : List Principal} (ho
 
   -- where there is room, an identifier is entered behind the others
   add-gives : (last rest : ℕ) → enterNew pool places count end id last rest
-      ≡ numbered (At count (count + 1) (end + 2 + length id)) (put pool end (stringBytes id)) (after last rest)
-  unfolding enterNew principalInto addInto countedInto copyAt
+      ≡ numbered (At (count + 1) count (end + 2 + length id)) (put pool end (stringBytes id)) (after last rest)
+  unfolding enterNew principalInto appendInto countedInto copyAt
   add-gives last rest =
       rw (
         lt-leb 4096 count few,
@@ -219,7 +219,7 @@ module _ {pool places : List ℕ} {count end : ℕ} {names : List Principal} (ho
   -- a principal that isn't there is entered behind the others
   pub record Fresh : Type 0 where
     pub table : List ℕ
-    pub gives : enterIn pool places count end id ≡ numbered (At count (count + 1) (end + 2 + length id)) (put pool end (stringBytes id)) table
+    pub gives : enterIn pool places count end id ≡ numbered (At (count + 1) count (end + 2 + length id)) (put pool end (stringBytes id)) table
     pub held : Holds (put pool end (stringBytes id)) table (count + 1) (end + 2 + length id) (names ++ (id ∷ []))
     pub long : length table ≡ length places
 

@@ -6,9 +6,9 @@ ghost use Prim.Native.Nat.{_<_};
 ghost use lib.Dec.{ltb};
 ghost use lib.ListN.{set};
 ghost use Rattle.principal.specs.Tag.{tag};
-ghost use Rattle.index.specs.Entry.{nameAt, isAt, child, linked};
+ghost use Rattle.index.specs.Entry.{identifierAt, isAt, child, linked};
 ghost use Rattle.index.specs.Working.Walking.{walked};
-ghost use Rattle.index.specs.Working.Adding.{entered, addInto, principalInto};
+ghost use Rattle.index.specs.Working.Adding.{entered, appendInto, principalInto};
 ghost use Rattle.index.specs.Working.Entering.{linkInto, numbered, enterNew, enterIn};
 
 // An entry has 12 bits for the number of another.
@@ -20,7 +20,7 @@ fn is_entry(pool: &[u8], e: usize, id: &[u8], t: usize) -> bool
     ensures { λ r. ⌜ r ≡ isAt (now (pool .entry)) (now (id .entry)) e ⌝ }
 {
     if e % 1048576 == t {
-        return principal::same_principal(id, name_at(pool, e));
+        return principal::same_principal(id, identifier_at(pool, e));
     }
     false
 }
@@ -90,30 +90,39 @@ fn walk_tree(pool: &[u8], places: &[usize], n: usize, id: &[u8], t: usize) -> Wa
 }
 
 // The identifier of an entry.
-pub fn name_at(pool: &[u8], e: usize) -> &[u8]
-    ensures { λ r. ⌜ now r ≡ nameAt (now (pool .entry)) e ⌝ }
+pub fn identifier_at(pool: &[u8], e: usize) -> &[u8]
+    ensures { λ r. ⌜ now r ≡ identifierAt (now (pool .entry)) e ⌝ }
 {
     text::counted_at(pool, e / 1048576 % 1048576)
 }
 
-// What entering an identifier gives: how many there are now and where the pool's front ends, or no room.
+// How many entries there are, and where the pool's front, which holds them, ends.
+pub struct Index {
+    pub count: usize,
+    pub end: usize,
+}
+
+// What entering gives: the index then, or no room.
 pub enum Entered {
-    Now { count: usize, end: usize },
+    Now { index: Index },
     Full,
 }
 
-// Enters an identifier behind the others.
-pub fn add(pool: &mut [u8], places: &mut [usize], count: usize, end: usize, id: &[u8]) -> Entered
-    ensures { λ r. ⌜ entered r (now (pool .exit)) (now (places .exit)) ≡ addInto (now (pool .entry)) (now (places .entry)) count end (now (id .entry)) ⌝ }
+// Appends a string behind the others, and its place to the table.
+pub fn append(pool: &mut [u8], places: &mut [usize], index: Index, id: &[u8]) -> Entered
+    ensures { λ r. ⌜ entered r (now (pool .exit)) (now (places .exit)) ≡ appendInto (now (pool .entry)) (now (places .entry)) (index .count) (index .end) (now (id .entry)) ⌝ }
 {
-    if places.len() <= count {
+    if places.len() <= index.count {
         return Entered::Full;
     }
-    if text::put_counted(pool, end, id) {
-        places[count] = end + 2;
+    if text::put_counted(pool, index.end, id) {
+        let i = index.count;
+        places[i] = index.end + 2;
         return Entered::Now {
-            count: count + 1,
-            end: end + 2 + id.len(),
+            index: Index {
+                count: index.count + 1,
+                end: index.end + 2 + id.len(),
+            },
         };
     }
     Entered::Full
@@ -132,22 +141,21 @@ fn put_entry(places: &mut [usize], i: usize, e: usize)
 fn add_principal(
     pool: &mut [u8],
     places: &mut [usize],
-    count: usize,
-    end: usize,
+    index: Index,
     id: &[u8],
     t: usize,
 ) -> Entered
     requires { ⌜ (t ≡ tag (now id)) × (t < 1048576) ⌝ }
-    ensures { λ r. ⌜ entered r (now (pool .exit)) (now (places .exit)) ≡ principalInto (now (pool .entry)) (now (places .entry)) count end (now (id .entry)) ⌝ }
+    ensures { λ r. ⌜ entered r (now (pool .exit)) (now (places .exit)) ≡ principalInto (now (pool .entry)) (now (places .entry)) (index .count) (index .end) (now (id .entry)) ⌝ }
 {
-    if 1048574 <= end {
+    if 1048574 <= index.end {
         return Entered::Full;
     }
-    match add(pool, places, count, end, id) {
+    match append(pool, places, index, id) {
         Entered::Full => Entered::Full,
-        Entered::Now { count: c, end: m } => {
-            put_entry(places, count, (end + 2) * 1048576 + t);
-            Entered::Now { count: c, end: m }
+        Entered::Now { index: next } => {
+            put_entry(places, index.count, (index.end + 2) * 1048576 + t);
+            Entered::Now { index: next }
         }
     }
 }
@@ -163,11 +171,12 @@ fn link(places: &mut [usize], i: usize, t: usize, c: usize)
     places[i] = with_child(places[i], t, c);
 }
 
-// A principal's number in the index, with the index's count and end; or no room for it.
+// A principal's number in the index, with the index's count and end; or no room for it. They are not an `Index`, and the number stands between them: a copy
+// of both at once would wait for the stores of each, which costs 5 % of names that are all distinct.
 pub enum Numbered {
     At {
-        number: usize,
         count: usize,
+        number: usize,
         end: usize,
     },
     Full,
@@ -177,39 +186,42 @@ pub enum Numbered {
 fn enter_new(
     pool: &mut [u8],
     places: &mut [usize],
-    count: usize,
-    end: usize,
+    index: Index,
     id: &[u8],
     t: usize,
     last: usize,
     rest: usize,
 ) -> Numbered
     requires { ⌜ (t ≡ tag (now id)) × (t < 1048576) ⌝ }
-    ensures { λ r. ⌜ numbered r (now (pool .exit)) (now (places .exit)) ≡ enterNew (now (pool .entry)) (now (places .entry)) count end (now (id .entry)) last rest ⌝ }
+    ensures { λ r. ⌜ numbered r (now (pool .exit)) (now (places .exit)) ≡ enterNew (now (pool .entry)) (now (places .entry)) (index .count) (index .end) (now (id .entry)) last rest ⌝ }
 {
-    if MOST_NUMBERED <= count {
+    if MOST_NUMBERED <= index.count {
         return Numbered::Full;
     }
-    match add_principal(pool, places, count, end, id, t) {
+    match add_principal(pool, places, index, id, t) {
         Entered::Full => Numbered::Full,
-        Entered::Now { count: c, end: m } => {
-            link(places, last, rest, count);
+        Entered::Now { index: next } => {
+            link(places, last, rest, index.count);
             Numbered::At {
-                number: count,
-                count: c,
-                end: m,
+                count: next.count,
+                number: index.count,
+                end: next.end,
             }
         }
     }
 }
 
 // Enters an identifier into the index, unless it is there already.
-pub fn enter(pool: &mut [u8], places: &mut [usize], count: usize, end: usize, id: &[u8]) -> Numbered
-    ensures { λ r. ⌜ numbered r (now (pool .exit)) (now (places .exit)) ≡ enterIn (now (pool .entry)) (now (places .entry)) count end (now (id .entry)) ⌝ }
+pub fn enter(pool: &mut [u8], places: &mut [usize], index: Index, id: &[u8]) -> Numbered
+    ensures { λ r. ⌜ numbered r (now (pool .exit)) (now (places .exit)) ≡ enterIn (now (pool .entry)) (now (places .entry)) (index .count) (index .end) (now (id .entry)) ⌝ }
 {
     let t = principal::tag_of(id);
-    match walk_tree(pool, places, count, id, t) {
-        Walk::Found { number } => Numbered::At { number, count, end },
-        Walk::Missing { last, rest } => enter_new(pool, places, count, end, id, t, last, rest),
+    match walk_tree(pool, places, index.count, id, t) {
+        Walk::Found { number } => Numbered::At {
+            count: index.count,
+            number,
+            end: index.end,
+        },
+        Walk::Missing { last, rest } => enter_new(pool, places, index, id, t, last, rest),
     }
 }

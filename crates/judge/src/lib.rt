@@ -6,6 +6,7 @@ use conditions::program::bytes_left;
 use conditions::program::conditions;
 use lexical::token::Token;
 use machine::run_here;
+use syntax::fault::Fault;
 ghost use mathlib.Core.Path.{_≡_};
 ghost use Prim.Native.Nat.{_%_};
 ghost use lib.ListN.{replicate};
@@ -14,7 +15,7 @@ ghost use Rattle.judge.specs.Working.Judging.{judgedIn, judgedHere, rank
 // The rank and the token behind the field; or the first fault: reason 0 is that of buffers that are too small.
 pub enum Judged {
     On { rank: u8, next: Token },
-    Aside { reason: u8, place: usize },
+    Aside { fault: Fault },
 }
 
 // A rank in a byte.
@@ -58,7 +59,7 @@ fn judge_in<'a>(
     ensures { λ r. ⌜ r ≡ judgedIn (now (s .entry)) t (now (query .entry)) (now (consts .entry)) (now (values .entry)) (now (names .entry)) (now (constants .entry)) (now (code .entry)) 208 77824 ⌝ }
 {
     match conditions(s, code, 0, t) {
-        Out::Aside { reason, at } => Judged::Aside { reason, place: at },
+        Out::Aside { fault } => Judged::Aside { fault },
         Out::Found {
             sort: _,
             place: _,

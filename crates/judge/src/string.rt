@@ -7,6 +7,8 @@ use conditions::table::TEXT;
 use lexical::token::Token;
 use machine::Given;
 use machine::string_here;
+use syntax::fault::Fault;
+use syntax::fault::NO_ROOM;
 ghost use mathlib.Core.Path.{_≡_};
 ghost use lib.ListN.{replicate};
 ghost use Rattle.judge.specs.Working.Saying.{said, valued, valuedAt, saidIn, saidHere};
@@ -14,7 +16,7 @@ ghost use Rattle.judge.specs.Working.Saying.{said, valued, valuedAt, sai
 // How many bytes the string has, and the token behind it; or the first fault: reason 0 is that of buffers that are too small.
 pub enum Said {
     On { count: usize, next: Token },
-    Aside { reason: u8, place: usize },
+    Aside { fault: Fault },
 }
 
 // The operators of a string bind at this level or above.
@@ -65,7 +67,7 @@ fn string_in<'a>(
     ensures { λ r. ⌜ said r (now (out .exit)) ≡ saidIn (now (s .entry)) t nest (now (query .entry)) (now (consts .entry)) (now (values .entry)) (now (names .entry)) (now (constants .entry)) (now (code .entry)) (now (out .entry)) ⌝ }
 {
     match expression(s, code, 0, OPERATORS, TEXT, 0, nest, t, DEPTH) {
-        Out::Aside { reason, at } => Said::Aside { reason, place: at },
+        Out::Aside { fault } => Said::Aside { fault },
         Out::Found {
             sort: _,
             place: _,
@@ -73,8 +75,10 @@ fn string_in<'a>(
             next,
         } => match value_of(code, top, s, query, consts, values, names, constants, out) {
             Given::Stuck => Said::Aside {
-                reason: 0,
-                place: t.start,
+                fault: Fault {
+                    reason: NO_ROOM,
+                    place: t.start,
+                },
             },
             Given::Bytes { count } => Said::On { count, next },
         },

@@ -13,10 +13,6 @@ pub mod Few
 pub mod Bounds
 pub mod Parts
 pub mod Paged
-pub mod Made
-pub mod Grown
-pub mod Filled
-pub mod Solved
 pub mod Answers
 pub mod More
 pub mod Paper

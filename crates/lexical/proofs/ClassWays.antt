@@ -6,7 +6,7 @@ use native.Mathlib.Omega.{arith}
 use lib.Dec.{eqb, leb}
 use borrow.Author.Tests.{le-leb, lt-leb, leb-false, ne-eqb}
 use Rattle.lexical.specs.Class.{classOf, or, within, BLANK, NEWLINE, LETTER, DIGIT, QUOTE, HASH}
-use Rattle.lexical.specs.Runs.{blank, letter, numeral, blank-class, letter-class, numeral-class, newline-class, quote-class, hash-class}
+use Rattle.lexical.specs.Working.Runs.{blank, letter, numeral, blank-class, letter-class, numeral-class, newline-class, quote-class, hash-class}
 
 module _ (b : ℕ) (t : Bool) (te : t ≡ within 97 122 b) where
   pub letter-small : t ≡ true → true ≡ letter b

@@ -22,7 +22,7 @@ use Rattle.lexical.specs.Theorems.KindLaws.{label-wide}
 use Rattle.lexical.specs.Line.{restOfLine, visible, inLine, blankTo, indented, lineAt, linesFrom, tokenAt}
 use Rattle.lexical.specs.Theorems.LineLaws.{fine-next, line-fine}
 use Rattle.lexical.specs.declared.token.Token.{Token}
-use Rattle.lexical.specs.Working.Open.{literalFrom, settled, belowOf, settled-other, settled-line, settled-open, literal-other, rest-kept}
+use Rattle.lexical.specs.Working.Open.{literalFrom, completed, belowOf, completed-other, completed-line, completed-open, literal-other, rest-kept}
 use Rattle.lexical.proofs.TokenWays.{wide-fits}
 
 module _ (s : List ℕ) (i e : ℕ) (ee : e ≡ past (inRun FREE) s i) where
@@ -45,26 +45,26 @@ neither true u h = clash refl h
 neither false u h = (refl, h)
 
 module _ (s : List ℕ) (mode i : ℕ) where
-  kept : (r : Token) (j : ℕ) → r ≡ restOfLine s j → settled s r ≡ r
+  kept : (r : Token) (j : ℕ) → r ≡ restOfLine s j → completed s r ≡ r
   kept r j e = rw e (rest-kept s j)
 
-  pub visible-end : length s ≤ i → settled s (endOf s) ≡ visible s mode i
-  unfolding visible settled
+  pub visible-end : length s ≤ i → completed s (endOf s) ≡ visible s mode i
+  unfolding visible completed
   visible-end h = simp (le-leb _ _ h)
 
   module _ (h : i < length s) where
-    pub visible-next : (t : Bool) → t ≡ eqb (classOf (getD s i 0)) NEWLINE → t ≡ true → settled s (nextLine (i + 1)) ≡ visible s mode i
+    pub visible-next : (t : Bool) → t ≡ eqb (classOf (getD s i 0)) NEWLINE → t ≡ true → completed s (nextLine (i + 1)) ≡ visible s mode i
     unfolding visible
-    visible-next t te e = settled-line s (nextLine (i + 1)) refl refl ∙ simp (lt-leb _ _ h, sym te, e)
+    visible-next t te e = completed-line s (nextLine (i + 1)) refl refl ∙ simp (lt-leb _ _ h, sym te, e)
 
     module _ (u : Bool) (ue : u ≡ or (eqb (classOf (getD s i 0)) NEWLINE) (eqb (classOf (getD s i 0)) HASH)) (r : Token) where
-      pub visible-hash : (t : Bool) → t ≡ eqb (classOf (getD s i 0)) NEWLINE → u ≡ true → t ≡ false → r ≡ restOfLine s i → settled s r ≡ visible s mode i
+      pub visible-hash : (t : Bool) → t ≡ eqb (classOf (getD s i 0)) NEWLINE → u ≡ true → t ≡ false → r ≡ restOfLine s i → completed s r ≡ visible s mode i
       unfolding visible
       visible-hash t te e n re =
           let k : u ≡ eqb (classOf (getD s i 0)) HASH = rw (sym te, n) at ue in
           kept r i re ∙ simp (lt-leb _ _ h, sym te, n, sym k, e) re
 
-      pub visible-token : u ≡ false → settled s r ≡ tokenFrom s mode i → settled s r ≡ visible s mode i
+      pub visible-token : u ≡ false → completed s r ≡ tokenFrom s mode i → completed s r ≡ visible s mode i
       unfolding visible
       visible-token e re =
           let k : (eqb (classOf (getD s i 0)) NEWLINE ≡ false) × (eqb (classOf (getD s i 0)) HASH ≡ false) = neither _ _ (sym ue ∙ e) in
@@ -73,11 +73,11 @@ module _ (s : List ℕ) (mode i : ℕ) where
           simp (lt-leb _ _ h, n, m) re
 
   module _ (r : Token) where
-    pub in-comment : mode ≡ Kind.IN-COMMENT → r ≡ restOfLine s i → settled s r ≡ inLine s mode i
+    pub in-comment : mode ≡ Kind.IN-COMMENT → r ≡ restOfLine s i → completed s r ≡ inLine s mode i
     unfolding inLine
     in-comment e re = kept r i re ∙ simp (eq-eqb _ _ e) re
 
-    pub in-field : (e : ℕ) → (mode ≡ Kind.IN-COMMENT → ⊥) → e ≡ past (inRun BLANKS) s i → settled s r ≡ visible s mode e → settled s r ≡ inLine s mode i
+    pub in-field : (e : ℕ) → (mode ≡ Kind.IN-COMMENT → ⊥) → e ≡ past (inRun BLANKS) s i → completed s r ≡ visible s mode e → completed s r ≡ inLine s mode i
     unfolding inLine
     in-field e n ee re = simp (ne-eqb _ _ n, sym ee) re
 
@@ -90,7 +90,7 @@ unfolding blankTo
 blank-line s e r h re = simp (lt-leb _ _ h) re
 
 module _ (s : List ℕ) (mode i e : ℕ) where
-  pub indented-field : (r t : Token) → (mode ≡ Kind.BEFORE → ⊥) → settled s t ≡ inLine s mode i → r ≡ settled s t → r ≡ indented s mode i e
+  pub indented-field : (r t : Token) → (mode ≡ Kind.BEFORE → ⊥) → completed s t ≡ inLine s mode i → r ≡ completed s t → r ≡ indented s mode i e
   unfolding indented
   indented-field r t n te re = simp (ne-eqb _ _ n) (re ∙ te)
 
@@ -181,14 +181,14 @@ module _ (s : List ℕ) (mode at : ℕ) where
     unfolding tokenAt
     is-below r e h = simp (ne-eqb _ _ n, sym e, eq-eqb _ _ h)
 
-    module _ (t : Token) (te : settled s t ≡ inLine s mode at) where
+    module _ (t : Token) (te : completed s t ≡ inLine s mode at) where
       pub token-below : (r : Token) → t .kind ≡ Kind.NEXT → r ≡ belowOf s mode (t .start) (t .end) → r ≡ tokenAt s mode at
       unfolding belowOf
       token-below r h e =
           split (eqb (t .start) (t .end))
-          (λ q. (rw q at e) ∙ is-below t (sym (settled-line s t h (eqb-true _ _ q)) ∙ te) h)
+          (λ q. (rw q at e) ∙ is-below t (sym (completed-line s t h (eqb-true _ _ q)) ∙ te) h)
           (λ q. let z : r ≡ literalFrom s (t .start) (t .end) = rw q at e in
-          is-here r (z ∙ sym (settled-open s t h (eqb-false _ _ q)) ∙ te) (rw z (literal-other s (t .start) (t .end))))
+          is-here r (z ∙ sym (completed-open s t h (eqb-false _ _ q)) ∙ te) (rw z (literal-other s (t .start) (t .end))))
 
       pub token-here : (t .kind ≡ Kind.NEXT → ⊥) → t ≡ tokenAt s mode at
-      token-here h = is-here t (sym (settled-other s t h) ∙ te) h
+      token-here h = is-here t (sym (completed-other s t h) ∙ te) h

@@ -21,8 +21,8 @@ use Rattle.lexical.specs.Theorems.LiteralLaws.{units-more, units-last, u
 use Rattle.lexical.specs.Decode.{ran, decodeInto, within, decodeWithin}
 use Rattle.lexical.specs.declared.literal.Decoded.the-variants.{Put, Long, Full}
 use Rattle.text.specs.Scan.{past, past-end}
-use Rattle.lexical.specs.Short.{near, near-short, sized}
-use Rattle.lexical.specs.Plain.{plain, bareEnd, end-plain, quote-within, quote-units, end-quote}
+use Rattle.lexical.specs.Working.Short.{near, near-short, sized}
+use Rattle.lexical.specs.Working.Plain.{plain, bareEnd, end-plain, quote-within, quote-units, end-quote}
 
 module _ (s : List ℕ) (i : ℕ) (u : Unit) (ue : u ≡ unitAt s i) where
   -- the units from here, by the unit at hand

@@ -1,8 +1,8 @@
 -- The ways out of the functions of `number`. Assumes nothing.
-use mathlib.Core.Path.{_≡_, refl, sym, ap, _∙_}
-use mathlib.Core.Bool.{false}
+use mathlib.Core.Path.{_≡_, refl, sym, _∙_}
+use mathlib.Core.Bool.{true, false}
 use mathlib.Core.List.{List, [], _∷_}
-use Prim.Native.Nat.{ℕ, zero, suc, _+_, _-_, _*_, _≤_, _<_}
+use Prim.Native.Nat.{ℕ, zero, suc, _+_, _-_, _*_, _≤_, _<_, min}
 use native.Mathlib.Omega.{arith}
 use native.Mathlib.Numerals.{add-one}
 use lib.Dec.{leb}
@@ -11,39 +11,19 @@ use lib.Seq.{slice, drop-cons, getD-take, getD-drop}
 use mir.Syntax.{w8}
 use mir.Val.{Fits}
 use borrow.Author.Tests.{le-leb, lt-leb, leb-true, leb-false}
-use Rattle.lexical.specs.Theorems.Bounds.{chosen}
+use Rattle.text.specs.Choice.{split}
+use Rattle.text.specs.Digits.{valueFrom, value}
 use Rattle.lexical.specs.Theorems.UnitLaws.{Bytes}
-use Rattle.lexical.specs.Number.{LIMIT, decimal, held, numberAt}
+use Rattle.lexical.specs.Number.{LIMIT, numberAt}
 
--- two numbers that are one below the limit
-data Same : ℕ → ℕ → Type 0 where
-  equal : (x : ℕ) → Same x x
-  large : (x y : ℕ) → LIMIT ≤ x → LIMIT ≤ y → Same x y
+-- numbers that are one when held at the limit are so behind the same digits
+held-same : (bs : List ℕ) (x y : ℕ) → min x LIMIT ≡ min y LIMIT → min (valueFrom x bs) LIMIT ≡ min (valueFrom y bs) LIMIT
+unfolding valueFrom
+held-same [] x y h = h
+held-same (b ∷ bs) x y h = held-same bs (x * 10 + (b - 48)) (y * 10 + (b - 48)) (omega (arith, h))
 
-held-same : (x y : ℕ) → Same x y → held x ≡ held y
-unfolding held
-held-same x y (equal _) = refl
-held-same x y (large _ _ h k) = simp (le-leb LIMIT x h, le-leb LIMIT y k)
-
-decimal-same : (xs : List ℕ) (x y : ℕ) → Same x y → Same (decimal x xs) (decimal y xs)
-unfolding decimal
-decimal-same [] x y h = h
-decimal-same (b ∷ bs) x y (equal _) = decimal-same bs (x * 10 + (b - 48)) (x * 10 + (b - 48)) (equal _)
-decimal-same (b ∷ bs) x y (large _ _ h k) =
-    decimal-same bs (x * 10 + (b - 48)) (y * 10 + (b - 48)) (large _ _ (omega (arith, h)) (omega (arith, k)))
-
-same-held : (x : ℕ) → Same (held x) x
-unfolding held
-same-held x =
-    chosen (λ (n : ℕ). Same n x) (leb LIMIT x) LIMIT x (λ e. large LIMIT x (omega arith) (leb-true _ _ e)) (λ e. equal x)
-
-held-low : (x : ℕ) → held x ≤ LIMIT
-unfolding held
-held-low x = chosen (λ (n : ℕ). n ≤ LIMIT) (leb LIMIT x) LIMIT x (λ e. omega arith) (λ e. omega (arith, leb-false LIMIT x e))
-
-low-held : (v : ℕ) → v ≤ LIMIT → v ≡ held v
-unfolding held
-low-held v h = chosen (λ (n : ℕ). v ≡ n) (leb LIMIT v) LIMIT v (λ e. omega (arith, h, leb-true LIMIT v e)) (λ e. refl)
+within : (v : ℕ) → v ≤ LIMIT → v ≡ min v LIMIT
+within v h = omega (arith, h)
 
 take-short : (t : ℕ) (l : List ℕ) → (length (take t l) ≤ t) × (length (take t l) ≤ length l)
 take-short zero l = (omega arith, omega arith)
@@ -58,37 +38,37 @@ take-long (suc t) (x ∷ xs) (suc i) h k = omega (arith, take-long t xs i (omega
 
 -- what is left of the number behind v
 unfoldable pub numberRest : List ℕ → ℕ → ℕ → ℕ → ℕ
-numberRest s i end v = held (decimal v (slice i end s))
+numberRest s i end v = min (valueFrom v (slice i end s)) LIMIT
 
-pub number-start : (s : List ℕ) (start end : ℕ) → numberRest s start end 0 ≡ numberAt s start end
-unfolding numberRest numberAt
+pub number-start : (s : List ℕ) (start end : ℕ) → numberRest s start end 0 ≡ min (numberAt s start end) LIMIT
+unfolding numberRest numberAt value
 number-start s start end = refl
 
 module _ (s : List ℕ) (i end v r : ℕ) (inv : numberRest s i end v ≡ r) where
   module _ (low : v ≤ LIMIT) where
     pub number-end : end ≤ i → v ≡ r
-    unfolding numberRest decimal
-    number-end h = low-held v low ∙ (rw (drop-of-length-le (take end s) {i = i} (omega (arith, h, take-short end s .0))) at inv)
+    unfolding numberRest valueFrom
+    number-end h = within v low ∙ (rw (drop-of-length-le (take end s) {i = i} (omega (arith, h, take-short end s .0))) at inv)
 
     pub number-past : length s ≤ i → v ≡ r
-    unfolding numberRest decimal
-    number-past h = low-held v low ∙ (rw (drop-of-length-le (take end s) {i = i} (omega (arith, h, take-short end s .1))) at inv)
+    unfolding numberRest valueFrom
+    number-past h = within v low ∙ (rw (drop-of-length-le (take end s) {i = i} (omega (arith, h, take-short end s .1))) at inv)
 
-  module _ (h : i < end) (l : i < length s) (d : ℕ) (de : d ≡ getD s i 0 - 48) (w : ℕ) (we : w ≡ held (v * 10 + d)) where
+  module _ (h : i < end) (l : i < length s) (d : ℕ) (de : d ≡ getD s i 0 - 48) (w : ℕ) (we : w ≡ min (v * 10 + d) LIMIT) where
     pub number-more : numberRest s (i + 1) end w ≡ r
-    unfolding numberRest decimal
+    unfolding numberRest valueFrom
     number-more =
         rw (add-one i, we, de)
-        (held-same _ _ (decimal-same (slice (suc i) end s) _ _ (same-held (v * 10 + (getD s i 0 - 48))))
+        (held-same (slice (suc i) end s) (min (v * 10 + (getD s i 0 - 48)) LIMIT) (v * 10 + (getD s i 0 - 48)) (omega arith)
         ∙ (rw (drop-cons (take end s) i 0 (take-long end s i h l), getD-take end s i 0 h) at inv))
 
     pub number-low : w ≤ LIMIT
-    number-low = omega (arith, we, held-low (v * 10 + d))
+    number-low = omega (arith, we)
 
 -- no digit
 module _ (s : List ℕ) (start end : ℕ) where
-  pub number-none : end ≤ start → 0 ≡ numberAt s start end
-  number-none h = number-end s start end 0 (numberAt s start end) (number-start s start end) (omega arith) h
+  number-none : end ≤ start → numberAt s start end ≡ 0
+  number-none h = omega (arith, number-end s start end 0 (min (numberAt s start end) LIMIT) (number-start s start end) (omega arith) h)
 
 -- a front of bytes
 bytes-take : (n : ℕ) (s : List ℕ) → Bytes s → Bytes (take n s)
@@ -102,27 +82,29 @@ top : ℕ → ℕ → ℕ
 top zero w = w
 top (suc n) w = top n (w * 10 + 207)
 
-decimal-top : (n : ℕ) (bs : List ℕ) (v w : ℕ) → Bytes bs → length bs ≤ n → v ≤ w → decimal v bs ≤ top n w
-unfolding decimal top
-decimal-top zero [] v w f l h = h
-decimal-top zero (b ∷ bs) v w f l h = let no : ⊥ = omega (arith, l) in absurd no
-decimal-top (suc n) [] v w f l h = decimal-top n [] v (w * 10 + 207) f (omega arith) (omega (arith, h))
-decimal-top (suc n) (b ∷ bs) v w f l h =
-    decimal-top n bs (v * 10 + (b - 48)) (w * 10 + 207) (λ i. f (suc i)) (omega (arith, l)) (omega (arith, h, f 0))
+value-top : (n : ℕ) (bs : List ℕ) (v w : ℕ) → Bytes bs → length bs ≤ n → v ≤ w → valueFrom v bs ≤ top n w
+unfolding valueFrom top
+value-top zero [] v w f l h = h
+value-top zero (b ∷ bs) v w f l h = let no : ⊥ = omega (arith, l) in absurd no
+value-top (suc n) [] v w f l h = value-top n [] v (w * 10 + 207) f (omega arith) (omega (arith, h))
+value-top (suc n) (b ∷ bs) v w f l h =
+    value-top n bs (v * 10 + (b - 48)) (w * 10 + 207) (λ i. f (suc i)) (omega (arith, l)) (omega (arith, h, f 0))
 
 -- the ways out of `is_large`; seven bytes write at most 207 * 1111111
 module _ (s : List ℕ) (start end : ℕ) where
   pub large-none : end ≤ start → false ≡ leb LIMIT (numberAt s start end)
-  large-none h = rw (sym (number-none s start end h)) refl
+  large-none h = rw (number-none s start end h) refl
 
   pub large-few : ((i : ℕ) → Fits w8 (getD s i 0)) → end - start < 8 → false ≡ leb LIMIT (numberAt s start end)
-  unfolding numberAt top
+  unfolding numberAt value top
   large-few f h =
       let b : Bytes (slice start end s) = λ i. rw (getD-drop start (take end s) i 0) (bytes-take end s (λ j. f j .fits) (start + i)) in
       let l : length (slice start end s) ≤ 7 = rw length-drop (omega (arith, h, take-short end s .0)) in
-      let d : decimal 0 (slice start end s) ≤ 229999977 = decimal-top 7 (slice start end s) 0 0 b l (omega arith) in
-      let low : held (decimal 0 (slice start end s)) < LIMIT = omega (arith, d, low-held (decimal 0 (slice start end s)) (omega (arith, d))) in
-      sym (lt-leb _ _ low)
+      let d : valueFrom 0 (slice start end s) ≤ 229999977 = value-top 7 (slice start end s) 0 0 b l (omega arith) in
+      sym (lt-leb LIMIT (valueFrom 0 (slice start end s)) (omega (arith, d)))
 
-  pub large-tested : (v : ℕ) → v ≡ numberAt s start end → leb LIMIT v ≡ leb LIMIT (numberAt s start end)
-  large-tested v e = ap (leb LIMIT) e
+  pub large-tested : (v : ℕ) → v ≡ min (numberAt s start end) LIMIT → leb LIMIT v ≡ leb LIMIT (numberAt s start end)
+  large-tested v e =
+      split (leb LIMIT (numberAt s start end))
+      (λ t. let h : LIMIT ≤ v = omega (arith, e, leb-true LIMIT (numberAt s start end) t) in le-leb LIMIT v h ∙ sym t)
+      (λ t. let h : v < LIMIT = omega (arith, e, leb-false LIMIT (numberAt s start end) t) in lt-leb LIMIT v h ∙ sym t)

@@ -8,7 +8,7 @@ use lib.Dec.{eqb}
 use lib.ListN.{length, getD, List·getD-eq-default}
 use borrow.Author.Tests.{ne-eqb}
 use Rattle.lexical.specs.Run.{BLANKS, WHITE, FREE, WORD, NUMERALS, hasClass, inRun}
-use Rattle.lexical.specs.Runs.{blank, white, free, letter, numeral, wordly, blank-run, white-run, free-run, word-run, numeral-run}
+use Rattle.lexical.specs.Working.Runs.{blank, white, free, letter, numeral, wordly, blank-run, white-run, free-run, word-run, numeral-run}
 
 module _ (s : List ℕ) (i k : ℕ) where
   pub byte-past : length s ≤ i → 0 ≡ getD s (i + k) 0

@@ -16,17 +16,17 @@ use Rattle.text.specs.Class.{isWord}
 use Rattle.lexical.specs.Kind
 use Rattle.lexical.specs.Class.{classOf, LETTER, DIGIT, QUOTE, NUL}
 use Rattle.lexical.specs.Run.{inRun, hasClass, WORD, NUMERALS}
-use Rattle.lexical.specs.Runs.{word-same}
+use Rattle.lexical.specs.Working.Runs.{word-same}
 use Rattle.lexical.specs.Operator.{operatorKind}
 use Rattle.lexical.specs.Literal.{literalEnd}
 use Rattle.lexical.specs.declared.token.Token.{Token}
 use Rattle.lexical.specs.Token.{token, illegalAt, widthOf, operatorAt, operatorToken, literalToken, floatEnd, numberToken, tokenFrom}
-use Rattle.lexical.specs.Plain.{plain, end-plain}
+use Rattle.lexical.specs.Working.Plain.{plain, end-plain}
 use Rattle.lexical.specs.Theorems.TokenLaws.{operator-next}
-use Rattle.lexical.specs.Working.Open.{literalFrom, settled, settled-other, settled-line, settled-open, number-other}
+use Rattle.lexical.specs.Working.Open.{literalFrom, completed, completed-other, completed-line, completed-open, number-other}
 use Rattle.lexical.specs.Theorems.Bounds.{byte-within}
-use Rattle.lexical.specs.Lone.{lone, lone-kind, lone-width}
-use Rattle.lexical.specs.Common.{commonPair, common-kind, common-width, common-mark}
+use Rattle.lexical.specs.Working.Lone.{lone, lone-kind, lone-width}
+use Rattle.lexical.specs.Working.Common.{commonPair, common-kind, common-width, common-mark}
 use Rattle.lexical.specs.Theorems.KindLaws.{Wide, operator-wide}
 use Rattle.lexical.proofs.LiteralWays.{end-end, end-found}
 
@@ -93,14 +93,14 @@ module _ (s : List ℕ) (i k b x : ℕ) (ke : k ≡ commonPair b x) (kn : k ≡ 
   pub pair-fits : length s < 2 ^ 64 → Fits w64 i → Fits w64 (i + 2)
   pair-fits = operator-fits s 0 i k 2 (pair-here 0) pair-width
 
-  pub from-pair : (mode : ℕ) → settled s (token k i (i + 2)) ≡ tokenFrom s mode i
+  pub from-pair : (mode : ℕ) → completed s (token k i (i + 2)) ≡ tokenFrom s mode i
   unfolding tokenFrom operatorToken
   from-pair mode =
       let m : (eqb (classOf b) LETTER ≡ false) × (eqb (classOf b) DIGIT ≡ false) × (eqb (classOf b) QUOTE ≡ false) = common-mark b x pair-found in
       let l : eqb (classOf b) LETTER ≡ false = m .0 in
       let d : eqb (classOf b) DIGIT ≡ false = m .1 in
       let q : eqb (classOf b) QUOTE ≡ false = m .2 in
-      settled-other s (token k i (i + 2)) (rw (pair-here mode) (operator-next s mode i))
+      completed-other s (token k i (i + 2)) (rw (pair-here mode) (operator-next s mode i))
       ∙ simp (sym (first-byte s i b be), l, d, q) (operator-made s mode i k 2 (pair-here mode) pair-width)
 
 -- a byte of a class below NUL's stands within the text, and begins its run
@@ -130,48 +130,48 @@ module _ (s : List ℕ) (mode i b : ℕ) (be : b ≡ getD s (i + 0) 0) (t : Bool
     unfolding inRun hasClass
     name-more = first-more s i LETTER letter-here (omega arith) WORD (simp letter-here)
 
-    pub from-name : (e : ℕ) → e ≡ past isWord s (i + 1) → settled s (token Kind.NAME i e) ≡ tokenFrom s mode i
+    pub from-name : (e : ℕ) → e ≡ past isWord s (i + 1) → completed s (token Kind.NAME i e) ≡ tokenFrom s mode i
     unfolding tokenFrom
     from-name e ee =
-        settled-other s (token Kind.NAME i e) (λ z. let no : ⊥ = omega (arith, z) in no)
+        completed-other s (token Kind.NAME i e) (λ z. let no : ⊥ = omega (arith, z) in no)
         ∙ simp (letter-here, name-more, past-alike (inRun WORD) isWord word-same s (i + 1), sym ee)
 
   module _ (tn : t ≡ false) (u : Bool) (ue : u ≡ eqb (classOf b) DIGIT) where
     pub digit-passed : u ≡ true → classOf (getD s i 0) ≡ DIGIT
     digit-passed h = rw (sym at-i) (eqb-true (classOf b) DIGIT (sym ue ∙ h))
 
-    pub from-number : (r : Token) → u ≡ true → r ≡ numberToken s i → settled s r ≡ tokenFrom s mode i
+    pub from-number : (r : Token) → u ≡ true → r ≡ numberToken s i → completed s r ≡ tokenFrom s mode i
     unfolding tokenFrom
-    from-number r h re = settled-other s r (rw re (number-other s i)) ∙ simp (sym at-i, sym te, tn, sym ue, h) re
+    from-number r h re = completed-other s r (rw re (number-other s i)) ∙ simp (sym at-i, sym te, tn, sym ue, h) re
 
     module _ (un : u ≡ false) (v : Bool) (ve : v ≡ eqb (classOf b) QUOTE) where
-      pub from-literal : (r : Token) → v ≡ true → settled s r ≡ literalToken s i → settled s r ≡ tokenFrom s mode i
+      pub from-literal : (r : Token) → v ≡ true → completed s r ≡ literalToken s i → completed s r ≡ tokenFrom s mode i
       unfolding tokenFrom
       from-literal r h re = simp (sym at-i, sym te, tn, sym ue, un, sym ve, h) re
 
       module _ (vn : v ≡ false) where
-        pub from-operator : (r : Token) → r ≡ operatorToken s mode i → settled s (token (r .kind) (r .start) (r .end)) ≡ tokenFrom s mode i
+        pub from-operator : (r : Token) → r ≡ operatorToken s mode i → completed s (token (r .kind) (r .start) (r .end)) ≡ tokenFrom s mode i
         unfolding tokenFrom operatorToken
-        from-operator r re = settled-other s r (rw re (operator-next s mode i)) ∙ simp (sym at-i, sym te, tn, sym ue, un, sym ve, vn) re
+        from-operator r re = completed-other s r (rw re (operator-next s mode i)) ∙ simp (sym at-i, sym te, tn, sym ue, un, sym ve, vn) re
 
 module _ (s : List ℕ) (i : ℕ) where
-  pub literal-past : length s ≤ i → settled s (illegalAt i) ≡ literalToken s i
-  unfolding literalToken settled
+  pub literal-past : length s ≤ i → completed s (illegalAt i) ≡ literalToken s i
+  unfolding literalToken completed
   literal-past h = let z : 0 ≡ literalEnd s (i + 1) = end-end s (i + 1) _ refl (omega (arith, h)) in simp (eq-eqb _ _ (sym z))
 
   module _ (e : ℕ) (ee : e ≡ past plain s (i + 1)) where
-    pub literal-closed : (t : Bool) → t ≡ eqb (getD s e 0) 34 → t ≡ true → settled s (token Kind.LITERAL i (e + 1)) ≡ literalToken s i
-    unfolding literalToken settled
+    pub literal-closed : (t : Bool) → t ≡ eqb (getD s e 0) 34 → t ≡ true → completed s (token Kind.LITERAL i (e + 1)) ≡ literalToken s i
+    unfolding literalToken completed
     literal-closed t te h =
         let z : e + 1 ≡ literalEnd s (i + 1) = end-found s (i + 1) e ee t te h in
         simp (sym z, ne-eqb (e + 1) 0 (λ q. let no : ⊥ = omega (arith, q) in no))
 
-    pub literal-open : settled s (token Kind.NEXT i e) ≡ literalToken s i
+    pub literal-open : completed s (token Kind.NEXT i e) ≡ literalToken s i
     unfolding literalToken literalFrom
     literal-open =
         let n : i ≡ e → ⊥ = λ q. let no : ⊥ = omega (arith, q, ee, past-from plain s (i + 1)) in no in
         let z : literalEnd s e ≡ literalEnd s (i + 1) = ap (literalEnd s) ee ∙ sym (end-plain s (i + 1)) in
-        settled-open s (token Kind.NEXT i e) refl n ∙ simp (sym z)
+        completed-open s (token Kind.NEXT i e) refl n ∙ simp (sym z)
 
   module _ (e n : ℕ) (ne : n ≡ literalEnd s e) where
     pub units-open : n ≡ 0 → illegalAt i ≡ literalFrom s i e
@@ -218,14 +218,14 @@ module _ (s : List ℕ) (e : ℕ) where
       unfolding floatEnd
       float-full h = simp (lt-leb _ _ in-s, eq-eqb _ _ p, sym fe, lt-leb _ _ h)
 
--- the ways out of `settle`
+-- the ways out of `completed`
 module _ (s : List ℕ) (t : Token) where
-  pub settle-other : (t .kind ≡ Kind.NEXT → ⊥) → t ≡ settled s t
-  settle-other n = sym (settled-other s t n)
+  pub complete-other : (t .kind ≡ Kind.NEXT → ⊥) → t ≡ completed s t
+  complete-other n = sym (completed-other s t n)
 
   module _ (k : t .kind ≡ Kind.NEXT) where
-    pub settle-line : t .start ≡ t .end → t ≡ settled s t
-    settle-line e = sym (settled-line s t k e)
+    pub complete-line : t .start ≡ t .end → t ≡ completed s t
+    complete-line e = sym (completed-line s t k e)
 
-    pub settle-open : (t .start ≡ t .end → ⊥) → (r : Token) → r ≡ literalFrom s (t .start) (t .end) → r ≡ settled s t
-    settle-open n r re = re ∙ sym (settled-open s t k n)
+    pub complete-open : (t .start ≡ t .end → ⊥) → (r : Token) → r ≡ literalFrom s (t .start) (t .end) → r ≡ completed s t
+    complete-open n r re = re ∙ sym (completed-open s t k n)

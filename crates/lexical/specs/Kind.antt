@@ -1,6 +1,7 @@
 -- The kinds of token, and where in a text a token is looked for. Assumes nothing.
+use mathlib.Core.Bool.{Bool, true, false}
 use Prim.Native.Nat.{ℕ}
-use lib.Dec.{eqb, ltb}
+use lib.Dec.{eqb, ltb, leb}
 use Rattle.text.specs.Choice.{pick}
 
 -- "the end of text is a token at the text's length"
@@ -202,3 +203,7 @@ opened kind = pick (eqb kind LICENSEES) IN-LICENSEES (pick (eqb kind COMMENT) IN
 -- where it goes on behind any token
 unfoldable pub modeAfter : ℕ → ℕ → ℕ
 modeAfter mode kind = pick (ltb kind KEYNOTE-VERSION) mode (pick (ltb SIGNATURE kind) mode (opened kind))
+
+-- does a token of this kind end a field? "a label [..] (it ends the field before)"; "the end of text is a token"
+unfoldable pub ending : ℕ → Bool
+ending kind = pick (eqb kind END) true (pick (ltb kind KEYNOTE-VERSION) false (leb kind SIGNATURE))

@@ -1,1 +1,6 @@
 pub mod Open
+pub mod Common
+pub mod Lone
+pub mod Runs
+pub mod Plain
+pub mod Short

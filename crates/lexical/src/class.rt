@@ -3,7 +3,7 @@ ghost use mathlib.Core.Path.{_≡_};
 ghost use lib.Dec.{eqb};
 ghost use Rattle.lexical.specs.Class;
 ghost use Rattle.lexical.specs.Class.{classOf, or, within};
-ghost use Rattle.lexical.specs.Runs.{blank, letter, numeral};
+ghost use Rattle.lexical.specs.Working.Runs.{blank, letter, numeral};
 
 pub const OTHER: usize = 0;
 

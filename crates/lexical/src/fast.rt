@@ -6,7 +6,7 @@ use crate::token::operator_token;
 ghost use mathlib.Core.Path.{_≡_};
 ghost use lib.ListN.{getD};
 ghost use Rattle.lexical.specs.Class.{classOf};
-ghost use Rattle.lexical.specs.Lone.{lone};
+ghost use Rattle.lexical.specs.Working.Lone.{lone};
 ghost use Rattle.lexical.specs.Token.{operatorToken};
 
 // The class of a byte with which more than one operator begins, by comparisons; by the table for any other. It buys 8 % of floats of no numbers.

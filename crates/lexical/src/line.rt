@@ -10,15 +10,15 @@ use crate::scan::FREE;
 use crate::scan::byte_at;
 use crate::scan::skip;
 use crate::token::Token;
+use crate::token::completed;
 use crate::token::literal_from;
-use crate::token::settle;
 use crate::token::token_from;
 use crate::token::width;
 ghost use mathlib.Core.Path.{_≡_};
 ghost use Rattle.lexical.specs.Line.{restOfLine, visible, inLine, blankTo, indented, lineAt, linesFrom, tokenAt};
 ghost use Rattle.lexical.specs.Token.{fixed};
 ghost use Rattle.lexical.specs.Label.{labelKind};
-ghost use Rattle.lexical.specs.Working.Open.{settled, belowOf};
+ghost use Rattle.lexical.specs.Working.Open.{completed, belowOf};
 
 // What comes behind the rest of a line that is hidden or free text.
 fn rest_of_line(s: &[u8], i: usize) -> Token
@@ -48,7 +48,7 @@ fn rest_of_line(s: &[u8], i: usize) -> Token
 
 // What stands at i, behind the blanks; a literal may be left open.
 fn visible_at(s: &[u8], mode: u8, i: usize) -> Token
-    ensures { λ r. ⌜ settled (now (s .entry)) r ≡ visible (now (s .entry)) mode i ⌝ }
+    ensures { λ r. ⌜ completed (now (s .entry)) r ≡ visible (now (s .entry)) mode i ⌝ }
 {
     if s.len() <= i {
         return Token {
@@ -73,7 +73,7 @@ fn visible_at(s: &[u8], mode: u8, i: usize) -> Token
 
 // What comes next inside a line; a literal may be left open.
 fn in_line(s: &[u8], mode: u8, i: usize) -> Token
-    ensures { λ r. ⌜ settled (now (s .entry)) r ≡ inLine (now (s .entry)) mode i ⌝ }
+    ensures { λ r. ⌜ completed (now (s .entry)) r ≡ inLine (now (s .entry)) mode i ⌝ }
 {
     if mode == kind::IN_COMMENT {
         return rest_of_line(s, i);
@@ -98,7 +98,7 @@ fn indented_line(s: &[u8], mode: u8, i: usize, e: usize) -> Token
 {
     if mode != kind::BEFORE {
         let t = in_line(s, mode, i);
-        return settle(s, t);
+        return completed(s, t);
     }
     let b = byte_at(s, e, 0);
     if is_hash(b) {

@@ -12,8 +12,8 @@ ghost use lib.Seq.{sets};
 ghost use Rattle.text.specs.Scan.{past};
 ghost use Rattle.lexical.specs.Literal.{literalEnd, decodedAt, unitsAt, given};
 ghost use Rattle.lexical.specs.Decode.{ran, decodeInto, within, decodeWithin};
-ghost use Rattle.lexical.specs.Plain.{plain, bareEnd};
-ghost use Rattle.lexical.specs.Short.{near, sized};
+ghost use Rattle.lexical.specs.Working.Plain.{plain, bareEnd};
+ghost use Rattle.lexical.specs.Working.Short.{near, sized};
 
 fn count(kind: u8) -> usize
     ensures { λ r. ⌜ r ≡ kind ⌝ }

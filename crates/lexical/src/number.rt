@@ -1,9 +1,9 @@
 // Digits and the numbers that they write.
 ghost use mathlib.Core.Path.{_≡_};
-ghost use Prim.Native.Nat.{_-_, _<_};
+ghost use Prim.Native.Nat.{_-_, _<_, min};
 ghost use lib.Dec.{leb};
 ghost use Rattle.lexical.specs.Number;
-ghost use Rattle.lexical.specs.Number.{held, numberAt};
+ghost use Rattle.lexical.specs.Number.{numberAt};
 
 fn wide(b: u8) -> u64
     ensures { λ r. ⌜ r ≡ b ⌝ }
@@ -27,7 +27,7 @@ pub const LIMIT: u64 = 2147483648;
 
 // The smaller of a number and the limit.
 fn hold(n: u64) -> u64
-    ensures { λ r. ⌜ r ≡ held n ⌝ }
+    ensures { λ r. ⌜ r ≡ min n Number.LIMIT ⌝ }
 {
     if LIMIT <= n {
         return LIMIT;
@@ -37,7 +37,7 @@ fn hold(n: u64) -> u64
 
 // The number that the digits from start to end write, or the limit where that is smaller.
 pub fn number_at(s: &[u8], start: usize, end: usize) -> u64
-    ensures { λ r. ⌜ r ≡ numberAt (now (s .entry)) start end ⌝ }
+    ensures { λ r. ⌜ r ≡ min (numberAt (now (s .entry)) start end) Number.LIMIT ⌝ }
 {
     let mut i = start;
     let mut v: u64 = 0;

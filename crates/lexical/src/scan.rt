@@ -7,7 +7,7 @@ ghost use Prim.Native.Nat.{_+_};
 ghost use lib.ListN.{getD};
 ghost use Rattle.text.specs.Scan.{past};
 ghost use Rattle.lexical.specs.Run.{inRun};
-ghost use Rattle.lexical.specs.Runs.{white, free, wordly};
+ghost use Rattle.lexical.specs.Working.Runs.{white, free, wordly};
 
 pub const BLANKS: u8 = 0;
 

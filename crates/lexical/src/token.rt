@@ -14,9 +14,9 @@ use crate::scan::skip;
 ghost use mathlib.Core.Path.{_≡_};
 ghost use lib.ListN.{getD};
 ghost use Rattle.lexical.specs.Class.{classOf, DIGIT};
-ghost use Rattle.lexical.specs.Common.{commonPair};
+ghost use Rattle.lexical.specs.Working.Common.{commonPair};
 ghost use Rattle.lexical.specs.Token.{widthOf, operatorAt, operatorToken, literalToken, floatEnd, numberToken, tokenFrom};
-ghost use Rattle.lexical.specs.Working.Open.{literalFrom, settled};
+ghost use Rattle.lexical.specs.Working.Open.{literalFrom, completed};
 
 // A token of the text: its kind, its first byte, and the place behind its last byte. At the end and at a fault the two places are one.
 pub struct Token {
@@ -81,7 +81,7 @@ pub(crate) fn operator_token(s: &[u8], mode: u8, i: usize, c: usize) -> Token
 
 // From its opening quote to behind its closing quote; one with more than plain bytes is left open, as a next line that has bytes: those before the first other one.
 fn literal_token(s: &[u8], i: usize) -> Token
-    ensures { λ r. ⌜ settled (now (s .entry)) r ≡ literalToken (now (s .entry)) i ⌝ }
+    ensures { λ r. ⌜ completed (now (s .entry)) r ≡ literalToken (now (s .entry)) i ⌝ }
 {
     if s.len() <= i {
         return Token {
@@ -125,8 +125,8 @@ pub fn literal_from(s: &[u8], i: usize, e: usize) -> Token
 }
 
 // A token as it is, but an open literal to its end.
-pub fn settle(s: &[u8], t: Token) -> Token
-    ensures { λ r. ⌜ r ≡ settled (now (s .entry)) t ⌝ }
+pub fn completed(s: &[u8], t: Token) -> Token
+    ensures { λ r. ⌜ r ≡ completed (now (s .entry)) t ⌝ }
 {
     if t.kind != kind::NEXT {
         return t;
@@ -202,7 +202,7 @@ fn common_pair(b: u8, x: u8) -> usize
 
 // The token that starts at i, by the class of its first byte; a literal may be left open.
 pub fn token_from(s: &[u8], mode: u8, i: usize) -> Token
-    ensures { λ r. ⌜ settled (now (s .entry)) r ≡ tokenFrom (now (s .entry)) mode i ⌝ }
+    ensures { λ r. ⌜ completed (now (s .entry)) r ≡ tokenFrom (now (s .entry)) mode i ⌝ }
 {
     let b = byte_at(s, i, 0);
     if begins_name(b) {

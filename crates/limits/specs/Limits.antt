@@ -79,9 +79,21 @@ mostConstants = 16
 abbrev pub mostBrackets : ℕ
 mostBrackets = 16
 
+-- "16 prefix operators in a row"
+abbrev pub mostPrefixes : ℕ
+mostPrefixes = 16
+
+-- "Literals [..] of at most 18 digits", which is 19 bytes with the point
+abbrev pub mostFloat : ℕ
+mostFloat = 19
+
 -- "literal 2,048 decoded bytes"
 abbrev pub mostLiteral : ℕ
 mostLiteral = 2048
+
+-- "string over 4,096 bytes" is a fault
+abbrev pub mostString : ℕ
+mostString = 4096
 
 -- "principal identifier 1 to 256 bytes"
 abbrev pub mostIdentifier : ℕ

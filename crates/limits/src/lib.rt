@@ -45,7 +45,16 @@ pub const MOST_CONSTANTS: usize = 16;
 
 pub const MOST_BRACKETS: usize = 16;
 
+// Prefix operators in a row.
+pub const MOST_PREFIXES: usize = 16;
+
 pub const MOST_LITERAL: usize = 2048;
+
+// A float literal: 18 digits and a point.
+pub const MOST_FLOAT: usize = 19;
+
+// A string that Conditions compute.
+pub const MOST_STRING: usize = 4096;
 
 pub const MOST_IDENTIFIER: usize = 256;
 

@@ -1,7 +1,6 @@
 // The machine that runs compiled Conditions: a stack of operands, two numbers each, and the bytes of their strings one after the other.
 use expression::integer::in_range;
 use expression::name::lookup;
-use expression::operator::LONGEST;
 use expression::operator::apply;
 use expression::operator::combine;
 use expression::operator::of_naturals;
@@ -19,6 +18,7 @@ use expression::value::width_of;
 use lexical::literal::Decoded;
 use lexical::literal::bare_end;
 use lexical::literal::decode_within;
+use limits::MOST_STRING;
 ghost use mathlib.Core.Path.{_≡_};
 ghost use mathlib.Core.List.{[], map};
 ghost use Prim.Native.Nat.{_+_, _-_, _≤_, _<_, max};
@@ -37,7 +37,7 @@ ghost use Rattle.expression.specs.Tables.{lookupIn};
 ghost use Rattle.machine.specs.Working.Machine.{runAt, textStep, topOf, unaryStep, lookupStep, binaryOn, binaryStep, raised, isIdle, clauseStep, pushStep, actOf, outer, above, behindOf, stopAt, goOn, closing, begun, ended, needless, exec, resultOf, on};
 ghost use Rattle.machine.specs.Working.Left.{leftIn};
 ghost use Rattle.machine.specs.Working.Given.{gave, stringOf, stringIn};
-ghost use Rattle.machine.specs.Working.Live.{Live, landed, putAt, settled};
+ghost use Rattle.machine.specs.Working.Live.{Live, landed, putAt, putBelow};
 ghost use Rattle.machine.specs.Working.Quick.{putTwo, isNatural, isTold, isLogical, decides};
 ghost use Rattle.machine.specs.Working.Alike.{isAlike, agrees, alikeOn};
 ghost use Rattle.machine.specs.Working.Joining.{isJoining, joinOn};
@@ -120,7 +120,7 @@ fn push_text(stack: &mut [u64], n: usize, bytes: &mut [u8], t: usize, b: &[u8]) 
     ensures { λ r. ⌜ Live r (now (stack .exit)) (now (bytes .exit)) (textStep (length (now (stack .entry))) (length (now (bytes .entry))) (now (b .entry)) (take n (now (stack .entry))) (take t (now (bytes .entry)))) ⌝ }
 {
     let k = b.len();
-    if LONGEST < k {
+    if MOST_STRING < k {
         return put(stack, n, t, Operand::Fault);
     }
     if text::copy_long(bytes, t, b) {
@@ -145,7 +145,7 @@ fn push_literal(
     if e != 0 {
         return push_text(stack, n, bytes, t, &s[at + 1..e]);
     }
-    match decode_within(s, at, bytes, t, LONGEST) {
+    match decode_within(s, at, bytes, t, MOST_STRING) {
         Decoded::Long => put(stack, n, t, Operand::Fault),
         Decoded::Full => Tops::Stuck,
         Decoded::Put { count } => put(stack, n, t + count, Operand::Text { length: count }),
@@ -219,9 +219,9 @@ fn lookup_step<'a>(
 }
 
 // Puts an operand whose string starts at `base`, below the top t.
-fn settle(stack: &mut [u64], n: usize, t: usize, base: usize, v: Operand) -> Tops
+fn put_below(stack: &mut [u64], n: usize, t: usize, base: usize, v: Operand) -> Tops
     requires { ⌜ n ≤ length (now stack) ⌝ }
-    ensures { λ r. ⌜ landed r (now (stack .exit)) ≡ settled (now (stack .entry)) n t base v ⌝ }
+    ensures { λ r. ⌜ landed r (now (stack .exit)) ≡ putBelow (now (stack .entry)) n t base v ⌝ }
 {
     let w = width_of(v);
     if t < base {
@@ -259,7 +259,7 @@ fn binary_on(
     }
     let base = mid - wx;
     let v = combine(op, x, y, &bytes[base..mid], &bytes[mid..t], query, values);
-    settle(stack, n, t, base, v)
+    put_below(stack, n, t, base, v)
 }
 
 // Puts a packed operand on a stack of n numbers that has room for it.
@@ -431,7 +431,7 @@ fn join_step(wx: usize, wy: usize, stack: &mut [u64], n: usize, bytes: &[u8], t:
     if mid < wx {
         return Tops::Stuck;
     }
-    if LONGEST < wx + wy {
+    if MOST_STRING < wx + wy {
         return put(stack, n, mid - wx, Operand::Fault);
     }
     put(stack, n, t, Operand::Text { length: wx + wy })
@@ -601,7 +601,7 @@ fn push_step<'a>(
         return push_text(stack, n, bytes, t, b);
     }
     if op == syntax::NUMBER {
-        let m = text::number_at(s, at);
+        let m = text::number_from(s, at);
         return put(stack, n, t, in_range(false, m));
     }
     if op == syntax::DECIMAL {

@@ -9,11 +9,12 @@ use Rattle.text.specs.Loop.{Step, next, done, loop}
 use Rattle.record.specs.Query.{Attribute}
 use Rattle.limits.specs.Limits.{mostLicensees, mostBrackets}
 use Rattle.lexical.specs.Kind
+use Rattle.lexical.specs.Kind.{ending}
 use Rattle.lexical.specs.Number.{numberAt}
 use Rattle.lexical.specs.declared.token.Token.{Token}
 use Rattle.syntax.specs.Parsed.{Parsed, ok, aside, andThen, unexpected}
 use Rattle.conditions.specs.Table.{beginsString}
-use Rattle.fields.specs.Parsed.{behind, ending, ended}
+use Rattle.fields.specs.Parsed.{behind, ended}
 use Rattle.naming.specs.Source.{Source, Sources, one, and, or, kOf, Licensees, empty, given, sources}
 use Rattle.naming.specs.String.{plainFrom, source}
 

@@ -1,7 +1,6 @@
 pub mod Strings
 pub mod Says
 pub mod Begun
-pub mod Words
 pub mod StandIn
 pub mod Code
 pub mod Entry

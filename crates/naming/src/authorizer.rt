@@ -1,7 +1,4 @@
 // Authorizer, a string expression.
-use crate::fault::BARRED;
-use crate::fault::Fault;
-use crate::fault::NOBODY;
 use crate::fault::clear;
 use crate::fault::fault_at;
 use crate::identifier::Named;
@@ -10,11 +7,15 @@ use crate::identifier::plain_named;
 use crate::identifier::string_named;
 use crate::list::plain_from;
 use fields::out::is_ending;
-use fields::out::refusal_of;
+use index::Index;
 use lexical::kind;
 use lexical::line::token_at;
 use lexical::token::Token;
 use limits::MOST_BRACKETS;
+use syntax::fault::Fault;
+use syntax::fault::UNIDENTIFIED;
+use syntax::fault::UNVERIFIED;
+use syntax::fault::misplaced;
 ghost use mathlib.Core.Path.{_≡_};
 ghost use Rattle.naming.specs.Working.Identifying.{sight, named};
 ghost use Rattle.naming.specs.Working.Authorizing.{policyAt, barredAt, barFault, authorizerEnd, made, authoredIn, authorNamed, authorizerIn};
@@ -22,18 +23,16 @@ ghost use Rattle.naming.specs.Working.Authorizing.{policyAt, barredAt, b
 // The standing of a verified credential.
 pub const VERIFIED: u8 = 2;
 
-// The authorizer's number, the index's count and end, what is against the identifier, and the token that ends the field; or the first fault of the text.
+// The authorizer's number, the index, what is against the identifier, and the token that ends the field; or the first fault of the text.
 pub enum Author {
     On {
         number: usize,
-        count: usize,
-        end: usize,
+        index: Index,
         fault: Fault,
         next: Token,
     },
     Aside {
-        reason: u8,
-        place: usize,
+        fault: Fault,
     },
 }
 
@@ -45,7 +44,7 @@ fn is_policy(pool: &[u8], places: &[usize], number: usize) -> bool
         return false;
     }
     let e = places[number];
-    principal::same_principal(index::name_at(pool, e), b"POLICY")
+    principal::same_principal(index::identifier_at(pool, e), b"POLICY")
 }
 
 // Is it one that may not authorize an assertion of that standing?
@@ -63,27 +62,25 @@ fn bar_fault(standing: u8, pool: &[u8], places: &[usize], number: usize, place: 
     ensures { λ r. ⌜ r ≡ barFault standing (now (pool .entry)) (now (places .entry)) number place ⌝ }
 {
     if is_barred(standing, pool, places, number) {
-        return fault_at(BARRED, place);
+        return fault_at(UNVERIFIED, place);
     }
     clear()
 }
 
 // The end of the field at t.
-fn finished(number: usize, count: usize, end: usize, fault: Fault, t: Token) -> Author
-    ensures { λ r. ⌜ r ≡ authorizerEnd number count end fault t ⌝ }
+fn finished(number: usize, index: Index, fault: Fault, t: Token) -> Author
+    ensures { λ r. ⌜ r ≡ authorizerEnd number index fault t ⌝ }
 {
     if is_ending(t.kind) {
         return Author::On {
             number,
-            count,
-            end,
+            index,
             fault,
             next: t,
         };
     }
     Author::Aside {
-        reason: refusal_of(t.kind),
-        place: t.start,
+        fault: misplaced(t),
     }
 }
 
@@ -92,27 +89,25 @@ fn authored(
     standing: u8,
     pool: &[u8],
     places: &[usize],
-    count: usize,
-    end: usize,
+    index: Index,
     place: usize,
     e: Named,
 ) -> Author
-    ensures { λ r. ⌜ r ≡ authoredIn standing (now (pool .entry)) (now (places .entry)) count end place e ⌝ }
+    ensures { λ r. ⌜ r ≡ authoredIn standing (now (pool .entry)) (now (places .entry)) (index .count) (index .end) place e ⌝ }
 {
     match e {
-        Named::Aside { reason, place: at } => Author::Aside { reason, place: at },
+        Named::Aside { fault } => Author::Aside { fault },
         Named::Nobody { next } => {
-            let f = fault_at(NOBODY, place);
-            finished(0, count, end, f, next)
+            let f = fault_at(UNIDENTIFIED, place);
+            finished(0, index, f, next)
         }
         Named::At {
             number,
-            count: c,
-            end: m,
+            index: then,
             next,
         } => {
             let f = bar_fault(standing, pool, places, number, place);
-            finished(number, c, m, f, next)
+            finished(number, then, f, next)
         }
     }
 }
@@ -127,11 +122,10 @@ fn author_named<'a>(
     constants: &[usize],
     pool: &mut [u8],
     places: &mut [usize],
-    count: usize,
-    end: usize,
+    index: Index,
     t: Token,
 ) -> Named
-    ensures { λ r. ⌜ named r (now (pool .exit)) (now (places .exit)) ≡ authorNamed (now (s .entry)) (sight (now (query .entry)) (now (consts .entry)) (now (values .entry)) (now (names .entry)) (now (constants .entry))) (now (pool .entry)) (now (places .entry)) count end t ⌝ }
+    ensures { λ r. ⌜ named r (now (pool .exit)) (now (places .exit)) ≡ authorNamed (now (s .entry)) (sight (now (query .entry)) (now (consts .entry)) (now (values .entry)) (now (names .entry)) (now (constants .entry))) (now (pool .entry)) (now (places .entry)) (index .count) (index .end) t ⌝ }
 {
     if is_plain(s, t) {
         let n = token_at(s, kind::IN_FIELD, t.end);
@@ -145,8 +139,7 @@ fn author_named<'a>(
                 constants,
                 pool,
                 places,
-                count,
-                end,
+                index,
                 t,
                 0,
             );
@@ -160,8 +153,7 @@ fn author_named<'a>(
             constants,
             pool,
             places,
-            count,
-            end,
+            index,
             t,
             n,
         );
@@ -175,8 +167,7 @@ fn author_named<'a>(
         constants,
         pool,
         places,
-        count,
-        end,
+        index,
         t,
         0,
     )
@@ -193,11 +184,10 @@ pub fn authorizer<'a>(
     constants: &[usize],
     pool: &mut [u8],
     places: &mut [usize],
-    count: usize,
-    end: usize,
+    index: Index,
     t: Token,
 ) -> Author
-    ensures { λ r. ⌜ made r (now (pool .exit)) (now (places .exit)) ≡ authorizerIn (now (s .entry)) standing (sight (now (query .entry)) (now (consts .entry)) (now (values .entry)) (now (names .entry)) (now (constants .entry))) (now (pool .entry)) (now (places .entry)) count end t ⌝ }
+    ensures { λ r. ⌜ made r (now (pool .exit)) (now (places .exit)) ≡ authorizerIn (now (s .entry)) standing (sight (now (query .entry)) (now (consts .entry)) (now (values .entry)) (now (names .entry)) (now (constants .entry))) (now (pool .entry)) (now (places .entry)) (index .count) (index .end) t ⌝ }
 {
     let p = plain_from(s, t, MOST_BRACKETS);
     let e = author_named(
@@ -209,9 +199,8 @@ pub fn authorizer<'a>(
         constants,
         pool,
         places,
-        count,
-        end,
+        index,
         t,
     );
-    authored(standing, pool, places, count, end, p.start, e)
+    authored(standing, pool, places, index, p.start, e)
 }

@@ -1,18 +1,8 @@
-// A reason against an identifier of a text that is otherwise well formed, and its place.
+// A fault of an identifier of a text that is otherwise well formed. Reason 0 is none.
+use syntax::fault::Fault;
 ghost use mathlib.Core.Path.{_≡_};
-ghost use Rattle.naming.specs.Working.Faults.{firstOf, clearAt, against, reasonOf};
-
-// Reason 0 is none. It is a whole word: a copy of a byte and what is beside it waits for the stores of both.
-pub struct Fault {
-    pub reason: usize,
-    pub place: usize,
-}
-
-// The reason against an identifier that is none.
-pub const NOBODY: usize = 10;
-
-// The reason against a verified credential whose authorizer is POLICY.
-pub const BARRED: usize = 9;
+ghost use Rattle.syntax.specs.Working.Faults.{against};
+ghost use Rattle.naming.specs.Working.Faults.{firstOf, clearAt};
 
 // No fault.
 pub fn clear() -> Fault
@@ -29,16 +19,6 @@ pub fn fault_at(reason: usize, place: usize) -> Fault
     ensures { λ r. ⌜ r ≡ against reason place ⌝ }
 {
     Fault { reason, place }
-}
-
-// The reason as a byte.
-pub fn reason_of(f: Fault) -> u8
-    ensures { λ r. ⌜ r ≡ reasonOf f ⌝ }
-{
-    if f.reason == BARRED {
-        return 9;
-    }
-    10
 }
 
 // The one of two that stands first.

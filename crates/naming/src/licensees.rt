@@ -11,13 +11,16 @@ use crate::list::name_before;
 use crate::list::refused;
 use crate::list::threshold;
 use compliance::machine as instruction;
-use fields::out::NO_ROOM;
 use fields::out::is_ending;
+use index::Index;
 use lexical::kind;
 use lexical::line::token_at;
 use lexical::token::Token;
 use limits::MOST_BRACKETS;
 use limits::MOST_CODE;
+use syntax::fault::Fault;
+use syntax::fault::NO_ROOM;
+use syntax::fault::OVER_LIMIT;
 ghost use mathlib.Core.Path.{_≡_};
 ghost use Rattle.naming.specs.Working.Identifying.{sight};
 ghost use Rattle.naming.specs.Working.List.{ran};
@@ -212,26 +215,28 @@ fn more<'a>(
             level,
             left,
         ) {
-            Licensed::Aside { reason, place } => {
-                return Licensed::Aside { reason, place };
-            }
             Licensed::On { state: u, next } => {
                 if rest(state.listed) <= rest(u.listed) {
                     return Licensed::Aside {
-                        reason: NO_ROOM,
-                        place: 0,
+                        fault: Fault {
+                            reason: NO_ROOM,
+                            place: 0,
+                        },
                     };
                 }
+                let index = u.index;
                 let fault = u.fault;
                 let size = push(code, u.size, join_of(level));
                 state = State {
-                    count: u.count,
-                    end: u.end,
+                    index,
                     size,
                     listed: u.listed,
                     fault,
                 };
                 t = next;
+            }
+            aside => {
+                return aside;
             }
         }
     }
@@ -271,7 +276,6 @@ fn chain<'a>(
         level,
         left,
     ) {
-        Licensed::Aside { reason, place } => Licensed::Aside { reason, place },
         Licensed::On { state, next } => {
             more(
                 s,
@@ -289,6 +293,7 @@ fn chain<'a>(
                 left,
             )
         }
+        aside => aside,
     }
 }
 
@@ -356,8 +361,10 @@ fn primary<'a>(
     }
     if left == 0 {
         return Licensed::Aside {
-            reason: 7,
-            place: t.start,
+            fault: Fault {
+                reason: OVER_LIMIT,
+                place: t.start,
+            },
         };
     }
     let n = token_at(s, kind::IN_LICENSEES, t.end);
@@ -376,9 +383,7 @@ fn primary<'a>(
         ANY,
         left - 1,
     ) {
-        Licensed::Aside { reason, place } => Licensed::Aside { reason, place },
         Licensed::On { state, next } => match closed(s, state, next) {
-            Licensed::Aside { reason, place } => Licensed::Aside { reason, place },
             Licensed::On { state: u, next: v } => {
                 if is_longer(st, u, v.kind) {
                     return licensee(
@@ -398,7 +403,9 @@ fn primary<'a>(
                 }
                 Licensed::On { state: u, next: v }
             }
+            aside => aside,
         },
+        aside => aside,
     }
 }
 
@@ -423,31 +430,33 @@ pub fn licensees<'a>(
     pool: &mut [u8],
     places: &mut [usize],
     code: &mut [u16],
-    count: usize,
-    end: usize,
+    index: Index,
     size: usize,
     t: Token,
 ) -> Licensed
-    ensures { λ r. ⌜ ran r (now (pool .exit)) (now (places .exit)) (now (code .exit)) ≡ fieldIn (now (s .entry)) (sight (now (query .entry)) (now (consts .entry)) (now (values .entry)) (now (names .entry)) (now (constants .entry))) (now (pool .entry)) (now (places .entry)) (now (code .entry)) count end size t ⌝ }
+    ensures { λ r. ⌜ ran r (now (pool .exit)) (now (places .exit)) (now (code .exit)) ≡ fieldIn (now (s .entry)) (sight (now (query .entry)) (now (consts .entry)) (now (values .entry)) (now (names .entry)) (now (constants .entry))) (now (pool .entry)) (now (places .entry)) (now (code .entry)) (index .count) (index .end) size t ⌝ }
 {
     if code.len() < size {
         return Licensed::Aside {
-            reason: NO_ROOM,
-            place: 0,
+            fault: Fault {
+                reason: NO_ROOM,
+                place: 0,
+            },
         };
     }
     if code.len() - size < MOST_CODE {
         return Licensed::Aside {
-            reason: NO_ROOM,
-            place: 0,
+            fault: Fault {
+                reason: NO_ROOM,
+                place: 0,
+            },
         };
     }
     if is_ending(t.kind) {
         let top = push(code, size, instruction::ZERO);
         return Licensed::On {
             state: State {
-                count,
-                end,
+                index,
                 size: top,
                 listed: 0,
                 fault: clear(),
@@ -456,8 +465,7 @@ pub fn licensees<'a>(
         };
     }
     let st = State {
-        count,
-        end,
+        index,
         size,
         listed: 0,
         fault: clear(),
@@ -477,7 +485,7 @@ pub fn licensees<'a>(
         ANY,
         MOST_BRACKETS,
     ) {
-        Licensed::Aside { reason, place } => Licensed::Aside { reason, place },
         Licensed::On { state, next } => finished(state, next),
+        aside => aside,
     }
 }

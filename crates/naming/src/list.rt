@@ -1,8 +1,6 @@
 // Licensees one by one and in lists, written as instructions.
 use crate::code::push;
 use crate::code::rest;
-use crate::fault::Fault;
-use crate::fault::NOBODY;
 use crate::fault::earlier;
 use crate::fault::fault_at;
 use crate::identifier::Named;
@@ -12,8 +10,7 @@ use crate::identifier::string_named;
 use crate::whole::is_whole;
 use compliance::machine as instruction;
 use conditions::table::is_string;
-use fields::out::NO_ROOM;
-use fields::out::refusal_of;
+use index::Index;
 use index::Numbered;
 use index::enter;
 use lexical::kind;
@@ -22,6 +19,12 @@ use lexical::number::number_at;
 use lexical::token::Token;
 use limits::MOST_BRACKETS;
 use limits::MOST_LICENSEES;
+use syntax::fault::Fault;
+use syntax::fault::NO_ROOM;
+use syntax::fault::OUT_OF_RANGE;
+use syntax::fault::OVER_LIMIT;
+use syntax::fault::UNIDENTIFIED;
+use syntax::fault::misplaced;
 ghost use mathlib.Core.Path.{_≡_};
 ghost use mathlib.Core.Bool.{true};
 ghost use Prim.Native.Nat.{_-_, _<_};
@@ -32,11 +35,10 @@ ghost use Rattle.naming.specs.String.{plainFrom, nestOf};
 ghost use Rattle.naming.specs.Working.Identifying.{sight, ofNumber};
 ghost use Rattle.naming.specs.Working.List.{ran, refusedLicensed, itemsOf, listedIn, placedIn, beforeIn, literalIn, Leads, isOver, stringIn, licenseeIn, listIn, openedIn, thresholdIn, wrote};
 
-// The index's count, the end of the code, the index's end, how many licensees were read, and the first that is nobody.
+// The index, the end of the code, how many licensees were read, and the first that is nobody.
 pub struct State {
-    pub count: usize,
+    pub index: Index,
     pub size: usize,
-    pub end: usize,
     pub listed: usize,
     pub fault: Fault,
 }
@@ -44,15 +46,14 @@ pub struct State {
 // The state and the token behind what was read, or the first fault.
 pub enum Licensed {
     On { state: State, next: Token },
-    Aside { reason: u8, place: usize },
+    Aside { fault: Fault },
 }
 
 pub fn refused(t: Token) -> Licensed
     ensures { λ r. ⌜ r ≡ refusedLicensed t ⌝ }
 {
     Licensed::Aside {
-        reason: refusal_of(t.kind),
-        place: t.start,
+        fault: misplaced(t),
     }
 }
 
@@ -118,21 +119,23 @@ fn placed(code: &mut [u16], st: State, place: usize, e: Named) -> Licensed
     ensures { λ r. ⌜ wrote r (now (code .exit)) ≡ placedIn (now (code .entry)) st place e ⌝ }
 {
     match e {
-        Named::Aside { reason, place: at } => Licensed::Aside { reason, place: at },
+        Named::Aside { fault } => Licensed::Aside { fault },
         Named::Nobody { next } => {
             if MOST_LICENSEES <= st.listed {
                 return Licensed::Aside {
-                    reason: NO_ROOM,
-                    place: 0,
+                    fault: Fault {
+                        reason: NO_ROOM,
+                        place: 0,
+                    },
                 };
             }
+            let index = st.index;
             let first = st.fault;
-            let fault = earlier(first, fault_at(NOBODY, place));
+            let fault = earlier(first, fault_at(UNIDENTIFIED, place));
             let size = push(code, st.size, 0);
             Licensed::On {
                 state: State {
-                    count: st.count,
-                    end: st.end,
+                    index,
                     size,
                     listed: st.listed + 1,
                     fault,
@@ -142,28 +145,30 @@ fn placed(code: &mut [u16], st: State, place: usize, e: Named) -> Licensed
         }
         Named::At {
             number,
-            count,
-            end,
+            index,
             next,
         } => {
             if MOST_LICENSEES <= st.listed {
                 return Licensed::Aside {
-                    reason: NO_ROOM,
-                    place: 0,
+                    fault: Fault {
+                        reason: NO_ROOM,
+                        place: 0,
+                    },
                 };
             }
             if 32768 <= number {
                 return Licensed::Aside {
-                    reason: NO_ROOM,
-                    place: 0,
+                    fault: Fault {
+                        reason: NO_ROOM,
+                        place: 0,
+                    },
                 };
             }
             let fault = st.fault;
             let size = push(code, st.size, narrow(number));
             Licensed::On {
                 state: State {
-                    count,
-                    end,
+                    index,
                     size,
                     listed: st.listed + 1,
                     fault,
@@ -181,22 +186,25 @@ fn placed_number(code: &mut [u16], st: State, n: Token, e: Numbered) -> Licensed
 {
     match e {
         Numbered::Full => Licensed::Aside {
-            reason: NO_ROOM,
-            place: 0,
+            fault: Fault {
+                reason: NO_ROOM,
+                place: 0,
+            },
         },
-        Numbered::At { number, count, end } => {
+        Numbered::At { count, number, end } => {
             if 32768 <= number {
                 return Licensed::Aside {
-                    reason: NO_ROOM,
-                    place: 0,
+                    fault: Fault {
+                        reason: NO_ROOM,
+                        place: 0,
+                    },
                 };
             }
             let fault = st.fault;
             let size = push(code, st.size, narrow(number));
             Licensed::On {
                 state: State {
-                    count,
-                    end,
+                    index: Index { count, end },
                     size,
                     listed: st.listed + 1,
                     fault,
@@ -234,8 +242,10 @@ pub(crate) fn name_before<'a>(
 {
     if MOST_LICENSEES <= st.listed {
         return Licensed::Aside {
-            reason: 7,
-            place: start,
+            fault: Fault {
+                reason: OVER_LIMIT,
+                place: start,
+            },
         };
     }
     let t = Token {
@@ -257,8 +267,7 @@ pub(crate) fn name_before<'a>(
         constants,
         pool,
         places,
-        st.count,
-        st.end,
+        st.index,
         t,
         n,
     );
@@ -283,8 +292,10 @@ pub(crate) fn literal_before(
 {
     if MOST_LICENSEES <= st.listed {
         return Licensed::Aside {
-            reason: 7,
-            place: start,
+            fault: Fault {
+                reason: OVER_LIMIT,
+                place: start,
+            },
         };
     }
     let n = Token {
@@ -292,7 +303,7 @@ pub(crate) fn literal_before(
         start: from,
         end: to,
     };
-    let e = enter(pool, places, st.count, st.end, &s[start + 1..stop - 1]);
+    let e = enter(pool, places, st.index, &s[start + 1..stop - 1]);
     placed_number(code, st, n, e)
 }
 
@@ -316,8 +327,10 @@ fn string_licensee<'a>(
     let p = plain_from(s, t, left);
     if is_over(st.listed, p.kind) {
         return Licensed::Aside {
-            reason: 7,
-            place: p.start,
+            fault: Fault {
+                reason: OVER_LIMIT,
+                place: p.start,
+            },
         };
     }
     let nest = nest_of(left);
@@ -330,8 +343,7 @@ fn string_licensee<'a>(
         constants,
         pool,
         places,
-        st.count,
-        st.end,
+        st.index,
         t,
         nest,
     );
@@ -442,17 +454,19 @@ fn list_end(s: &[u8], code: &mut [u16], k: u8, before: usize, st: State, t: Toke
     let n = byte(items(before, st.listed));
     if n < k {
         return Licensed::Aside {
-            reason: 5,
-            place: t.start,
+            fault: Fault {
+                reason: OUT_OF_RANGE,
+                place: t.start,
+            },
         };
     }
+    let index = st.index;
     let fault = st.fault;
     let size = push(code, st.size, instruction::k_of(k, n));
     let next = token_at(s, kind::IN_LICENSEES, t.end);
     Licensed::On {
         state: State {
-            count: st.count,
-            end: st.end,
+            index,
             size,
             listed: st.listed,
             fault,
@@ -493,18 +507,20 @@ fn literals(
                 n.start,
                 n.end,
             ) {
-                Licensed::Aside { reason, place } => {
-                    return Licensed::Aside { reason, place };
-                }
                 Licensed::On { state: u, next: _ } => {
                     if rest(state.listed) <= rest(u.listed) {
                         return Licensed::Aside {
-                            reason: NO_ROOM,
-                            place: 0,
+                            fault: Fault {
+                                reason: NO_ROOM,
+                                place: 0,
+                            },
                         };
                     }
                     state = u;
                     t = token_at(s, kind::IN_LICENSEES, n.end);
+                }
+                aside => {
+                    return aside;
                 }
             }
         } else {
@@ -554,9 +570,6 @@ fn list<'a>(
             t,
             m.left,
         ) {
-            Licensed::Aside { reason, place } => {
-                return Licensed::Aside { reason, place };
-            }
             Licensed::On { state: u, next } => {
                 if next.kind == kind::CLOSE {
                     return list_end(s, code, m.k, m.before, u, next);
@@ -566,12 +579,17 @@ fn list<'a>(
                 }
                 if rest(state.listed) <= rest(u.listed) {
                     return Licensed::Aside {
-                        reason: NO_ROOM,
-                        place: 0,
+                        fault: Fault {
+                            reason: NO_ROOM,
+                            place: 0,
+                        },
                     };
                 }
                 state = u;
                 t = token_at(s, kind::IN_LICENSEES, next.end);
+            }
+            aside => {
+                return aside;
             }
         }
     }
@@ -600,13 +618,14 @@ fn opened<'a>(
     }
     if left == 0 {
         return Licensed::Aside {
-            reason: 7,
-            place: t.start,
+            fault: Fault {
+                reason: OVER_LIMIT,
+                place: t.start,
+            },
         };
     }
     let n = token_at(s, kind::IN_LICENSEES, t.end);
     match literals(s, pool, places, code, st, n) {
-        Licensed::Aside { reason, place } => Licensed::Aside { reason, place },
         Licensed::On { state, next } => list(
             s,
             query,
@@ -625,6 +644,7 @@ fn opened<'a>(
             state,
             next,
         ),
+        aside => aside,
     }
 }
 
@@ -648,14 +668,18 @@ pub fn threshold<'a>(
     let k = number_at(s, t.start, t.end);
     if k == 0 {
         return Licensed::Aside {
-            reason: 5,
-            place: t.start,
+            fault: Fault {
+                reason: OUT_OF_RANGE,
+                place: t.start,
+            },
         };
     }
     if 16 < k {
         return Licensed::Aside {
-            reason: 5,
-            place: t.start,
+            fault: Fault {
+                reason: OUT_OF_RANGE,
+                place: t.start,
+            },
         };
     }
     let o = token_at(s, kind::IN_LICENSEES, t.end);

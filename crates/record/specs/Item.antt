@@ -25,14 +25,14 @@ unfoldable pub requesterAt : List ℕ → List (List ℕ) → ℕ → Read (List
 requesterAt s seen at = andThen (plainAt s leastRequester mostRequester at) (λ b p. askable b (at + 2) (got b p))
 
 -- a name, distinct from those before
-unfoldable pub nameAt : List ℕ → List (List ℕ) → ℕ → Read (List ℕ)
-nameAt s seen at =
+unfoldable pub attributeNameAt : List ℕ → List (List ℕ) → ℕ → Read (List ℕ)
+attributeNameAt s seen at =
     andThen (fieldAt s leastName mostName at) (λ b p. permitted (nameFront b) b (at + 2) (distinct b seen (at + 2) (got b p)))
 
 -- "name length, name, value length, value"
 unfoldable pub attributeAt : List ℕ → List Attribute → ℕ → Read Attribute
 attributeAt s seen at =
-    andThen (nameAt s (map (λ a. a .name) seen) at) (λ n p. andThen (plainAt s leastSetting mostSetting p) (λ v q. got (record { name = n; value = v }) q))
+    andThen (attributeNameAt s (map (λ a. a .name) seen) at) (λ n p. andThen (plainAt s leastSetting mostSetting p) (λ v q. got (record { name = n; value = v }) q))
 
 -- "a standing byte, length, text": 3 where the byte doesn't fit, 8 "standing above 2"
 unfoldable pub assertionAt : List ℕ → List Supplied → ℕ → Read Supplied

@@ -19,7 +19,7 @@ use Rattle.record.specs.Read.{Read, got, bad, andThen, Verdict, accepted
 use Rattle.text.specs.Equal.{equal}
 use Rattle.principal.specs.Principal.{policy}
 use Rattle.record.specs.Field.{within, countAt, lengthAt, contentAt, fieldAt, nameFront, permitted, askable, among, distinct}
-use Rattle.record.specs.Item.{plainAt, valueAt, requesterAt, nameAt, attributeAt, assertionAt, itemsAt, groupAt}
+use Rattle.record.specs.Item.{plainAt, valueAt, requesterAt, attributeNameAt, attributeAt, assertionAt, itemsAt, groupAt}
 use Rattle.record.specs.Record.{queryAt, ended, readRecord}
 use Rattle.record.specs.Encode.{stringBytes, attributeBytes, assertionBytes, itemsBytes, groupBytes, encode}
 use Rattle.record.specs.Valid.{Between, PlainOk, ValueOk, RequesterOk, NameOk, AttributeOk, SuppliedOk, Each, each[], each∷, GroupOk, Valid}
@@ -203,8 +203,8 @@ module _ (s : List ℕ) where
   unfolding requesterAt
   requester-means seen = filter-means (plain-means leastRequester mostRequester) askable-filter
 
-  name-means : (seen : List (List ℕ)) → Means s (nameAt s seen) stringBytes (NameOk seen)
-  unfolding nameAt
+  name-means : (seen : List (List ℕ)) → Means s (attributeNameAt s seen) stringBytes (NameOk seen)
+  unfolding attributeNameAt
   name-means seen = filter-means (field-means s leastName mostName) (both-filter (permitted-filter nameFront) (distinct-filter seen))
 
   abbrev setting : List ℕ → List ℕ → Attribute
@@ -214,8 +214,8 @@ module _ (s : List ℕ) where
   unfolding attributeAt attributeBytes
   attribute-gives bytes seen at a p e =
       let names : List (List ℕ) = map (λ b. b .name) seen in
-      let t : Then (nameAt s names at) (λ n q. andThen (plainAt s leastSetting mostSetting q) (λ v r. got (setting n v) r)) a p
-      = then-got (nameAt s names at) (λ n q. andThen (plainAt s leastSetting mostSetting q) (λ v r. got (setting n v) r)) e in
+      let t : Then (attributeNameAt s names at) (λ n q. andThen (plainAt s leastSetting mostSetting q) (λ v r. got (setting n v) r)) a p
+      = then-got (attributeNameAt s names at) (λ n q. andThen (plainAt s leastSetting mostSetting q) (λ v r. got (setting n v) r)) e in
       let u : Then (plainAt s leastSetting mostSetting (t .place)) (λ v r. got (setting (t .item) v) r) a p
       = then-got (plainAt s leastSetting mostSetting (t .place)) (λ v r. got (setting (t .item) v) r) (t .next) in
       let (ae, pe) = got-item (u .next) in

@@ -165,8 +165,8 @@ impl Cursor {
         ensures { λ r. ⌜ r ≡ fieldMove (now (s .entry)) least most (self .at) ⌝ }
     {
         match self.length(s, least, most) {
-            Moved::Refused { number, at } => Moved::Refused { number, at },
             Moved::To { value, next } => next.content(s, value),
+            refused => refused,
         }
     }
 
@@ -175,7 +175,6 @@ impl Cursor {
         ensures { λ r. ⌜ r ≡ plainMove (now (s .entry)) least most (self .at) ⌝ }
     {
         match self.field(s, least, most) {
-            Moved::Refused { number, at } => Moved::Refused { number, at },
             Moved::To { value, next } => {
                 let b = text::counted_at(s, value);
                 let k = text::front(b, text::PLAIN);
@@ -187,6 +186,7 @@ impl Cursor {
                 }
                 Moved::To { value, next }
             }
+            refused => refused,
         }
     }
 
@@ -195,7 +195,6 @@ impl Cursor {
         ensures { λ r. ⌜ r ≡ valueMove (now (s .entry)) (seenOf (now (s .entry)) (now (table .entry)) from upto) (self .at) ⌝ }
     {
         match self.plain(s, LEAST_VALUE, MOST_VALUE) {
-            Moved::Refused { number, at } => Moved::Refused { number, at },
             Moved::To { value, next } => {
                 if repeated(s, table, from, upto, value) {
                     return Moved::Refused {
@@ -205,6 +204,7 @@ impl Cursor {
                 }
                 Moved::To { value, next }
             }
+            refused => refused,
         }
     }
 
@@ -213,7 +213,6 @@ impl Cursor {
         ensures { λ r. ⌜ r ≡ requesterMove (now (s .entry)) (self .at) ⌝ }
     {
         match self.plain(s, LEAST_REQUESTER, MOST_REQUESTER) {
-            Moved::Refused { number, at } => Moved::Refused { number, at },
             Moved::To { value, next } => {
                 let b = text::counted_at(s, value);
                 if principal::is_policy(b) {
@@ -224,6 +223,7 @@ impl Cursor {
                 }
                 Moved::To { value, next }
             }
+            refused => refused,
         }
     }
 
@@ -232,7 +232,6 @@ impl Cursor {
         ensures { λ r. ⌜ r ≡ nameMove (now (s .entry)) (seenOf (now (s .entry)) (now (table .entry)) from upto) (self .at) ⌝ }
     {
         match self.field(s, LEAST_NAME, MOST_NAME) {
-            Moved::Refused { number, at } => Moved::Refused { number, at },
             Moved::To { value, next } => {
                 let b = text::counted_at(s, value);
                 let k = name_front(b);
@@ -250,6 +249,7 @@ impl Cursor {
                 }
                 Moved::To { value, next }
             }
+            refused => refused,
         }
     }
 
@@ -258,14 +258,14 @@ impl Cursor {
         ensures { λ r. ⌜ r ≡ attributeMove (now (s .entry)) (seenOf (now (s .entry)) (now (table .entry)) from upto) (self .at) ⌝ }
     {
         match self.name(s, table, from, upto) {
-            Moved::Refused { number, at } => Moved::Refused { number, at },
             Moved::To { value, next } => match next.plain(s, LEAST_SETTING, MOST_SETTING) {
-                Moved::Refused { number, at } => Moved::Refused { number, at },
                 Moved::To {
                     value: _,
                     next: end,
                 } => Moved::To { value, next: end },
+                refused => refused,
             },
+            refused => refused,
         }
     }
 
@@ -336,14 +336,14 @@ fn items(s: &[u8], group: u8, n: usize, table: &mut [usize], from: usize, c: Cur
         }
         let here = Cursor { at };
         match here.item(s, group, table, from, i) {
-            Moved::Refused { number, at: p } => {
-                return Moved::Refused { number, at: p };
-            }
             Moved::To { value, next } => {
                 table[i] = value;
                 at = next.at;
                 i += 1;
                 left -= 1;
+            }
+            refused => {
+                return refused;
             }
         }
     }
@@ -372,8 +372,8 @@ fn group_at(s: &[u8], group: u8, table: &mut [usize], from: usize, c: Cursor) ->
         MOST_ASSERTIONS,
     );
     match c.count(s, least, most) {
-        Moved::Refused { number, at } => Moved::Refused { number, at },
         Moved::To { value, next } => items(s, group, value, table, from, next),
+        refused => refused,
     }
 }
 
@@ -464,7 +464,6 @@ pub fn read(s: &[u8], table: &mut [usize; MOST_ITEMS]) -> Reading
 {
     let mut found = [0usize; MOST_ITEMS];
     match record_at(s, &mut found) {
-        Reading::Refused { number, at } => Reading::Refused { number, at },
         Reading::Accepted {
             values,
             requesters,
@@ -479,5 +478,6 @@ pub fn read(s: &[u8], table: &mut [usize; MOST_ITEMS]) -> Reading
                 assertions,
             }
         }
+        refused => refused,
     }
 }

@@ -1,11 +1,11 @@
 -- Code that says what a tree says: a stack machine's, each operand before its operator. Assumes nothing.
 use mathlib.Core.Bool.{true, false}
 use mathlib.Core.List.{List, [], _∷_, _++_}
-use Prim.Native.Nat.{ℕ, _+_, _*_, _<_, min}
+use Prim.Native.Nat.{ℕ, _+_, _*_, _<_}
 use lib.ListN.{take, drop}
 use Rattle.text.specs.Scan.{run}
 use Rattle.text.specs.Class.{inClass, digit, word}
-use Rattle.text.specs.Digits.{value, limit}
+use Rattle.text.specs.Digits.{digitsAt, value}
 use Rattle.lexical.specs.Literal.{decodedAt}
 use Rattle.syntax.specs.Operator.{Unary, Binary}
 use Rattle.syntax.specs.Operation.{numberOf}
@@ -16,12 +16,13 @@ use Rattle.syntax.specs.Expr.{Expr, literal, name, number, truth, decima
 unfoldable pub entry : ℕ → ℕ → ℕ
 entry op at = op * 65536 + at
 
--- the name that starts at a place, and the number
+-- the name that starts at a place
 unfoldable pub nameAt : List ℕ → ℕ → List ℕ
 nameAt s at = take (run (inClass word) (drop at s)) (drop at s)
 
-unfoldable pub numberAt : List ℕ → ℕ → ℕ
-numberAt s at = min (value (take (run (inClass digit) (drop at s)) (drop at s))) limit
+-- the number whose digits start at a place
+unfoldable pub numberFrom : List ℕ → ℕ → ℕ
+numberFrom s at = value (digitsAt s at)
 
 -- "float literal (digits "." digits)": the one that starts at a place
 unfoldable pub decimalAt : List ℕ → ℕ → List ℕ
@@ -31,7 +32,7 @@ decimalAt s at = take (run (inClass digit) (drop at s) + 1 + run (inClass digit)
 pub data Codes (s : List ℕ) : Expr → List ℕ → Type 0 where
   code-literal : (at : ℕ) → at < 65536 → Codes s (literal (decodedAt s at)) (entry (numberOf Operation.literal) at ∷ [])
   code-name : (at : ℕ) → at < 65536 → Codes s (name (nameAt s at)) (entry (numberOf Operation.name) at ∷ [])
-  code-number : (at : ℕ) → at < 65536 → Codes s (number (numberAt s at)) (entry (numberOf Operation.number) at ∷ [])
+  code-number : (at : ℕ) → at < 65536 → Codes s (number (numberFrom s at)) (entry (numberOf Operation.number) at ∷ [])
   code-true : Codes s (truth true) (entry (numberOf (Operation.truth true)) 0 ∷ [])
   code-false : Codes s (truth false) (entry (numberOf (Operation.truth false)) 0 ∷ [])
   code-decimal : (at : ℕ) → at < 65536 → Codes s (decimal (decimalAt s at)) (entry (numberOf Operation.decimal) at ∷ [])

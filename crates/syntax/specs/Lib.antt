@@ -6,3 +6,4 @@ pub mod Code
 pub mod Parsed
 pub mod Stood
 pub mod Theorems
+pub mod Working

@@ -1,15 +1,10 @@
 // POLICY and the requesters, entered into the index.
+use index::Index;
 use index::Numbered;
 use index::enter;
 ghost use mathlib.Core.Path.{_≡_};
 ghost use lib.ListN.{set};
 ghost use Rattle.system.specs.Working.Asking.{asked, askIn, allFrom, begun, beginIn};
-
-// How many principals there are, and where the pool's front ends.
-pub struct Index {
-    pub count: usize,
-    pub end: usize,
-}
 
 fn mark(direct: &mut [u8], i: usize)
     ensures { λ _. ⌜ now (direct .exit) ≡ set (now (direct .entry)) i 1 ⌝ }
@@ -24,9 +19,9 @@ fn mark(direct: &mut [u8], i: usize)
 fn ask(pool: &mut [u8], places: &mut [usize], direct: &mut [u8], index: Index, id: &[u8]) -> Index
     ensures { λ r. ⌜ asked r (now (pool .exit)) (now (places .exit)) (now (direct .exit)) ≡ askIn (now (pool .entry)) (now (places .entry)) (now (direct .entry)) index (now (id .entry)) ⌝ }
 {
-    match enter(pool, places, index.count, index.end, id) {
+    match enter(pool, places, index, id) {
         Numbered::Full => index,
-        Numbered::At { number, count, end } => {
+        Numbered::At { count, number, end } => {
             mark(direct, number);
             Index { count, end }
         }
@@ -58,11 +53,11 @@ pub fn ask_all(
 pub fn begin(pool: &mut [u8], places: &mut [usize]) -> Index
     ensures { λ r. ⌜ begun r (now (pool .exit)) (now (places .exit)) ≡ beginIn (now (pool .entry)) (now (places .entry)) ⌝ }
 {
-    match enter(pool, places, 0, 0, b"POLICY") {
+    match enter(pool, places, Index { count: 0, end: 0 }, b"POLICY") {
         Numbered::Full => Index { count: 0, end: 0 },
         Numbered::At {
-            number: _,
             count,
+            number: _,
             end,
         } => Index { count, end },
     }

@@ -1,8 +1,9 @@
 // The assertions of a query, one after the other.
 use crate::note::Ends;
 use crate::note::note;
-use assertion::Reading;
+use assertion::Assessment;
 use assertion::read;
+use index::Index;
 use limits::MOST_CONSTANTS;
 use limits::MOST_ENTERED;
 use limits::MOST_LENGTHS;
@@ -46,11 +47,10 @@ fn read_one(
     pool: &mut [u8],
     places: &mut [usize],
     code: &mut [u16],
-    count: usize,
-    end: usize,
+    index: Index,
     size: usize,
-) -> Reading
-    ensures { λ r. ⌜ oneBy r (store (now (consts .exit)) (now (pool .exit)) (now (places .exit)) (now (code .exit))) ≡ oneIn (fixed (now (query .entry)) (now (values .entry)) (now (names .entry)) top start) at (store (now (consts .entry)) (now (pool .entry)) (now (places .entry)) (now (code .entry))) count end size ⌝ }
+) -> Assessment
+    ensures { λ r. ⌜ oneBy r (store (now (consts .exit)) (now (pool .exit)) (now (places .exit)) (now (code .exit))) ≡ oneIn (fixed (now (query .entry)) (now (values .entry)) (now (names .entry)) top start) at (store (now (consts .entry)) (now (pool .entry)) (now (places .entry)) (now (code .entry))) (index .count) (index .end) size ⌝ }
 {
     let mut constants = [0usize; MOST_CONSTANTS];
     let standing = standing_at(query, at);
@@ -66,8 +66,7 @@ fn read_one(
         &mut constants,
         pool,
         places,
-        count,
-        end,
+        index,
         code,
         size,
     )
@@ -147,15 +146,16 @@ pub fn read_each(
     let mut i = first;
     while i < texts.len() {
         let at = texts[i];
+        let index = e.index;
         let n = text::counted_at(query, at).len();
         if is_full(
             consts.len(),
             start,
             n,
             pool.len(),
-            e.end,
+            index.end,
             places.len(),
-            e.count,
+            index.count,
         ) {
             return Stretch { next: i, ends: e };
         }
@@ -170,8 +170,7 @@ pub fn read_each(
             pool,
             places,
             code,
-            e.count,
-            e.end,
+            index,
             e.size,
         );
         e = note(authors, conds, ends, page, i, e, r);

@@ -1,13 +1,15 @@
 // What became of an assertion, noted in the tables and on the page.
-use assertion::Reading;
+use assertion::Assessment;
+use index::Index;
+use naming::fault::clear;
+use syntax::fault::Fault;
 ghost use mathlib.Core.Path.{_≡_};
 ghost use Prim.Native.Nat.{_%_};
 ghost use Rattle.system.specs.Working.Noting.{entryInto, rowed, rowInto, noted, noteIn, headerInto};
 
 // The ends of the index and of the licensees' programs, and how many assertions are kept.
 pub struct Ends {
-    pub count: usize,
-    pub end: usize,
+    pub index: Index,
     pub size: usize,
     pub kept: usize,
 }
@@ -18,9 +20,15 @@ fn pair(n: usize) -> u16
     (n % 65536) as u16
 }
 
-// The report's entry of assertion i.
-pub fn put_entry(page: &mut [u8], i: usize, reason: u8, place: usize)
-    ensures { λ _. ⌜ now (page .exit) ≡ entryInto (now (page .entry)) i reason place ⌝ }
+fn low(n: usize) -> u8
+    ensures { λ r. ⌜ r ≡ n % 256 ⌝ }
+{
+    (n % 256) as u8
+}
+
+// The report's entry of assertion i: what is against it.
+pub fn put_entry(page: &mut [u8], i: usize, fault: Fault)
+    ensures { λ _. ⌜ now (page .exit) ≡ entryInto (now (page .entry)) i fault ⌝ }
 {
     if page.len() < 6 {
         return;
@@ -29,8 +37,8 @@ pub fn put_entry(page: &mut [u8], i: usize, reason: u8, place: usize)
         return;
     }
     let at = 3 + 3 * i;
-    text::put_pair(page, at + 1, place % 65536);
-    page[at] = reason;
+    text::put_pair(page, at + 1, fault.place % 65536);
+    page[at] = low(fault.reason);
 }
 
 // One row more, behind k.
@@ -68,30 +76,24 @@ pub fn note(
     page: &mut [u8],
     i: usize,
     e: Ends,
-    r: Reading,
+    r: Assessment,
 ) -> Ends
     ensures { λ u. ⌜ noted u (now (authors .exit)) (now (conds .exit)) (now (ends .exit)) (now (page .exit)) ≡ noteIn (now (authors .entry)) (now (conds .entry)) (now (ends .entry)) (now (page .entry)) i e r ⌝ }
 {
     match r {
-        Reading::Dropped { reason, place } => {
-            put_entry(page, i, reason, place);
+        Assessment::Dropped { fault } => {
+            put_entry(page, i, fault);
             e
         }
-        Reading::Kept {
+        Assessment::Kept {
             author,
             rank,
-            count,
-            end,
+            index,
             size,
         } => {
-            put_entry(page, i, 0, 0);
+            put_entry(page, i, clear());
             let kept = put_row(authors, conds, ends, e.kept, author, rank, size);
-            Ends {
-                count,
-                end,
-                size,
-                kept,
-            }
+            Ends { index, size, kept }
         }
     }
 }

@@ -1,5 +1,4 @@
 // A query solved: its tables are made, filled and handed to the solver.
-use crate::asked::Index;
 use crate::asked::ask_all;
 use crate::asked::begin as begin_index;
 use crate::each::read_each;
@@ -8,6 +7,7 @@ use crate::note::put_header;
 use compliance::Solution;
 use compliance::solve;
 use constants::begin as begin_constants;
+use index::Index;
 use limits::MOST_ASSERTIONS;
 use limits::MOST_CODE;
 use limits::MOST_CONSTS;
@@ -116,7 +116,7 @@ fn solve_rows(
         front_bytes(conds, e.kept),
         front_pairs(ends, e.kept),
         front_pairs(code, e.size),
-        front_bytes(direct, e.count),
+        front_bytes(direct, e.index.count),
         top,
     )
 }
@@ -230,9 +230,9 @@ fn grown(
             start,
             texts,
             front_bytes(&consts, start),
-            front_bytes(&pool, u.end),
-            front_places(&places, u.count),
-            front_bytes(&direct, u.count),
+            front_bytes(&pool, u.index.end),
+            front_places(&places, u.index.count),
+            front_bytes(&direct, u.index.count),
             code,
             authors,
             conds,
@@ -268,8 +268,7 @@ fn fill(
     let top = top_of(values.len());
     put_header(page, texts.len());
     let from = Ends {
-        count: index.count,
-        end: index.end,
+        index,
         size: 0,
         kept: 0,
     };
@@ -301,9 +300,9 @@ fn fill(
             start,
             texts,
             front_bytes(consts, start),
-            front_bytes(pool, e.end),
-            front_places(places, e.count),
-            front_bytes(direct, e.count),
+            front_bytes(pool, e.index.end),
+            front_places(places, e.index.count),
+            front_bytes(direct, e.index.count),
             &mut code,
             &mut authors,
             &mut conds,
@@ -340,12 +339,11 @@ fn fill_long(
     let top = top_of(values.len());
     put_header(page, texts.len());
     let e = Ends {
-        count: index.count,
-        end: index.end,
+        index,
         size: 0,
         kept: 0,
     };
-    if MIDDLE_MOST < e.end {
+    if MIDDLE_MOST < e.index.end {
         return grown_large(
             query,
             values,
@@ -354,9 +352,9 @@ fn fill_long(
             start,
             texts,
             front_bytes(consts, start),
-            front_bytes(pool, e.end),
-            front_places(places, e.count),
-            front_bytes(direct, e.count),
+            front_bytes(pool, e.index.end),
+            front_places(places, e.index.count),
+            front_bytes(direct, e.index.count),
             &mut code,
             &mut authors,
             &mut conds,
@@ -374,9 +372,9 @@ fn fill_long(
         start,
         texts,
         front_bytes(consts, start),
-        front_bytes(pool, e.end),
-        front_places(places, e.count),
-        front_bytes(direct, e.count),
+        front_bytes(pool, e.index.end),
+        front_places(places, e.index.count),
+        front_bytes(direct, e.index.count),
         &mut code,
         &mut authors,
         &mut conds,

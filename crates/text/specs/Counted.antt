@@ -1,11 +1,9 @@
 -- Strings behind a two-byte length. Assumes nothing.
-use mathlib.Core.Bool.{true, false}
 use mathlib.Core.List.{List, [], _∷_, _++_}
 use Prim.Native.Nat.{ℕ, _+_, _-_, _*_, _/_, _%_}
-use lib.Dec.{ltb, leb}
+use lib.Dec.{ltb}
 use lib.ListN.{length, getD, take, drop}
 use Rattle.text.specs.Choice.{pick}
-use Rattle.text.specs.Copy.{Copied, copied, copyAt}
 
 -- n elements from a place on
 unfoldable pub part : List ℕ → ℕ → ℕ → List ℕ
@@ -29,11 +27,3 @@ pairBytes n = n / 256 ∷ n % 256 ∷ []
 -- "lengths are two bytes, big-endian, before what they measure": a string behind its length
 unfoldable pub countedBytes : List ℕ → List ℕ
 countedBytes b = pairBytes (length b) ++ b
-
--- a number below 65,536 put at a place in two bytes, where there is room; else nothing is written
-unfoldable pub putPair : List ℕ → ℕ → ℕ → Copied
-putPair dst at n = pick (ltb 65535 n) (copied false dst) (copyAt dst at (pairBytes n))
-
--- a string of fewer than 65,536 bytes put at a place behind its length, where there is room; else nothing is written
-unfoldable pub putCounted : List ℕ → ℕ → List ℕ → Copied
-putCounted dst at b = pick (ltb 65535 (length b)) (copied false dst) (copyAt dst at (countedBytes b))

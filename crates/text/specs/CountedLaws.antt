@@ -6,7 +6,8 @@ use Prim.Native.Nat.{ℕ, _+_, _≤_}
 use lib.ListN.{length}
 use borrow.Author.Tests.{le-ltb, le-leb}
 use Rattle.text.specs.Copy.{copied, put, copyAt}
-use Rattle.text.specs.Counted.{pairBytes, putPair}
+use Rattle.text.specs.Counted.{pairBytes}
+use Rattle.text.specs.Put.{putPair}
 
 copied-is : {c c′ : Bool} {m m′ : List ℕ} → copied c m ≡ copied c′ m′ → m ≡ m′
 copied-is e = cc

@@ -10,6 +10,7 @@ pub mod Copy
 pub mod CopyLaws
 pub mod Class
 pub mod Counted
+pub mod Put
 pub mod CountedLaws
 pub mod Join
 pub mod Digits

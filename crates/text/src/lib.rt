@@ -14,13 +14,14 @@ ghost use Rattle.text.specs.Equal.{equal};
 ghost use Rattle.text.specs.Order.{order};
 ghost use Rattle.text.specs.Copy.{copied, put, copyAt};
 ghost use Rattle.text.specs.Class.{isDigit, isLetter, isWord, inClass};
-ghost use Rattle.text.specs.Counted.{pairAt, counted, putPair, putCounted};
+ghost use Rattle.text.specs.Counted.{pairAt, counted};
+ghost use Rattle.text.specs.Put.{putPair, putCounted};
 ghost use Rattle.text.specs.Join.{joined};
-ghost use Rattle.text.specs.Digits.{digitsAt, value, limit};
+ghost use Rattle.text.specs.Digits.{digitsAt, value};
 ghost use Rattle.text.specs.Decimal.{inRange, roundedDown, withFraction, unsigned, decimal};
 ghost use Rattle.text.specs.Working.Common.{common, commonFrom};
 ghost use Rattle.text.specs.Working.Blocks.{alike};
-ghost use Rattle.text.specs.Working.Holding.{hold};
+ghost use Rattle.text.specs.Working.Holding.{mostHeld, hold};
 ghost use Rattle.text.specs.Working.Joining.{comma};
 
 // How one byte string stands to another.
@@ -43,7 +44,7 @@ pub const DIGIT: u8 = 1;
 
 pub const WORD: u8 = 2;
 
-// Numbers are told apart up to here.
+// A number is held here: numbers below it are told apart.
 pub const MOST_HELD: u64 = 4294967295;
 
 const ZERO: Integer = Integer {
@@ -460,7 +461,7 @@ fn digit_value(b: u8) -> u64
     (b - 48) as u64
 }
 
-// One digit more, held at the limit.
+// One digit more, held at MOST_HELD.
 fn hold_digit(v: u64, b: u8) -> u64
     ensures { λ r. ⌜ r ≡ hold v b ⌝ }
 {
@@ -474,9 +475,9 @@ fn hold_digit(v: u64, b: u8) -> u64
     v * 10 + d
 }
 
-// The number that the digits write, held at the limit.
+// The number that the digits write, held at MOST_HELD.
 pub fn number(digits: &[u8]) -> u64
-    ensures { λ r. ⌜ r ≡ min (value (now (digits .entry))) limit ⌝ }
+    ensures { λ r. ⌜ r ≡ min (value (now (digits .entry))) mostHeld ⌝ }
 {
     let mut v: u64 = 0;
     let mut i: usize = 0;
@@ -487,9 +488,9 @@ pub fn number(digits: &[u8]) -> u64
     v
 }
 
-// The number whose digits start at a place, held at the limit; 0 where none do.
-pub fn number_at(s: &[u8], at: usize) -> u64
-    ensures { λ r. ⌜ r ≡ min (value (digitsAt (now (s .entry)) at)) limit ⌝ }
+// The number whose digits start at a place, held at MOST_HELD; 0 where none do.
+pub fn number_from(s: &[u8], at: usize) -> u64
+    ensures { λ r. ⌜ r ≡ min (value (digitsAt (now (s .entry)) at)) mostHeld ⌝ }
 {
     let mut v: u64 = 0;
     let mut i = at;

@@ -55,8 +55,8 @@ returns c = search fields-last
 next-field-requires : tie.Need-next-field-requires Inv-loop μ-loop
 next-field-requires c κs = search needs
 
-enum-known-reason : tie.Need-enum-known-reason Inv-loop μ-loop
-enum-known-reason c = search needs
+enum-known-fault : tie.Need-enum-known-fault Inv-loop μ-loop
+enum-known-fault c = search needs
 
 same-length-7 : tie.Need-same-length-7 Inv-loop μ-loop
 same-length-7 c = search needs
@@ -107,7 +107,7 @@ fields-spec =
     same-length-6
     returns
     next-field-requires
-    enum-known-reason
+    enum-known-fault
     same-length-7
     same-length-8
     same-length-9

@@ -7,13 +7,9 @@ use Rattle.assertion.proofs.finished.Reads as reads
 use Rattle.assertion.proofs.finished.Lts as lts
 use Rattle.assertion.proofs.kept.Reads as kept-reads
 use Rattle.naming.proofs.fault.earlier.Reads as earlier-reads
-use Rattle.naming.proofs.fault.reason_of.Reads as reason-of-reads
 
 earlier-requires : tie.Need-earlier-requires
 earlier-requires c κs = search needs
-
-reason-of-requires : tie.Need-reason-of-requires
-reason-of-requires c κs = search needs
 
 returns : tie.Need-returns
 returns c = search finished-faulty
@@ -32,4 +28,4 @@ returns-3 c = search finished-none
 
 pub finished-spec : {M : Type 1} → statement M
 finished-spec =
-    tie.close (tie.spec earlier-requires reason-of-requires returns kept-requires same-length returns-2 returns-3)
+    tie.close (tie.spec earlier-requires returns kept-requires same-length returns-2 returns-3)

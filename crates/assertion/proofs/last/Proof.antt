@@ -7,7 +7,7 @@ use Rattle.assertion.proofs.finished.Reads as finished-reads
 use Rattle.assertion.proofs.label.is_free.Reads as is-free-reads
 use Rattle.assertion.proofs.signed.Reads as signed-reads
 use Rattle.fields.proofs.out.is_ending.Reads as is-ending-reads
-use Rattle.fields.proofs.out.refusal_of.Reads as refusal-of-reads
+use Rattle.syntax.proofs.fault.misplaced.Reads as misplaced-reads
 use Rattle.lexical.proofs.mode_of.Reads as mode-of-reads
 use Rattle.lexical.proofs.token_at.Reads as token-at-reads
 use Rattle.assertion.specs.Working.ReadingWays.{last-finished, last-fault, last-again, last-signed}
@@ -45,8 +45,8 @@ returns-2 c = search last-signed
 returns-3 : tie.Need-returns-3
 returns-3 c = search last-again
 
-refusal-of-requires : tie.Need-refusal-of-requires
-refusal-of-requires c κs = search needs
+misplaced-requires : tie.Need-misplaced-requires
+misplaced-requires c κs = search needs
 
 returns-4 : tie.Need-returns-4
 returns-4 c = search last-fault
@@ -66,5 +66,5 @@ last-spec =
     same-length-2
     returns-2
     returns-3
-    refusal-of-requires
+    misplaced-requires
     returns-4)

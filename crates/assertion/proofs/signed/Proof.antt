@@ -10,8 +10,8 @@ use Rattle.assertion.specs.Working.ReadingWays.{signed-not, signed-on}
 signature-requires : tie.Need-signature-requires
 signature-requires c κs = search needs
 
-enum-known-reason : tie.Need-enum-known-reason
-enum-known-reason c = search needs
+enum-known-fault : tie.Need-enum-known-fault
+enum-known-fault c = search needs
 
 enum-known-next : tie.Need-enum-known-next
 enum-known-next c = search needs
@@ -33,7 +33,7 @@ signed-spec =
     tie.close
     (tie.spec
     signature-requires
-    enum-known-reason
+    enum-known-fault
     enum-known-next
     finished-requires
     returns

@@ -11,6 +11,7 @@ use Rattle.limits.specs.Limits.{mostCounted}
 use Rattle.text.specs.Choice.{split}
 use Rattle.record.specs.Query.{Query, Attribute}
 use Rattle.lexical.specs.Kind
+use Rattle.lexical.specs.Kind.{ending}
 use Rattle.lexical.specs.Line.{tokenAt}
 use Rattle.lexical.specs.declared.token.Token.{Token}
 use Rattle.principal.specs.Principal.{Principal}
@@ -29,7 +30,7 @@ use Rattle.conditions.specs.Word.{nextAt}
 use Rattle.conditions.specs.Program.{readProgram}
 use Rattle.judge.specs.Theorems.Judges.{Judging, judged-aside, judged-on, judge-field-read}
 use Rattle.judge.specs.declared.Judged.{Judged}
-use Rattle.fields.specs.Parsed.{ending, ended}
+use Rattle.fields.specs.Parsed.{ended}
 use Rattle.fields.specs.Constants.{constantsFrom}
 use Rattle.naming.specs.Source.{Author, Licensees}
 use Rattle.naming.specs.Authorizer.{authorizer}
@@ -53,10 +54,12 @@ use Rattle.assertion.specs.declared.field.Went.the-variants.{On, Aside}
 use Rattle.assertion.specs.Theorems.Left.{without-most, without-none, enter-all-length, First, first-more}
 use Rattle.assertion.specs.Theorems.Ready.{Ready, After, worth}
 use Rattle.assertion.specs.Theorems.Held.{authored, Listed, listed, Indexed, author-more, listed-more, listed-less, listed-none, index-less, names-before, Front, Held, held-front, held-used, held-count}
+use Rattle.syntax.specs.Working.Faults.{against}
+use Rattle.index.specs.Working.Adding.{indexOf}
 
 -- the same fault; or the same draft and token behind, as the tables hold it
 pub data FieldRead (q : Query) (g : Given) (top : ℕ) (x : Tables) (names : List Principal) (count end size : ℕ) (free : List ℕ) : Parsed Sketch → Moved → Type 0 where
-  field-aside : (r p : ℕ) (y : Tables) → (r ≡ 0 → ⊥) → Front g x names count end size y → FieldRead q g top x names count end size free (aside r p) (moved (Aside r p) y)
+  field-aside : (r p : ℕ) (y : Tables) → (r ≡ 0 → ⊥) → Front g x names count end size y → FieldRead q g top x names count end size free (aside r p) (moved (Aside (against r p)) y)
   field-on : (d : Sketch) (u : Partial) (n : Token) (y : Tables) → d .free ≡ free → Held q g top x names end size free d u n y
       → FieldRead q g top x names count end size free (ok d n) (moved (On u n) y)
 
@@ -151,7 +154,7 @@ module _ {q : Query} {g : Given} {top : ℕ} {x : Tables} {names : List Principa
 
   -- Authorizer
   author-index : getD free Kind.AUTHORIZER 0 ≡ 1 → (p : Principal) (c e : ℕ) (pool places : List ℕ) → Holds pool places c e (enter (enterAll names (held .ps)) p) → e ≤ mostCounted * c
-      → e ≤ u .end + mostCounted → Indexed names end (without free Kind.AUTHORIZER) (held .ps ++ (p ∷ [])) c e pool places
+      → e ≤ u .index .end + mostCounted → Indexed names end (without free Kind.AUTHORIZER) (held .ps ++ (p ∷ [])) c e pool places
   author-index one p c e pool places holds low near =
       let l : length (held .ps ++ (p ∷ [])) ≡ length (held .ps) + 1 = length-append (held .ps) (p ∷ []) in
       record {
@@ -162,14 +165,14 @@ module _ {q : Query} {g : Given} {top : ℕ} {x : Tables} {names : List Principa
       }
 
   author-field : (k : ℕ) → k ≡ Kind.AUTHORIZER → getD free Kind.AUTHORIZER 0 ≡ 1 → (p : Parsed Author) (r : Made)
-      → AuthorRead (g .standing) q (g .text) (y .pool) (y .places) (u .count) (u .end) (enterAll names (held .ps)) p r
+      → AuthorRead (g .standing) q (g .text) (y .pool) (y .places) (u .index .count) (u .index .end) (enterAll names (held .ps)) p r
       → Reads k (andThen p (λ a n. ok (withAuthor (labelled d k) a) n)) (intoIndex y (madeAs u r))
   author-field k ke one _ _ (author-aside r p pool places h hp hl holds) =
       field-aside r p (tabled (y .consts) (y .constants) pool places (y .code)) h
       (record { after = after-code (held .after) pool places (y .code) hp hl refl; holds = names-before ready (held .ps) holds; code = front .code })
   author-field k ke one _ _ (author-on a i c e f n pool places sn ie holds low near fe hp hl) =
       let p : Principal = authorNow q a in
-      field-on (withAuthor (labelled d k) a) (authoredBy u i c e f) n (tabled (y .consts) (y .constants) pool places (y .code)) (left k)
+      field-on (withAuthor (labelled d k) a) (authoredBy u i (indexOf c e) f) n (tabled (y .consts) (y .constants) pool places (y .code)) (left k)
       (record {
         ps = held .ps ++ (p ∷ []);
         after = after-code (held .after) pool places (y .code) hp hl refl;
@@ -185,7 +188,7 @@ module _ {q : Query} {g : Given} {top : ℕ} {x : Tables} {names : List Principa
 
   -- Licensees
   list-field : (k : ℕ) → k ≡ Kind.LICENSEES → getD free Kind.LICENSEES 0 ≡ 1 → (p : Parsed Licensees) (r : Listing)
-      → LicenseesRead q (g .text) (y .pool) (y .places) (y .code) (u .count) (u .end) (u .size) (enterAll names (held .ps)) p r
+      → LicenseesRead q (g .text) (y .pool) (y .places) (y .code) (u .index .count) (u .index .end) (u .size) (enterAll names (held .ps)) p r
       → Reads k (andThen p (λ l n. ok (withLicensees (labelled d k) l) n)) (intoCode y (listedAs u r))
   list-field k ke one _ _ (licensees-aside r p pool places code h hp hl hm holds same) =
       let z : u .size ≡ size = listed-none one (held .list) in
@@ -271,7 +274,7 @@ module _ {q : Query} {g : Given} {top : ℕ} {x : Tables} {names : List Principa
   unfolding authorizerAt
   author-here k ke one n sn =
       let f : First (enterAll names (held .ps)) = first-more names (held .ps) (ready .first) in
-      author-field k ke one _ _ (author-read q (d .constants) shown (g .standing) (g .text) (ready .short) (y .pool) (y .places) (u .count) (u .end) (enterAll names (held .ps)) n
+      author-field k ke one _ _ (author-read q (d .constants) shown (g .standing) (g .text) (ready .short) (y .pool) (y .places) (u .index .count) (u .index .end) (enterAll names (held .ps)) n
       sn (held .index .holds) (f .known) (f .at) (held .index .low)
       (omega (arith, held .index .holds .counted, enter-all-length names (held .ps), held .index .room, one, ready .numbers))
       (omega (arith, held-count ready held, held .index .room, one, ready .places-room, held .after .places))
@@ -282,7 +285,7 @@ module _ {q : Query} {g : Given} {top : ℕ} {x : Tables} {names : List Principa
   unfolding licenseesAt
   list-here k ke one n sn =
       let f : First (enterAll names (held .ps)) = first-more names (held .ps) (ready .first) in
-      list-field k ke one _ _ (licensees-read q (d .constants) shown (g .text) (ready .short) (y .pool) (y .places) (y .code) (u .count) (u .end) (u .size) (enterAll names (held .ps)) n
+      list-field k ke one _ _ (licensees-read q (d .constants) shown (g .text) (ready .short) (y .pool) (y .places) (y .code) (u .index .count) (u .index .end) (u .size) (enterAll names (held .ps)) n
       sn (held .index .holds) (f .known) (f .at) (held .index .low)
       (omega (arith, held-count ready held, held .index .room, one, ready .places-room, held .after .places))
       (omega (arith, enter-all-length names (held .ps), held .index .room, one, ready .numbers))

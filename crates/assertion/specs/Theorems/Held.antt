@@ -106,7 +106,7 @@ pub record Held (q : Query) (g : Given) (top : ℕ) (x : Tables) (names : List P
   pub after : After g x y
   pub stood : Stood (g .text) t
   pub constants : Lie (AttributeAt (y .consts)) (take (u .known) (y .constants)) (d .constants)
-  pub index : Indexed names end free ps (u .count) (u .end) (y .pool) (y .places)
+  pub index : Indexed names end free ps (u .index .count) (u .index .end) (y .pool) (y .places)
   pub author : Authored (enterAll names ps) (enteredBy q (d .author)) (u .authored) (u .author)
   pub against : meant (u .against) ≡ againstOf q (g .standing) (d .author)
   pub list : Listed (enterAll names ps) (take size (x .code)) size (getD free Kind.LICENSEES 0) (y .code) (licensedNow q (d .licensees)) (u .licensed) (u .size)
@@ -143,5 +143,5 @@ module _ {q : Query} {g : Given} {top : ℕ} {x : Tables} {names : List Principa
   }
 
   -- how many principals the index has, and what is left of its room
-  pub held-count : u .count ≤ count + length (held .ps)
+  pub held-count : u .index .count ≤ count + length (held .ps)
   held-count = omega (arith, held .index .holds .counted, enter-all-length names (held .ps), ready .holds .counted)

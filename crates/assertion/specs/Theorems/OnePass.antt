@@ -9,12 +9,13 @@ use Rattle.text.specs.Choice.{split}
 use Rattle.text.specs.Loop.{Step}
 use Rattle.record.specs.Query.{Query}
 use Rattle.lexical.specs.Kind
+use Rattle.lexical.specs.Kind.{ending}
 use Rattle.lexical.specs.Line.{tokenAt}
 use Rattle.lexical.specs.declared.token.Token.{Token}
 use Rattle.syntax.specs.Parsed.{Parsed, ok, aside, andThen}
 use Rattle.conditions.specs.Program.{readProgram}
 use Rattle.conditions.specs.Working.Same.{both, Steps, both-next, both-done, loop-same}
-use Rattle.fields.specs.Parsed.{ending, ended}
+use Rattle.fields.specs.Parsed.{ended}
 use Rattle.fields.specs.Version.{version}
 use Rattle.fields.specs.Constants.{constantsFrom}
 use Rattle.fields.specs.Signature.{signature}

@@ -14,6 +14,7 @@ use Rattle.text.specs.Loop.{Step, done}
 use Rattle.record.specs.Query.{Query}
 use Rattle.record.specs.Lies.{lie[]}
 use Rattle.lexical.specs.Kind
+use Rattle.lexical.specs.Kind.{ending}
 use Rattle.lexical.specs.Line.{tokenAt}
 use Rattle.lexical.specs.declared.token.Token.{Token}
 use Rattle.principal.specs.Principal.{Principal}
@@ -26,7 +27,6 @@ use Rattle.compliance.specs.Tables.{compiled, Formed}
 use Rattle.index.specs.Index.{enterAll}
 use Rattle.syntax.specs.Parsed.{Parsed, refusal}
 use Rattle.syntax.specs.Stood.{Stood, stood-at}
-use Rattle.fields.specs.Parsed.{ending}
 use Rattle.fields.specs.Signature.{signature}
 use Rattle.fields.specs.Working.Outs.{outOf}
 use Rattle.naming.specs.Working.Code.{above, pushed}
@@ -35,8 +35,8 @@ use Rattle.naming.specs.Theorems.Code.{above-is, pushed-length, pushed-is}
 use Rattle.fields.specs.Theorems.Versioned.{SignatureRead, signature-aside, signature-on, signature-read}
 use Rattle.naming.specs.Source.{Author}
 use Rattle.naming.specs.Fault.{clear, faulty, licenseesFault}
-use Rattle.naming.specs.Working.Faults.{meant, reasonOf, reason-some, clearAt, firstOf, first-meant}
-use Rattle.naming.specs.declared.fault.Fault as declared
+use Rattle.naming.specs.Working.Faults.{meant, clearAt, firstOf, first-meant}
+use Rattle.syntax.specs.declared.fault.Fault as declared
 use Rattle.assertion.specs.Labels.{labels, without, total}
 use Rattle.assertion.specs.Said.{Said}
 use Rattle.assertion.specs.Sketch.{Sketch, blank, labelled}
@@ -51,12 +51,13 @@ use Rattle.assertion.specs.Theorems.StandIn.{resolved-clear, resolved-fa
 use Rattle.assertion.specs.Working.Field.{Given, Tables, tabled, Moved, fieldAt}
 use Rattle.assertion.specs.Working.Reading.{finishedBy, Result, readBy, keptAt, keptIn, faultedIn, finishedIn, onSigned, signedIn, withCode, State, onMoved, lastAt, lastIn, fieldsTurn, fieldsIn, fresh, readIn}
 use Rattle.assertion.specs.Working.ReadingWays.{without-less}
-use Rattle.assertion.specs.declared.Reading.the-variants.{Dropped}
+use Rattle.assertion.specs.declared.Assessment.the-variants.{Dropped}
 use Rattle.assertion.specs.declared.field.Partial.{Partial}
 use Rattle.assertion.specs.Theorems.Ready.{Ready, After, worth, ReadAs, as-dropped, as-kept}
 use Rattle.assertion.specs.Working.OnePass.{againstOf}
 use Rattle.assertion.specs.Theorems.Held.{Authored, unauthored, authored, Listed, unlisted, listed, Front, Held, held-front}
 use Rattle.assertion.specs.Theorems.Fielded.{FieldRead, field-aside, field-on, field-read, after-code}
+use Rattle.syntax.specs.Working.Faults.{against}
 
 missing-formed : (e : Expression) → missing ≡ stating e → Formed e
 missing-formed e h = let z : _≡_ {A = ℕ} 0 1 = cc in let no : ⊥ = omega (arith, z) in absurd no
@@ -90,7 +91,7 @@ meant-none : (f : declared.Fault) → eqb (f .reason) 0 ≡ true → meant f ≡
 unfolding meant
 meant-none f e = rw e
 
-meant-some : (f : declared.Fault) → eqb (f .reason) 0 ≡ false → meant f ≡ faulty (reasonOf f) (f .place)
+meant-some : (f : declared.Fault) → eqb (f .reason) 0 ≡ false → meant f ≡ faulty (f .reason) (f .place)
 unfolding meant
 meant-some f e = rw e
 
@@ -101,7 +102,7 @@ module _ {q : Query} {g : Given} (top : ℕ) {x : Tables} {names : List Principa
   abbrev As : Form → Result → Type 0
   As f r = Means (resolved q (g .standing) f) r
 
-  dropped-as : (r p : ℕ) (y : Tables) → (r ≡ 0 → ⊥) → Front g x names count end size y → Means (dropped r p) (readBy (Dropped r p) y)
+  dropped-as : (r p : ℕ) (y : Tables) → (r ≡ 0 → ⊥) → Front g x names count end size y → Means (dropped r p) (readBy (Dropped (against r p)) y)
   dropped-as r p y h front = as-dropped r p y h (front .after) (front .holds) (front .code)
 
   module _ {free : List ℕ} {d : Sketch} {u : Partial} {t : Token} {y : Tables} (held : Held q g top x names end size free d u t y) where
@@ -117,7 +118,7 @@ module _ {q : Query} {g : Given} (top : ℕ) {x : Tables} {names : List Principa
           → Means (kept (enteredAs q says)) (withCode y (finishedBy (keptAt u z) code))
       unfolding enteredAs
       kept-as z code l ended =
-          as-kept (record { authorizer = authorNow q a; licensees = licensedNow q (d .licensees); conditions = d .conditions }) (held .ps) (u .author) (u .rank) (u .count) (u .end) z
+          as-kept (record { authorizer = authorNow q a; licensees = licensedNow q (d .licensees); conditions = d .conditions }) (held .ps) (u .author) (u .rank) (u .index .count) (u .index .end) z
           (tabled (y .consts) (y .constants) (y .pool) (y .places) code) (after-code (held .after) (y .pool) (y .places) code refl refl l)
           (omega (arith, held .index .room)) (held .index .holds) (held .index .low) ie m (ended .named) (ended .formed) (ended .few) (ended .wrote) (ended .ends) (ended .most) (held .rank)
 
@@ -145,8 +146,8 @@ module _ {q : Query} {g : Given} (top : ℕ) {x : Tables} {names : List Principa
             split (eqb (firstOf (u .against) (u .besides) .reason) 0)
             (λ e. rw (e, resolved-clear q (g .standing) says (sym fault ∙ meant-none (firstOf (u .against) (u .besides)) e))
             (listed-as (licensedNow q (d .licensees)) (u .licensed) (u .size) refl refl refl (held .list)))
-            (λ e. rw (e, resolved-faulty q (g .standing) says (reasonOf (firstOf (u .against) (u .besides))) (firstOf (u .against) (u .besides) .place) (sym fault ∙ meant-some (firstOf (u .against) (u .besides)) e))
-            (dropped-as _ _ y (reason-some (firstOf (u .against) (u .besides))) front))
+            (λ e. rw (e, resolved-faulty q (g .standing) says (firstOf (u .against) (u .besides) .reason) (firstOf (u .against) (u .besides) .place) (sym fault ∙ meant-some (firstOf (u .against) (u .besides)) e))
+            (dropped-as _ _ y (eqb-false _ _ e) front))
 
     finished-from : (at : ℕ) (o : Option Author) (b : Bool) (i : ℕ) → d .author ≡ o → u .authored ≡ b → u .author ≡ i → Authored (enterAll names (held .ps)) (enteredBy q o) b i
         → As (finished d at) (withCode y (finishedIn (y .code) u at))
@@ -169,13 +170,13 @@ data Belong (q : Query) (g : Given) (top : ℕ) (x : Tables) (names : List Princ
 module _ {q : Query} {g : Given} (top : ℕ) {x : Tables} {names : List Principal} {count end size : ℕ} (ready : Ready q g x names count end size) where
   abbrev Turns : Reading → State → Step Reading Form → Step State Result → Type 0
   Turns = Steps (λ z. total (z .0 .free)) (λ z. unformed 3 (z .1 .start)) (turn (g .text))
-      (λ z. total (z .0)) (λ z. readBy (Dropped 3 (z .2 .start)) (z .3)) (fieldsTurn g) (Belong q g top x names end size) (As top ready)
+      (λ z. total (z .0)) (λ z. readBy (Dropped (against 3 (z .2 .start))) (z .3)) (fieldsTurn g) (Belong q g top x names end size) (As top ready)
 
   module _ {free : List ℕ} {d : Sketch} (de : d .free ≡ free) {u : Partial} {t : Token} {y : Tables} (held : Held q g top x names end size free d u t y) where
     abbrev Here : Step Reading Form → Step State Result → Type 0
     Here = Turns (d, t) (free, u, t, y)
 
-    aside-here : (r p : ℕ) → (r ≡ 0 → ⊥) → Here (done (unformed r p)) (done (withCode y (finishedBy (Dropped r p) (y .code))))
+    aside-here : (r p : ℕ) → (r ≡ 0 → ⊥) → Here (done (unformed r p)) (done (withCode y (finishedBy (Dropped (against r p)) (y .code))))
     aside-here r p h = both-done _ _ (dropped-as top ready r p y h (held-front ready held))
 
     field-here : eqb (getD free (t .kind) 0) 1 ≡ true → (p : Parsed Sketch) (m : Moved) → FieldRead q g top x names count end size (without free (t .kind)) p m

@@ -21,8 +21,10 @@ use Rattle.assertion.specs.Assertion.{Assertion, Conditions, absent, sta
 use Rattle.assertion.specs.Read.{Read, kept, dropped}
 use Rattle.assertion.specs.Working.Field.{Given, Tables}
 use Rattle.assertion.specs.Working.Reading.{Result, readBy}
-use Rattle.assertion.specs.declared.Reading.the-variants.{Kept, Dropped}
+use Rattle.assertion.specs.declared.Assessment.the-variants.{Kept, Dropped}
 use Rattle.assertion.specs.Theorems.Left.{First}
+use Rattle.syntax.specs.Working.Faults.{against}
+use Rattle.index.specs.Working.Adding.{indexOf}
 
 -- the query's record is at hand, the index holds the names, POLICY first, and there is room for one assertion more
 pub record Ready (q : Query) (g : Given) (x : Tables) (names : List Principal) (count end size : ℕ) : Type 0 where
@@ -61,7 +63,7 @@ worth top q (stated cs p) = conditions (environment q cs) p
 -- its Licensees' program behind the others, and its Authorizer's number and its Conditions' rank are given.
 pub data ReadAs (q : Query) (g : Given) (top : ℕ) (x : Tables) (names : List Principal) (count end size : ℕ) : Read → Result → Type 0 where
   as-dropped : (r p : ℕ) (y : Tables) → (r ≡ 0 → ⊥) → After g x y → Holds (y .pool) (y .places) count end names → take size (y .code) ≡ take size (x .code)
-      → ReadAs q g top x names count end size (dropped r p) (readBy (Dropped r p) y)
+      → ReadAs q g top x names count end size (dropped r p) (readBy (Dropped (against r p)) y)
   as-kept : (a : Assertion) (ps : List Principal) (i k c e z : ℕ) (y : Tables) → After g x y → length ps ≤ mostNamed
       → Holds (y .pool) (y .places) c e (enterAll names ps) → e ≤ mostCounted * c
       → i ≡ place (enterAll names ps) (a .authorizer) → member (a .authorizer) (enterAll names ps) ≡ true
@@ -69,4 +71,4 @@ pub data ReadAs (q : Query) (g : Given) (top : ℕ) (x : Tables) (names : List P
       → ((e : Expression) → a .licensees ≡ given e → Formed e) → length (licensees (a .licensees)) ≤ mostLicensees
       → take z (y .code) ≡ take size (x .code) ++ compiled (enterAll names ps) (a .licensees)
       → z ≡ size + length (compiled (enterAll names ps) (a .licensees)) → z ≤ size + mostCode
-      → k ≡ worth top q (a .conditions) → ReadAs q g top x names count end size (kept a) (readBy (Kept i k c e z) y)
+      → k ≡ worth top q (a .conditions) → ReadAs q g top x names count end size (kept a) (readBy (Kept i (indexOf c e) z k) y)

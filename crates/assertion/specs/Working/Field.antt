@@ -20,7 +20,8 @@ use Rattle.naming.specs.Working.Chain.{fieldIn}
 use Rattle.fields.specs.declared.out.Out.{Out}
 use Rattle.fields.specs.declared.out.Out.the-variants.{On as Passed, Aside as Refused}
 use Rattle.fields.specs.declared.constants.Settings.the-variants.{On as Set, Aside as Unset}
-use Rattle.naming.specs.declared.fault.Fault.{Fault}
+use Rattle.syntax.specs.declared.fault.Fault.{Fault}
+use Rattle.index.specs.declared.Index.{Index}
 use Rattle.naming.specs.declared.authorizer.Author.the-variants.{On as Authored, Aside as Unauthored}
 use Rattle.naming.specs.declared.list.State.{State}
 use Rattle.naming.specs.declared.list.Licensed.the-variants.{On as Listed, Aside as Unlisted}
@@ -64,22 +65,22 @@ pub data Moved : Type 0 where
 
 -- what is read so far with one field more
 abbrev pub knowing : Partial → ℕ → Partial
-knowing d n = record { authored = d .authored; author = d .author; licensed = d .licensed; rank = d .rank; known = n; count = d .count; end = d .end; size = d .size; against = d .against; besides = d .besides }
+knowing d n = record { authored = d .authored; author = d .author; licensed = d .licensed; rank = d .rank; known = n; index = d .index; size = d .size; against = d .against; besides = d .besides }
 
-abbrev pub authoredBy : Partial → ℕ → ℕ → ℕ → Fault → Partial
-authoredBy d i c e f =
-    record { authored = true; author = i; licensed = d .licensed; rank = d .rank; known = d .known; count = c; end = e; size = d .size; against = f; besides = d .besides }
+abbrev pub authoredBy : Partial → ℕ → Index → Fault → Partial
+authoredBy d i x f =
+    record { authored = true; author = i; licensed = d .licensed; rank = d .rank; known = d .known; index = x; size = d .size; against = f; besides = d .besides }
 
 abbrev pub licensedTo : Partial → State → Partial
-licensedTo d u = record { authored = d .authored; author = d .author; licensed = true; rank = d .rank; known = d .known; count = u .count; end = u .end; size = u .size; against = d .against; besides = u .fault }
+licensedTo d u = record { authored = d .authored; author = d .author; licensed = true; rank = d .rank; known = d .known; index = u .index; size = u .size; against = d .against; besides = u .fault }
 
 abbrev pub rankedAt : Partial → ℕ → Partial
-rankedAt d k = record { authored = d .authored; author = d .author; licensed = d .licensed; rank = k; known = d .known; count = d .count; end = d .end; size = d .size; against = d .against; besides = d .besides }
+rankedAt d k = record { authored = d .authored; author = d .author; licensed = d .licensed; rank = k; known = d .known; index = d .index; size = d .size; against = d .against; besides = d .besides }
 
 -- a field that says nothing to the tables
 abbrev pub passedOn : Partial → Out → Went
 passedOn d (Passed t) = On d t
-passedOn d (Refused r p) = Aside r p
+passedOn d (Refused f) = Aside f
 
 -- an answer and two tables, or three
 pub data Settled : Type 0 where
@@ -89,16 +90,16 @@ pub data Listing : Type 0 where
   listed : Went → List ℕ → List ℕ → List ℕ → Listing
 
 abbrev pub settledAs : Partial → Stored → Settled
-settledAs d (stored (Set n e t) c q) = settled (On (knowing d n) t) c q
-settledAs d (stored (Unset r p) c q) = settled (Aside r p) c q
+settledAs d (stored (Set x t) c q) = settled (On (knowing d (x .count)) t) c q
+settledAs d (stored (Unset f) c q) = settled (Aside f) c q
 
 abbrev pub madeAs : Partial → Made → Settled
-madeAs d (made (Authored i c e f t) p l) = settled (On (authoredBy d i c e f) t) p l
-madeAs d (made (Unauthored r a) p l) = settled (Aside r a) p l
+madeAs d (made (Authored i x f t) p l) = settled (On (authoredBy d i x f) t) p l
+madeAs d (made (Unauthored f) p l) = settled (Aside f) p l
 
 abbrev pub listedAs : Partial → Ran → Listing
 listedAs d (ran (Listed u t) p l k) = listed (On (licensedTo d u) t) p l k
-listedAs d (ran (Unlisted r a) p l k) = listed (Aside r a) p l k
+listedAs d (ran (Unlisted f) p l k) = listed (Aside f) p l k
 
 -- the tables with those
 abbrev pub intoConstants : Tables → Settled → Moved
@@ -112,7 +113,7 @@ intoCode x (listed r p l k) = moved r (tabled (x .consts) (x .constants) p l k)
 
 abbrev pub onJudged : Partial → Judged → Went
 onJudged d (Ranked k t) = On (rankedAt d k) t
-onJudged d (Unranked r p) = Aside r p
+onJudged d (Unranked f) = Aside f
 
 -- the constants that are known
 abbrev pub known : Partial → Tables → List ℕ
@@ -127,11 +128,11 @@ constantsAt g x d t = intoConstants x (settledAs d (constantsIn (g .text) (x .co
 
 unfoldable pub authorizerAt : Given → Tables → Partial → Token → Moved
 authorizerAt g x d t =
-    intoIndex x (madeAs d (authorizerIn (g .text) (g .standing) (seen g x d) (x .pool) (x .places) (d .count) (d .end) t))
+    intoIndex x (madeAs d (authorizerIn (g .text) (g .standing) (seen g x d) (x .pool) (x .places) (d .index .count) (d .index .end) t))
 
 unfoldable pub licenseesAt : Given → Tables → Partial → Token → Moved
 licenseesAt g x d t =
-    intoCode x (listedAs d (fieldIn (g .text) (seen g x d) (x .pool) (x .places) (x .code) (d .count) (d .end) (d .size) t))
+    intoCode x (listedAs d (fieldIn (g .text) (seen g x d) (x .pool) (x .places) (x .code) (d .index .count) (d .index .end) (d .size) t))
 
 abbrev pub judgedBy : Given → Tables → Partial → Token → Judged
 judgedBy g x d t = judgedHere (g .text) t (g .query) (x .consts) (g .values) (g .names) (known d x)

@@ -21,7 +21,7 @@ use Rattle.naming.specs.Working.Identifying.{Sight, sight}
 use Rattle.naming.specs.Working.Authorizing.{Made, made, authorizerIn}
 use Rattle.naming.specs.Working.List.{Ran, ran}
 use Rattle.naming.specs.Working.Chain.{fieldIn}
-use Rattle.naming.specs.declared.fault.Fault.{Fault}
+use Rattle.syntax.specs.declared.fault.Fault.{Fault}
 use Rattle.fields.specs.declared.out.Out.{Out}
 use Rattle.fields.specs.declared.out.Out.the-variants.{On as Passed, Aside as Refused}
 use Rattle.fields.specs.declared.constants.Settings.{Settings}
@@ -36,6 +36,7 @@ use Rattle.assertion.specs.Working.Field.{Given, given, Tables, tabled, 
 use Rattle.assertion.specs.declared.field.Partial.{Partial}
 use Rattle.assertion.specs.declared.field.Went.{Went}
 use Rattle.assertion.specs.declared.field.Went.the-variants.{On, Aside}
+use Rattle.index.specs.declared.Index.{Index}
 
 -- `front`
 pub front-all : (l : List ℕ) (n : ℕ) → length l ≤ n → l ≡ take n l
@@ -60,40 +61,40 @@ module _ (d : Partial) (o : Out) where
   pub passed-on : (t : Token) → o ≡ Passed t → On d t ≡ passedOn d o
   passed-on t e = rw e
 
-  pub passed-not : (r p : ℕ) → o ≡ Refused r p → Aside r p ≡ passedOn d o
-  passed-not r p e = rw e
+  pub passed-not : (f : Fault) → o ≡ Refused f → Aside f ≡ passedOn d o
+  passed-not f e = rw e
 
 -- `constants_field`
 module _ (d : Partial) (x : Stored) (r : Settings) (c q : List ℕ) (e : stored r c q ≡ x) where
-  pub settings-on : (n m : ℕ) (t : Token) → r ≡ Set n m t → settled (On (knowing d n) t) c q ≡ settledAs d x
-  settings-on n m t k = rw (← e, k)
+  pub settings-on : (y : Index) (t : Token) → r ≡ Set y t → settled (On (knowing d (y .count)) t) c q ≡ settledAs d x
+  settings-on y t k = rw (← e, k)
 
-  pub settings-not : (a p : ℕ) → r ≡ Unset a p → settled (Aside a p) c q ≡ settledAs d x
-  settings-not a p k = rw (← e, k)
+  pub settings-not : (f : Fault) → r ≡ Unset f → settled (Aside f) c q ≡ settledAs d x
+  settings-not f k = rw (← e, k)
 
 -- `authorizer_field`
 module _ (d : Partial) (s : List ℕ) (standing : ℕ) (query consts values names constants known pool places : List ℕ) (t : Token) (ke : known ≡ take (d .known) constants)
-    (r : Author) (p l : List ℕ) (e : made r p l ≡ authorizerIn s standing (sight query consts values names known) pool places (d .count) (d .end) t) where
+    (r : Author) (p l : List ℕ) (e : made r p l ≡ authorizerIn s standing (sight query consts values names known) pool places (d .index .count) (d .index .end) t) where
   abbrev meant : Settled
-  meant = madeAs d (authorizerIn s standing (sight query consts values names (take (d .known) constants)) pool places (d .count) (d .end) t)
+  meant = madeAs d (authorizerIn s standing (sight query consts values names (take (d .known) constants)) pool places (d .index .count) (d .index .end) t)
 
-  pub author-on : (i c m : ℕ) (f : Fault) (n : Token) → r ≡ Authored i c m f n → settled (On (authoredBy d i c m f) n) p l ≡ meant
-  author-on i c m f n k = rw (← ke, ← e, k)
+  pub author-on : (i : ℕ) (x : Index) (f : Fault) (n : Token) → r ≡ Authored i x f n → settled (On (authoredBy d i x f) n) p l ≡ meant
+  author-on i x f n k = rw (← ke, ← e, k)
 
-  pub author-not : (a b : ℕ) → r ≡ Unauthored a b → settled (Aside a b) p l ≡ meant
-  author-not a b k = rw (← ke, ← e, k)
+  pub author-not : (f : Fault) → r ≡ Unauthored f → settled (Aside f) p l ≡ meant
+  author-not f k = rw (← ke, ← e, k)
 
 -- `licensees_field`
 module _ (d : Partial) (s query consts values names constants known pool places code : List ℕ) (t : Token) (ke : known ≡ take (d .known) constants)
-    (r : Licensed) (p l m : List ℕ) (e : ran r p l m ≡ fieldIn s (sight query consts values names known) pool places code (d .count) (d .end) (d .size) t) where
+    (r : Licensed) (p l m : List ℕ) (e : ran r p l m ≡ fieldIn s (sight query consts values names known) pool places code (d .index .count) (d .index .end) (d .size) t) where
   abbrev listing : Listing
-  listing = listedAs d (fieldIn s (sight query consts values names (take (d .known) constants)) pool places code (d .count) (d .end) (d .size) t)
+  listing = listedAs d (fieldIn s (sight query consts values names (take (d .known) constants)) pool places code (d .index .count) (d .index .end) (d .size) t)
 
   pub listed-on : (u : State) (n : Token) → r ≡ Listed u n → listed (On (licensedTo d u) n) p l m ≡ listing
   listed-on u n k = rw (← ke, ← e, k)
 
-  pub listed-not : (a b : ℕ) → r ≡ Unlisted a b → listed (Aside a b) p l m ≡ listing
-  listed-not a b k = rw (← ke, ← e, k)
+  pub listed-not : (f : Fault) → r ≡ Unlisted f → listed (Aside f) p l m ≡ listing
+  listed-not f k = rw (← ke, ← e, k)
 
 -- `conditions_field`
 module _ (d : Partial) (s : List ℕ) (t : Token) (query consts values names constants known : List ℕ) (ke : known ≡ take (d .known) constants)
@@ -104,8 +105,8 @@ module _ (d : Partial) (s : List ℕ) (t : Token) (query consts values names con
   pub judged-on : (k : ℕ) (n : Token) → r ≡ Ranked k n → On (rankedAt d k) n ≡ judged
   judged-on k n f = rw (← ke, ← e, f)
 
-  pub judged-not : (a b : ℕ) → r ≡ Unranked a b → Aside a b ≡ judged
-  judged-not a b f = rw (← ke, ← e, f)
+  pub judged-not : (w : Fault) → r ≡ Unranked w → Aside w ≡ judged
+  judged-not w f = rw (← ke, ← e, f)
 
 -- `field`
 module _ (s : List ℕ) (standing : ℕ) (query values names : List ℕ) (start k : ℕ) (consts constants pool places code : List ℕ) (d : Partial) (t : Token) where
@@ -127,14 +128,14 @@ module _ (s : List ℕ) (standing : ℕ) (query values names : List ℕ) (start 
 
     module _ (n5 : k ≡ Kind.LOCAL-CONSTANTS → ⊥) where
       pub field-authorizer : (r : Went) (p l : List ℕ) → k ≡ Kind.AUTHORIZER
-          → settled r p l ≡ madeAs d (authorizerIn s standing (sight query consts values names (take (d .known) constants)) pool places (d .count) (d .end) t)
+          → settled r p l ≡ madeAs d (authorizerIn s standing (sight query consts values names (take (d .known) constants)) pool places (d .index .count) (d .index .end) t)
           → moved r (tabled consts constants p l code) ≡ fieldAt g k x d t
       unfolding fieldAt authorizerAt
       field-authorizer r p l h e = rw (h, ← e)
 
       module _ (n6 : k ≡ Kind.AUTHORIZER → ⊥) where
         pub field-licensees : (r : Went) (p l m : List ℕ) → k ≡ Kind.LICENSEES
-            → listed r p l m ≡ listedAs d (fieldIn s (sight query consts values names (take (d .known) constants)) pool places code (d .count) (d .end) (d .size) t)
+            → listed r p l m ≡ listedAs d (fieldIn s (sight query consts values names (take (d .known) constants)) pool places code (d .index .count) (d .index .end) (d .size) t)
             → moved r (tabled consts constants p l m) ≡ fieldAt g k x d t
         unfolding fieldAt licenseesAt
         field-licensees r p l m h e = rw (h, ← e)

@@ -9,6 +9,7 @@ use Rattle.text.specs.Choice.{pick}
 use Rattle.text.specs.Loop.{Step, next, done, loop}
 use Rattle.record.specs.Query.{Query, Attribute}
 use Rattle.lexical.specs.Kind
+use Rattle.lexical.specs.Kind.{ending}
 use Rattle.lexical.specs.Line.{tokenAt}
 use Rattle.lexical.specs.declared.token.Token.{Token}
 use Rattle.principal.specs.Principal.{Principal}
@@ -16,7 +17,7 @@ use Rattle.compliance.specs.Licensees as Compliance
 use Rattle.syntax.specs.Expr.{Program}
 use Rattle.syntax.specs.Parsed.{Parsed, ok, aside, andThen, refusal}
 use Rattle.conditions.specs.Program.{readProgram}
-use Rattle.fields.specs.Parsed.{ending, ended}
+use Rattle.fields.specs.Parsed.{ended}
 use Rattle.fields.specs.Version.{version}
 use Rattle.fields.specs.Constants.{constantsFrom}
 use Rattle.fields.specs.Signature.{signature}

@@ -11,11 +11,11 @@ use borrow.Author.Tests.{eq-eqb, ne-eqb, eqb-true, eqb-false}
 use Rattle.text.specs.Choice.{pick, split, clash}
 use Rattle.text.specs.Loop.{Step, next, done, loop, loop-next, loop-done}
 use Rattle.lexical.specs.Kind
+use Rattle.lexical.specs.Kind.{ending}
 use Rattle.lexical.specs.Line.{tokenAt}
 use Rattle.lexical.specs.declared.token.Token.{Token}
 use Rattle.compliance.specs.Codes.{topCode}
 use Rattle.syntax.specs.Parsed.{refusal}
-use Rattle.fields.specs.Parsed.{ending}
 use Rattle.fields.specs.Signature.{signature}
 use Rattle.fields.specs.Working.Outs.{outOf}
 use Rattle.naming.specs.Working.Code.{above, pushed}
@@ -24,11 +24,13 @@ use Rattle.fields.specs.declared.out.Out.the-variants.{On as Passed, Aside as R
 use Rattle.assertion.specs.Labels.{labels, without, total}
 use Rattle.assertion.specs.Read.{first}
 use Rattle.assertion.specs.Working.Field.{Given, given, Tables, tabled, Moved, moved, fieldAt}
-use Rattle.naming.specs.Working.Faults.{clearAt, firstOf, reasonOf}
-use Rattle.naming.specs.declared.fault.Fault.{Fault}
+use Rattle.naming.specs.Working.Faults.{clearAt, firstOf}
+use Rattle.syntax.specs.Working.Faults.{against, misplacedAt}
+use Rattle.syntax.specs.declared.fault.Fault.{Fault}
+use Rattle.index.specs.declared.Index.{Index}
 use Rattle.assertion.specs.Working.Reading.{Finished, finishedBy, Result, readBy, keptAt, keptIn, finishedIn, signedIn, lastAt, lastIn, fieldsIn, begun, readIn}
-use Rattle.assertion.specs.declared.Reading.{Reading}
-use Rattle.assertion.specs.declared.Reading.the-variants.{Kept, Dropped}
+use Rattle.assertion.specs.declared.Assessment.{Assessment}
+use Rattle.assertion.specs.declared.Assessment.the-variants.{Kept, Dropped}
 use Rattle.assertion.specs.declared.field.Partial.{Partial}
 use Rattle.assertion.specs.declared.field.Went.{Went}
 use Rattle.assertion.specs.declared.field.Went.the-variants.{On, Aside}
@@ -44,23 +46,23 @@ module _ (code : List ℕ) (d : Partial) where
   kept-missing k z m ze me = rw (k, ze, me)
 
   module _ (end : ℕ) (h : d .authored ≡ true) (f : Fault) (fe : f ≡ firstOf (d .against) (d .besides)) where
-    pub finished-faulty : (f .reason ≡ 0 → ⊥) → (r : ℕ) → r ≡ reasonOf f → finishedBy (Dropped r (f .place)) code ≡ finishedIn code d end
+    pub finished-faulty : (f .reason ≡ 0 → ⊥) → finishedBy (Dropped f) code ≡ finishedIn code d end
     unfolding finishedIn
-    finished-faulty n r re = rw (h, ← fe, ne-eqb _ _ n, ← re)
+    finished-faulty n = rw (h, ← fe, ne-eqb _ _ n)
 
     pub finished-kept : f .reason ≡ 0 → (r : Finished) → r ≡ keptIn code d → r ≡ finishedIn code d end
     unfolding finishedIn
     finished-kept z r e = e ∙ rw (h, ← fe, eq-eqb _ _ z)
 
-  pub finished-none : (end : ℕ) → d .authored ≡ false → finishedBy (Dropped 3 end) code ≡ finishedIn code d end
+  pub finished-none : (end : ℕ) → d .authored ≡ false → finishedBy (Dropped (against 3 end)) code ≡ finishedIn code d end
   unfolding finishedIn
   finished-none end h = rw h
 
 -- `signed`
 module _ (s code : List ℕ) (d : Partial) (t : Token) (o : Out) (oe : o ≡ outOf (signature s t)) where
-  pub signed-not : (r p : ℕ) → o ≡ Refused r p → finishedBy (Dropped r p) code ≡ signedIn s code d t
+  pub signed-not : (f : Fault) → o ≡ Refused f → finishedBy (Dropped f) code ≡ signedIn s code d t
   unfolding signedIn
-  signed-not r p k = rw (← oe, k)
+  signed-not f k = rw (← oe, k)
 
   pub signed-on : (n : Token) (r : Finished) → o ≡ Passed n → r ≡ finishedIn code d (n .end) → r ≡ signedIn s code d t
   unfolding signedIn
@@ -123,12 +125,12 @@ module _ (s free code : List ℕ) (d : Partial) (t : Token) where
   last-finished r h e = e ∙ rw h
 
   module _ (ne : t .kind ≡ Kind.END → ⊥) (b : Bool) (be : b ≡ ending (t .kind)) where
-    pub last-fault : (r : ℕ) → b ≡ false → r ≡ refusal (t .kind) → finishedBy (Dropped r (t .start)) code ≡ lastIn s free code d t
+    pub last-fault : (w : Fault) → b ≡ false → w ≡ misplacedAt t → finishedBy (Dropped w) code ≡ lastIn s free code d t
     unfolding lastIn
     last-fault r h e = rw (e, ne-eqb _ _ ne, ← be, h)
 
     module _ (y : b ≡ true) (f : Bool) (fe : f ≡ eqb (getD free (t .kind) 0) 1) where
-      pub last-again : f ≡ false → finishedBy (Dropped 3 (t .start)) code ≡ lastIn s free code d t
+      pub last-again : f ≡ false → finishedBy (Dropped (against 3 (t .start))) code ≡ lastIn s free code d t
       unfolding lastIn
       last-again h = rw (ne-eqb _ _ ne, ← be, y, ← fe, h)
 
@@ -151,15 +153,15 @@ module _ (s : List ℕ) (standing : ℕ) (query values names : List ℕ) (start 
   abbrev x : Tables
   x = tabled consts constants pool places code
 
-  pub fields-last : (r : Reading) (m : List ℕ) → b ≡ true → finishedBy r m ≡ lastIn s free code d t → readBy r (tabled consts constants pool places m) ≡ a
+  pub fields-last : (r : Assessment) (m : List ℕ) → b ≡ true → finishedBy r m ≡ lastIn s free code d t → readBy r (tabled consts constants pool places m) ≡ a
   unfolding fieldsIn
   fields-last r m h e = sym (loop-done _ _ _ (free, d, t, x) _ (rw (← be, h, ← e))) ∙ inv
 
   module _ (h : b ≡ false) (left : List ℕ) (le : left ≡ without free (t .kind)) (r : Went) (z : Tables)
       (re : moved r z ≡ fieldAt g (t .kind) x d (first s t)) where
-    pub fields-aside : (p q : ℕ) → r ≡ Aside p q → readBy (Dropped p q) z ≡ a
+    pub fields-aside : (w : Fault) → r ≡ Aside w → readBy (Dropped w) z ≡ a
     unfolding fieldsIn
-    fields-aside p q k = sym (loop-done _ _ _ (free, d, t, x) _ (rw (← be, h, ← re, k))) ∙ inv
+    fields-aside w k = sym (loop-done _ _ _ (free, d, t, x) _ (rw (← be, h, ← re, k))) ∙ inv
 
     less : total (without free (t .kind)) < total free
     less = without-less free (t .kind) (last-free free (t .kind) (sym be ∙ h))
@@ -172,12 +174,12 @@ module _ (s : List ℕ) (standing : ℕ) (query values names : List ℕ) (start 
     fields-less = rw le less
 
 -- `read`
-module _ (g : Given) (top : ℕ) (x : Tables) (count end size : ℕ) where
-  pub read-unverified : g .standing ≡ 0 → readBy (Dropped 9 0) x ≡ readIn g top x count end size
+module _ (g : Given) (top : ℕ) (x : Tables) (index : Index) (size : ℕ) where
+  pub read-unverified : g .standing ≡ 0 → readBy (Dropped (against 9 0)) x ≡ readIn g top x (index .count) (index .end) size
   unfolding readIn
   read-unverified h = rw h
 
   pub read-on : (g .standing ≡ 0 → ⊥) → (t : Token) → t ≡ tokenAt (g .text) Kind.BEFORE 0 → (a b : Fault) → a ≡ clearAt → b ≡ clearAt → (r : Result)
-      → r ≡ fieldsIn g labels x (begun top count end size a b) t → r ≡ readIn g top x count end size
+      → r ≡ fieldsIn g labels x (begun top index size a b) t → r ≡ readIn g top x (index .count) (index .end) size
   unfolding readIn
-  read-on h t te a b ae be r e = e ∙ rw (te, ae, be, ne-eqb _ _ h)
+  read-on h t te a b ae be r e = e ∙ rw (ae, be, te) (rw (ne-eqb _ _ h))

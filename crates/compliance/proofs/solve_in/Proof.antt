@@ -4,7 +4,7 @@ use Rattle.compliance.proofs.solve_in.Statement.{statement}
 use Rattle.compliance.proofs.solve_in.Tie as tie
 use Rattle.compliance.proofs.solve_in.Reads as reads
 use Rattle.compliance.proofs.solve_in.Lts as lts
-use Rattle.compliance.proofs.machine.number_at.Reads as number-at-reads
+use Rattle.compliance.proofs.machine.value_at.Reads as value-at-reads
 use Rattle.compliance.proofs.reach.find_reach.Reads as find-reach-reads
 use Rattle.compliance.proofs.rounds.settle.Reads as settle-reads
 use Rattle.compliance.proofs.words.count.Reads as count-reads
@@ -18,8 +18,8 @@ count-requires c κs = search blank-words
 settle-requires : tie.Need-settle-requires
 settle-requires c κs = search blank-ranks
 
-number-at-requires : tie.Need-number-at-requires
-number-at-requires c κs = search needs
+value-at-requires : tie.Need-value-at-requires
+value-at-requires c κs = search needs
 
 same-length : tie.Need-same-length
 same-length c = search needs
@@ -37,7 +37,7 @@ same-length-5 : tie.Need-same-length-5
 same-length-5 c = search needs
 
 returns : tie.Need-returns
-returns c = let r = c .before .before .before .before .before .before .before .before .before .before .before .before .before in let s = r .before .before .before .before .before .before in solved-is _ _ _ _ _ _ _ _ _ _ _ (s .before .before .before .before .before .before .before .before .before .before .before .before .before .pre) _ (s .find-reach .ensures .0) (s .find-reach .ensures .1) _ (r .count .ensures) _ _ (c .before .before .before .before .before .before .before .before .settle .ensures) _ (c .number-at .ensures)
+returns c = let r = c .before .before .before .before .before .before .before .before .before .before .before .before .before in let s = r .before .before .before .before .before .before in solved-is _ _ _ _ _ _ _ _ _ _ _ (s .before .before .before .before .before .before .before .before .before .before .before .before .before .pre) _ (s .find-reach .ensures .0) (s .find-reach .ensures .1) _ (r .count .ensures) _ _ (c .before .before .before .before .before .before .before .before .settle .ensures) _ (c .value-at .ensures)
 
 pub solve-in-spec : {M : Type 1} → statement M
 solve-in-spec =
@@ -46,7 +46,7 @@ solve-in-spec =
     find-reach-requires
     count-requires
     settle-requires
-    number-at-requires
+    value-at-requires
     same-length
     same-length-2
     same-length-3

@@ -17,7 +17,8 @@ use Rattle.conditions.specs.Parsed.{Part, part, onPart}
 use Rattle.conditions.specs.Word.{nextAt}
 use Rattle.conditions.specs.Expression.{readExpression}
 use Rattle.conditions.specs.Working.Keeping.{Kept, kept-next, kept-done, loop-keeps}
-use Rattle.conditions.specs.Program.{State, ending, valuing, stopping, onClause, clausesTurn, readClause, readTested, readValue, readNested, readBlock, readClauses, readProgram, DEPTH}
+use Rattle.conditions.specs.Program.{State, clauseEnd, valuing, stopping, onClause, clausesTurn, readClause, readTested, readValue, readNested, readBlock, readClauses, readProgram, DEPTH}
+use Rattle.limits.specs.Limits.{mostBrackets}
 
 -- a fault, or a token of the text behind what was read
 pub data Behind {A : Type 0} (s : List ℕ) : Parsed A → Type 0 where
@@ -34,8 +35,8 @@ module _ (s : List ℕ) where
   then-behind (ok a n) k h = h a n
 
   -- a clause ends with a ";"
-  ended-behind : (q : Clause) (t : Token) → Behind s (ending s q t)
-  unfolding ending
+  ended-behind : (q : Clause) (t : Token) → Behind s (clauseEnd s q t)
+  unfolding clauseEnd
   ended-behind q t = chosen (Behind s) (eqb (t .kind) Kind.SEMICOLON) _ _ (λ e. behind-ok q _ (stood-at s Kind.IN-FIELD (t .end))) (λ e. behind-aside _ _)
 
   valued-behind : (e : Expr) (sort : PartSort) (f : Expr) (t : Token) → Behind s (valuing s e sort f t)
@@ -46,7 +47,7 @@ module _ (s : List ℕ) where
   unfolding readNested
   nested-behind zero nest e t = behind-aside _ _
   nested-behind (suc d) nest e t =
-      chosen (Behind s) (leb 16 nest) _ _ (λ h. behind-aside _ _) (λ h. then-behind (readBlock d s (nest + 1) (nextAt s (t .end))) (λ p n. ending s (nested e p) (nextAt s (n .end))) (λ p n. ended-behind (nested e p) (nextAt s (n .end))))
+      chosen (Behind s) (leb mostBrackets nest) _ _ (λ h. behind-aside _ _) (λ h. then-behind (readBlock d s (nest + 1) (nextAt s (t .end))) (λ p n. clauseEnd s (nested e p) (nextAt s (n .end))) (λ p n. ended-behind (nested e p) (nextAt s (n .end))))
 
   value-behind : (d nest : ℕ) (e : Expr) (t : Token) → Behind s (readValue d s nest e t)
   unfolding readValue

@@ -23,11 +23,12 @@ use Rattle.conditions.specs.Working.Pace.{next-sound}
 use Rattle.conditions.specs.Working.PaceProgram.{Blocked, blocked-aside, blocked-found, block-paced}
 use Rattle.conditions.specs.declared.emit.Out.{Out}
 use Rattle.conditions.specs.declared.emit.Out.the-variants.{Found, Aside}
+use Rattle.syntax.specs.Working.Faults.{against}
 
 -- The same reason of document 01 at the same place; or a program before a label or the end of the text, whose code stands from top to u.
 -- All below top is as it was.
 pub data Compiled (s m : List ℕ) (top : ℕ) : Parsed Program → Ran → Type 0 where
-  refused : (r p : ℕ) (b : List ℕ) → (r ≡ 0 → ⊥) → Keeps m top b → Compiled s m top (aside r p) (ran (Aside r p) b)
+  refused : (r p : ℕ) (b : List ℕ) → (r ≡ 0 → ⊥) → Keeps m top b → Compiled s m top (aside r p) (ran (Aside (against r p)) b)
   compiled : (q : Program) (x p u : ℕ) (n : Token) (b c : List ℕ) → stops 0 (n .kind) ≡ true → length b ≡ length m → u < length m → take u b ≡ take top m ++ c
       → ProgramCodes s q c → Compiled s m top (ok q n) (ran (Found x p u n) b)
 

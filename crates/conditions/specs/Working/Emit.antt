@@ -8,11 +8,11 @@ use Rattle.lexical.specs.Kind
 use Rattle.lexical.specs.declared.token.Token.{Token}
 use Rattle.syntax.specs.Op
 use Rattle.syntax.specs.Code.{entry}
-use Rattle.syntax.specs.Parsed.{refusal}
 use Rattle.conditions.specs.Working.Numbered.{TEST, TEXT, TRUE, fits, operandOf, resultOf}
 use Rattle.conditions.specs.Word.{nextAt}
 use Rattle.conditions.specs.declared.emit.Out.{Out}
 use Rattle.conditions.specs.declared.emit.Out.the-variants.{Found, Aside}
+use Rattle.syntax.specs.Working.Faults.{misplacedAt}
 
 -- an answer, and what the code holds
 pub data Ran : Type 0 where
@@ -20,7 +20,7 @@ pub data Ran : Type 0 where
 
 -- go on from what was found; a fault stands
 abbrev pub onFound : Ran → (ℕ → ℕ → ℕ → Token → List ℕ → Ran) → Ran
-onFound (ran (Aside r p) m) k = ran (Aside r p) m
+onFound (ran (Aside f) m) k = ran (Aside f) m
 onFound (ran (Found x p u t) m) k = k x p u t m
 
 -- the entry of an operation and a place
@@ -35,17 +35,18 @@ above m top = pick (leb (length m) top) top (top + 1)
 unfoldable pub put : List ℕ → ℕ → ℕ → ℕ → List ℕ
 put m top op at = pick (leb (length m) top) m (set m top (slotOf op at))
 
--- a bare word is written as what is wanted
-unfoldable pub settledTop : List ℕ → ℕ → ℕ → ℕ
-settledTop m top sort = pick (ltb sort TRUE) top (above m top)
+-- the code's end behind a bare word
+unfoldable pub wordTop : List ℕ → ℕ → ℕ → ℕ
+wordTop m top sort = pick (ltb sort TRUE) top (above m top)
 
-unfoldable pub settled : List ℕ → ℕ → ℕ → ℕ → ℕ → List ℕ
-settled m top wanted sort place =
+-- the code with a bare word written as what is wanted
+unfoldable pub wordWritten : List ℕ → ℕ → ℕ → ℕ → ℕ → List ℕ
+wordWritten m top wanted sort place =
     pick (ltb sort TRUE) m
     (pick (eqb wanted TEXT) (put m top Op.NAME place) (pick (eqb sort TRUE) (put m top Op.TRUE 0) (put m top Op.FALSE 0)))
 
 unfoldable pub refused : Token → Out
-refused t = Aside (refusal (t .kind)) (t .start)
+refused t = Aside (misplacedAt t)
 
 -- an operator behind its last operand
 abbrev pub finishWith : List ℕ → ℕ → ℕ → Token → Ran
@@ -53,7 +54,7 @@ finishWith m top op next = ran (Found (resultOf op) 0 (above m top) next) (put m
 
 unfoldable pub finishAt : List ℕ → ℕ → ℕ → ℕ → ℕ → Token → Ran
 finishAt m top op sort place next =
-    pick (fits (operandOf op) sort) (finishWith (settled m top (operandOf op) sort place) (settledTop m top sort) op next) (ran (refused next) m)
+    pick (fits (operandOf op) sort) (finishWith (wordWritten m top (operandOf op) sort place) (wordTop m top sort) op next) (ran (refused next) m)
 
 -- the end of a clause
 unfoldable pub endedAt : List ℕ → List ℕ → ℕ → ℕ → Token → Ran
@@ -62,7 +63,7 @@ endedAt s m top op t =
 
 unfoldable pub valuedAt : List ℕ → List ℕ → ℕ → ℕ → ℕ → Token → Ran
 valuedAt s m top sort place t =
-    pick (fits TEXT sort) (endedAt s (settled m top TEXT sort place) (settledTop m top sort) Op.VALUED t) (ran (refused t) m)
+    pick (fits TEXT sort) (endedAt s (wordWritten m top TEXT sort place) (wordTop m top sort) Op.VALUED t) (ran (refused t) m)
 
 -- past a closing bracket
 unfoldable pub closedAt : List ℕ → ℕ → ℕ → ℕ → Token → Out

@@ -24,13 +24,15 @@ use Rattle.conditions.specs.Table.{PartSort, sorted, word, Want}
 use Rattle.conditions.specs.Working.Numbered.{sortNumber, wantNumber}
 use Rattle.conditions.specs.Working.Numbered
 use Rattle.conditions.specs.Word.{nextAt, wordSort}
-use Rattle.conditions.specs.Working.Emit.{Ran, ran, refused, onFound, above, put, settledTop, settled, finishAt}
+use Rattle.conditions.specs.Working.Emit.{Ran, ran, refused, onFound, above, put, wordTop, wordWritten, finishAt}
 use Rattle.conditions.specs.Working.Leaf.{literalRead, nameRead, digitsRead, floatRead, leafRead, leafFound, nameAs}
 use Rattle.conditions.specs.Working.Same.{start-within}
 use Rattle.conditions.specs.Working.TieOperand.{Named, named-string, named-word, name-cases}
 use Rattle.conditions.specs.Working.TieTable.{word-number}
 use Rattle.conditions.specs.declared.emit.Out.{Out}
 use Rattle.conditions.specs.declared.emit.Out.the-variants.{Found, Aside}
+use Rattle.syntax.specs.Working.Faults.{against}
+use Rattle.limits.specs.Limits.{mostFloat, mostLiteral}
 
 -- a token as the text has it
 pub data Sound (s : List ℕ) (t : Token) : Type 0 where
@@ -64,18 +66,18 @@ pub above-most : (m : List ℕ) (top : ℕ) → above m top ≤ top + 1
 unfolding above
 above-most m top = chosen (λ (n : ℕ). n ≤ top + 1) (leb (length m) top) top (top + 1) (λ e. omega arith) (λ e. omega arith)
 
-pub settled-most : (m : List ℕ) (top : ℕ) (x : PartSort) → settledTop m top (sortNumber x) ≤ top + debt x
-unfolding settledTop
-settled-most m top (sorted a-string) = omega arith
-settled-most m top (sorted an-integer) = omega arith
-settled-most m top (sorted a-float) = omega arith
-settled-most m top (sorted a-test) = omega arith
-settled-most m top (word true) = above-most m top
-settled-most m top (word false) = above-most m top
+pub word-top-most : (m : List ℕ) (top : ℕ) (x : PartSort) → wordTop m top (sortNumber x) ≤ top + debt x
+unfolding wordTop
+word-top-most m top (sorted a-string) = omega arith
+word-top-most m top (sorted an-integer) = omega arith
+word-top-most m top (sorted a-float) = omega arith
+word-top-most m top (sorted a-test) = omega arith
+word-top-most m top (word true) = above-most m top
+word-top-most m top (word false) = above-most m top
 
 -- a fault of document 01, or what was found: behind `low`, and at most an entry a byte since at₀
 pub data Paced (s : List ℕ) (top₀ at₀ low : ℕ) : Ran → Type 0 where
-  paced-aside : (r p : ℕ) (b : List ℕ) → (r ≡ 0 → ⊥) → Paced s top₀ at₀ low (ran (Aside r p) b)
+  paced-aside : (r p : ℕ) (b : List ℕ) → (r ≡ 0 → ⊥) → Paced s top₀ at₀ low (ran (Aside (against r p)) b)
   paced-found : (x : PartSort) (p u : ℕ) (n : Token) (b : List ℕ) → Sound s n → low < n .start → u + debt x + at₀ ≤ top₀ + n .start → Paced s top₀ at₀ low (ran (Found (sortNumber x) p u n) b)
 
 pub refusal-some : (k : ℕ) → refusal k ≡ 0 → ⊥
@@ -105,14 +107,14 @@ module _ (s : List ℕ) (top₀ at₀ low : ℕ) where
   finish-paced op gives result x p u n b k i j =
       chosen (Paced s top₀ at₀ low) (Numbered.fits (Numbered.operandOf op) (sortNumber x)) _ _
       (λ e. rw result (paced-found (sorted gives) 0 (above b₁ u₁) n (put b₁ u₁ op 0) k i
-      (omega (arith, j, above-most b₁ u₁, settled-most b u x))))
+      (omega (arith, j, above-most b₁ u₁, word-top-most b u x))))
       (λ e. paced-refused n b)
     where
       b₁ : List ℕ
-      b₁ = settled b u (Numbered.operandOf op) (sortNumber x) p
+      b₁ = wordWritten b u (Numbered.operandOf op) (sortNumber x) p
 
       u₁ : ℕ
-      u₁ = settledTop b u (sortNumber x)
+      u₁ = wordTop b u (sortNumber x)
 
 -- operands of one token
 module _ (s m : List ℕ) (top : ℕ) (t : Token) (wide : t .start < t .end) (inside : t .end ≤ length s) where
@@ -123,7 +125,7 @@ module _ (s m : List ℕ) (top : ℕ) (t : Token) (wide : t .start < t .end) (in
 
   literal-paced : Paced s top (t .start) (t .start) (literalRead s m top t)
   unfolding literalRead
-  literal-paced = chosen (Paced s top (t .start) (t .start)) (ltb 2048 (length (decodedAt s (t .start)))) _ _ (λ e. paced-aside 7 (t .start) m seven) (λ e. found-paced a-string Op.LITERAL)
+  literal-paced = chosen (Paced s top (t .start) (t .start)) (ltb mostLiteral (length (decodedAt s (t .start)))) _ _ (λ e. paced-aside 7 (t .start) m seven) (λ e. found-paced a-string Op.LITERAL)
 
   digits-paced : Paced s top (t .start) (t .start) (digitsRead s m top t)
   unfolding digitsRead
@@ -146,7 +148,7 @@ module _ (s m : List ℕ) (top : ℕ) (t : Token) (wide : t .start < t .end) (in
 
   float-paced : Paced s top (t .start) (t .start) (floatRead s m top t)
   unfolding floatRead
-  float-paced = chosen (Paced s top (t .start) (t .start)) (ltb 19 (t .end - t .start)) _ _ (λ e. paced-aside 7 (t .start) m seven) (λ e. found-paced a-float Op.DECIMAL)
+  float-paced = chosen (Paced s top (t .start) (t .start)) (ltb mostFloat (t .end - t .start)) _ _ (λ e. paced-aside 7 (t .start) m seven) (λ e. found-paced a-float Op.DECIMAL)
 
   pub leaf-paced : (want : Want) → Paced s top (t .start) (t .start) (leafRead s m top (wantNumber want) t)
   unfolding leafRead

@@ -18,16 +18,18 @@ use Rattle.conditions.specs.Table
 use Rattle.conditions.specs.Working.Numbered.{sortNumber, wantNumber}
 use Rattle.conditions.specs.Working.Numbered
 use Rattle.conditions.specs.Word.{nextAt}
-use Rattle.conditions.specs.Working.Emit.{Ran, ran, settledTop, settled, finishAt, closedAt}
+use Rattle.conditions.specs.Working.Emit.{Ran, ran, wordTop, wordWritten, finishAt, closedAt}
 use Rattle.conditions.specs.Working.Expression
-use Rattle.conditions.specs.Working.Pace.{Sound, real, next-sound, next-after, debt, settled-most, Paced, paced-aside, paced-found, paced-refused, paced-on, finish-paced, leaf-paced, seven, Goes, goes-on, ends, loop-holds}
+use Rattle.conditions.specs.Working.Pace.{Sound, real, next-sound, next-after, debt, word-top-most, Paced, paced-aside, paced-found, paced-refused, paced-on, finish-paced, leaf-paced, seven, Goes, goes-on, ends, loop-holds}
 use Rattle.conditions.specs.Working.TieTable.{prefix-of, allows-number, inside-number, binary-row, operator-number, prefix-number, unary-row, unary-want, right-want, right-level, binds-number, alike-prefix, alike-infix}
 use Rattle.conditions.specs.Working.Reach.{allowed-real, spread, spread-level, operand-level-most, prefix-level, operand-wanted, inside-most, inside-wanted, level-most, binds-level, operator-token, right-wanted}
 use Rattle.conditions.specs.declared.emit.Out.the-variants.{Found, Aside}
+use Rattle.syntax.specs.Working.Faults.{against}
+use Rattle.limits.specs.Limits.{mostBrackets, mostPrefixes}
 
 -- the depth that an expression needs: 16 brackets, seven levels, and 16 prefix operators in a row at each
 abbrev pub need : ℕ → ℕ → ℕ → ℕ
-need level row nest = 3 + 3 * (119 * (16 - nest) + (6 - level) * 17 + (16 - row))
+need level row nest = 3 + 3 * (7 * (mostPrefixes + 1) * (mostBrackets - nest) + (6 - level) * (mostPrefixes + 1) + (mostPrefixes - row))
 
 module _ (s : List ℕ) where
   abbrev Expressions : ℕ → Type 0
@@ -36,16 +38,16 @@ module _ (s : List ℕ) where
 
   module _ (d : ℕ) (inner : Expressions d) where
     prefixed-body : (m : List ℕ) (top : ℕ) (op : Unary) (want : Want) (row nest : ℕ) (t : Token) → t .start < t .end → t .end ≤ length s
-        → 3 * (119 * (16 - nest) + (6 - Table.operandLevel op) * 17 + (16 - row)) ≤ d
+        → 3 * (7 * (mostPrefixes + 1) * (mostBrackets - nest) + (6 - Table.operandLevel op) * (mostPrefixes + 1) + (mostPrefixes - row)) ≤ d
         → Paced s top (t .start) (t .start) (Expression.prefixedBody (λ m top level want row nest t. Expression.exprAt d s m top level want row nest t) s m top (unaryNumber op) (wantNumber want) row nest t)
     prefixed-body m top op want row nest t wide inside deep =
-        rw (unary-row op .0, unary-want op want) (chosen (Paced s top (t .start) (t .start)) (leb 16 row) _ _ (λ h. paced-aside 7 (t .start) m seven)
+        rw (unary-row op .0, unary-want op want) (chosen (Paced s top (t .start) (t .start)) (leb mostPrefixes row) _ _ (λ h. paced-aside 7 (t .start) m seven)
         (λ h. paced-on s top (t .start) (t .start) top (nextAt s (t .end) .start) (nextAt s (t .end) .start)
         (Expression.exprAt d s m top (Table.operandLevel op) (wantNumber (Table.operandWant op want)) (row + 1) nest (nextAt s (t .end))) (λ x p u n b. finishAt b u (Numbered.prefixOf (unaryNumber op) x) x p n)
         (λ x p u n b k i j. rw (prefix-of op x) (finish-paced s top (t .start) (t .start) (unaryNumber (Table.prefixOf op x)) (unaryGives (Table.prefixOf op x)) (unary-row (Table.prefixOf op x) .2) x p u n b k
         (omega (arith, i, wide, next-after s (t .end) inside)) (omega (arith, j, wide, next-after s (t .end) inside))))
         (inner m top (Table.operandLevel op) (Table.operandWant op want) (row + 1) nest (nextAt s (t .end)) (next-sound s (t .end)) (operand-level-most op) (operand-wanted op want)
-        (omega (arith, deep, leb-false 16 row h)))))
+        (omega (arith, deep, leb-false mostPrefixes row h)))))
 
     closed-paced : (top₀ at₀ : ℕ) (x : PartSort) (p u : ℕ) (n : Token) (b : List ℕ) → Sound s n → at₀ < n .start → u + debt x + at₀ ≤ top₀ + n .start → Paced s top₀ at₀ at₀ (ran (closedAt s (sortNumber x) p u n) b)
     unfolding closedAt
@@ -55,31 +57,31 @@ module _ (s : List ℕ) where
         paced-found x p u (nextAt s (n .end)) b (next-sound s (n .end)) (omega (arith, i, w .0, next-after s (n .end) (w .1))) (omega (arith, j, w .0, next-after s (n .end) (w .1)))))
         (λ h. rw h (paced-refused s top₀ at₀ at₀ n b))
 
-    bracketed-body : (m : List ℕ) (top : ℕ) (want : Want) (nest : ℕ) (t : Token) → t .start < t .end → t .end ≤ length s → 3 * (119 * (16 - nest)) ≤ d
+    bracketed-body : (m : List ℕ) (top : ℕ) (want : Want) (nest : ℕ) (t : Token) → t .start < t .end → t .end ≤ length s → 3 * (7 * (mostPrefixes + 1) * (mostBrackets - nest)) ≤ d
         → Paced s top (t .start) (t .start) (Expression.bracketedBody (λ m top level want row nest t. Expression.exprAt d s m top level want row nest t) s m top (wantNumber want) nest t)
     bracketed-body m top want nest t wide inside deep =
-        rw (inside-number want) (chosen (Paced s top (t .start) (t .start)) (leb 16 nest) _ _ (λ h. paced-aside 7 (t .start) m seven)
+        rw (inside-number want) (chosen (Paced s top (t .start) (t .start)) (leb mostBrackets nest) _ _ (λ h. paced-aside 7 (t .start) m seven)
         (λ h. paced-on s top (t .start) (t .start) top (nextAt s (t .end) .start) (nextAt s (t .end) .start)
         (Expression.exprAt d s m top (Table.insideLevel want) (wantNumber want) 0 (nest + 1) (nextAt s (t .end))) (λ x p u n b. ran (closedAt s x p u n) b)
         (λ x p u n b k i j. closed-paced top (t .start) x p u n b k (omega (arith, i, wide, next-after s (t .end) inside)) (omega (arith, j, wide, next-after s (t .end) inside)))
         (inner m top (Table.insideLevel want) want 0 (nest + 1) (nextAt s (t .end)) (next-sound s (t .end)) (inside-most want) (inside-wanted want)
-        (omega (arith, deep, leb-false 16 nest h)))))
+        (omega (arith, deep, leb-false mostBrackets nest h)))))
 
     joined-body : (top₀ at₀ : ℕ) (m : List ℕ) (top : ℕ) (op : Binary) (nest : ℕ) (sort : PartSort) (place at : ℕ) → at ≤ length s
-        → top + debt sort + at₀ + 1 ≤ top₀ + at → at₀ ≤ at → 3 * (119 * (16 - nest) + (6 - Table.levelOf op) * 17) ≤ d
+        → top + debt sort + at₀ + 1 ≤ top₀ + at → at₀ ≤ at → 3 * (7 * (mostPrefixes + 1) * (mostBrackets - nest) + (6 - Table.levelOf op) * (mostPrefixes + 1)) ≤ d
         → Paced s top₀ at₀ at (Expression.joinedBody (λ m top level want row nest t. Expression.exprAt d s m top level want row nest t) s m top (binaryNumber op) nest (sortNumber sort) place at)
     unfolding Table.rightLevel
     joined-body top₀ at₀ m top op nest sort place at inside pace below deep =
-        rw (right-level op, right-want op) (paced-on s top₀ at₀ at (settledTop m top (sortNumber sort)) (nextAt s at .start) (nextAt s at .start)
-        (Expression.exprAt d s left (settledTop m top (sortNumber sort)) (Table.rightLevel op) (wantNumber (Table.rightWant op)) 0 nest (nextAt s at))
+        rw (right-level op, right-want op) (paced-on s top₀ at₀ at (wordTop m top (sortNumber sort)) (nextAt s at .start) (nextAt s at .start)
+        (Expression.exprAt d s left (wordTop m top (sortNumber sort)) (Table.rightLevel op) (wantNumber (Table.rightWant op)) 0 nest (nextAt s at))
         (λ x p u n b. finishAt b u (binaryNumber op) x p n)
         (λ x p u n b k i j. finish-paced s top₀ at₀ at (binaryNumber op) (binaryGives op) (binary-row op .2) x p u n b k (omega (arith, i, next-after s at inside))
-        (omega (arith, j, pace, settled-most m top sort, next-after s at inside)))
-        (inner left (settledTop m top (sortNumber sort)) (Table.rightLevel op) (Table.rightWant op) 0 nest (nextAt s at) (next-sound s at)
+        (omega (arith, j, pace, word-top-most m top sort, next-after s at inside)))
+        (inner left (wordTop m top (sortNumber sort)) (Table.rightLevel op) (Table.rightWant op) 0 nest (nextAt s at) (next-sound s at)
         (omega (arith, level-most op)) (right-wanted op) (omega (arith, deep, level-most op))))
       where
         left : List ℕ
-        left = settled m top (Numbered.operandOf (binaryNumber op)) (sortNumber sort) place
+        left = wordWritten m top (Numbered.operandOf (binaryNumber op)) (sortNumber sort) place
 
   -- where a chain stands
   data State (top₀ at₀ : ℕ) : Expression.State → Type 0 where
@@ -91,15 +93,15 @@ module _ (s : List ℕ) where
 
     joined-on : (t : Token) (sort : PartSort) (place top : ℕ) (m : List ℕ) → t .start < length s → at₀ < t .start → (low : ℕ) → t .start < low → (r : Ran) → Paced s top₀ at₀ low r
         → Turns (t, sortNumber sort, place, top, m) (Expression.onJoined t r)
-    joined-on t sort place top m short after low l _ (paced-aside r p b k) = ends (ran (Aside r p) b) (paced-aside r p b k)
+    joined-on t sort place top m short after low l _ (paced-aside r p b k) = ends (ran (Aside (against r p)) b) (paced-aside r p b k)
     joined-on t sort place top m short after low l _ (paced-found x p u n b k i j) =
         chosen (Turns (t, sortNumber sort, place, top, m)) (leb (n .start) (t .start)) _ _
         (λ h. absurd (let no : ⊥ = omega (arith, leb-true (n .start) (t .start) h, l, i) in no))
         (λ h. goes-on (n, sortNumber x, p, u, b) (state n x p u b k (omega (arith, i, l, after)) j) (omega (arith, short, l, i)))
 
-    module _ (d level nest : ℕ) (deep : 1 + 3 * (119 * (16 - nest) + (6 - level) * 17) ≤ d)
+    module _ (d level nest : ℕ) (deep : 1 + 3 * (7 * (mostPrefixes + 1) * (mostBrackets - nest) + (6 - level) * (mostPrefixes + 1)) ≤ d)
         (joined : (m : List ℕ) (top : ℕ) (op : Binary) (sort : PartSort) (place at : ℕ) → at ≤ length s → top + debt sort + at₀ + 1 ≤ top₀ + at → at₀ ≤ at
-        → 1 + 3 * (119 * (16 - nest) + (6 - Table.levelOf op) * 17) ≤ d → Paced s top₀ at₀ at (Expression.joinedAt d s m top (binaryNumber op) nest (sortNumber sort) place at)) where
+        → 1 + 3 * (7 * (mostPrefixes + 1) * (mostBrackets - nest) + (6 - Table.levelOf op) * (mostPrefixes + 1)) ≤ d → Paced s top₀ at₀ at (Expression.joinedAt d s m top (binaryNumber op) nest (sortNumber sort) place at)) where
       chain-turn : (x : Expression.State) → State top₀ at₀ x
           → Turns x (Expression.chainTurn (λ m top op nest sort place at. Expression.joinedAt d s m top op nest sort place at) s level nest x)
       chain-turn _ (state t sort place top m k i j) =
@@ -117,7 +119,7 @@ module _ (s : List ℕ) where
       chain-body : (t : Token) (sort : PartSort) (place top : ℕ) (m : List ℕ) → Sound s t → at₀ < t .start → top + debt sort + at₀ ≤ top₀ + t .start
           → Paced s top₀ at₀ at₀ (Expression.chainLoop (λ m top op nest sort place at. Expression.joinedAt d s m top op nest sort place at) s m top level nest (sortNumber sort) place t)
       chain-body t sort place top m k i j =
-          loop-holds (λ x. length s - x .0 .start) (λ x. ran (Aside 0 (x .0 .start)) (x .4))
+          loop-holds (λ x. length s - x .0 .start) (λ x. ran (Aside (against 0 (x .0 .start))) (x .4))
           (Expression.chainTurn (λ m top op nest sort place at. Expression.joinedAt d s m top op nest sort place at) s level nest)
           (State top₀ at₀) (Paced s top₀ at₀ at₀) chain-turn (t, sortNumber sort, place, top, m) (state t sort place top m k i j)
 
@@ -133,7 +135,7 @@ module _ (s : List ℕ) where
         (λ x p u n b k i j. chain-paced d top (t .start) n level nest x p u b k i j (omega (arith, deep)))
         (operand-paced d m top want row nest t k (omega (arith, deep, spread-level want level w)))
 
-    operand-paced : (d : ℕ) (m : List ℕ) (top : ℕ) (want : Want) (row nest : ℕ) (t : Token) → Sound s t → 2 + 3 * (119 * (16 - nest) + spread want + (16 - row)) ≤ d
+    operand-paced : (d : ℕ) (m : List ℕ) (top : ℕ) (want : Want) (row nest : ℕ) (t : Token) → Sound s t → 2 + 3 * (7 * (mostPrefixes + 1) * (mostBrackets - nest) + spread want + (mostPrefixes - row)) ≤ d
         → Paced s top (t .start) (t .start) (Expression.operandAt d s m top (wantNumber want) row nest t)
     operand-paced zero m top want row nest t k deep = absurd (let no : ⊥ = omega (arith, deep) in no)
     operand-paced (suc d) m top want row nest t k deep =
@@ -147,27 +149,27 @@ module _ (s : List ℕ) where
         (λ h. paced-refused s top (t .start) (t .start) t m))
 
     prefixed-paced : (d : ℕ) (m : List ℕ) (top : ℕ) (op : Unary) (want : Want) (row nest : ℕ) (t : Token) → t .start < t .end → t .end ≤ length s
-        → 1 + 3 * (119 * (16 - nest) + (6 - Table.operandLevel op) * 17 + (16 - row)) ≤ d
+        → 1 + 3 * (7 * (mostPrefixes + 1) * (mostBrackets - nest) + (6 - Table.operandLevel op) * (mostPrefixes + 1) + (mostPrefixes - row)) ≤ d
         → Paced s top (t .start) (t .start) (Expression.prefixedAt d s m top (unaryNumber op) (wantNumber want) row nest t)
     prefixed-paced zero m top op want row nest t wide inside deep = absurd (let no : ⊥ = omega (arith, deep) in no)
     prefixed-paced (suc d) m top op want row nest t wide inside deep =
         prefixed-body d (λ m top level want row nest t k l w deep. expression-paced d m top level want row nest t k l w deep) m top op want row nest t wide inside (omega (arith, deep))
 
-    bracketed-paced : (d : ℕ) (m : List ℕ) (top : ℕ) (want : Want) (nest : ℕ) (t : Token) → t .start < t .end → t .end ≤ length s → 1 + 3 * (119 * (16 - nest)) ≤ d
+    bracketed-paced : (d : ℕ) (m : List ℕ) (top : ℕ) (want : Want) (nest : ℕ) (t : Token) → t .start < t .end → t .end ≤ length s → 1 + 3 * (7 * (mostPrefixes + 1) * (mostBrackets - nest)) ≤ d
         → Paced s top (t .start) (t .start) (Expression.bracketedAt d s m top (wantNumber want) nest t)
     bracketed-paced zero m top want nest t wide inside deep = absurd (let no : ⊥ = omega (arith, deep) in no)
     bracketed-paced (suc d) m top want nest t wide inside deep =
         bracketed-body d (λ m top level want row nest t k l w deep. expression-paced d m top level want row nest t k l w deep) m top want nest t wide inside (omega (arith, deep))
 
     chain-paced : (d top₀ at₀ : ℕ) (t : Token) (level nest : ℕ) (sort : PartSort) (place top : ℕ) (m : List ℕ) → Sound s t → at₀ < t .start → top + debt sort + at₀ ≤ top₀ + t .start
-        → 2 + 3 * (119 * (16 - nest) + (6 - level) * 17) ≤ d → Paced s top₀ at₀ at₀ (Expression.chainAt d s m top level nest (sortNumber sort) place t)
+        → 2 + 3 * (7 * (mostPrefixes + 1) * (mostBrackets - nest) + (6 - level) * (mostPrefixes + 1)) ≤ d → Paced s top₀ at₀ at₀ (Expression.chainAt d s m top level nest (sortNumber sort) place t)
     chain-paced zero top₀ at₀ t level nest sort place top m k i j deep = absurd (let no : ⊥ = omega (arith, deep) in no)
     chain-paced (suc d) top₀ at₀ t level nest sort place top m k i j deep =
         chain-body top₀ at₀ d level nest (omega (arith, deep))
         (λ m top op sort place at inside pace below deep. joined-paced d top₀ at₀ m top op nest sort place at inside pace below deep) t sort place top m k i j
 
     joined-paced : (d top₀ at₀ : ℕ) (m : List ℕ) (top : ℕ) (op : Binary) (nest : ℕ) (sort : PartSort) (place at : ℕ) → at ≤ length s
-        → top + debt sort + at₀ + 1 ≤ top₀ + at → at₀ ≤ at → 1 + 3 * (119 * (16 - nest) + (6 - Table.levelOf op) * 17) ≤ d
+        → top + debt sort + at₀ + 1 ≤ top₀ + at → at₀ ≤ at → 1 + 3 * (7 * (mostPrefixes + 1) * (mostBrackets - nest) + (6 - Table.levelOf op) * (mostPrefixes + 1)) ≤ d
         → Paced s top₀ at₀ at (Expression.joinedAt d s m top (binaryNumber op) nest (sortNumber sort) place at)
     joined-paced zero top₀ at₀ m top op nest sort place at inside pace below deep = absurd (let no : ⊥ = omega (arith, deep) in no)
     joined-paced (suc d) top₀ at₀ m top op nest sort place at inside pace below deep =

@@ -17,18 +17,20 @@ use Rattle.syntax.specs.Operator.{a-string, a-test}
 use Rattle.conditions.specs.Table.{PartSort, sorted, want-any, want-string, stops}
 use Rattle.conditions.specs.Working.Numbered.{ANY, TEST, TEXT, fits, sortNumber}
 use Rattle.conditions.specs.Word.{nextAt}
-use Rattle.conditions.specs.Working.Emit.{Ran, ran, onFound, refused, above, put, settledTop, settled, endedAt, valuedAt}
+use Rattle.conditions.specs.Working.Emit.{Ran, ran, onFound, refused, above, put, wordTop, wordWritten, endedAt, valuedAt}
 use Rattle.conditions.specs.Working.Expression.{exprAt}
 use Rattle.conditions.specs.Working.Program
-use Rattle.conditions.specs.Working.Pace.{Sound, within, real, next-sound, next-after, debt, above-most, settled-most, refusal-some, Paced, paced-aside, paced-found, paced-refused, paced-on, seven, Goes, goes-on, ends, loop-holds}
+use Rattle.conditions.specs.Working.Pace.{Sound, within, real, next-sound, next-after, debt, above-most, word-top-most, refusal-some, Paced, paced-aside, paced-found, paced-refused, paced-on, seven, Goes, goes-on, ends, loop-holds}
 use Rattle.conditions.specs.Working.Reach.{string-any}
 use Rattle.conditions.specs.Working.PaceExpression.{need, expression-paced}
 use Rattle.conditions.specs.declared.emit.Out.{Out}
 use Rattle.conditions.specs.declared.emit.Out.the-variants.{Found, Aside}
+use Rattle.syntax.specs.Working.Faults.{against}
+use Rattle.limits.specs.Limits.{mostBrackets}
 
 -- a fault of document 01, or a program's end: one entry more than bytes since at₀, for its beginning
 pub data Blocked (s : List ℕ) (nest top₀ at₀ : ℕ) : Ran → Type 0 where
-  blocked-aside : (r p : ℕ) (b : List ℕ) → (r ≡ 0 → ⊥) → Blocked s nest top₀ at₀ (ran (Aside r p) b)
+  blocked-aside : (r p : ℕ) (b : List ℕ) → (r ≡ 0 → ⊥) → Blocked s nest top₀ at₀ (ran (Aside (against r p)) b)
   blocked-found : (x p u : ℕ) (n : Token) (b : List ℕ) → Sound s n → stops nest (n .kind) ≡ true → at₀ ≤ n .start → u + at₀ ≤ top₀ + n .start + 1
       → Blocked s nest top₀ at₀ (ran (Found x p u n) b)
 
@@ -52,7 +54,7 @@ module _ (s : List ℕ) where
   unfolding valuedAt
   valued-paced top₀ at₀ x p u t b k i j =
       chosen (Paced s top₀ at₀ at₀) (fits TEXT (sortNumber x)) _ _
-      (λ h. ended-paced top₀ at₀ (settledTop b u (sortNumber x)) Op.VALUED t (settled b u TEXT (sortNumber x) p) k i (omega (arith, j, settled-most b u x)))
+      (λ h. ended-paced top₀ at₀ (wordTop b u (sortNumber x)) Op.VALUED t (wordWritten b u TEXT (sortNumber x) p) k i (omega (arith, j, word-top-most b u x)))
       (λ h. paced-refused s top₀ at₀ at₀ t b)
 
   blocked-on : (top₀ at₀ nest top₁ at₁ : ℕ) (r : Ran) (l : ℕ → ℕ → ℕ → Token → List ℕ → Ran)
@@ -71,7 +73,7 @@ module _ (s : List ℕ) where
 
     clause-on : (t : Token) (top : ℕ) (m : List ℕ) → t .start < length s → at₀ ≤ t .start → top + at₀ ≤ top₀ + t .start + 1
         → (r : Ran) → Paced s top (t .start) (t .start) r → Turns (t, top, m) (Program.onClause t r)
-    clause-on t top m short i j _ (paced-aside r p b k) = ends (ran (Aside r p) b) (blocked-aside r p b k)
+    clause-on t top m short i j _ (paced-aside r p b k) = ends (ran (Aside (against r p)) b) (blocked-aside r p b k)
     clause-on t top m short i j _ (paced-found x p u n b k l e) =
         chosen (Turns (t, top, m)) (leb (n .start) (t .start)) _ _
         (λ h. absurd (let no : ⊥ = omega (arith, leb-true (n .start) (t .start) h, l) in no))
@@ -93,7 +95,7 @@ module _ (s : List ℕ) where
       clauses-body : (t : Token) (top : ℕ) (m : List ℕ) → Sound s t → at₀ ≤ t .start → top + at₀ ≤ top₀ + t .start + 1
           → Blocked s nest top₀ at₀ (Program.clausesLoop (λ m top nest t. Program.clauseAt d s m top nest t) s m top nest t)
       clauses-body t top m k i j =
-          loop-holds (λ x. length s - x .0 .start) (λ x. ran (Aside 0 (x .0 .start)) (x .2)) (Program.clausesTurn (λ m top nest t. Program.clauseAt d s m top nest t) s nest)
+          loop-holds (λ x. length s - x .0 .start) (λ x. ran (Aside (against 0 (x .0 .start))) (x .2)) (Program.clausesTurn (λ m top nest t. Program.clauseAt d s m top nest t) s nest)
           (State top₀ at₀) (Blocked s nest top₀ at₀) clauses-turn (t, top, m) (state t top m k i j)
 
   mutual
@@ -113,9 +115,9 @@ module _ (s : List ℕ) where
         chosen (Paced s top₀ at₀ at₀) (fits TEST (sortNumber sort)) _ _
         (λ h. chosen (Paced s top₀ at₀ at₀) (eqb (t .kind) Kind.ARROW) _ _
         (λ e. let w : (t .start < t .end) × (t .end ≤ length s) = real s t k (omega (arith, eqb-true (t .kind) Kind.ARROW e)) in
-        value-paced d top₀ at₀ (settled m top TEST (sortNumber sort) place) (settledTop m top (sortNumber sort)) nest (nextAt s (t .end)) (next-sound s (t .end))
-        (omega (arith, i, w .0, next-after s (t .end) (w .1))) (omega (arith, j, settled-most m top sort, w .0, next-after s (t .end) (w .1))) (omega (arith, deep)))
-        (λ e. ended-paced top₀ at₀ (settledTop m top (sortNumber sort)) Op.PLAIN t (settled m top TEST (sortNumber sort) place) k (omega (arith, i)) (omega (arith, j, settled-most m top sort))))
+        value-paced d top₀ at₀ (wordWritten m top TEST (sortNumber sort) place) (wordTop m top (sortNumber sort)) nest (nextAt s (t .end)) (next-sound s (t .end))
+        (omega (arith, i, w .0, next-after s (t .end) (w .1))) (omega (arith, j, word-top-most m top sort, w .0, next-after s (t .end) (w .1))) (omega (arith, deep)))
+        (λ e. ended-paced top₀ at₀ (wordTop m top (sortNumber sort)) Op.PLAIN t (wordWritten m top TEST (sortNumber sort) place) k (omega (arith, i)) (omega (arith, j, word-top-most m top sort))))
         (λ h. paced-refused s top₀ at₀ at₀ t m)
 
     value-paced : (d top₀ at₀ : ℕ) (m : List ℕ) (top nest : ℕ) (t : Token) → Sound s t → at₀ < t .start → top + at₀ + 1 ≤ top₀ + t .start → 3 + need 0 0 nest ≤ d
@@ -133,7 +135,7 @@ module _ (s : List ℕ) where
         → 2 + need 0 0 nest ≤ d → Paced s top₀ at₀ at₀ (Program.nestedAt d s m top nest t)
     nested-paced zero top₀ at₀ m top nest t wide inside i j deep = absurd (let no : ⊥ = omega (arith, deep) in no)
     nested-paced (suc d) top₀ at₀ m top nest t wide inside i j deep =
-        chosen (Paced s top₀ at₀ at₀) (leb 16 nest) _ _ (λ h. paced-aside 7 (t .start) m seven)
+        chosen (Paced s top₀ at₀ at₀) (leb mostBrackets nest) _ _ (λ h. paced-aside 7 (t .start) m seven)
         (λ h. blocked-on top₀ at₀ (nest + 1) top (nextAt s (t .end) .start) (Program.programAt d s m top (nest + 1) (nextAt s (t .end)))
         (λ x p u n b. endedAt s b u Op.NESTED (nextAt s (n .end)))
         (λ x p u n b k g l f.
@@ -141,7 +143,7 @@ module _ (s : List ℕ) where
         ended-paced top₀ at₀ u Op.NESTED (nextAt s (n .end)) b (next-sound s (n .end))
         (omega (arith, i, wide, next-after s (t .end) inside, l, w .0, next-after s (n .end) (w .1)))
         (omega (arith, j, wide, next-after s (t .end) inside, f, w .0, next-after s (n .end) (w .1))))
-        (block-paced d m top (nest + 1) (nextAt s (t .end)) (next-sound s (t .end)) (omega (arith, deep, leb-false 16 nest h))))
+        (block-paced d m top (nest + 1) (nextAt s (t .end)) (next-sound s (t .end)) (omega (arith, deep, leb-false mostBrackets nest h))))
 
     pub block-paced : (d : ℕ) (m : List ℕ) (top nest : ℕ) (t : Token) → Sound s t → 7 + need 0 0 nest ≤ d → Blocked s nest top (t .start) (Program.programAt d s m top nest t)
     block-paced zero m top nest t k deep = absurd (let no : ⊥ = omega (arith, deep) in no)

@@ -1,7 +1,7 @@
 -- Facts of the tables: what may stand, and how far an operator reaches. Assumes nothing.
 use mathlib.Core.Path.{_≡_, refl, ap}
 use mathlib.Core.Bool.{Bool, true, false}
-use Prim.Native.Nat.{ℕ, _-_, _*_, _<_, _≤_}
+use Prim.Native.Nat.{ℕ, _+_, _-_, _*_, _<_, _≤_}
 use native.Mathlib.Omega.{arith}
 use lib.Dec.{eqb}
 use borrow.Author.Tests.{leb-true, eqb-true, eqb-false}
@@ -11,6 +11,7 @@ use Rattle.lexical.specs.Theorems.Bounds.{chosen}
 use Rattle.syntax.specs.Operator.{Unary, Binary, Side, a-string, an-integer, a-float, a-test, lookup, convert, negate, opposite, to-float, float-negate, join, power, times, over, remainder, plus, minus, comparison, matches, float-power, float-times, float-over, float-plus, float-minus, float-order, both, either, strings, integers}
 use Rattle.conditions.specs.Table.{PartSort, sorted, word, Want, want-any, want-string, want-number, want-integer, want-float, isAny, Infix, no-infix, between, Prefix, no-prefix, before}
 use Rattle.conditions.specs.Table
+use Rattle.limits.specs.Limits.{mostPrefixes}
 
 -- a token that may stand as an operand is no fault and not the end
 abbrev Real : ℕ → Bool → Type 0
@@ -63,10 +64,10 @@ string-any e = clash (ap isAny e) refl
 unfoldable pub spread : Want → ℕ
 spread want = pick (isAny want) 68 0
 
-pub spread-level : (want : Want) (level : ℕ) → (want ≡ want-any → level ≤ 2) → spread want ≤ (6 - level) * 17
+pub spread-level : (want : Want) (level : ℕ) → (want ≡ want-any → level ≤ 2) → spread want ≤ (6 - level) * (mostPrefixes + 1)
 unfolding spread
 spread-level want level h =
-    chosen (λ (n : ℕ). n ≤ (6 - level) * 17) (isAny want) 68 0 (λ e. omega (arith, h (is-any want e))) (λ e. omega arith)
+    chosen (λ (n : ℕ). n ≤ (6 - level) * (mostPrefixes + 1)) (isAny want) 68 0 (λ e. omega (arith, h (is-any want e))) (λ e. omega arith)
 
 pub operand-level-most : (op : Unary) → Table.operandLevel op ≤ 6
 unfolding Table.operandLevel
@@ -128,7 +129,7 @@ other-level k n =
     (λ g. chosen (λ (i : Prefix). levelBehind i ≡ 6) (eqb k Kind.AMPERSAND) (before to-float) no-prefix (λ h. refl) (λ h. refl)))))
 
 -- an operator that may stand before an operand reaches no further than that operand may
-pub prefix-level : (want : Want) (k : ℕ) (op : Unary) → Table.allows want k ≡ true → Table.prefixOperator k ≡ before op → (6 - Table.operandLevel op) * 17 ≤ spread want
+pub prefix-level : (want : Want) (k : ℕ) (op : Unary) → Table.allows want k ≡ true → Table.prefixOperator k ≡ before op → (6 - Table.operandLevel op) * (mostPrefixes + 1) ≤ spread want
 prefix-level want k op h i =
     split (eqb k Kind.NOT)
     (λ e. let w : spread want ≡ 68 = spread-any want (not-wanted want k (eqb-true k Kind.NOT e) h) in omega (arith, w, operand-level-least op))

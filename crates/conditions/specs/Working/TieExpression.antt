@@ -23,13 +23,15 @@ use Rattle.syntax.specs.Parsed.{Parsed, ok, aside, unexpected}
 use Rattle.conditions.specs.Parsed.{Part, part}
 use Rattle.conditions.specs.Operand.{settledTree, applied}
 use Rattle.conditions.specs.Expression as Read
-use Rattle.conditions.specs.Working.Emit.{Ran, ran, refused, settledTop, settled, finishAt, closedAt}
+use Rattle.conditions.specs.Working.Emit.{Ran, ran, refused, wordTop, wordWritten, finishAt, closedAt}
 use Rattle.conditions.specs.Working.Expression as Write
 use Rattle.conditions.specs.Working.Written.{Grown, keeps-self, kept, under}
 use Rattle.conditions.specs.Working.Same.{PartCodes, Same, same-aside, same-part, same-refused, same-on, both, start-within, Steps, both-next, both-done, loop-same}
 use Rattle.conditions.specs.Working.TieTable.{prefix-of, allows-number, inside-number, alike-prefix, alike-infix, operator-number, prefix-number, unary-row, unary-want, binary-row, right-want, right-level, binds-number}
-use Rattle.conditions.specs.Working.TieOperand.{leaf-same, settle-grown, unary-same, binary-same}
+use Rattle.conditions.specs.Working.TieOperand.{leaf-same, write-word-grown, unary-same, binary-same}
 use Rattle.conditions.specs.declared.emit.Out.the-variants.{Found, Aside}
+use Rattle.syntax.specs.Working.Faults.{against}
+use Rattle.limits.specs.Limits.{mostBrackets, mostPrefixes}
 
 module _ (s : List ℕ) (short : length s < 65536) where
   -- what an expression is at a depth
@@ -42,7 +44,7 @@ module _ (s : List ℕ) (short : length s < 65536) where
         → Same s m top (Read.prefixedOf (λ level want row nest t. Read.readExpression d s level want row nest t) s op want row nest t)
         (Write.prefixedBody (λ m top level want row nest t. Write.exprAt d s m top level want row nest t) s m top (unaryNumber op) (wantNumber want) row nest t)
     prefixed-body m top op want row nest t =
-        rw (unary-row op .0, unary-want op want) (both (Same s m top) (leb 16 row) _ _ _ _ (λ h. same-aside 7 (t .start) m (keeps-self m top))
+        rw (unary-row op .0, unary-want op want) (both (Same s m top) (leb mostPrefixes row) _ _ _ _ (λ h. same-aside 7 (t .start) m (keeps-self m top))
         (λ h. same-on (Same s m top) s m top same-aside
         (Read.readExpression d s (Table.operandLevel op) (Table.operandWant op want) (row + 1) nest (nextAt s (t .end)))
         (Write.exprAt d s m top (Table.operandLevel op) (wantNumber (Table.operandWant op want)) (row + 1) nest (nextAt s (t .end)))
@@ -65,7 +67,7 @@ module _ (s : List ℕ) (short : length s < 65536) where
         → Same s m top (Read.bracketedOf (λ level want row nest t. Read.readExpression d s level want row nest t) s want nest t)
         (Write.bracketedBody (λ m top level want row nest t. Write.exprAt d s m top level want row nest t) s m top (wantNumber want) nest t)
     bracketed-body m top want nest t =
-        rw (inside-number want) (both (Same s m top) (leb 16 nest) _ _ _ _ (λ h. same-aside 7 (t .start) m (keeps-self m top))
+        rw (inside-number want) (both (Same s m top) (leb mostBrackets nest) _ _ _ _ (λ h. same-aside 7 (t .start) m (keeps-self m top))
         (λ h. same-on (Same s m top) s m top same-aside
         (Read.readExpression d s (Table.insideLevel want) want 0 (nest + 1) (nextAt s (t .end)))
         (Write.exprAt d s m top (Table.insideLevel want) (wantNumber want) 0 (nest + 1) (nextAt s (t .end)))
@@ -78,15 +80,15 @@ module _ (s : List ℕ) (short : length s < 65536) where
         → Same s m₀ top₀ (Read.joinedOf (λ level want row nest t. Read.readExpression d s level want row nest t) s op nest sort e at)
         (Write.joinedBody (λ m top level want row nest t. Write.exprAt d s m top level want row nest t) s m top (binaryNumber op) nest (sortNumber sort) place at)
     joined-body m₀ top₀ m top op nest sort place at e near g =
-        rw (binary-row op .1, right-level op, right-want op) (same-on (Same s m₀ top₀) s (settled m top (sortNumber (sorted takes)) (sortNumber sort) place) (settledTop m top (sortNumber sort))
-        (λ r p b k. same-aside r p b (under (settle-grown s m₀ top₀ m top place e near takes sort g) k))
+        rw (binary-row op .1, right-level op, right-want op) (same-on (Same s m₀ top₀) s (wordWritten m top (sortNumber (sorted takes)) (sortNumber sort) place) (wordTop m top (sortNumber sort))
+        (λ r p b k. same-aside r p b (under (write-word-grown s m₀ top₀ m top place e near takes sort g) k))
         (Read.readExpression d s (Table.rightLevel op) (Table.rightWant op) 0 nest (nextAt s at))
-        (Write.exprAt d s (settled m top (sortNumber (sorted takes)) (sortNumber sort) place) (settledTop m top (sortNumber sort)) (Table.rightLevel op) (wantNumber (Table.rightWant op)) 0 nest (nextAt s at))
+        (Write.exprAt d s (wordWritten m top (sortNumber (sorted takes)) (sortNumber sort) place) (wordTop m top (sortNumber sort)) (Table.rightLevel op) (wantNumber (Table.rightWant op)) 0 nest (nextAt s at))
         (λ x f n. applied (binary op (settledTree takes sort e)) (binaryTakes op) (binaryGives op) x f n) (λ x p u n b. finishAt b u (binaryNumber op) x p n)
-        (λ x p u f n b near′ within h. binary-same s (settled m top (sortNumber (sorted takes)) (sortNumber sort) place) (settledTop m top (sortNumber sort)) b u x p f near′ h (binaryNumber op) (binaryTakes op) (binaryGives op)
+        (λ x p u f n b near′ within h. binary-same s (wordWritten m top (sortNumber (sorted takes)) (sortNumber sort) place) (wordTop m top (sortNumber sort)) b u x p f near′ h (binaryNumber op) (binaryTakes op) (binaryGives op)
         (binary-row op .1) (binary-row op .2) (number-fits (Operation.binary op)) n within op refl
-        m₀ top₀ (settledTree takes sort e) (settle-grown s m₀ top₀ m top place e near takes sort g))
-        (inner (settled m top (sortNumber (sorted takes)) (sortNumber sort) place) (settledTop m top (sortNumber sort)) (Table.rightLevel op) (Table.rightWant op) 0 nest (nextAt s at) (start-within s at)))
+        m₀ top₀ (settledTree takes sort e) (write-word-grown s m₀ top₀ m top place e near takes sort g))
+        (inner (wordWritten m top (sortNumber (sorted takes)) (sortNumber sort) place) (wordTop m top (sortNumber sort)) (Table.rightLevel op) (Table.rightWant op) 0 nest (nextAt s at) (start-within s at)))
       where
         takes : Sort
         takes = binaryTakes op
@@ -101,10 +103,10 @@ module _ (s : List ℕ) (short : length s < 65536) where
     Turns = Steps (States m₀ top₀) (Same s m₀ top₀)
 
     joined-on : (t : Token) (q : Parsed Part) (r : Ran) → Same s m₀ top₀ q r → Turns (Read.onJoined t q) (Write.onJoined t r)
-    joined-on t _ _ (same-aside r p b k) = both-done (aside r p) (ran (Aside r p) b) (same-aside r p b k)
+    joined-on t _ _ (same-aside r p b k) = both-done (aside r p) (ran (Aside (against r p)) b) (same-aside r p b k)
     joined-on t _ _ (same-part x p u e n b near within g) =
         both Turns (leb (n .start) (t .start)) _ _ _ _
-        (λ h. both-done (aside 0 (t .start)) (ran (Aside 0 (t .start)) b) (same-aside 0 (t .start) b (kept g)))
+        (λ h. both-done (aside 0 (t .start)) (ran (Aside (against 0 (t .start))) b) (same-aside 0 (t .start) b (kept g)))
         (λ h. both-next (n, x, e) (n, sortNumber x, p, u, b) (states n x e p u b near within g))
 
     module _ (d level nest : ℕ) (joined : (m : List ℕ) (top : ℕ) (op : Binary) (sort : PartSort) (place at : ℕ) (e : Expr) → place < 65536 → Grown m₀ top₀ m top (λ c. PartCodes s place e c sort)
@@ -123,7 +125,7 @@ module _ (s : List ℕ) (short : length s < 65536) where
       measures : (x : Read.State) (y : Write.State) → States m₀ top₀ x y → length s - x .0 .start ≡ length s - y .0 .start
       measures _ _ (states t sort e place top m near within g) = refl
 
-      outs : (x : Read.State) (y : Write.State) → States m₀ top₀ x y → Same s m₀ top₀ (aside 0 (x .0 .start)) (ran (Aside 0 (y .0 .start)) (y .4))
+      outs : (x : Read.State) (y : Write.State) → States m₀ top₀ x y → Same s m₀ top₀ (aside 0 (x .0 .start)) (ran (Aside (against 0 (y .0 .start))) (y .4))
       outs _ _ (states t sort e place top m near within g) = same-aside 0 (t .start) m (kept g)
 
       chain-body : (t : Token) (sort : PartSort) (e : Expr) (place top : ℕ) (m : List ℕ) → place < 65536 → t .start ≤ length s → Grown m₀ top₀ m top (λ c. PartCodes s place e c sort)
@@ -131,7 +133,7 @@ module _ (s : List ℕ) (short : length s < 65536) where
           (Write.chainLoop (λ m top op nest sort place at. Write.joinedAt d s m top op nest sort place at) s m top level nest (sortNumber sort) place t)
       chain-body t sort e place top m near within g =
           loop-same (λ x. length s - x .0 .start) (λ x. aside 0 (x .0 .start)) (Read.chainTurn (λ op nest sort e at. Read.readJoined d s op nest sort e at) s level nest)
-          (λ x. length s - x .0 .start) (λ x. ran (Aside 0 (x .0 .start)) (x .4))
+          (λ x. length s - x .0 .start) (λ x. ran (Aside (against 0 (x .0 .start))) (x .4))
           (Write.chainTurn (λ m top op nest sort place at. Write.joinedAt d s m top op nest sort place at) s level nest)
           (States m₀ top₀) (Same s m₀ top₀) measures outs chain-turn (t, sort, e) (t, sortNumber sort, place, top, m) (states t sort e place top m near within g)
 

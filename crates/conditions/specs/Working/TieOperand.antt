@@ -28,11 +28,12 @@ use Rattle.conditions.specs.Word.{nextAt, wordSort}
 use Rattle.syntax.specs.Parsed.{ok}
 use Rattle.conditions.specs.Parsed.{part}
 use Rattle.conditions.specs.Operand.{readLiteral, readName, readDigits, readFloat, readLeaf, settledTree, applied}
-use Rattle.conditions.specs.Working.Emit.{Ran, ran, above, put, settledTop, settled, finishAt}
+use Rattle.conditions.specs.Working.Emit.{Ran, ran, above, put, wordTop, wordWritten, finishAt}
 use Rattle.conditions.specs.Working.Leaf.{literalRead, nameRead, digitsRead, floatRead, leafRead, leafFound, nameAs}
 use Rattle.conditions.specs.Working.Written.{Grown, Then, then, grown-as, grown-then, grown-none, grown-put, append-assoc, keeps-self, kept, under}
 use Rattle.conditions.specs.Working.Same.{PartCodes, whole, bare, Same, same-aside, same-part, same-refused, both, start-within}
 use Rattle.conditions.specs.declared.emit.Out.the-variants.{Found}
+use Rattle.limits.specs.Limits.{mostFloat, mostLiteral}
 
 -- a name is a string or a bare word
 pub data Named : PartSort → Type 0 where
@@ -60,7 +61,7 @@ module _ (s : List ℕ) (short : length s < 65536) (m : List ℕ) (top : ℕ) wh
     literal-same : Same s m top (readLiteral s t) (literalRead s m top t)
     unfolding readLiteral literalRead
     literal-same =
-        both (Same s m top) (ltb 2048 (length (decodedAt s (t .start)))) _ _ _ _ (λ h. same-aside 7 (t .start) m (keeps-self m top))
+        both (Same s m top) (ltb mostLiteral (length (decodedAt s (t .start)))) _ _ _ _ (λ h. same-aside 7 (t .start) m (keeps-self m top))
         (λ h. entered a-string Op.LITERAL _ (omega arith) (code-literal (t .start) (omega (arith, within, short))))
 
     digits-same : Same s m top (readDigits s t) (digitsRead s m top t)
@@ -87,7 +88,7 @@ module _ (s : List ℕ) (short : length s < 65536) (m : List ℕ) (top : ℕ) wh
     float-same : Same s m top (readFloat s t) (floatRead s m top t)
     unfolding readFloat floatRead
     float-same =
-        both (Same s m top) (ltb 19 (t .end - t .start)) _ _ _ _ (λ h. same-aside 7 (t .start) m (keeps-self m top))
+        both (Same s m top) (ltb mostFloat (t .end - t .start)) _ _ _ _ (λ h. same-aside 7 (t .start) m (keeps-self m top))
         (λ h. entered a-float Op.DECIMAL _ (omega arith) (code-decimal (t .start) (omega (arith, within, short))))
 
     pub leaf-same : (want : Want) → Same s m top (readLeaf s want t) (leafRead s m top (wantNumber want) t)
@@ -125,30 +126,30 @@ module _ (s m : List ℕ) (top : ℕ) (b : List ℕ) (u p : ℕ) (e : Expr) (nea
   plain-grown : (x : Sort) → Grown m top b u (λ c. PartCodes s p e c (sorted x)) → Grown m top b u (Codes s e)
   plain-grown x g = grown-as m top b u (λ c. PartCodes s p e c (sorted x)) (Codes s e) (plain-codes x) g
 
-  pub settle-grown : (wanted : Sort) (x : PartSort) → Grown m top b u (λ c. PartCodes s p e c x)
-      → Grown m top (settled b u (sortNumber (sorted wanted)) (sortNumber x) p) (settledTop b u (sortNumber x)) (Codes s (settledTree wanted x e))
-  unfolding settled settledTop settledTree
-  settle-grown wanted (sorted a-string) g = plain-grown a-string g
-  settle-grown wanted (sorted an-integer) g = plain-grown an-integer g
-  settle-grown wanted (sorted a-float) g = plain-grown a-float g
-  settle-grown wanted (sorted a-test) g = plain-grown a-test g
-  settle-grown a-string (word true) g = name-grown true g
-  settle-grown a-string (word false) g = name-grown false g
-  settle-grown an-integer (word true) g = true-grown g
-  settle-grown an-integer (word false) g = false-grown g
-  settle-grown a-float (word true) g = true-grown g
-  settle-grown a-float (word false) g = false-grown g
-  settle-grown a-test (word true) g = true-grown g
-  settle-grown a-test (word false) g = false-grown g
+  pub write-word-grown : (wanted : Sort) (x : PartSort) → Grown m top b u (λ c. PartCodes s p e c x)
+      → Grown m top (wordWritten b u (sortNumber (sorted wanted)) (sortNumber x) p) (wordTop b u (sortNumber x)) (Codes s (settledTree wanted x e))
+  unfolding wordWritten wordTop settledTree
+  write-word-grown wanted (sorted a-string) g = plain-grown a-string g
+  write-word-grown wanted (sorted an-integer) g = plain-grown an-integer g
+  write-word-grown wanted (sorted a-float) g = plain-grown a-float g
+  write-word-grown wanted (sorted a-test) g = plain-grown a-test g
+  write-word-grown a-string (word true) g = name-grown true g
+  write-word-grown a-string (word false) g = name-grown false g
+  write-word-grown an-integer (word true) g = true-grown g
+  write-word-grown an-integer (word false) g = false-grown g
+  write-word-grown a-float (word true) g = true-grown g
+  write-word-grown a-float (word false) g = false-grown g
+  write-word-grown a-test (word true) g = true-grown g
+  write-word-grown a-test (word false) g = false-grown g
 
 module _ (s m : List ℕ) (top : ℕ) (b : List ℕ) (u : ℕ) (x : PartSort) (p : ℕ) (e : Expr) (near : p < 65536) (g : Grown m top b u (λ c. PartCodes s p e c x)) where
   module _ (op : ℕ) (takes gives : Sort) (operand : Numbered.operandOf op ≡ sortNumber (sorted takes)) (result : Numbered.resultOf op ≡ sortNumber (sorted gives)) (small : op < 64) (n : Token)
       (within : n .start ≤ length s) where
     abbrev b₁ : List ℕ
-    b₁ = settled b u (sortNumber (sorted takes)) (sortNumber x) p
+    b₁ = wordWritten b u (sortNumber (sorted takes)) (sortNumber x) p
 
     abbrev u₁ : ℕ
-    u₁ = settledTop b u (sortNumber x)
+    u₁ = wordTop b u (sortNumber x)
 
     abbrev f : Expr
     f = settledTree takes x e
@@ -157,7 +158,7 @@ module _ (s m : List ℕ) (top : ℕ) (b : List ℕ) (u : ℕ) (x : PartSort) (p
     taken : Grown m top (put b₁ u₁ op 0) (above b₁ u₁) (Then (Codes s f) (entry op 0))
     taken =
         grown-then m top b₁ u₁ (put b₁ u₁ op 0) (above b₁ u₁) (Codes s f) (λ d. d ≡ entry op 0 ∷ []) (Then (Codes s f) (entry op 0))
-        (λ c d q r. rw r (then c q)) (settle-grown s m top b u p e near takes x g) (grown-put b₁ u₁ op 0 small (omega arith))
+        (λ c d q r. rw r (then c q)) (write-word-grown s m top b u p e near takes x g) (grown-put b₁ u₁ op 0 small (omega arith))
 
     unary-codes : (o : Unary) → op ≡ unaryNumber o → (c : List ℕ) → Then (Codes s f) (entry op 0) c → Codes s (unary o f) c
     unary-codes o i _ (then d q) = rw i (code-unary q)

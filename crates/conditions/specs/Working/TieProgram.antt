@@ -23,15 +23,17 @@ use Rattle.syntax.specs.Parsed.{Parsed, ok, aside, unexpected}
 use Rattle.conditions.specs.Operand.{settledTree}
 use Rattle.conditions.specs.Expression.{readExpression}
 use Rattle.conditions.specs.Program as Read
-use Rattle.conditions.specs.Working.Emit.{Ran, ran, refused, above, put, settledTop, settled, endedAt, valuedAt}
+use Rattle.conditions.specs.Working.Emit.{Ran, ran, refused, above, put, wordTop, wordWritten, endedAt, valuedAt}
 use Rattle.conditions.specs.Working.Expression.{exprAt}
 use Rattle.conditions.specs.Working.Program as Write
 use Rattle.conditions.specs.Working.Written.{Grown, Then, then, grown-as, grown-then, grown-none, grown-put, append-assoc, keeps-self, kept, under}
 use Rattle.conditions.specs.Working.Same.{PartCodes, Same, SameAs, as-aside, as-ok, as-refused, same-on, as-on, both, start-within, Steps, both-next, both-done, loop-same}
-use Rattle.conditions.specs.Working.TieOperand.{settle-grown}
+use Rattle.conditions.specs.Working.TieOperand.{write-word-grown}
 use Rattle.conditions.specs.Working.TieExpression.{expression-same}
 use Rattle.conditions.specs.declared.emit.Out.{Out}
 use Rattle.conditions.specs.declared.emit.Out.the-variants.{Found, Aside}
+use Rattle.syntax.specs.Working.Faults.{against}
+use Rattle.limits.specs.Limits.{mostBrackets}
 
 module _ (s : List ℕ) (short : length s < 65536) where
   abbrev SameClause : List ℕ → ℕ → Parsed Clause → Ran → Type 0
@@ -46,8 +48,8 @@ module _ (s : List ℕ) (short : length s < 65536) where
     ended-codes : (c d : List ℕ) → L c → Then P (entry op 0) d → ClauseCodes s q (c ++ d)
     ended-codes c _ l (then d p) = rw (sym (append-assoc c d (entry op 0 ∷ []))) (f c d l p)
 
-    pub ended-same : (t : Token) → SameClause m₀ top₀ (Read.ending s q t) (endedAt s b u op t)
-    unfolding Read.ending endedAt
+    pub ended-same : (t : Token) → SameClause m₀ top₀ (Read.clauseEnd s q t) (endedAt s b u op t)
+    unfolding Read.clauseEnd endedAt
     ended-same t =
         both (SameClause m₀ top₀) (eqb (t .kind) Kind.SEMICOLON) _ _ _ _
         (λ k. as-ok q TEST 0 (above b u) (nextAt s (t .end)) (put b u op 0) (start-within s (t .end))
@@ -57,7 +59,7 @@ module _ (s : List ℕ) (short : length s < 65536) where
         (λ k. as-refused (ClauseCodes s) s m₀ top₀ t b (under g (kept h)))
 
   plain-same : (m₀ : List ℕ) (top₀ : ℕ) (b : List ℕ) (u : ℕ) (e : Expr) (t : Token) → Grown m₀ top₀ b u (Codes s e)
-      → SameClause m₀ top₀ (Read.ending s (plain e) t) (endedAt s b u Op.PLAIN t)
+      → SameClause m₀ top₀ (Read.clauseEnd s (plain e) t) (endedAt s b u Op.PLAIN t)
   plain-same m₀ top₀ b u e t g =
       ended-same m₀ top₀ m₀ top₀ b u (λ c. c ≡ []) (Codes s e) (plain e) Op.PLAIN (omega arith) (λ c d l p. rw l (code-plain p))
       (grown-none m₀ top₀ (λ c. c ≡ []) refl) g t
@@ -68,8 +70,8 @@ module _ (s : List ℕ) (short : length s < 65536) where
   unfolding Read.valuing valuedAt
   valued-same m₀ top₀ m top e g x p u f n b near h =
       rw (fits-number a-string x) (both (SameClause m₀ top₀) (fits a-string x) _ _ _ _
-      (λ k. ended-same m₀ top₀ m top (settled b u TEXT (sortNumber x) p) (settledTop b u (sortNumber x)) (Codes s e) (Codes s (settledTree a-string x f)) (valued e (settledTree a-string x f)) Op.VALUED
-      (omega arith) (λ c d l q. code-valued l q) g (settle-grown s m top b u p f near a-string x h) n)
+      (λ k. ended-same m₀ top₀ m top (wordWritten b u TEXT (sortNumber x) p) (wordTop b u (sortNumber x)) (Codes s e) (Codes s (settledTree a-string x f)) (valued e (settledTree a-string x f)) Op.VALUED
+      (omega arith) (λ c d l q. code-valued l q) g (write-word-grown s m top b u p f near a-string x h) n)
       (λ k. as-refused (ClauseCodes s) s m₀ top₀ n b (under g (kept h))))
 
   -- where a program stands
@@ -83,10 +85,10 @@ module _ (s : List ℕ) (short : length s < 65536) where
 
     clause-on : (t : Token) (p : Program) (top : ℕ) (m : List ℕ) → Grown m₀ top₀ m top (ProgramCodes s p)
         → (q : Parsed Clause) (r : Ran) → SameClause m top q r → Turns (Read.onClause t p q) (Write.onClause t r)
-    clause-on t p top m g _ _ (as-aside r i b k) = both-done (aside r i) (ran (Aside r i) b) (as-aside r i b (under g k))
+    clause-on t p top m g _ _ (as-aside r i b k) = both-done (aside r i) (ran (Aside (against r i)) b) (as-aside r i b (under g k))
     clause-on t p top m g _ _ (as-ok c x i u n b within h) =
         both Turns (leb (n .start) (t .start)) _ _ _ _
-        (λ k. both-done (aside 0 (t .start)) (ran (Aside 0 (t .start)) b) (as-aside 0 (t .start) b (under g (kept h))))
+        (λ k. both-done (aside 0 (t .start)) (ran (Aside (against 0 (t .start))) b) (as-aside 0 (t .start) b (under g (kept h))))
         (λ k. both-next (n, also p c) (n, u, b) (states n (also p c) u b within
         (grown-then m₀ top₀ m top b u (ProgramCodes s p) (ClauseCodes s c) (ProgramCodes s (also p c)) (λ y z v w. code-also v w) g h)))
 
@@ -112,14 +114,14 @@ module _ (s : List ℕ) (short : length s < 65536) where
       measures : (x : Read.State) (y : Write.State) → States m₀ top₀ x y → length s - x .0 .start ≡ length s - y .0 .start
       measures _ _ (states t p top m within g) = refl
 
-      outs : (x : Read.State) (y : Write.State) → States m₀ top₀ x y → SameProgram m₀ top₀ (aside 0 (x .0 .start)) (ran (Aside 0 (y .0 .start)) (y .2))
+      outs : (x : Read.State) (y : Write.State) → States m₀ top₀ x y → SameProgram m₀ top₀ (aside 0 (x .0 .start)) (ran (Aside (against 0 (y .0 .start))) (y .2))
       outs _ _ (states t p top m within g) = as-aside 0 (t .start) m (kept g)
 
       clauses-body : (t : Token) (top : ℕ) (m : List ℕ) → t .start ≤ length s → Grown m₀ top₀ m top (ProgramCodes s none)
           → SameProgram m₀ top₀ (Read.clausesOf (λ nest t. Read.readClause d s nest t) s nest t) (Write.clausesLoop (λ m top nest t. Write.clauseAt d s m top nest t) s m top nest t)
       clauses-body t top m within g =
           loop-same (λ x. length s - x .0 .start) (λ x. aside 0 (x .0 .start)) (Read.clausesTurn (λ nest t. Read.readClause d s nest t) s nest)
-          (λ x. length s - x .0 .start) (λ x. ran (Aside 0 (x .0 .start)) (x .2)) (Write.clausesTurn (λ m top nest t. Write.clauseAt d s m top nest t) s nest)
+          (λ x. length s - x .0 .start) (λ x. ran (Aside (against 0 (x .0 .start))) (x .2)) (Write.clausesTurn (λ m top nest t. Write.clauseAt d s m top nest t) s nest)
           (States m₀ top₀) (SameProgram m₀ top₀) measures outs clauses-turn (t, none) (t, top, m) (states t none top m within g)
 
   mutual
@@ -140,9 +142,9 @@ module _ (s : List ℕ) (short : length s < 65536) where
     tested-same (suc d) m₀ top₀ m top nest sort place e t near g =
         rw (fits-number a-test sort) (both (SameClause m₀ top₀) (fits a-test sort) _ _ _ _
         (λ h. both (SameClause m₀ top₀) (eqb (t .kind) Kind.ARROW) _ _ _ _
-        (λ k. value-same d m₀ top₀ (settled m top TEST (sortNumber sort) place) (settledTop m top (sortNumber sort)) nest (settledTree a-test sort e) (nextAt s (t .end)) (start-within s (t .end))
-        (settle-grown s m₀ top₀ m top place e near a-test sort g))
-        (λ k. plain-same m₀ top₀ (settled m top TEST (sortNumber sort) place) (settledTop m top (sortNumber sort)) (settledTree a-test sort e) t (settle-grown s m₀ top₀ m top place e near a-test sort g)))
+        (λ k. value-same d m₀ top₀ (wordWritten m top TEST (sortNumber sort) place) (wordTop m top (sortNumber sort)) nest (settledTree a-test sort e) (nextAt s (t .end)) (start-within s (t .end))
+        (write-word-grown s m₀ top₀ m top place e near a-test sort g))
+        (λ k. plain-same m₀ top₀ (wordWritten m top TEST (sortNumber sort) place) (wordTop m top (sortNumber sort)) (settledTree a-test sort e) t (write-word-grown s m₀ top₀ m top place e near a-test sort g)))
         (λ h. as-refused (ClauseCodes s) s m₀ top₀ t m (kept g)))
 
     value-same : (d : ℕ) (m₀ : List ℕ) (top₀ : ℕ) (m : List ℕ) (top nest : ℕ) (e : Expr) (t : Token) → t .start ≤ length s → Grown m₀ top₀ m top (Codes s e)
@@ -160,10 +162,10 @@ module _ (s : List ℕ) (short : length s < 65536) where
         → SameClause m₀ top₀ (Read.readNested d s nest e t) (Write.nestedAt d s m top nest t)
     nested-same zero m₀ top₀ m top nest e t g = as-aside 0 (t .start) m (kept g)
     nested-same (suc d) m₀ top₀ m top nest e t g =
-        both (SameClause m₀ top₀) (leb 16 nest) _ _ _ _ (λ h. as-aside 7 (t .start) m (kept g))
+        both (SameClause m₀ top₀) (leb mostBrackets nest) _ _ _ _ (λ h. as-aside 7 (t .start) m (kept g))
         (λ h. as-on (SameClause m₀ top₀) s m top (λ r p b k. as-aside r p b (under g k)) (ProgramCodes s) (Read.readBlock d s (nest + 1) (nextAt s (t .end)))
         (Write.programAt d s m top (nest + 1) (nextAt s (t .end)))
-        (λ p n. Read.ending s (nested e p) (nextAt s (n .end))) (λ x p u n b. endedAt s b u Op.NESTED (nextAt s (n .end)))
+        (λ p n. Read.clauseEnd s (nested e p) (nextAt s (n .end))) (λ x p u n b. endedAt s b u Op.NESTED (nextAt s (n .end)))
         (λ p x i u n b within h. ended-same m₀ top₀ m top b u (Codes s e) (ProgramCodes s p) (nested e p) Op.NESTED (omega arith) (λ c k l q. code-nested l q) g h (nextAt s (n .end)))
         (block-same d m top (nest + 1) (nextAt s (t .end)) (start-within s (t .end))))
 

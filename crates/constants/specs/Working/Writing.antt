@@ -12,7 +12,8 @@ use borrow.Author.Tests.{lt-ltb, le-ltb, le-leb, lt-leb, eq-eqb, ne-eqb}
 use Rattle.text.specs.Choice.{pick}
 use Rattle.text.specs.Copy.{copied, put, copyAt}
 use Rattle.text.specs.CopyLaws.{put-append, put-length}
-use Rattle.text.specs.Counted.{counted, pairBytes, putPair}
+use Rattle.text.specs.Counted.{counted, pairBytes}
+use Rattle.text.specs.Put.{putPair}
 use Rattle.text.specs.CountedLaws.{pair-put}
 use Rattle.text.specs.Join.{joined, followed}
 use Rattle.record.specs.Encode.{stringBytes}

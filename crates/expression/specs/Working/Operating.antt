@@ -32,6 +32,7 @@ use Rattle.expression.specs.Conditions.{indexFrom, rankOf, gate, top}
 use Rattle.expression.specs.Working.Clauses.{applied, combined}
 use Rattle.expression.specs.declared.value.Operand.{Operand}
 use Rattle.expression.specs.declared.value.Operand.the-variants.{Text, Number, Test, Rank, Float, Fault}
+use Rattle.limits.specs.Limits.{mostString}
 
 -- the ways out of `integer_in`
 module _ (v : Operand) where
@@ -301,23 +302,23 @@ module _ (op : ℕ) (a b : Single) where
   floats-compare n32 n33 n34 n35 n36 t te = rw te (simp (ne-eqb _ _ n32, ne-eqb _ _ n33, ne-eqb _ _ n34, ne-eqb _ _ n35, ne-eqb _ _ n36))
 
 -- the ways out of `join`
-held-over : (b : List ℕ) → 4096 < length b → Fault ≡ operand (held b)
+held-over : (b : List ℕ) → mostString < length b → Fault ≡ operand (held b)
 unfolding held operand
-held-over b h = rw (lt-ltb 4096 (length b) h)
+held-over b h = rw (lt-ltb mostString (length b) h)
 
 module _ (a b : List ℕ) where
-  pub join-left : 4096 < length a → Fault ≡ operand (held (a ++ b))
+  pub join-left : mostString < length a → Fault ≡ operand (held (a ++ b))
   join-left h = held-over (a ++ b) (rw length-append (omega arith))
 
-  pub join-right : 4096 < length b → Fault ≡ operand (held (a ++ b))
+  pub join-right : mostString < length b → Fault ≡ operand (held (a ++ b))
   join-right h = held-over (a ++ b) (rw length-append (omega arith))
 
-  pub join-over : 4096 < length a + length b → Fault ≡ operand (held (a ++ b))
+  pub join-over : mostString < length a + length b → Fault ≡ operand (held (a ++ b))
   join-over h = held-over (a ++ b) (rw length-append h)
 
-  pub join-in : length a + length b ≤ 4096 → Text (length a + length b) ≡ operand (held (a ++ b))
+  pub join-in : length a + length b ≤ mostString → Text (length a + length b) ≡ operand (held (a ++ b))
   unfolding held operand
-  join-in h = let e : length (a ++ b) ≡ length a + length b = length-append a b in rw (le-ltb 4096 (length (a ++ b)) (rw e h)) (ap Text (sym e))
+  join-in h = let e : length (a ++ b) ≡ length a + length b = length-append a b in rw (le-ltb mostString (length (a ++ b)) (rw e h)) (ap Text (sym e))
 
 -- strings are equal where neither comes first
 is-equal : (o : Order) → isEqual o ≡ true → o ≡ Equal

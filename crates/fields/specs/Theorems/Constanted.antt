@@ -21,20 +21,25 @@ use Rattle.record.specs.Stands.{Stands, stands-left, stands-right, counted-at}
 use Rattle.record.specs.Query.{Attribute}
 use Rattle.record.specs.Lies.{Lie, lie[], lie∷, AttributeAt}
 use Rattle.lexical.specs.Kind
+use Rattle.lexical.specs.Kind.{ending}
 use Rattle.lexical.specs.Literal.{decodedAt}
 use Rattle.lexical.specs.Line.{tokenAt}
 use Rattle.lexical.specs.declared.token.Token.{Token}
-use Rattle.index.specs.Working.Adding.{entered, addInto, countedInto}
+use Rattle.index.specs.Working.Adding.{entered, indexOf, appendInto, countedInto}
 use Rattle.index.specs.declared.Entered.the-variants.{Now}
 use Rattle.expression.specs.Tables.{firstFrom}
+use Rattle.syntax.specs.Code.{nameAt}
 use Rattle.syntax.specs.Parsed.{Parsed, ok, aside, refusal, unexpected}
 use Rattle.syntax.specs.Stood.{Stood, stood-at, stood-end}
 use Rattle.limits.specs.Limits.{mostConstants, mostLiteral, mostRecord, mostLengths}
-use Rattle.fields.specs.Parsed.{behind, ending, wordOf}
+use Rattle.fields.specs.Parsed.{behind}
+use Rattle.fields.specs.Working.Word.{wordOf}
 use Rattle.fields.specs.Constants.{isSet, constantValue, assigned, nameFault, constant, constantsTurn, onConstant, constantsFrom}
 use Rattle.fields.specs.Working.Setting.{Stored, stored, State, takenIn, constantFaultIn, storeIn, valueIn, assignedIn, settingTurn, onAssigned, onStored, assignedFrom, constantsIn, refusedSettings}
 use Rattle.fields.specs.declared.constants.Settings.the-variants.{On, Aside}
 use Rattle.fields.specs.Theorems.Together.{both, Steps, both-next, both-done, loop-same, refusal-some, behind-from, stood-start, stood-wide, stood-literal, word-short}
+use Rattle.syntax.specs.Working.Faults.{against}
+use Rattle.fields.specs.Theorems.Words.{word-is}
 
 -- a search that starts one further on ends one further on
 first-suc : (s name : List ℕ) (i : ℕ) (ps : List ℕ) → firstFrom s name (suc i) ps ≡ suc (firstFrom s name i ps)
@@ -59,9 +64,9 @@ unset-is s ps name (lie∷ {v = p} {vs = vs} {a = a} {l = l} at t) x y =
 -- the same fault, or the same constants and token behind: they lie in the buffer at the places of the table, and what was there before stays
 pub data ConstantsRead (s m q : List ℕ) (start : ℕ) : Parsed (List Attribute) → Stored → Type 0 where
   constants-aside : (r p : ℕ) (m′ q′ : List ℕ) → (r ≡ 0 → ⊥) → length m′ ≡ length m → length q′ ≡ length q → take start m′ ≡ take start m
-      → ConstantsRead s m q start (aside r p) (stored (Aside r p) m′ q′)
+      → ConstantsRead s m q start (aside r p) (stored (Aside (against r p)) m′ q′)
   constants-on : (cs : List Attribute) (c e : ℕ) (n : Token) (m′ q′ : List ℕ) → c ≡ length cs → c ≤ mostConstants → Lie (AttributeAt m′) (take c q′) cs → Stood s n
-      → length m′ ≡ length m → length q′ ≡ length q → take start m′ ≡ take start m → ConstantsRead s m q start (ok cs n) (stored (On c e n) m′ q′)
+      → length m′ ≡ length m → length q′ ≡ length q → take start m′ ≡ take start m → ConstantsRead s m q start (ok cs n) (stored (On (indexOf c e) n) m′ q′)
 
 string-length : (a : List ℕ) → length (stringBytes a) ≡ 2 + length a
 unfolding stringBytes
@@ -155,13 +160,16 @@ module _ (s m q : List ℕ) (start : ℕ) (short : length s ≤ mostRecord) (pla
 
     fault-as : constantFaultIn s m′ q′ c t ≡ nameFault s cs t
     unfolding constantFaultIn nameFault
-    fault-as = rw (taken-as (wordOf s t))
+    fault-as =
+        split (eqb (t .kind) Kind.NAME)
+        (λ f. rw (f, word-is (laid .stood) (eqb-true _ _ f), taken-as (nameAt s (t .start))))
+        (λ f. rw f)
 
 -- where there is room, a name and its value are put behind the others
 store-is : (m q : List ℕ) (c e : ℕ) (a : Attribute) → c < length q → length (a .name) ≤ 65535 → length (a .value) ≤ 65535
     → e + 2 + length (a .name) + 2 + length (a .value) ≤ length m
-    → storeIn m q c e (a .name) (a .value) ≡ entered (Now (c + 1) (e + 2 + length (a .name) + 2 + length (a .value))) (put m e (attributeBytes a)) (set q c (e + 2))
-unfolding storeIn addInto countedInto copyAt attributeBytes
+    → storeIn m q c e (a .name) (a .value) ≡ entered (Now (indexOf (c + 1) (e + 2 + length (a .name) + 2 + length (a .value)))) (put m e (attributeBytes a)) (set q c (e + 2))
+unfolding storeIn appendInto countedInto copyAt attributeBytes
 store-is m q c e a h hn hv fits =
     let n : length (stringBytes (a .name)) ≡ 2 + length (a .name) = string-length (a .name) in
     let v : length (stringBytes (a .value)) ≡ 2 + length (a .value) = string-length (a .value) in
@@ -185,9 +193,9 @@ front-put m at x h =
 
 -- one more constant: the same fault, or the same constant behind the others
 pub data OneRead (s m q : List ℕ) (start : ℕ) (cs : List Attribute) (c : ℕ) (m′ q′ : List ℕ) : Parsed Attribute → Stored → Type 0 where
-  one-aside : (r p : ℕ) → (r ≡ 0 → ⊥) → OneRead s m q start cs c m′ q′ (aside r p) (stored (Aside r p) m′ q′)
+  one-aside : (r p : ℕ) → (r ≡ 0 → ⊥) → OneRead s m q start cs c m′ q′ (aside r p) (stored (Aside (against r p)) m′ q′)
   one-on : (a : Attribute) (d e : ℕ) (n : Token) (m″ q″ : List ℕ) → Laid s m q start (cs ++ (a ∷ [])) n (c + 1) e m″ q″
-      → OneRead s m q start cs c m′ q′ (ok a n) (stored (On d e n) m″ q″)
+      → OneRead s m q start cs c m′ q′ (ok a n) (stored (On (indexOf d e) n) m″ q″)
 
 module _ (s m q : List ℕ) (start : ℕ) (short : length s ≤ mostRecord) (places : mostConstants ≤ length q) (fits : start + mostLengths + length s ≤ length m) where
   module _ {cs : List Attribute} {t : Token} {c e : ℕ} {m′ q′ : List ℕ} (laid : Laid s m q start cs t c e m′ q′) (few : c < mostConstants) where
@@ -256,10 +264,12 @@ module _ (s m q : List ℕ) (start : ℕ) (short : length s ≤ mostRecord) (pla
           value-one (tokenAt s Kind.IN-FIELD (a .end)) (stood-at s Kind.IN-FIELD (a .end)) (omega arith))
           (λ f. one-aside (refusal (a .kind)) (a .start) (refusal-some (a .kind)))
 
-      pub one-read : One (assigned s (wordOf s t) (behind s Kind.IN-FIELD t)) (assignedIn s m′ q′ c e t)
+      pub one-read : One (assigned s (nameAt s (t .start)) (behind s Kind.IN-FIELD t)) (assignedIn s m′ q′ c e t)
       unfolding assignedIn
-      one-read = assigned-one (tokenAt s Kind.IN-FIELD (t .end)) (stood-at s Kind.IN-FIELD (t .end))
-          (behind-from s Kind.IN-FIELD (t .end) (stood-end (laid .stood) (omega (arith, name))))
+      one-read =
+          rw (← word-is (laid .stood) name)
+          (assigned-one (tokenAt s Kind.IN-FIELD (t .end)) (stood-at s Kind.IN-FIELD (t .end))
+          (behind-from s Kind.IN-FIELD (t .end) (stood-end (laid .stood) (omega (arith, name)))))
 
 fault-name : (s : List ℕ) (cs : List Attribute) (t : Token) → nameFault s cs t ≡ 0 → t .kind ≡ Kind.NAME
 unfolding nameFault
@@ -275,8 +285,8 @@ module _ (s m q : List ℕ) (start : ℕ) (short : length s ≤ mostRecord) (pla
       (λ x. mostConstants - x .0) (λ x. stored (refusedSettings (x .2)) (x .3) (x .4)) (settingTurn s) (Held s m q start) (ConstantsRead s m q start)
 
   module _ {cs : List Attribute} {t : Token} {c e : ℕ} {m′ q′ : List ℕ} (laid : Laid s m q start cs t c e m′ q′) where
-    set-aside : (r p : ℕ) → (r ≡ 0 → ⊥) → Turns (cs, t) (c, e, t, m′, q′) (done (aside r p)) (done (stored (Aside r p) m′ q′))
-    set-aside r p h = both-done (aside r p) (stored (Aside r p) m′ q′) (constants-aside r p m′ q′ h (laid .buffer) (laid .table) (laid-before s m q start short places fits laid))
+    set-aside : (r p : ℕ) → (r ≡ 0 → ⊥) → Turns (cs, t) (c, e, t, m′, q′) (done (aside r p)) (done (stored (Aside (against r p)) m′ q′))
+    set-aside r p h = both-done (aside r p) (stored (Aside (against r p)) m′ q′) (constants-aside r p m′ q′ h (laid .buffer) (laid .table) (laid-before s m q start short places fits laid))
 
     one-turned : c < mostConstants → (x : Parsed Attribute) (y : Stored) → OneRead s m q start cs c m′ q′ x y → Turns (cs, t) (c, e, t, m′, q′) (onConstant cs x) (onAssigned c y)
     one-turned few _ _ (one-aside r p h) = set-aside r p h
@@ -285,8 +295,8 @@ module _ (s m q : List ℕ) (start : ℕ) (short : length s ≤ mostRecord) (pla
         both-next (cs ++ (a ∷ []), n) (c + 1, e′, n, m″, q″) (held (cs ++ (a ∷ [])) n (c + 1) e′ m″ q″ l) (omega (arith, few, laid .number)) (omega (arith, few))
 
     named-turn : nameFault s cs t ≡ 0
-        → Turns (cs, t) (c, e, t, m′, q′) (onConstant cs (pick (leb mostConstants (length cs)) (aside 7 (t .start)) (assigned s (wordOf s t) (behind s Kind.IN-FIELD t))))
-        (pick (leb mostConstants c) (done (stored (Aside 7 (t .start)) m′ q′)) (onAssigned c (assignedIn s m′ q′ c e t)))
+        → Turns (cs, t) (c, e, t, m′, q′) (onConstant cs (pick (leb mostConstants (length cs)) (aside 7 (t .start)) (assigned s (nameAt s (t .start)) (behind s Kind.IN-FIELD t))))
+        (pick (leb mostConstants c) (done (stored (Aside (against 7 (t .start))) m′ q′)) (onAssigned c (assignedIn s m′ q′ c e t)))
     named-turn z =
         split (leb mostConstants c)
         (λ f. rw (← laid .number, f) (set-aside 7 (t .start) (λ z. omega (arith, z))))
@@ -296,7 +306,7 @@ module _ (s m q : List ℕ) (start : ℕ) (short : length s ≤ mostRecord) (pla
     unfolding constant
     turn =
         both (Turns (cs, t) (c, e, t, m′, q′)) (ending (t .kind)) _ _ _ _
-        (λ f. both-done (ok cs t) (stored (On c e t) m′ q′)
+        (λ f. both-done (ok cs t) (stored (On (indexOf c e) t) m′ q′)
         (constants-on cs c e t m′ q′ (laid .number) (laid .few) (laid-lie s m q start short places fits laid) (laid .stood) (laid .buffer) (laid .table)
         (laid-before s m q start short places fits laid)))
         (λ f. split (eqb (nameFault s cs t) 0)

@@ -19,7 +19,7 @@ use Rattle.lexical.specs.Theorems.TokensLaws.{token-shorter}
 use Rattle.lexical.specs.declared.token.Token.{Token}
 use Rattle.syntax.specs.Parsed.{refusal}
 use Rattle.syntax.specs.Stood.{Stood}
-use Rattle.fields.specs.Parsed.{wordOf}
+use Rattle.fields.specs.Working.Word.{wordOf}
 
 -- what holds of two choices by one test
 pub both : {A B : Type 0} (T : A → B → Type 0) (f : Bool) (a b : A) (c d : B) → (f ≡ true → T a c) → (f ≡ false → T b d) → T (pick f a b) (pick f c d)

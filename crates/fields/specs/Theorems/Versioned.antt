@@ -8,6 +8,7 @@ use lib.ListN.{length}
 use borrow.Author.Tests.{eqb-true, ltb-false}
 use Rattle.text.specs.Equal.{equal}
 use Rattle.lexical.specs.Kind
+use Rattle.lexical.specs.Kind.{ending}
 use Rattle.lexical.specs.Theorems.Bounds.{chosen}
 use Rattle.lexical.specs.Literal.{decodedAt}
 use Rattle.lexical.specs.Number.{LIMIT, numberAt}
@@ -15,7 +16,7 @@ use Rattle.lexical.specs.declared.token.Token.{Token}
 use Rattle.syntax.specs.Parsed.{Parsed, ok, aside}
 use Rattle.syntax.specs.Stood.{Stood, stood-at}
 use Rattle.limits.specs.Limits.{mostLiteral}
-use Rattle.fields.specs.Parsed.{behind, ending, ended}
+use Rattle.fields.specs.Parsed.{behind, ended}
 use Rattle.fields.specs.Version.{two, versionNumber, versionLiteral, version}
 use Rattle.fields.specs.Signature.{signature}
 use Rattle.fields.specs.Theorems.Together.{refusal-some}

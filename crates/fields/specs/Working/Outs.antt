@@ -2,7 +2,7 @@
 use mathlib.Core.Path.{_≡_, refl, sym, ap, _∙_}
 use mathlib.Core.Bool.{Bool, true, false, not}
 use mathlib.Core.List.{List, [], _∷_, append-nil}
-use Prim.Native.Nat.{ℕ, zero, suc, _+_, _-_, _<_, _≤_}
+use Prim.Native.Nat.{ℕ, zero, suc, _+_, _-_, _<_, _≤_, min}
 use native.Mathlib.Omega.{arith}
 use lib.Dec.{eqb, leb, ltb}
 use lib.ListN.{length, getD, take, drop, length-drop, drop-of-length-le}
@@ -11,8 +11,9 @@ use borrow.Author.Tests.{lt-ltb, le-ltb, le-leb, lt-leb, eq-eqb, ne-eqb, leb-tru
 use Rattle.text.specs.Choice.{pick, split, clash}
 use Rattle.text.specs.Counted.{part}
 use Rattle.text.specs.Equal.{equal}
-use Rattle.lexical.specs.Short.{sized, sized-length}
+use Rattle.lexical.specs.Working.Short.{sized, sized-length}
 use Rattle.lexical.specs.Kind
+use Rattle.lexical.specs.Kind.{ending}
 use Rattle.lexical.specs.Literal.{decodedAt}
 use Rattle.lexical.specs.Decode.{Ran, ran, decodeInto}
 use Rattle.lexical.specs.Number.{LIMIT, numberAt}
@@ -20,19 +21,21 @@ use Rattle.lexical.specs.Line.{tokenAt}
 use Rattle.lexical.specs.declared.token.Token.{Token}
 use Rattle.limits.specs.Limits.{mostLiteral}
 use Rattle.syntax.specs.Parsed.{Parsed, ok, aside, refusal}
-use Rattle.fields.specs.Parsed.{behind, ending, ended, wordOf}
+use Rattle.fields.specs.Parsed.{behind, ended}
+use Rattle.fields.specs.Working.Word.{wordOf}
 use Rattle.fields.specs.Version.{two, versionNumber, versionLiteral, version}
 use Rattle.fields.specs.Signature.{signature}
 use Rattle.fields.specs.declared.out.Out.{Out}
 use Rattle.fields.specs.declared.out.Out.the-variants.{On, Aside}
+use Rattle.syntax.specs.Working.Faults.{against, misplacedAt}
 
 -- the answer to a reading
 abbrev pub outOf : {A : Type 0} → Parsed A → Out
 outOf (ok a t) = On t
-outOf (aside r p) = Aside r p
+outOf (aside r p) = Aside (against r p)
 
 abbrev pub refusedOut : Token → Out
-refusedOut t = Aside (refusal (t .kind)) (t .start)
+refusedOut t = Aside (misplacedAt t)
 
 unfoldable pub endedOut : Token → Out
 endedOut t = pick (ending (t .kind)) (On t) (refusedOut t)
@@ -76,22 +79,26 @@ module _ (s : List ℕ) (t : Token) where
   word-whole = refl
 
 -- `by_number`
-module _ (s : List ℕ) (t : Token) (n : ℕ) (ne : n ≡ numberAt s (t .start) (t .end)) where
+module _ (s : List ℕ) (t : Token) (n : ℕ) (ne : n ≡ min (numberAt s (t .start) (t .end)) 2147483648) where
   abbrev number-is : Out
   number-is = outOf (versionNumber s t (numberAt s (t .start) (t .end)))
 
-  pub number-high : LIMIT ≤ n → Aside 5 (t .start) ≡ number-is
+  pub number-high : LIMIT ≤ n → Aside (against 5 (t .start)) ≡ number-is
   unfolding versionNumber
-  number-high h = simp (sym ne, le-leb _ _ h)
+  number-high h = rw (le-leb LIMIT (numberAt s (t .start) (t .end)) (omega (arith, ne, h)))
 
   module _ (low : n < LIMIT) where
+    -- a number below the limit was not held
+    low-is : numberAt s (t .start) (t .end) ≡ n
+    low-is = omega (arith, ne, low)
+
     pub number-two : (u : Token) → u ≡ tokenAt s Kind.IN-FIELD (t .end) → (r : Out) → n ≡ 2 → r ≡ endedOut u → r ≡ number-is
     unfolding versionNumber
-    number-two u ue r h re = re ∙ ended-is {A = ℕ} 2 u ∙ simp (sym ne, lt-leb _ _ low, eq-eqb _ _ h, sym ue)
+    number-two u ue r h re = re ∙ ended-is {A = ℕ} 2 u ∙ simp (low-is, lt-leb _ _ low, eq-eqb _ _ h, sym ue)
 
-    pub number-other : (n ≡ 2 → ⊥) → Aside 6 (t .start) ≡ number-is
+    pub number-other : (n ≡ 2 → ⊥) → Aside (against 6 (t .start)) ≡ number-is
     unfolding versionNumber
-    number-other h = simp (sym ne, lt-leb _ _ low, ne-eqb _ _ h)
+    number-other h = simp (low-is, lt-leb _ _ low, ne-eqb _ _ h)
 
 -- `is_two`
 long-two : (v : List ℕ) → (length v ≡ 1 → ⊥) → false ≡ equal v two
@@ -128,7 +135,7 @@ module _ (s : List ℕ) (t : Token) (b : Bool) (be : b ≡ equal (decodedAt s (t
   unfolding versionLiteral
   literal-two u ue r y re = re ∙ ended-is {A = ℕ} 2 u ∙ simp (sym be, y, sym ue)
 
-  pub literal-other : b ≡ false → Aside 6 (t .start) ≡ outOf (versionLiteral s t (decodedAt s (t .start)))
+  pub literal-other : b ≡ false → Aside (against 6 (t .start)) ≡ outOf (versionLiteral s t (decodedAt s (t .start)))
   unfolding versionLiteral
   literal-other n = simp (sym be, n)
 
@@ -160,7 +167,7 @@ module _ (s : List ℕ) (start : ℕ) where
   fitting-told n ne r e = e ∙ ap (λ (k : ℕ). leb k mostLiteral) ne
 
 module _ (s : List ℕ) (t : Token) (is : t .kind ≡ Kind.LITERAL) (b : Bool) (be : b ≡ leb (length (decodedAt s (t .start))) mostLiteral) where
-  pub signature-long : not b ≡ true → Aside 7 (t .start) ≡ outOf (signature s t)
+  pub signature-long : not b ≡ true → Aside (against 7 (t .start)) ≡ outOf (signature s t)
   unfolding signature
   signature-long h = simp (eq-eqb _ _ is, lt-ltb mostLiteral (length (decodedAt s (t .start))) (leb-false (length (decodedAt s (t .start))) mostLiteral (sym be ∙ not-true b h)))
 

@@ -12,23 +12,28 @@ use Rattle.text.specs.Choice.{pick, split}
 use Rattle.text.specs.Copy.{Copied, copied, put, copyAt}
 use Rattle.text.specs.Loop.{Step, next, done, loop, loop-next, loop-done}
 use Rattle.lexical.specs.Kind
+use Rattle.lexical.specs.Kind.{ending}
 use Rattle.lexical.specs.Line.{tokenAt}
 use Rattle.lexical.specs.Literal.{decodedAt}
 use Rattle.lexical.specs.Decode.{Ran, ran, decodeInto}
 use Rattle.lexical.specs.Theorems.DecodeLaws.{decode-fits, decode-full}
 use Rattle.lexical.specs.declared.token.Token.{Token}
-use Rattle.text.specs.Counted.{putPair}
+use Rattle.text.specs.Put.{putPair}
 use Rattle.text.specs.Working.Pairs.{counted-large, counted-past, counted-half, counted-put, counted-none}
-use Rattle.index.specs.Working.Adding.{After, entered, addInto, countedInto, counted-is, add-room}
+use Rattle.index.specs.Working.Adding.{After, entered, indexOf, appendInto, countedInto, counted-is, append-room}
+use Rattle.index.specs.declared.Index.{Index}
 use Rattle.index.specs.declared.Entered.{Entered}
 use Rattle.index.specs.declared.Entered.the-variants.{Now, Full}
 use Rattle.expression.specs.Tables.{firstFrom}
 use Rattle.limits.specs.Limits.{mostConstants, mostLiteral}
 use Rattle.syntax.specs.Parsed.{refusal}
-use Rattle.fields.specs.Parsed.{behind, ending, wordOf}
+use Rattle.fields.specs.Parsed.{behind}
+use Rattle.fields.specs.Working.Word.{wordOf}
 use Rattle.fields.specs.Constants.{reserved}
 use Rattle.fields.specs.declared.constants.Settings.{Settings}
 use Rattle.fields.specs.declared.constants.Settings.the-variants.{On, Aside}
+use Rattle.syntax.specs.Working.Faults.{against, misplacedAt}
+use Rattle.syntax.specs.declared.fault.Fault.{Fault}
 
 -- has one of the first `count` constants that name?
 unfoldable pub takenIn : List ℕ → List ℕ → ℕ → List ℕ → Bool
@@ -46,28 +51,28 @@ pub data Stored : Type 0 where
   stored : Settings → List ℕ → List ℕ → Stored
 
 abbrev pub refusedSettings : Token → Settings
-refusedSettings t = Aside (refusal (t .kind)) (t .start)
+refusedSettings t = Aside (misplacedAt t)
 
 -- the value behind the name
 abbrev pub onPut : ℕ → ℕ → List ℕ → List ℕ → Copied → After
-onPut c e value places (copied true m) = entered (Now c (e + 2 + length value)) m places
+onPut c e value places (copied true m) = entered (Now (indexOf c (e + 2 + length value))) m places
 onPut c e value places (copied false m) = entered Full m places
 
 abbrev pub onNamed : List ℕ → After → After
 onNamed value (entered Full m places) = entered Full m places
-onNamed value (entered (Now c e) m places) = onPut c e value places (countedInto m e value)
+onNamed value (entered (Now x) m places) = onPut (x .count) (x .end) value places (countedInto m (x .end) value)
 
 unfoldable pub storeIn : List ℕ → List ℕ → ℕ → ℕ → List ℕ → List ℕ → After
-storeIn m places count end name value = onNamed value (addInto m places count end name)
+storeIn m places count end name value = onNamed value (appendInto m places count end name)
 
 abbrev pub onStored : Token → After → Stored
-onStored n (entered Full m places) = stored (Aside 0 0) m places
-onStored n (entered (Now c e) m places) = stored (On c e n) m places
+onStored n (entered Full m places) = stored (Aside (against 0 0)) m places
+onStored n (entered (Now x) m places) = stored (On x n) m places
 
 unfoldable pub valueIn : List ℕ → List ℕ → List ℕ → ℕ → ℕ → Token → Token → Stored
 valueIn s m places count end t v =
     pick (eqb (v .kind) Kind.LITERAL)
-    (pick (ltb mostLiteral (length (decodedAt s (v .start)))) (stored (Aside 7 (v .start)) m places)
+    (pick (ltb mostLiteral (length (decodedAt s (v .start)))) (stored (Aside (against 7 (v .start))) m places)
     (onStored (behind s Kind.IN-FIELD v) (storeIn m places count end (wordOf s t) (decodedAt s (v .start)))))
     (stored (refusedSettings v) m places)
 
@@ -83,15 +88,15 @@ abbrev pub State : Type 0
 State = ℕ × ℕ × Token × List ℕ × List ℕ
 
 abbrev pub onAssigned : ℕ → Stored → Step State Stored
-onAssigned count (stored (Aside r p) m places) = done (stored (Aside r p) m places)
-onAssigned count (stored (On c e n) m places) = next (count + 1, e, n, m, places)
+onAssigned count (stored (Aside f) m places) = done (stored (Aside f) m places)
+onAssigned count (stored (On x n) m places) = next (count + 1, x .end, n, m, places)
 
 abbrev pub settingTurn : List ℕ → State → Step State Stored
 settingTurn s (count, end, t, m, places) =
-    pick (ending (t .kind)) (done (stored (On count end t) m places))
+    pick (ending (t .kind)) (done (stored (On (indexOf count end) t) m places))
     (pick (eqb (constantFaultIn s m places count t) 0)
-    (pick (leb mostConstants count) (done (stored (Aside 7 (t .start)) m places)) (onAssigned count (assignedIn s m places count end t)))
-    (done (stored (Aside (constantFaultIn s m places count t) (t .start)) m places)))
+    (pick (leb mostConstants count) (done (stored (Aside (against 7 (t .start))) m places)) (onAssigned count (assignedIn s m places count end t)))
+    (done (stored (Aside (against (constantFaultIn s m places count t) (t .start))) m places)))
 
 unfoldable pub constantsIn : List ℕ → List ℕ → List ℕ → ℕ → ℕ → Token → Stored
 constantsIn s m places count end t =
@@ -176,15 +181,15 @@ module _ (s : List ℕ) (start : ℕ) (m : List ℕ) (at n : ℕ) (ne : n ≡ le
 
 -- `store`
 pub put-room : (m : List ℕ) (at : ℕ) (value : List ℕ) (t : Bool) (e : List ℕ) → copied t e ≡ countedInto m at value → t ≡ true → at + 2 + length value ≤ length m
-put-room m at value t e is y = add-room m (0 ∷ []) 0 at value (omega arith) t e is y
+put-room m at value t e is y = append-room m (0 ∷ []) 0 at value (omega arith) t e is y
 
-module _ (m places : List ℕ) (count end : ℕ) (name value : List ℕ) (r : Entered) (p q : List ℕ) (re : entered r p q ≡ addInto m places count end name) where
+module _ (m places : List ℕ) (count end : ℕ) (name value : List ℕ) (r : Entered) (p q : List ℕ) (re : entered r p q ≡ appendInto m places count end name) where
   pub store-full : r ≡ Full → entered Full p q ≡ storeIn m places count end name value
   unfolding storeIn
   store-full k = simp (sym re, k)
 
-  module _ (c e : ℕ) (k : r ≡ Now c e) (n : ℕ) (ne : n ≡ length value) (t : Bool) (b : List ℕ) (be : copied t b ≡ countedInto p e value) where
-    pub store-done : t ≡ true → entered (Now c (e + 2 + n)) b q ≡ storeIn m places count end name value
+  module _ (x : Index) (k : r ≡ Now x) (n : ℕ) (ne : n ≡ length value) (t : Bool) (b : List ℕ) (be : copied t b ≡ countedInto p (x .end) value) where
+    pub store-done : t ≡ true → entered (Now (indexOf (x .count) (x .end + 2 + n))) b q ≡ storeIn m places count end name value
     unfolding storeIn
     store-done y = rw ne (simp (sym re, k, sym be, y))
 
@@ -199,18 +204,18 @@ module _ (s m places : List ℕ) (count end : ℕ) (t v : Token) where
   value-none r h re = rw re (simp (ne-eqb _ _ h))
 
   module _ (h : v .kind ≡ Kind.LITERAL) (b : Bool) (be : b ≡ leb (length (decodedAt s (v .start))) mostLiteral) where
-    pub value-long : not b ≡ true → stored (Aside 7 (v .start)) m places ≡ valueIn s m places count end t v
+    pub value-long : not b ≡ true → stored (Aside (against 7 (v .start))) m places ≡ valueIn s m places count end t v
     unfolding valueIn
     value-long k = simp (eq-eqb _ _ h, lt-ltb mostLiteral (length (decodedAt s (v .start))) (leb-false (length (decodedAt s (v .start))) mostLiteral (sym be ∙ not-true b k)))
 
     module _ (k : not b ≡ false) (w : List ℕ) (we : w ≡ wordOf s t) (r : Entered) (p q : List ℕ) (re : entered r p q ≡ storeIn m places count end w (decodedAt s (v .start))) where
-      pub value-full : r ≡ Full → stored (Aside 0 0) p q ≡ valueIn s m places count end t v
+      pub value-full : r ≡ Full → stored (Aside (against 0 0)) p q ≡ valueIn s m places count end t v
       unfolding valueIn
       value-full f = simp (eq-eqb _ _ h, le-ltb mostLiteral (length (decodedAt s (v .start))) (leb-true (length (decodedAt s (v .start))) mostLiteral (sym be ∙ not-false b k)), sym we, sym re, f)
 
-      pub value-on : (c e : ℕ) (u : Token) → r ≡ Now c e → u ≡ tokenAt s Kind.IN-FIELD (v .end) → stored (On c e u) p q ≡ valueIn s m places count end t v
+      pub value-on : (x : Index) (u : Token) → r ≡ Now x → u ≡ tokenAt s Kind.IN-FIELD (v .end) → stored (On x u) p q ≡ valueIn s m places count end t v
       unfolding valueIn
-      value-on c e u f ue = rw ue (simp (eq-eqb _ _ h, le-ltb mostLiteral (length (decodedAt s (v .start))) (leb-true (length (decodedAt s (v .start))) mostLiteral (sym be ∙ not-false b k)), sym we, sym re, f))
+      value-on x u f ue = rw ue (simp (eq-eqb _ _ h, le-ltb mostLiteral (length (decodedAt s (v .start))) (leb-true (length (decodedAt s (v .start))) mostLiteral (sym be ∙ not-false b k)), sym we, sym re, f))
 
 -- `assigned`
 module _ (s m places : List ℕ) (count end : ℕ) (t a : Token) (ae : a ≡ tokenAt s Kind.IN-FIELD (t .end)) where
@@ -222,28 +227,30 @@ module _ (s m places : List ℕ) (count end : ℕ) (t a : Token) (ae : a ≡ tok
   unfolding assignedIn
   assign-on v r h ve re = re ∙ simp (sym ae, eq-eqb _ _ h, ve)
 
+-- the end of `constants`
+pub constants-end : (s m places : List ℕ) (x : Index) (t : Token) (a : Stored) → constantsIn s m places (x .count) (x .end) t ≡ a → (b : Bool) → b ≡ ending (t .kind) → b ≡ true
+    → stored (On x t) m places ≡ a
+unfolding constantsIn
+constants-end s m places x t a inv b be y = sym (loop-done _ _ _ (x .count, x .end, t, m, places) _ (simp (sym be, y))) ∙ inv
+
 -- the loop of `constants`, with the invariant `constantsIn .. ≡ a`
 module _ (s m places : List ℕ) (count end : ℕ) (t : Token) (a : Stored) (inv : constantsIn s m places count end t ≡ a) (b : Bool) (be : b ≡ ending (t .kind)) where
-  pub setting-end : b ≡ true → stored (On count end t) m places ≡ a
-  unfolding constantsIn
-  setting-end y = sym (loop-done _ _ _ (count, end, t, m, places) _ (simp (sym be, y))) ∙ inv
-
   module _ (nb : b ≡ false) (f : ℕ) (fe : f ≡ constantFaultIn s m places count t) where
-    pub setting-fault : (f ≡ 0 → ⊥) → stored (Aside f (t .start)) m places ≡ a
+    pub setting-fault : (f ≡ 0 → ⊥) → stored (Aside (against f (t .start))) m places ≡ a
     unfolding constantsIn
     setting-fault h = sym (loop-done _ _ _ (count, end, t, m, places) _ (simp (sym be, nb, sym fe, ne-eqb _ _ h))) ∙ inv
 
     module _ (z : f ≡ 0) where
-      pub setting-most : mostConstants ≤ count → stored (Aside 7 (t .start)) m places ≡ a
+      pub setting-most : mostConstants ≤ count → stored (Aside (against 7 (t .start))) m places ≡ a
       unfolding constantsIn
       setting-most h = sym (loop-done _ _ _ (count, end, t, m, places) _ (simp (sym be, nb, sym fe, eq-eqb _ _ z, le-leb _ _ h))) ∙ inv
 
       module _ (h : count < mostConstants) (r : Settings) (p q : List ℕ) (re : stored r p q ≡ assignedIn s m places count end t) where
-        pub setting-aside : (x y : ℕ) → r ≡ Aside x y → stored (Aside x y) p q ≡ a
+        pub setting-aside : (w : Fault) → r ≡ Aside w → stored r p q ≡ a
         unfolding constantsIn
-        setting-aside x y k = sym (loop-done _ _ _ (count, end, t, m, places) (stored (Aside x y) p q) (simp (sym be, nb, sym fe, eq-eqb _ _ z, lt-leb _ _ h, sym re, k))) ∙ inv
+        setting-aside w k = sym (loop-done _ _ _ (count, end, t, m, places) (stored r p q) (simp (sym be, nb, sym fe, eq-eqb _ _ z, lt-leb _ _ h, sym re, k))) ∙ inv
 
-        pub setting-more : (c e : ℕ) (n : Token) → r ≡ On c e n → constantsIn s p q (count + 1) e n ≡ a
+        pub setting-more : (x : Index) (n : Token) → r ≡ On x n → constantsIn s p q (count + 1) (x .end) n ≡ a
         unfolding constantsIn
-        setting-more c e n k =
-            sym (loop-next _ _ _ (count, end, t, m, places) (count + 1, e, n, p, q) (simp (sym be, nb, sym fe, eq-eqb _ _ z, lt-leb _ _ h, sym re, k)) (omega arith)) ∙ inv
+        setting-more x n k =
+            sym (loop-next _ _ _ (count, end, t, m, places) (count + 1, x .end, n, p, q) (simp (sym be, nb, sym fe, eq-eqb _ _ z, lt-leb _ _ h, sym re, k)) (omega arith)) ∙ inv

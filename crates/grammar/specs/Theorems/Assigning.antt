@@ -11,11 +11,13 @@ use Rattle.text.specs.Choice.{pick, clash}
 use Rattle.text.specs.Loop.{Step}
 use Rattle.record.specs.Query.{Attribute}
 use Rattle.lexical.specs.Kind
+use Rattle.lexical.specs.Kind.{ending}
 use Rattle.lexical.specs.Theorems.Bounds.{chosen}
 use Rattle.lexical.specs.Literal.{decodedAt}
 use Rattle.lexical.specs.declared.token.Token.{Token}
+use Rattle.syntax.specs.Code.{nameAt}
 use Rattle.syntax.specs.Parsed.{Parsed, ok, aside, refusal, unexpected}
-use Rattle.fields.specs.Parsed.{behind, ending, wordOf}
+use Rattle.fields.specs.Parsed.{behind}
 use Rattle.fields.specs.Constants.{isSet, reserved, constantValue, assigned, nameFault, constant, onConstant, constantsTurn, constantsFrom}
 use Rattle.fields.specs.Theorems.Together.{refusal-some}
 use Rattle.grammar.specs.Fields.{Ends, end-of-text, Field, field, Assignments, no-assignment, assignment}
@@ -23,6 +25,7 @@ use Rattle.grammar.specs.Viable.{Viable, Open, opens, Kinds, here, furth
 use Rattle.grammar.specs.Working.Automaton.{run, run-append, not-viable, not-longer}
 use Rattle.grammar.specs.Working.Looping.{Turned, turned-next, turned-done, loop-turned, kinds-append, kinds-one}
 use Rattle.grammar.specs.Theorems.OneToken.{ends-ending, ending-ends, judged-stop, opens-end}
+use Rattle.limits.specs.Limits.{mostLiteral}
 
 -- states: 1 before a name or the end, 2 before "=", 3 before a literal, 4 behind the token that ends the field, 0 none
 unfoldable setStep : ℕ → ℕ → ℕ
@@ -130,7 +133,7 @@ module _ (s : List ℕ) (cs : List Attribute) (u : Token) where
   unfolding constantValue
   value-set name n e few =
       chosen Set (eqb (behind s Kind.IN-FIELD (behind s Kind.IN-FIELD u) .kind) Kind.LITERAL) _ _
-      (λ l. chosen Set (ltb 2048 (length (decodedAt s (behind s Kind.IN-FIELD (behind s Kind.IN-FIELD u) .start)))) _ _
+      (λ l. chosen Set (ltb mostLiteral (length (decodedAt s (behind s Kind.IN-FIELD (behind s Kind.IN-FIELD u) .start)))) _ _
       (λ f. other-set 7 _ (λ z. let bad : ⊥ = omega (arith, z) in bad)) (λ f. one-set n e (eqb-true _ _ l) few _))
       (λ l. wrong-3 n e l)
 
@@ -140,20 +143,20 @@ module _ (s : List ℕ) (cs : List Attribute) (u : Token) where
       chosen Set (eqb (behind s Kind.IN-FIELD u .kind) Kind.ASSIGN) _ _ (λ e. value-set name n (eqb-true _ _ e) few) (λ e. wrong-2 n e)
 
   abbrev Faulted : ℕ → Type 0
-  Faulted r = Set (pick (eqb r 0) (pick (leb 16 (length cs)) (aside 7 (u .start)) (assigned s (wordOf s u) (behind s Kind.IN-FIELD u))) (aside r (u .start)))
+  Faulted r = Set (pick (eqb r 0) (pick (leb 16 (length cs)) (aside 7 (u .start)) (assigned s (nameAt s (u .start)) (behind s Kind.IN-FIELD u))) (aside r (u .start)))
 
   four-set : Faulted 4
   four-set = other-set 4 (u .start) (λ z. let bad : ⊥ = omega (arith, z) in bad)
 
   zero-set : u .kind ≡ Kind.NAME → Faulted 0
   zero-set n =
-      chosen Set (leb 16 (length cs)) _ _ (λ f. other-set 7 (u .start) (λ z. let bad : ⊥ = omega (arith, z) in bad)) (λ f. assigned-set (wordOf s u) n (leb-false _ _ f))
+      chosen Set (leb 16 (length cs)) _ _ (λ f. other-set 7 (u .start) (λ z. let bad : ⊥ = omega (arith, z) in bad)) (λ f. assigned-set (nameAt s (u .start)) n (leb-false _ _ f))
 
   fault-set : Faulted (nameFault s cs u)
   unfolding nameFault
   fault-set =
       chosen Faulted (eqb (u .kind) Kind.NAME) _ _
-      (λ n. chosen Faulted (reserved (wordOf s u)) 4 _ (λ f. four-set) (λ f. chosen Faulted (isSet cs (wordOf s u)) 4 0 (λ g. four-set) (λ g. zero-set (eqb-true _ _ n))))
+      (λ n. chosen Faulted (reserved (nameAt s (u .start))) 4 _ (λ f. four-set) (λ f. chosen Faulted (isSet cs (nameAt s (u .start))) 4 0 (λ g. four-set) (λ g. zero-set (eqb-true _ _ n))))
       (λ n. let z : eqb (refusal (u .kind)) 0 ≡ false = ne-eqb _ _ (refusal-some (u .kind)) in rw z (wrong-1 n (refusal (u .kind)) refl))
 
   constant-set : Set (constant s cs u)

@@ -9,13 +9,14 @@ use lib.Dec.{eqb}
 use Rattle.limits.specs.Limits.{mostBrackets}
 use Rattle.record.specs.Query.{Attribute}
 use Rattle.lexical.specs.Kind
+use Rattle.lexical.specs.Kind.{ending}
 use Rattle.lexical.specs.Theorems.Bounds.{chosen}
 use Rattle.lexical.specs.Line.{tokenAt}
 use Rattle.lexical.specs.declared.token.Token.{Token}
 use Rattle.syntax.specs.Expr.{Expr}
 use Rattle.syntax.specs.Parsed.{Parsed, ok, aside, refusal, andThen}
 use Rattle.conditions.specs.Table
-use Rattle.fields.specs.Parsed.{ending, ended}
+use Rattle.fields.specs.Parsed.{ended}
 use Rattle.naming.specs.Source as S
 use Rattle.naming.specs.String.{source}
 use Rattle.naming.specs.Authorizer.{authorizer}

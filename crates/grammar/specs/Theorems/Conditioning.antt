@@ -15,7 +15,6 @@ use Rattle.lexical.specs.Line.{tokenAt}
 use Rattle.lexical.specs.declared.token.Token.{Token}
 use Rattle.syntax.specs.Expr.{Expr, Program, none, also, Clause, plain, valued, nested}
 use Rattle.syntax.specs.Parsed.{Parsed, ok, aside, refusal, unexpected, andThen}
-use Rattle.fields.specs.Parsed as F
 use Rattle.syntax.specs.Operator.{a-string, a-test}
 use Rattle.conditions.specs.Table.{PartSort, sorted, word, want-any, want-string}
 use Rattle.conditions.specs.Table
@@ -45,6 +44,7 @@ use Rattle.grammar.specs.Working.Openings as O
 use Rattle.grammar.specs.Working.Reading.{Real, real-token, runs, runs-on, run-one, runs-last, Reading, got, halted, otherwise, expression-reads}
 use Rattle.grammar.specs.Working.Known.{next-real}
 use Rattle.grammar.specs.Working.ProgramStack.{one-program}
+use Rattle.limits.specs.Limits.{mostBrackets}
 
 -- the automaton where a clause begins and ends
 clause-wrong : (d : ℕ) (sort : PartSort) (k : ℕ) → Fits a-test sort → Table.binds 0 (Table.operator sort k) ≡ false → eqb k Kind.ARROW ≡ false → eqb k Kind.SEMICOLON ≡ false
@@ -75,12 +75,12 @@ unfolding step
 arrow-same d k h = split (Table.allows want-string (flat k)) (λ e. rw e refl) (λ e. rw (e, h) refl)
 
 stops-kind : (s : List ℕ) (u : Token) (d : ℕ) → Table.stops d (kindIn s u) ≡ Table.stops d (u .kind)
-unfolding Table.stops
+unfolding Table.stops Kind.ending
 stops-kind s u d = kind-same s u (λ (k : ℕ). Table.stops d k) refl
 
 -- the end of a program in brackets
 closing-brace : (d k : ℕ) → Table.stops (d + 1) k ≡ true → k ≡ Kind.CLOSE-BRACE
-unfolding Table.stops
+unfolding Table.stops Kind.ending
 closing-brace d k h = let z : eqb (d + 1) 0 ≡ false = ne-eqb (d + 1) 0 (λ n. let bad : ⊥ = omega (arith, n) in bad) in eqb-true k Kind.CLOSE-BRACE (rw z at h)
 
 -- no sentence of the field goes on as another
@@ -112,8 +112,8 @@ module _ (s : List ℕ) where
   module _ (nest : ℕ) (t : Token) where
     -- the ";" behind a clause
     ending-reads : (us : List Token) (u : Token) (c : Clause) → Tokens s t us u → ProgramTree s us (a-clause c) → (p : State) → runs s (p-any (in-clause nest)) us u ≡ step p (kindIn s u)
-        → step p Kind.SEMICOLON ≡ p-begin nest → (eqb (u .kind) Kind.SEMICOLON ≡ false → step p (kindIn s u) ≡ p-dead) → ClauseRead nest t (P.ending s c u)
-    unfolding P.ending
+        → step p Kind.SEMICOLON ≡ p-begin nest → (eqb (u .kind) Kind.SEMICOLON ≡ false → step p (kindIn s u) ≡ p-dead) → ClauseRead nest t (P.clauseEnd s c u)
+    unfolding P.clauseEnd
     ending-reads us u c path d p e f g =
         chosen (ClauseRead nest t) (eqb (u .kind) Kind.SEMICOLON) _ _
         (λ z. c-got us u c path (eqb-true _ _ z) d (e ∙ ap (λ (k : ℕ). step p k) (kind-mark s u Kind.SEMICOLON (eqb-true _ _ z) refl) ∙ f))
@@ -184,7 +184,7 @@ module _ (s : List ℕ) where
           (run-one s (p-begin (nest + 1)) us w ∙ runs-last s (p-begin (nest + 1)) (p-begin (nest + 1)) us w g
           ∙ ap (λ (k : ℕ). step (p-begin (nest + 1)) k) (kind-mark s w Kind.CLOSE-BRACE y refl) ∙ brace-closes-at)
 
-      nested-reads : v .kind ≡ Kind.OPEN-BRACE → (rr : Parsed Program) → BlockRead (nest + 1) first rr → ClauseRead nest t (andThen rr (λ p n. P.ending s (nested e p) (nextAt s (n .end))))
+      nested-reads : v .kind ≡ Kind.OPEN-BRACE → (rr : Parsed Program) → BlockRead (nest + 1) first rr → ClauseRead nest t (andThen rr (λ p n. P.clauseEnd s (nested e p) (nextAt s (n .end))))
       nested-reads z _ (b-got us w p q st d g) =
           ending-reads (pre ++ v ∷ (us ++ w ∷ [])) (nextAt s (w .end)) (nested e p) (block-path (us ++ w ∷ []) (nextAt s (w .end)) (tokens-one s Kind.IN-FIELD first w us q))
           (block-tree z us w p (closing-brace nest (w .kind) st) d) (p-block nest) (closed-run us w (nextAt s (w .end)) z (closing-brace nest (w .kind) st) g) (block-ends nest)
@@ -344,7 +344,7 @@ module _ (s : List ℕ) where
         → runs s (p-any (in-clause nest)) ts u ≡ p-arrow nest → nextAt s (u .end) .kind ≡ Kind.OPEN-BRACE → ClauseRead nest t (P.readNested d s nest e (nextAt s (u .end)))
     blocks-read zero nest t ts u e p tree z led h = c-otherwise 0 (nextAt s (u .end) .start) nothing
     blocks-read (suc d) nest t ts u e p tree z led h =
-        chosen (ClauseRead nest t) (leb 16 nest) _ _ (λ k. c-otherwise 7 (nextAt s (u .end) .start) (λ y. let bad : ⊥ = omega (arith, y) in bad))
+        chosen (ClauseRead nest t) (leb mostBrackets nest) _ _ (λ k. c-otherwise 7 (nextAt s (u .end) .start) (λ y. let bad : ⊥ = omega (arith, y) in bad))
         (λ k. nested-reads nest t ts u e p tree z led h (P.readBlock d s (nest + 1) (nextAt s (nextAt s (u .end) .end))) (block-reads d (nest + 1) (nextAt s (nextAt s (u .end) .end)) (next-real s (nextAt s (u .end) .end))))
 
     block-reads : (d nest : ℕ) (t : Token) → Real s t → BlockRead nest t (P.readBlock d s nest t)
@@ -361,7 +361,7 @@ module _ (s : List ℕ) where
   tokens-kinds t n _ (and-on _ _ ts p) = further t n (kindsIn s ts) (tokens-kinds (nextAt s (t .end)) n ts p)
 
   field-ends : (u : Token) → Table.stops 0 (u .kind) ≡ true → Ends (kindIn s u)
-  unfolding Table.stops F.ending
+  unfolding Table.stops
   field-ends u h = ending-ends (kindIn s u) (stops-kind s u 0 ∙ h)
 
   judged : (t : Token) (r : Parsed Program) → BlockRead 0 t r → JudgedBy (kindIn s) Conditions s Kind.IN-FIELD t r

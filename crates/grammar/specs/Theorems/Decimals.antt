@@ -30,6 +30,7 @@ use Rattle.conditions.specs.Table.{sorted}
 use Rattle.conditions.specs.Parsed.{Part, part}
 use Rattle.conditions.specs.Word.{nextAt}
 use Rattle.conditions.specs.Operand.{readFloat}
+use Rattle.limits.specs.Limits.{mostFloat}
 
 -- the digits at a place, and "every digit before and behind the point" of the literal there
 abbrev pub digitsAt : List ℕ → ℕ → ℕ
@@ -219,10 +220,10 @@ module _ (s : List ℕ) where
 
     pub longer : 18 < allDigits s (nextAt s at .start) → readFloat s (nextAt s at) ≡ aside 7 (nextAt s at .start)
     unfolding readFloat
-    longer h = rw (lt-ltb 19 (nextAt s at .end - nextAt s at .start) (omega (arith, width, h))) refl
+    longer h = rw (lt-ltb mostFloat (nextAt s at .end - nextAt s at .start) (omega (arith, width, h))) refl
 
     -- any other is read
     pub short-enough : allDigits s (nextAt s at .start) ≤ 18
         → readFloat s (nextAt s at) ≡ ok (part (sorted a-float) (decimal (decimalAt s (nextAt s at .start)))) (nextAt s (nextAt s at .end))
     unfolding readFloat
-    short-enough h = rw (le-ltb 19 (nextAt s at .end - nextAt s at .start) (omega (arith, width, h))) refl
+    short-enough h = rw (le-ltb mostFloat (nextAt s at .end - nextAt s at .start) (omega (arith, width, h))) refl

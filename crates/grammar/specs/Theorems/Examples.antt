@@ -4,6 +4,7 @@ use mathlib.Core.List.{List, [], _∷_}
 use Prim.Native.Nat.{ℕ}
 use Rattle.text.specs.Scan.{past}
 use Rattle.lexical.specs.Kind
+use Rattle.lexical.specs.Kind.{ending}
 use Rattle.lexical.specs.Class.{classOf}
 use Rattle.lexical.specs.Run.{hasClass, inRun}
 use Rattle.lexical.specs.Operator.{equalPair, pairOf, markKind, isOf, operatorKind}
@@ -12,7 +13,6 @@ use Rattle.lexical.specs.Line.{visible, inLine, tokenAt}
 use Rattle.lexical.specs.Word.{lower, stands, spells}
 use Rattle.lexical.specs.declared.token.Token.{Token}
 use Rattle.conditions.specs.Table
-use Rattle.fields.specs.Parsed.{ending}
 use Rattle.naming.specs.Licensees.{licensees}
 use Rattle.grammar.specs.Fields.{Ends, end-of-text, field}
 use Rattle.grammar.specs.Conditions.{any-name, str-name, str-one}

@@ -4,8 +4,8 @@ use mathlib.Core.Path.{refl}
 use mathlib.Core.List.{List, [], _∷_}
 use Prim.Native.Nat.{ℕ}
 use Rattle.lexical.specs.Kind
+use Rattle.lexical.specs.Kind.{ending}
 use Rattle.conditions.specs.Table
-use Rattle.fields.specs.Parsed.{ending}
 use Rattle.grammar.specs.Fields.{end-of-text, Field, field}
 use Rattle.grammar.specs.Conditions.{any-name, str-literal, str-name, str-lookup, str-bracket, str-one, str-join}
 use Rattle.grammar.specs.Naming.{Author, one, comma, bracket, both, either, threshold, principal, Licensees, somebody}

@@ -12,6 +12,7 @@ use Rattle.text.specs.Choice.{pick, split, clash}
 use Rattle.text.specs.Loop.{Step}
 use Rattle.record.specs.Query.{Attribute}
 use Rattle.lexical.specs.Kind
+use Rattle.lexical.specs.Kind.{ending}
 use Rattle.lexical.specs.Theorems.Bounds.{chosen}
 use Rattle.lexical.specs.Line.{tokenAt}
 use Rattle.lexical.specs.Number.{numberAt}
@@ -22,7 +23,7 @@ use Rattle.conditions.specs.Table.{PartSort}
 use Rattle.conditions.specs.Table
 use Rattle.conditions.specs.Parsed.{Part, onPart}
 use Rattle.conditions.specs.Program.{DEPTH}
-use Rattle.fields.specs.Parsed.{ending, ended}
+use Rattle.fields.specs.Parsed.{ended}
 use Rattle.naming.specs.Source.{Source, Sources, one, and, or, kOf, Licensees, missing, empty, given, sources}
 use Rattle.naming.specs.String.{plainFrom, source}
 use Rattle.naming.specs.Licensees as L

@@ -11,13 +11,14 @@ use borrow.Author.Tests.{eqb-true, eqb-false, ltb-false, leb-true}
 use Rattle.text.specs.Choice.{pick, split, clash}
 use Rattle.text.specs.Equal.{equal}
 use Rattle.lexical.specs.Kind
+use Rattle.lexical.specs.Kind.{ending}
 use Rattle.lexical.specs.Theorems.Bounds.{chosen}
 use Rattle.lexical.specs.Literal.{decodedAt}
 use Rattle.lexical.specs.Number.{LIMIT, numberAt}
 use Rattle.lexical.specs.declared.token.Token.{Token}
 use Rattle.syntax.specs.Parsed.{Parsed, ok, aside, refusal}
 use Rattle.limits.specs.Limits.{mostLiteral}
-use Rattle.fields.specs.Parsed.{behind, ending, ended}
+use Rattle.fields.specs.Parsed.{behind, ended}
 use Rattle.fields.specs.Version as Vers
 use Rattle.fields.specs.Signature as Sign
 use Rattle.grammar.specs.Fields.{Ends, end-of-text, next-version, next-constants, next-authorizer, next-licensees, next-conditions, next-comment, next-signature, Field, field, Version, version-integer, version-literal, Signature, signature}

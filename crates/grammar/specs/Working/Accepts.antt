@@ -451,7 +451,7 @@ unfolding step Table.allows Table.beginsString
 brace-opens d = refl
 
 pub brace-closes : (d : ℕ) → step (p-begin (suc d)) Kind.CLOSE-BRACE ≡ p-block d
-unfolding step Table.allows Table.beginsString Table.beginsNumber Table.beginsFloat Table.stops
+unfolding step Table.allows Table.beginsString Table.beginsNumber Table.beginsFloat Table.stops Kind.ending
 brace-closes d = rw (ne-eqb (suc d) 0 (λ z. let bad : ⊥ = omega (arith, z) in bad)) refl
 
 pub block-ends : (d : ℕ) → step (p-block d) Kind.SEMICOLON ≡ p-begin d
@@ -482,7 +482,7 @@ clauses-run _ _ (nested ks ms u p) d =
     (through-part (p-begin (suc d)) (p-begin (suc d)) (p-block d) ms [] Kind.CLOSE-BRACE (clauses-run whole ms p (suc d)) (brace-closes d)) (block-ends d)
 
 pub ends-over : (k : ℕ) → Ends k → step (p-begin 0) k ≡ p-over
-unfolding step Table.allows Table.beginsString Table.beginsNumber Table.beginsFloat Table.stops
+unfolding step Table.allows Table.beginsString Table.beginsNumber Table.beginsFloat Table.stops Kind.ending
 ends-over _ end-of-text = refl
 ends-over _ next-version = refl
 ends-over _ next-constants = refl

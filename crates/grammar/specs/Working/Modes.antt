@@ -11,6 +11,7 @@ use Rattle.text.specs.Choice.{pick, split, clash}
 use Rattle.text.specs.Loop.{Step, next, done, after, turns, loop}
 use Rattle.text.specs.Scan.{past}
 use Rattle.lexical.specs.Kind
+use Rattle.lexical.specs.Kind.{ending}
 use Rattle.lexical.specs.Class.{classOf, BLANK, NEWLINE, HASH, LETTER, DIGIT, QUOTE}
 use Rattle.lexical.specs.Run.{inRun, BLANKS}
 use Rattle.lexical.specs.Operator.{pairOf, markKind, isOf, operatorKind}
@@ -18,7 +19,6 @@ use Rattle.lexical.specs.Token.{endOf, widthOf, operatorAt, operatorToken, toke
 use Rattle.lexical.specs.Line.{visible, inLine, blankTo, indented, lineAt, lineTurn, linesFrom, tokenAt}
 use Rattle.lexical.specs.declared.token.Token.{Token}
 use Rattle.syntax.specs.Parsed.{refusal}
-use Rattle.fields.specs.Parsed.{ending}
 
 -- u as it stands in other fields, n in Licensees
 pub data Near : Token → Token → Type 0 where

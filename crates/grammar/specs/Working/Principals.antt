@@ -7,10 +7,10 @@ use native.Mathlib.Omega.{arith}
 use lib.Dec.{eqb}
 use Rattle.text.specs.Choice.{pick, split, clash}
 use Rattle.lexical.specs.Kind
+use Rattle.lexical.specs.Kind.{ending}
 use Rattle.lexical.specs.Theorems.Bounds.{chosen}
 use Rattle.conditions.specs.Table.{want-string}
 use Rattle.conditions.specs.Table
-use Rattle.fields.specs.Parsed.{ending}
 use Rattle.grammar.specs.Fields.{Ends, end-of-text, next-version, next-constants, next-authorizer, next-licensees, next-conditions, next-comment, next-signature, Field, field}
 use Rattle.grammar.specs.Conditions.{Class, operand, whole, Name, any-name, truth-name, Str, str-literal, str-name, str-lookup, str-bracket, str-one, str-join}
 use Rattle.grammar.specs.Naming.{PrincList, one, comma, PrincExpr, bracket, both, either, threshold, principal, Licensees, nobody, somebody}

@@ -13,7 +13,7 @@ use Rattle.lexical.specs.Word.{spells, word-true, word-false}
 use Rattle.lexical.specs.declared.token.Token.{Token}
 use Rattle.syntax.specs.Operator.{Unary, Binary, Relation, Ordering, Sort, a-string, an-integer, a-float, a-test, unaryTakes, unaryGives, binaryTakes, binaryGives}
 use Rattle.syntax.specs.Operator as Operator
-use Rattle.syntax.specs.Code.{nameAt, numberAt, decimalAt}
+use Rattle.syntax.specs.Code.{nameAt, numberFrom, decimalAt}
 use Rattle.syntax.specs.Expr.{Expr, literal, name, number, truth, decimal, unary, binary, Program, none, also, Clause, plain, valued, nested}
 use Rattle.conditions.specs.Table.{PartSort, sorted, word, want-any}
 use Rattle.conditions.specs.Table
@@ -121,7 +121,7 @@ module _ (s : List ℕ) where
       pick (eqb (t .kind) Kind.OPEN) (y-want C (opening ∷ P))
       (pick (eqb (t .kind) Kind.LITERAL) (y-have C (sorted a-string, literal (decodedAt s (t .start))) P)
       (pick (eqb (t .kind) Kind.NAME) (y-have C (wordSort s want-any (t .start) (t .end), name (nameAt s (t .start))) P)
-      (pick (eqb (t .kind) Kind.DIGITS) (y-have C (sorted an-integer, number (numberAt s (t .start))) P)
+      (pick (eqb (t .kind) Kind.DIGITS) (y-have C (sorted an-integer, number (numberFrom s (t .start))) P)
       (pick (eqb (t .kind) Kind.FLOAT) (y-have C (sorted a-float, decimal (decimalAt s (t .start))) P)
       (pick (eqb (t .kind) Kind.OPEN-BRACE) (openBlock C)
       (pick (eqb (t .kind) Kind.CLOSE-BRACE) (closeBlock C)
@@ -296,7 +296,7 @@ module _ (s : List ℕ) where
     unfolding shift
     want-name z = rw (at-kind t Kind.NAME Kind.OPEN false z refl, at-kind t Kind.NAME Kind.LITERAL false z refl, at-kind t Kind.NAME Kind.NAME true z refl) refl
 
-    want-digits : t .kind ≡ Kind.DIGITS → shift (y-want C P) t ≡ y-have C (sorted an-integer, number (numberAt s (t .start))) P
+    want-digits : t .kind ≡ Kind.DIGITS → shift (y-want C P) t ≡ y-have C (sorted an-integer, number (numberFrom s (t .start))) P
     unfolding shift
     want-digits z =
         rw (at-kind t Kind.DIGITS Kind.OPEN false z refl, at-kind t Kind.DIGITS Kind.LITERAL false z refl, at-kind t Kind.DIGITS Kind.NAME false z refl, at-kind t Kind.DIGITS Kind.DIGITS true z refl) refl

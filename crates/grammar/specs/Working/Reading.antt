@@ -40,6 +40,7 @@ use Rattle.grammar.specs.Working.Joints.{Fits, Unfit, Joint, Tabled, tab
 use Rattle.grammar.specs.Working.Told.{Told, told-text, told-number, told-float, told-word, lower, settle, joined, enclosed, aim, aim-goal, aim-right, Goal, goal-right, Suits, Completes, completes, completes-lower, finish, something}
 use Rattle.grammar.specs.Working.Onward.{Starts, starts-up, after, Asked, Onward, onward, joint-onward, joint-suits, joint-ends, joint-asked, RightFit, right-fits, right-unfit, right-fit}
 use Rattle.grammar.specs.Working.Openings as O
+use Rattle.limits.specs.Limits.{mostBrackets, mostFloat, mostLiteral, mostPrefixes}
 
 -- an operator that a level takes, and the next tighter one does not, is of that level at most
 operator-low : (l : ℕ) (op : Binary) (lo : ℕ) → Table.levelOf op ≡ lo → Table.binds (l + 1) (Table.between op) ≡ false → lo ≤ l
@@ -156,7 +157,7 @@ module _ (s : List ℕ) where
     literal-reads : Table.allows want Kind.LITERAL ≡ true → t .kind ≡ Kind.LITERAL → Reading 7 8 7 want t (readLiteral s t)
     unfolding readLiteral
     literal-reads h z =
-        chosen (Reading 7 8 7 want t) (ltb 2048 (length (decodedAt s (t .start)))) _ _ (λ e. otherwise 7 (t .start) seven)
+        chosen (Reading 7 8 7 want t) (ltb mostLiteral (length (decodedAt s (t .start)))) _ _ (λ e. otherwise 7 (t .start) seven)
         (λ e. leaf (sorted a-string) _ (O.literal-suits want h) (told-text 7 _ _ (literal-tree t z)) (mark-at (sorted a-string) Kind.LITERAL z refl (λ q st. O.literal-leaf want q st h)))
 
     digits-reads : Table.allows want Kind.DIGITS ≡ true → t .kind ≡ Kind.DIGITS → Reading 7 8 7 want t (readDigits s t)
@@ -177,7 +178,7 @@ module _ (s : List ℕ) where
     float-reads : Table.allows want Kind.FLOAT ≡ true → t .kind ≡ Kind.FLOAT → Reading 7 8 7 want t (readFloat s t)
     unfolding readFloat
     float-reads h z =
-        chosen (Reading 7 8 7 want t) (ltb 19 (t .end - t .start)) _ _ (λ e. otherwise 7 (t .start) seven)
+        chosen (Reading 7 8 7 want t) (ltb mostFloat (t .end - t .start)) _ _ (λ e. otherwise 7 (t .start) seven)
         (λ e. leaf (sorted a-float) _ (O.float-fits want h) (told-float 7 _ _ (decimal-tree t z)) (mark-at (sorted a-float) Kind.FLOAT z refl (λ q st. O.float-leaf want q st h)))
 
     allowed-at : (k : ℕ) → eqb (t .kind) k ≡ true → Table.allows want (t .kind) ≡ true → Table.allows want k ≡ true
@@ -461,14 +462,14 @@ module _ (s : List ℕ) where
           → Asked lv wn → ((g : Sort) → Goal wn g → O.Before (t .kind) op want lv wn g (unaryGives (O.asTaken op g))) → Reading 7 8 7 want t (E.readPrefixed d s op want row nest t)
       prefixed-reads zero op want row nest t lv wn el ew em a b = otherwise 0 (t .start) (λ k. let bad : ⊥ = omega (arith, k) in bad)
       prefixed-reads (suc d) op want row nest t lv wn el ew em a b =
-          chosen (Reading 7 8 7 want t) (leb 16 row) _ _ (λ h. otherwise 7 (t .start) seven)
+          chosen (Reading 7 8 7 want t) (leb mostPrefixes row) _ _ (λ h. otherwise 7 (t .start) seven)
           (λ h. prefix-reads reals want t op lv wn el ew em a b (E.readExpression d s (Table.operandLevel op) (Table.operandWant op want) (row + 1) nest (nextAt s (t .end)))
           (expression-reads d (Table.operandLevel op) (Table.operandWant op want) (row + 1) nest (nextAt s (t .end)) (prefix-asked op want lv wn el ew a) (reals (t .end))))
 
       bracketed-reads : (d : ℕ) (want : Want) (nest : ℕ) (t : Token) → t .kind ≡ Kind.OPEN → Reading 7 8 7 want t (E.readBracketed d s want nest t)
       bracketed-reads zero want nest t z = otherwise 0 (t .start) (λ k. let bad : ⊥ = omega (arith, k) in bad)
       bracketed-reads (suc d) want nest t z =
-          chosen (Reading 7 8 7 want t) (leb 16 nest) _ _ (λ h. otherwise 7 (t .start) seven)
+          chosen (Reading 7 8 7 want t) (leb mostBrackets nest) _ _ (λ h. otherwise 7 (t .start) seven)
           (λ h. bracket-reads reals want t z (E.readExpression d s (Table.insideLevel want) want 0 (nest + 1) (nextAt s (t .end)))
           (expression-reads d (Table.insideLevel want) want 0 (nest + 1) (nextAt s (t .end)) (O.inside-asked want) (reals (t .end))))
 

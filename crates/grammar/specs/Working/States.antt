@@ -5,10 +5,10 @@ use Prim.Native.Nat.{ℕ, zero, suc}
 use lib.Dec.{eqb}
 use Rattle.text.specs.Choice.{pick}
 use Rattle.lexical.specs.Kind
+use Rattle.lexical.specs.Kind.{ending}
 use Rattle.syntax.specs.Operator.{a-string, an-integer, a-float, a-test}
 use Rattle.conditions.specs.Table.{PartSort, sorted, word, Want, want-any, want-string, want-number, want-integer, want-float}
 use Rattle.conditions.specs.Table
-use Rattle.fields.specs.Parsed.{ending}
 use Rattle.grammar.specs.Conditions.{TRUTH}
 
 -- what was read

@@ -8,6 +8,7 @@ use lib.Dec.{eqb}
 use borrow.Author.Tests.{eqb-true}
 use Rattle.text.specs.Choice.{pick, split, clash}
 use Rattle.lexical.specs.Kind
+use Rattle.lexical.specs.Kind.{ending}
 use Rattle.lexical.specs.Line.{tokenAt}
 use Rattle.lexical.specs.declared.token.Token.{Token}
 use Rattle.syntax.specs.Operator.{a-string, a-test}
@@ -18,7 +19,6 @@ use Rattle.conditions.specs.Table
 use Rattle.conditions.specs.Parsed.{Part, onPart}
 use Rattle.conditions.specs.Expression.{readExpression}
 use Rattle.conditions.specs.Program.{DEPTH}
-use Rattle.fields.specs.Parsed.{ending}
 use Rattle.naming.specs.Source.{Source}
 use Rattle.naming.specs.String.{plainFrom, nestOf, source}
 use Rattle.grammar.specs.Conditions.{Class, operand, whole, Name, Str, str-literal, str-name, str-lookup, str-bracket, str-one, str-join}

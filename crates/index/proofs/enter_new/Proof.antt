@@ -16,8 +16,8 @@ add-principal-requires c κs = search needs
 enum-told : tie.Need-enum-told
 enum-told c = search needs
 
-enum-known-c : tie.Need-enum-known-c
-enum-known-c c = search needs
+enum-known-next : tie.Need-enum-known-next
+enum-known-next c = search needs
 
 link-requires : tie.Need-link-requires
 link-requires c κs = search needs
@@ -47,7 +47,7 @@ enter-new-spec =
     returns
     add-principal-requires
     enum-told
-    enum-known-c
+    enum-known-next
     link-requires
     same-length
     same-length-2

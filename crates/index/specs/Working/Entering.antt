@@ -12,6 +12,7 @@ use Rattle.principal.specs.Tag.{tag}
 use Rattle.index.specs.Entry.{linked}
 use Rattle.index.specs.Working.Walking.{walked}
 use Rattle.index.specs.Working.Adding.{After, entered, principalInto}
+use Rattle.index.specs.declared.Index.{Index}
 use Rattle.index.specs.declared.Entered.{Entered}
 use Rattle.index.specs.declared.Entered.the-variants.{Now, Full as NoRoom}
 use Rattle.index.specs.declared.Walk.{Walk}
@@ -27,7 +28,7 @@ pub data Kept : Type 0 where
   numbered : Numbered → List ℕ → List ℕ → Kept
 
 abbrev pub onAdded : ℕ → ℕ → ℕ → After → Kept
-onAdded count last rest (entered (Now c e) pool places) = numbered (At count c e) pool (linkInto places last rest count)
+onAdded count last rest (entered (Now x) pool places) = numbered (At (x .count) count (x .end)) pool (linkInto places last rest count)
 onAdded count last rest (entered NoRoom pool places) = numbered Full pool places
 
 unfoldable pub enterNew : List ℕ → List ℕ → ℕ → ℕ → Principal → ℕ → ℕ → Kept
@@ -35,7 +36,7 @@ enterNew pool places count end id last rest =
     pick (leb 4096 count) (numbered Full pool places) (onAdded count last rest (principalInto pool places count end id))
 
 abbrev pub onWalked : List ℕ → List ℕ → ℕ → ℕ → Principal → Walk → Kept
-onWalked pool places count end id (Found i) = numbered (At i count end) pool places
+onWalked pool places count end id (Found i) = numbered (At count i end) pool places
 onWalked pool places count end id (Missing last rest) = enterNew pool places count end id last rest
 
 -- "unless it is one of them already"
@@ -62,13 +63,13 @@ module _ (pool places : List ℕ) (count end : ℕ) (id : Principal) (last rest 
     unfolding enterNew
     new-full e = rw (lt-leb _ _ few, ← is, e)
 
-    pub new-now : (c m : ℕ) → r ≡ Now c m → (k : List ℕ) → k ≡ linkInto l last rest count → numbered (At count c m) p k ≡ enterNew pool places count end id last rest
+    pub new-now : (x : Index) → r ≡ Now x → (k : List ℕ) → k ≡ linkInto l last rest count → numbered (At (x .count) count (x .end)) p k ≡ enterNew pool places count end id last rest
     unfolding enterNew
-    new-now c m e k ke = rw (lt-leb _ _ few, ← is, e, ke)
+    new-now x e k ke = rw (lt-leb _ _ few, ← is, e, ke)
 
 -- `enter`
 module _ (pool places : List ℕ) (count end : ℕ) (id : Principal) (t : ℕ) (te : t ≡ tag id) (w : Walk) (we : w ≡ walked pool places count id count 0 t) where
-  pub enter-found : (i : ℕ) → w ≡ Found i → numbered (At i count end) pool places ≡ enterIn pool places count end id
+  pub enter-found : (i : ℕ) → w ≡ Found i → numbered (At count i end) pool places ≡ enterIn pool places count end id
   unfolding enterIn
   enter-found i e = rw (← te, ← we, e)
 

@@ -10,7 +10,7 @@ use borrow.Author.Tests.{eq-eqb, ne-eqb, le-leb, lt-leb, lt-ltb, le-ltb, ltb-tru
 use Rattle.text.specs.Choice.{pick, split, clash}
 use Rattle.principal.specs.Principal.{Principal, same}
 use Rattle.principal.specs.Tag.{tag}
-use Rattle.index.specs.Entry.{isAt, nameAt, child, linked}
+use Rattle.index.specs.Entry.{isAt, identifierAt, child, linked}
 use Rattle.index.specs.Tree.{Reaches, there, onward, Ends, stop, step, reaches-up}
 use Rattle.index.specs.declared.Walk.{Walk}
 use Rattle.index.specs.declared.Walk.the-variants.{Found, Missing}
@@ -29,7 +29,7 @@ module _ (pool : List ℕ) (p : Principal) (e t : ℕ) (te : t ≡ tag p) where
   unfolding isAt
   entry-other other = rw (ne-eqb (e % 1048576) (tag p) (λ z. other (z ∙ sym te)))
 
-  pub entry-held : e % 1048576 ≡ t → (q : List ℕ) → q ≡ nameAt pool e → (b : Bool) → b ≡ same p q → b ≡ isAt pool p e
+  pub entry-held : e % 1048576 ≡ t → (q : List ℕ) → q ≡ identifierAt pool e → (b : Bool) → b ≡ same p q → b ≡ isAt pool p e
   unfolding isAt
   entry-held y q qe b be = be ∙ rw (qe, eq-eqb (e % 1048576) (tag p) (y ∙ te))
 

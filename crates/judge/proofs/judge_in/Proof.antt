@@ -10,8 +10,8 @@ use Rattle.judge.proofs.rank_here.Reads as rank-here-reads
 conditions-requires : tie.Need-conditions-requires
 conditions-requires c κs = search needs
 
-enum-known-reason : tie.Need-enum-known-reason
-enum-known-reason c = search needs
+enum-known-fault : tie.Need-enum-known-fault
+enum-known-fault c = search needs
 
 enum-known-top : tie.Need-enum-known-top
 enum-known-top c = search needs
@@ -36,7 +36,7 @@ judge-in-spec =
     tie.close
     (tie.spec
     conditions-requires
-    enum-known-reason
+    enum-known-fault
     enum-known-top
     rank-here-requires
     same-length

@@ -29,10 +29,11 @@ use Rattle.judge.specs.Working.Judging.{leftBy, rankAt, judgedOf, judged
 use Rattle.judge.specs.Theorems.Rooms.{read-need, read-room}
 use Rattle.judge.specs.declared.Judged.{Judged}
 use Rattle.judge.specs.declared.Judged.the-variants.{On, Aside}
+use Rattle.syntax.specs.Working.Faults.{against}
 
 -- the same reason of document 01 at the same place; or the rank of the program, before a token of the text
 pub data Judging (s : List ℕ) (env : Environment) : Parsed Program → Judged → Type 0 where
-  judged-aside : (r p : ℕ) → (r ≡ 0 → ⊥) → Judging s env (aside r p) (Aside r p)
+  judged-aside : (r p : ℕ) → (r ≡ 0 → ⊥) → Judging s env (aside r p) (Aside (against r p))
   judged-on : (q : Program) (n : Token) → Stood s n → Judging s env (ok q n) (On (conditions env q) n)
 
 -- a rank of at most 256 values is a byte

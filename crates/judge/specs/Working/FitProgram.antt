@@ -19,7 +19,7 @@ use Rattle.conditions.specs.Working.Reach.{string-any}
 use Rattle.conditions.specs.Word.{nextAt}
 use Rattle.conditions.specs.Operand.{settledTree}
 use Rattle.conditions.specs.Expression.{readExpression}
-use Rattle.conditions.specs.Program.{State, ending, valuing, stopping, onClause, clausesTurn, readClause, readTested, readValue, readNested, readBlock, readClauses}
+use Rattle.conditions.specs.Program.{State, clauseEnd, valuing, stopping, onClause, clausesTurn, readClause, readTested, readValue, readNested, readBlock, readClauses}
 use Rattle.conditions.specs.Working.Keeping.{Kept, kept-next, kept-done, loop-keeps}
 use Rattle.judge.specs.Working.Steep.{Plain, settled-test}
 use Rattle.judge.specs.Working.Fit.{Holds, holds-aside, holds-ok, on-holds, then-holds, deep, wide, wide-more, settled-need, settled-room, expression-fits}
@@ -82,8 +82,8 @@ also-fits nest p q (i, j) (k, l) = (parts (programNeed p) (clauseNeed q) (deep 0
     bytes a b n h k = omega (arith, h, k)
 
 module _ (s : List ℕ) where
-  ended-fits : (nest : ℕ) (q : Clause) (t : Token) → ClauseFits nest q → Holds (ClauseFits nest) (ending s q t)
-  unfolding ending
+  ended-fits : (nest : ℕ) (q : Clause) (t : Token) → ClauseFits nest q → Holds (ClauseFits nest) (clauseEnd s q t)
+  unfolding clauseEnd
   ended-fits nest q t h = chosen (Holds (ClauseFits nest)) (eqb (t .kind) Kind.SEMICOLON) _ _ (λ e. holds-ok q _ h) (λ e. holds-aside _ _)
 
   valuing-fits : (nest : ℕ) (e : Expr) → need e ≤ deep 0 nest → room e ≤ wide 0 nest → span e ≡ 0 → (x : PartSort) (f : Expr) (t : Token) → need f ≤ deep 3 nest → room f ≤ wide 3 nest
@@ -157,7 +157,7 @@ module _ (s : List ℕ) where
     nested-at (suc d) nest e t i j z =
         chosen (Holds (ClauseFits nest)) (leb 16 nest) _ _ (λ h. holds-aside _ _)
         (λ h. let few : nest < 16 = leb-false 16 nest h in
-        then-holds (ProgramFits (nest + 1)) (ClauseFits nest) (readBlock d s (nest + 1) (nextAt s (t .end))) (λ p n. ending s (nested e p) (nextAt s (n .end)))
+        then-holds (ProgramFits (nest + 1)) (ClauseFits nest) (readBlock d s (nest + 1) (nextAt s (t .end))) (λ p n. clauseEnd s (nested e p) (nextAt s (n .end)))
         (λ p n k. ended-fits nest (nested e p) (nextAt s (n .end)) (nested-fits nest e i j z p few k)) (block-at d (nest + 1) (nextAt s (t .end)) (omega (arith, few))))
 
     pub block-at : (d nest : ℕ) (t : Token) → nest ≤ 16 → Holds (ProgramFits nest) (readBlock d s nest t)

@@ -19,6 +19,7 @@ use Rattle.conditions.specs.declared.emit.Out.{Out}
 use Rattle.conditions.specs.declared.emit.Out.the-variants.{Found, Aside as Refused}
 use Rattle.judge.specs.declared.Judged.{Judged}
 use Rattle.judge.specs.declared.Judged.the-variants.{On, Aside}
+use Rattle.syntax.specs.declared.fault.Fault.{Fault}
 
 -- the operand that the code leaves
 unfoldable pub leftBy : List ℕ → List ℕ → List ℕ → List ℕ → List ℕ → List ℕ → List ℕ → ℕ → ℕ → Operand
@@ -32,7 +33,7 @@ rankAt code top s rec consts values names constants depth space =
 
 -- the rank of what was read, or its fault
 abbrev pub judgedOf : (List ℕ → ℕ → ℕ) → Ran → Judged
-judgedOf f (ran (Refused r p) b) = Aside r p
+judgedOf f (ran (Refused w) b) = Aside w
 judgedOf f (ran (Found x p u n) b) = On (f b u) n
 
 -- a field in the text s whose first token is t; the code is written to m
@@ -66,9 +67,9 @@ module _ (s rec consts values names constants : List ℕ) (depth space : ℕ) wh
 
   -- `judge` and `judge_in`
   module _ (t : Token) (m b : List ℕ) (o : Out) (oe : ran o b ≡ conditionsAt s m 0 t) where
-    pub judge-aside : (r p : ℕ) → o ≡ Refused r p → Aside r p ≡ judgedIn s t rec consts values names constants m depth space
+    pub judge-aside : (w : Fault) → o ≡ Refused w → Aside w ≡ judgedIn s t rec consts values names constants m depth space
     unfolding judgedIn
-    judge-aside r p e = simp (sym oe, e)
+    judge-aside w e = simp (sym oe, e)
 
     pub judge-on : (x p u : ℕ) (n : Token) → o ≡ Found x p u n → (k : ℕ) → k ≡ rankAt b u s rec consts values names constants depth space
         → On k n ≡ judgedIn s t rec consts values names constants m depth space

@@ -17,6 +17,8 @@ use Rattle.conditions.specs.declared.emit.Out.{Out}
 use Rattle.conditions.specs.declared.emit.Out.the-variants.{Found, Aside as Refused}
 use Rattle.judge.specs.declared.string.Said.{Said}
 use Rattle.judge.specs.declared.string.Said.the-variants.{On, Aside}
+use Rattle.syntax.specs.Working.Faults.{against}
+use Rattle.syntax.specs.declared.fault.Fault.{Fault}
 
 -- an answer and the buffer
 pub data Told : Type 0 where
@@ -32,11 +34,11 @@ valuedAt code top s rec consts values names constants out =
 
 abbrev pub saidOf : ℕ → Token → Gave → Told
 saidOf at n (gave (Bytes k) out) = said (On k n) out
-saidOf at n (gave Stuck out) = said (Aside 0 at) out
+saidOf at n (gave Stuck out) = said (Aside (against 0 at)) out
 
 -- the string of what was read, or its fault
 abbrev pub onRead : ℕ → List ℕ → (List ℕ → ℕ → Gave) → Ran → Told
-onRead at out f (ran (Refused r p) b) = said (Aside r p) out
+onRead at out f (ran (Refused w) b) = said (Aside w) out
 onRead at out f (ran (Found x p u n) b) = saidOf at n (f b u)
 
 -- an expression in the text s whose first token is t; the code is written to m
@@ -67,12 +69,12 @@ module _ (s rec consts values names constants out : List ℕ) where
 
   -- `string_in`
   module _ (t : Token) (nest : ℕ) (m b : List ℕ) (o : Out) (oe : ran o b ≡ exprAt DEPTH s m 0 3 1 0 nest t) where
-    pub said-aside : (r p : ℕ) → o ≡ Refused r p → said (Aside r p) out ≡ saidIn s t nest rec consts values names constants m out
+    pub said-aside : (w : Fault) → o ≡ Refused w → said (Aside w) out ≡ saidIn s t nest rec consts values names constants m out
     unfolding saidIn
-    said-aside r p e = rw (← oe, e)
+    said-aside w e = rw (← oe, e)
 
     module _ (x p u : ℕ) (n : Token) (e : o ≡ Found x p u n) (g : Given) (to : List ℕ) (ge : valued g to ≡ valuedAt b u s rec consts values names constants out) where
-      pub said-stuck : g ≡ Stuck → said (Aside 0 (t .start)) to ≡ saidIn s t nest rec consts values names constants m out
+      pub said-stuck : g ≡ Stuck → said (Aside (against 0 (t .start))) to ≡ saidIn s t nest rec consts values names constants m out
       unfolding saidIn
       said-stuck h = rw (← oe, e, ← ge, h)
 

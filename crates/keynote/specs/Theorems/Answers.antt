@@ -21,8 +21,8 @@ use Rattle.keynote.specs.Report.{reportSize}
 use Rattle.keynote.specs.Working.Answering.{partOf, Given, givenBy, onSolved, answeredIn}
 use Rattle.keynote.specs.Theorems.Answered.{outcome-refused, page-refused, outcome-small, page-small, outcome-answered, page-answered}
 use Rattle.keynote.specs.Theorems.Parts.{Parts, places-length, accepted-query, accepted-parts, refused-record}
-use Rattle.keynote.specs.Theorems.Filled.{valuesAt, requestersAt, attributesAt, assertionsAt, solvedAs}
-use Rattle.keynote.specs.Theorems.Solved.{solved-is}
+use Rattle.keynote.specs.Working.Filled.{valuesAt, requestersAt, attributesAt, assertionsAt, solvedAs}
+use Rattle.keynote.specs.Working.Solved.{solved-is}
 use Rattle.keynote.specs.declared.Outcome.{Outcome}
 
 -- the outcome and the page of the definition

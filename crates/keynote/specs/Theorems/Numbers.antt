@@ -19,7 +19,7 @@ use Rattle.principal.specs.Principal.{policy}
 use Rattle.record.specs.Query.{Query, Attribute, Supplied}
 use Rattle.record.specs.Read.{Read, got, bad, andThen, Verdict, accepted, refused}
 use Rattle.record.specs.Field.{within, countAt, lengthAt, contentAt, fieldAt, nameFront, permitted, askable, among, distinct}
-use Rattle.record.specs.Item.{plainAt, valueAt, requesterAt, nameAt, attributeAt, assertionAt, itemsAt, groupAt}
+use Rattle.record.specs.Item.{plainAt, valueAt, requesterAt, attributeNameAt, attributeAt, assertionAt, itemsAt, groupAt}
 use Rattle.record.specs.Record.{queryAt, ended, readRecord}
 use Rattle.keynote.specs.Outcome.{refusedWith, answer, needed, judged, outcome}
 use Rattle.keynote.specs.declared.Outcome.{Outcome}
@@ -85,8 +85,8 @@ module _ (s : List ℕ) where
   unfolding requesterAt
   requester-fine seen at = then-fine _ (plain-fine _ _ at) (λ b p. askable-fine b (at + 2) (f-got b p))
 
-  name-fine : (seen : List (List ℕ)) (at : ℕ) → Fine (nameAt s seen at)
-  unfolding nameAt
+  name-fine : (seen : List (List ℕ)) (at : ℕ) → Fine (attributeNameAt s seen at)
+  unfolding attributeNameAt
   name-fine seen at = then-fine _ (field-fine _ _ at) (λ b p. permitted-fine (nameFront b) b (at + 2) (distinct-fine b seen (at + 2) (f-got b p)))
 
   attribute-fine : (seen : List Attribute) (at : ℕ) → Fine (attributeAt s seen at)

@@ -12,6 +12,8 @@ use Rattle.assertion.specs.Read.{Read}
 use Rattle.system.specs.Working.Noting.{entryInto, headerInto}
 use Rattle.text.specs.Counted.{pairBytes}
 use Rattle.keynote.specs.Report.{reasonOf, placeOf, entryBytes}
+use Rattle.syntax.specs.Working.Faults.{against}
+use Rattle.keynote.specs.Theorems.PlacesAssertion.{Small}
 
 -- the first three bytes
 pub header-is : (page : List ℕ) (n : ℕ) → 3 ≤ length page → n ≤ mostAssertions → headerInto page n ≡ (1 ∷ pairBytes (3 * n)) ++ drop 3 page
@@ -36,14 +38,15 @@ pub front-long : (front : List ℕ) (i : ℕ) (r : Read) → length front ≡ 3 
 front-long front i r e = omega (arith, e, length-append front (entryBytes r), entry-long r)
 
 -- an entry behind those that are there
-pub entry-is : (front page : List ℕ) (i : ℕ) (r : Read) → length front ≡ 3 + 3 * i → 3 * i + 6 ≤ length page → placeOf r < 65536
-    → entryInto (front ++ drop (3 + 3 * i) page) i (reasonOf r) (placeOf r) ≡ (front ++ entryBytes r) ++ drop (3 + 3 * suc i) page
+pub entry-is : (front page : List ℕ) (i : ℕ) (r : Read) → length front ≡ 3 + 3 * i → 3 * i + 6 ≤ length page → Small r
+    → entryInto (front ++ drop (3 + 3 * i) page) i (against (reasonOf r) (placeOf r)) ≡ (front ++ entryBytes r) ++ drop (3 + 3 * suc i) page
 unfolding entryInto entryBytes pairBytes
 entry-is front page i r e h k =
-    let a : placeOf r / 256 % 256 ≡ placeOf r / 256 = omega (arith, k) in
+    let a : placeOf r / 256 % 256 ≡ placeOf r / 256 = omega (arith, k .place) in
+    let b : reasonOf r % 256 ≡ reasonOf r = omega (arith, k .reason) in
     let l : 3 * i + 6 ≤ length (front ++ drop (3 + 3 * i) page) = omega (arith, e, h, length-append front (drop (3 + 3 * i) page), length-drop (3 + 3 * i) page) in
     let z : 3 + 3 * i + 3 ≡ 3 + 3 * suc i = omega arith in
     let d : drop 3 (drop (3 + 3 * i) page) ≡ drop (3 + 3 * suc i) page = drop-drop 3 (3 + 3 * i) page ∙ ap (λ (n : ℕ). drop n page) z in
-    rw (le-ltb (length (front ++ drop (3 + 3 * i) page)) (3 * i + 6) l, a)
+    rw (le-ltb (length (front ++ drop (3 + 3 * i) page)) (3 * i + 6) l, a, b)
     (put-behind front (drop (3 + 3 * i) page) (reasonOf r ∷ placeOf r / 256 ∷ placeOf r % 256 ∷ []) (3 + 3 * i) e
     ∙ ap (λ (m : List ℕ). (front ++ (reasonOf r ∷ placeOf r / 256 ∷ placeOf r % 256 ∷ [])) ++ m) d)

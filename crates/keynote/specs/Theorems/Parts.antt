@@ -17,7 +17,7 @@ use Rattle.record.specs.Valid.{Valid}
 use Rattle.record.specs.RoundTrip.{Bytes, read-back}
 use Rattle.record.specs.declared.Reading.{Reading}
 use Rattle.record.specs.declared.Reading.the-variants.{Accepted, Refused}
-use Rattle.keynote.specs.Theorems.Filled.{valuesAt, requestersAt, attributesAt, assertionsAt}
+use Rattle.keynote.specs.Working.Filled.{valuesAt, requestersAt, attributesAt, assertionsAt}
 
 pub places-length : {A : Type 0} (size : A → ℕ) (lead at : ℕ) (l : List A) → length (placesFrom size lead at l) ≡ length l
 unfolding placesFrom

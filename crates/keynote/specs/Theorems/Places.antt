@@ -13,14 +13,16 @@ use Rattle.text.specs.Equal.{equal}
 use Rattle.record.specs.Query.{Attribute}
 use Rattle.limits.specs.Limits.{mostConstants, mostLiteral}
 use Rattle.lexical.specs.Kind
+use Rattle.lexical.specs.Kind.{ending}
 use Rattle.lexical.specs.Line.{tokenAt}
 use Rattle.lexical.specs.Theorems.LineLaws.{token-real, token-fault, token-end}
 use Rattle.lexical.specs.Literal.{decodedAt}
 use Rattle.lexical.specs.Number.{numberAt, LIMIT}
 use Rattle.lexical.specs.Token.{endOf}
 use Rattle.lexical.specs.declared.token.Token.{Token}
+use Rattle.syntax.specs.Code.{nameAt}
 use Rattle.syntax.specs.Parsed.{Parsed, ok, aside, andThen, refusal, unexpected}
-use Rattle.fields.specs.Parsed.{behind, wordOf, ending, ended}
+use Rattle.fields.specs.Parsed.{behind, ended}
 use Rattle.fields.specs.Version.{two, versionNumber, versionLiteral, version}
 use Rattle.fields.specs.Constants.{isSet, reserved, constantValue, assigned, nameFault as constantFault, constant, onConstant, constantsTurn, constantsFrom}
 use Rattle.fields.specs.Signature.{signature}
@@ -117,7 +119,7 @@ module _ (s : List ℕ) where
 
   constant-small : (constants : List Attribute) (t : Token) → constantFault s constants t ≤ 8
   unfolding constantFault
-  constant-small constants t = small-pick (eqb (t .kind) Kind.NAME) (small-pick (reserved (wordOf s t)) (omega arith) (small-pick (isSet constants (wordOf s t)) (omega arith) (omega arith))) (refusal-small (t .kind))
+  constant-small constants t = small-pick (eqb (t .kind) Kind.NAME) (small-pick (reserved (nameAt s (t .start))) (omega arith) (small-pick (isSet constants (nameAt s (t .start))) (omega arith) (omega arith))) (refusal-small (t .kind))
 
   constant-placed : (constants : List Attribute) (t : Token) → In s t → Placed s 1 (constant s constants t)
   unfolding constant assigned
@@ -125,7 +127,7 @@ module _ (s : List ℕ) where
       let n : In s (behind s Kind.IN-FIELD t) = token-in s Kind.IN-FIELD (t .end) in
       split (eqb (constantFault s constants t) 0)
       (λ e. rw e (placed-pick (leb mostConstants (length constants)) (at-token 7 t i (omega arith) (omega arith))
-      (placed-pick (eqb (behind s Kind.IN-FIELD t .kind) Kind.ASSIGN) (value-placed (wordOf s t) _ (token-in s Kind.IN-FIELD (behind s Kind.IN-FIELD t .end))) (not-here (behind s Kind.IN-FIELD t) n))))
+      (placed-pick (eqb (behind s Kind.IN-FIELD t .kind) Kind.ASSIGN) (value-placed (nameAt s (t .start)) _ (token-in s Kind.IN-FIELD (behind s Kind.IN-FIELD t .end))) (not-here (behind s Kind.IN-FIELD t) n))))
       (λ e. rw e (at-token (constantFault s constants t) t i (some-fault (constantFault s constants t) e) (constant-small constants t)))
 
   abbrev ConstantsIn : List Attribute × Token → Type 0

@@ -16,12 +16,12 @@ use Rattle.record.specs.Record.{readRecord}
 use Rattle.record.specs.Valid.{Each, each∷, SuppliedOk}
 use Rattle.record.specs.RoundTrip.{Bytes, read-back}
 use Rattle.lexical.specs.Kind
+use Rattle.lexical.specs.Kind.{ending}
 use Rattle.lexical.specs.declared.token.Token.{Token}
 use Rattle.principal.specs.Principal.{Principal, same, policy}
 use Rattle.syntax.specs.Parsed.{Parsed, refusal}
 use Rattle.syntax.specs.Stood.{Stood, stood-at}
 use Rattle.expression.specs.Names.{Environment, environment}
-use Rattle.fields.specs.Parsed.{ending}
 use Rattle.conditions.specs.Word.{nextAt}
 use Rattle.conditions.specs.Program.{readProgram}
 use Rattle.naming.specs.Source.{Source, Licensees, Author, sources}

@@ -13,6 +13,8 @@ use Rattle.lexical.specs.declared.token.Token.{Token}
 use Rattle.syntax.specs.Operator.{Unary, Binary, Sort, a-string, a-test, unaryTakes, unaryGives, binaryTakes, binaryGives}
 use Rattle.syntax.specs.Expr.{Expr, Program, none, also, Clause, nested, unary, binary}
 use Rattle.syntax.specs.Parsed.{Parsed, ok, aside, refusal, unexpected}
+use Rattle.syntax.specs.Working.Faults.{against}
+use Rattle.syntax.specs.declared.fault.Fault.{Fault}
 use Rattle.conditions.specs.Table.{PartSort, Want, want-any, want-string, isAny}
 use Rattle.conditions.specs.Table
 use Rattle.conditions.specs.Working.Cases.{infix-cases, prefix-cases}
@@ -22,7 +24,7 @@ use Rattle.conditions.specs.Operand.{readLiteral, readName, readDigits, readFlo
 use Rattle.conditions.specs.Expression as E
 use Rattle.conditions.specs.Expression.{readExpression, readOperand, readPrefixed, readBracketed, readChain, readJoined, closing, onJoined, chainTurn}
 use Rattle.conditions.specs.Program as P
-use Rattle.conditions.specs.Program.{ending, valuing, stopping, onClause, clausesTurn, DEPTH, readClause, readTested, readValue, readNested, readBlock, readClauses, readProgram}
+use Rattle.conditions.specs.Program.{clauseEnd, valuing, stopping, onClause, clausesTurn, DEPTH, readClause, readTested, readValue, readNested, readBlock, readClauses, readProgram}
 use Rattle.syntax.specs.Code.{ProgramCodes}
 use Rattle.syntax.specs.Stood.{Stood}
 use Rattle.text.specs.Choice.{clash}
@@ -124,8 +126,8 @@ module _ (s : List ℕ) where
 
   -- ---- programs
 
-  ending-placed : (q : Clause) (t : Token) → In s t → Placed s 0 (ending s q t)
-  unfolding ending
+  ending-placed : (q : Clause) (t : Token) → In s t → Placed s 0 (clauseEnd s q t)
+  unfolding clauseEnd
   ending-placed q t i = placed-pick (eqb (t .kind) Kind.SEMICOLON) (p-ok q _ (next-in (t .end))) (nowhere t i)
 
   valuing-placed : (e : Expr) (sort : PartSort) (f : Expr) (t : Token) → In s t → Placed s 0 (valuing s e sort f t)
@@ -218,8 +220,8 @@ program-reasoned s short at =
 
 -- ---- the same of a string expression by itself
 
-not-none : (s : List ℕ) (a b c r p : ℕ) (m : List ℕ) (x : Ran) → Paced s a b c x → x ≡ ran (Refused r p) m → r ≡ 0 → ⊥
-not-none s a b c r p m _ (paced-aside r′ p′ b′ h) e z = h (let q : r′ ≡ r = cc e in q ∙ z)
+not-none : (s : List ℕ) (a b c r p : ℕ) (m : List ℕ) (x : Ran) → Paced s a b c x → x ≡ ran (Refused (against r p)) m → r ≡ 0 → ⊥
+not-none s a b c r p m _ (paced-aside r′ p′ b′ h) e z = h (let q : against r′ p′ ≡ against r p = cc e in ap (λ (f : Fault). f .reason) q ∙ z)
 not-none s a b c r p m _ (paced-found _ _ _ _ _ _ _ _) e z = absurd (let q : _≡_ {A = ℕ} 0 1 = cc e in omega (arith, q))
 
 raised-part : (s m : List ℕ) (top a b c : ℕ) (q : Parsed Part) (x : Ran) → Same s m top q x → Paced s a b c x → Placed s 0 q → Placed s 1 q

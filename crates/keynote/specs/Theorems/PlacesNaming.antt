@@ -13,6 +13,7 @@ use Rattle.text.specs.Choice.{pick, split}
 use Rattle.record.specs.Query.{Attribute}
 use Rattle.limits.specs.Limits.{mostLicensees, mostBrackets}
 use Rattle.lexical.specs.Kind
+use Rattle.lexical.specs.Kind.{ending}
 use Rattle.lexical.specs.Number.{numberAt}
 use Rattle.lexical.specs.declared.token.Token.{Token}
 use Rattle.syntax.specs.Parsed.{Parsed, ok, aside, andThen, refusal, unexpected}
@@ -21,7 +22,7 @@ use Rattle.conditions.specs.Table.{want-string, beginsString}
 use Rattle.conditions.specs.Word.{nextAt}
 use Rattle.conditions.specs.Parsed.{Part, part, onPart}
 use Rattle.conditions.specs.Program.{DEPTH}
-use Rattle.fields.specs.Parsed.{ending, ended}
+use Rattle.fields.specs.Parsed.{ended}
 use Rattle.naming.specs.Source.{Source, Sources, one, and, or, kOf, Licensees, missing, empty, given, Author, sources}
 use Rattle.naming.specs.String.{plainFrom, nestOf, source}
 use Rattle.naming.specs.Authorizer.{authorizer}

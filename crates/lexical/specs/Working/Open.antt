@@ -21,26 +21,26 @@ unfoldable pub literalFrom : List ℕ → ℕ → ℕ → Token
 literalFrom s i e = pick (eqb (literalEnd s e) 0) (illegalAt i) (token Kind.LITERAL i (literalEnd s e))
 
 -- a token as it is, but an open literal to its end
-unfoldable pub settled : List ℕ → Token → Token
-settled s t = pick (eqb (t .kind) Kind.NEXT) (pick (eqb (t .start) (t .end)) t (literalFrom s (t .start) (t .end))) t
+unfoldable pub completed : List ℕ → Token → Token
+completed s t = pick (eqb (t .kind) Kind.NEXT) (pick (eqb (t .start) (t .end)) t (literalFrom s (t .start) (t .end))) t
 
 -- what comes behind an open literal's plain bytes, or in the lines from `end` on
 unfoldable pub belowOf : List ℕ → ℕ → ℕ → ℕ → Token
 belowOf s mode start end = pick (eqb start end) (linesFrom s mode end) (literalFrom s start end)
 
 module _ (s : List ℕ) (t : Token) where
-  pub settled-other : (t .kind ≡ Kind.NEXT → ⊥) → settled s t ≡ t
-  unfolding settled
-  settled-other n = simp (ne-eqb _ _ n)
+  pub completed-other : (t .kind ≡ Kind.NEXT → ⊥) → completed s t ≡ t
+  unfolding completed
+  completed-other n = simp (ne-eqb _ _ n)
 
   module _ (k : t .kind ≡ Kind.NEXT) where
-    pub settled-line : t .start ≡ t .end → settled s t ≡ t
-    unfolding settled
-    settled-line e = simp (eq-eqb _ _ k, eq-eqb _ _ e)
+    pub completed-line : t .start ≡ t .end → completed s t ≡ t
+    unfolding completed
+    completed-line e = simp (eq-eqb _ _ k, eq-eqb _ _ e)
 
-    pub settled-open : (t .start ≡ t .end → ⊥) → settled s t ≡ literalFrom s (t .start) (t .end)
-    unfolding settled
-    settled-open n = simp (eq-eqb _ _ k, ne-eqb _ _ n)
+    pub completed-open : (t .start ≡ t .end → ⊥) → completed s t ≡ literalFrom s (t .start) (t .end)
+    unfolding completed
+    completed-open n = simp (eq-eqb _ _ k, ne-eqb _ _ n)
 
 -- what is no next line
 Other : Token → Type 0
@@ -64,11 +64,11 @@ number-other s i =
 
 -- the rest of a line holds no literal
 Kept : List ℕ → Token → Type 0
-Kept s t = settled s t ≡ t
+Kept s t = completed s t ≡ t
 
-pub rest-kept : (s : List ℕ) (i : ℕ) → settled s (restOfLine s i) ≡ restOfLine s i
+pub rest-kept : (s : List ℕ) (i : ℕ) → completed s (restOfLine s i) ≡ restOfLine s i
 unfolding restOfLine Kept
 rest-kept s i =
     let e : ℕ = past (inRun FREE) s i in
-    chosen (Kept s) (leb (length s) e) (endOf s) (pick (eqb (getD s e 0) 0) (illegalAt e) (nextLine (e + 1))) (λ q. settled-other s (endOf s) (λ z. let no : ⊥ = omega (arith, z) in no))
-    (λ q. chosen (Kept s) (eqb (getD s e 0) 0) (illegalAt e) (nextLine (e + 1)) (λ u. settled-other s (illegalAt e) illegal) (λ u. settled-line s (nextLine (e + 1)) refl refl))
+    chosen (Kept s) (leb (length s) e) (endOf s) (pick (eqb (getD s e 0) 0) (illegalAt e) (nextLine (e + 1))) (λ q. completed-other s (endOf s) (λ z. let no : ⊥ = omega (arith, z) in no))
+    (λ q. chosen (Kept s) (eqb (getD s e 0) 0) (illegalAt e) (nextLine (e + 1)) (λ u. completed-other s (illegalAt e) illegal) (λ u. completed-line s (nextLine (e + 1)) refl refl))

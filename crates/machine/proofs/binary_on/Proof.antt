@@ -6,7 +6,7 @@ use Rattle.machine.proofs.binary_on.Reads as reads
 use Rattle.machine.proofs.binary_on.Lts as lts
 use Rattle.expression.proofs.operator.combine.Reads as combine-reads
 use Rattle.expression.proofs.value.width_of.Reads as width-of-reads
-use Rattle.machine.proofs.settle.Reads as settle-reads
+use Rattle.machine.proofs.put_below.Reads as put-below-reads
 
 width-of-requires : tie.Need-width-of-requires
 width-of-requires c κs = search needs
@@ -41,8 +41,8 @@ part-combine-end-2 c = search needs
 combine-requires : tie.Need-combine-requires
 combine-requires c κs = search needs
 
-settle-requires : tie.Need-settle-requires
-settle-requires c κs = search needs
+put-below-requires : tie.Need-put-below-requires
+put-below-requires c κs = search needs
 
 same-length : tie.Need-same-length
 same-length c = search needs
@@ -65,6 +65,6 @@ binary-on-spec =
     part-combine-start-2
     part-combine-end-2
     combine-requires
-    settle-requires
+    put-below-requires
     same-length
     returns-3)

@@ -1,4 +1,4 @@
-use Rattle.lexical.specs.Plain.{bare-from, bare-within, bare-fits}
+use Rattle.lexical.specs.Working.Plain.{bare-from, bare-within, bare-fits}
 use Rattle.machine.specs.Working.Stepping.{literal-bare, literal-over, literal-in, literal-none, literal-room}
 use borrow.Author.Needs.{needs}
 use Rattle.machine.proofs.push_literal.Statement.{statement}

@@ -12,7 +12,7 @@ use Rattle.machine.proofs.push_literal.Reads as push-literal-reads
 use Rattle.machine.proofs.push_text.Reads as push-text-reads
 use Rattle.machine.proofs.put.Reads as put-reads
 use Rattle.machine.proofs.word_at.Reads as word-at-reads
-use Rattle.text.proofs.number_at.Reads as number-at-reads
+use Rattle.text.proofs.number_from.Reads as number-from-reads
 
 push-literal-requires : tie.Need-push-literal-requires
 push-literal-requires c κs = search needs
@@ -44,8 +44,8 @@ same-length-4 c = search needs
 returns-2 : tie.Need-returns-2
 returns-2 c = search push-name
 
-number-at-requires : tie.Need-number-at-requires
-number-at-requires c κs = search needs
+number-from-requires : tie.Need-number-from-requires
+number-from-requires c κs = search needs
 
 in-range-requires : tie.Need-in-range-requires
 in-range-requires c κs = search needs
@@ -97,7 +97,7 @@ push-step-spec =
     same-length-3
     same-length-4
     returns-2
-    number-at-requires
+    number-from-requires
     in-range-requires
     put-requires
     same-length-5

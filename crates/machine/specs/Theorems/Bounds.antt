@@ -9,11 +9,12 @@ use Rattle.syntax.specs.Operation.{unaryNumber, binaryNumber}
 use Rattle.syntax.specs.Expr.{Expr, literal, name, number, truth, decimal, unary, binary, Program, none, also, Clause, plain, valued, nested}
 use Rattle.syntax.specs.Code.{entry, Codes, code-literal, code-name, code-number, code-true, code-false, code-decimal, code-unary, code-binary, ProgramCodes, code-none, code-also, ClauseCodes, code-plain, code-valued, code-nested}
 use Rattle.machine.specs.Working.Need.{need, programNeed, clauseNeed, spanOf, span, room, programRoom, clauseRoom}
+use Rattle.limits.specs.Limits.{mostString}
 
 append-two : (c d : List ℕ) (x : ℕ) → length (c ++ d ++ (x ∷ [])) ≡ length c + length d + 1
 append-two c d x = rw (length-append (c ++ d) (x ∷ []), length-append c d)
 
-pub span-most : (x : Sort) → spanOf x ≤ 4096
+pub span-most : (x : Sort) → spanOf x ≤ mostString
 span-most a-string = omega arith
 span-most an-integer = omega arith
 span-most a-float = omega arith
@@ -68,7 +69,7 @@ mutual
   clause-need (nested e p) (code-nested {c = c} {d = d} k l) = rw (append-two c d (entry 46 0)) (omega (arith, need-code k, program-need p l, some-entry k))
 
 -- no more bytes than 4,096 for each operand
-pub span-least : (e : Expr) → span e ≤ 4096
+pub span-least : (e : Expr) → span e ≤ mostString
 unfolding span
 span-least (literal b) = omega arith
 span-least (name n) = omega arith
@@ -78,7 +79,7 @@ span-least (decimal b) = omega arith
 span-least (unary op e) = span-most (unaryGives op)
 span-least (binary op e f) = span-most (binaryGives op)
 
-pub room-need : (e : Expr) → room e ≤ 4096 * need e
+pub room-need : (e : Expr) → room e ≤ mostString * need e
 unfolding room need
 room-need (literal b) = omega arith
 room-need (name n) = omega arith
@@ -91,11 +92,11 @@ room-need (binary op e f) = omega (arith, room-need e, room-need f, span-least e
 mutual
   unfolding programRoom clauseRoom programNeed clauseNeed
 
-  pub program-room : (p : Program) → programRoom p ≤ 4096 * programNeed p
+  pub program-room : (p : Program) → programRoom p ≤ mostString * programNeed p
   program-room none = omega arith
   program-room (also p q) = omega (arith, program-room p, clause-room q)
 
-  clause-room : (q : Clause) → clauseRoom q ≤ 4096 * clauseNeed q
+  clause-room : (q : Clause) → clauseRoom q ≤ mostString * clauseNeed q
   clause-room (plain e) = room-need e
   clause-room (valued e f) = omega (arith, room-need e, room-need f, span-least e)
   clause-room (nested e p) = omega (arith, room-need e, program-room p, span-least e)

@@ -16,7 +16,8 @@ use Rattle.syntax.specs.Operator as Operator
 use Rattle.syntax.specs.Operation.{unaryNumber, binaryNumber}
 use Rattle.syntax.specs.Theorems.Numbers.{unary-between, binary-between}
 use Rattle.syntax.specs.Expr.{Expr, literal, name, number, truth, decimal, unary, binary, Program, none, also, Clause, plain, valued, nested}
-use Rattle.syntax.specs.Code.{entry, nameAt, numberAt, decimalAt, Codes, code-literal, code-name, code-number, code-true, code-false, code-decimal, code-unary, code-binary, ProgramCodes, code-none, code-also, ClauseCodes, code-plain, code-valued, code-nested}
+use Rattle.text.specs.Digits.{digitsAt}
+use Rattle.syntax.specs.Code.{entry, nameAt, numberFrom, decimalAt, Codes, code-literal, code-name, code-number, code-true, code-false, code-decimal, code-unary, code-binary, ProgramCodes, code-none, code-also, ClauseCodes, code-plain, code-valued, code-nested}
 use Rattle.expression.specs.Value.{Value, text, integer, rank, float, test, fault, operand, bytesOf}
 use Rattle.expression.specs.Operands.{rankIn, kindOf, sizeOf}
 use Rattle.expression.specs.Integers.{ranged}
@@ -38,6 +39,7 @@ use Rattle.machine.specs.Working.Widths.{plain-rank, plain-ranged, withi
 use Rattle.machine.specs.Working.Passing.{exec-pass, on-clause, on-none, on-both, on-other, entry-op, on-code, on-program, stop-same, on-shift}
 use Rattle.machine.specs.Working.Ending.{end-here, across-clause, end-shift}
 use Rattle.machine.specs.Working.Stacking.{pair, topped, count-is, top-is, false-top, high-top, below-is, idle-top, idle-not, place-is, text-is, unary-is, lookup-is, binary-is}
+use Rattle.limits.specs.Limits.{mostString}
 
 combined-is : (vals : List (List ℕ)) (op : Binary) (v w : Value) → combined vals (binaryNumber op) v w ≡ binaryOf op v w
 unfolding combined
@@ -200,16 +202,16 @@ module _ (depth space : ℕ) (s : List ℕ) (look : List ℕ → List ℕ) (env 
         (λ f. (rw (rank-top, rank-high, f) refl) ∙ go)
 
   module _ (vs bs : List ℕ) (h : length vs + 2 ≤ depth) where
-    literal-step : (at : ℕ) → length bs + 4096 ≤ space → stepOf depth space s look (env .values) 0 at vs bs ≡ topped vs bs (held (decodedAt s at))
+    literal-step : (at : ℕ) → length bs + mostString ≤ space → stepOf depth space s look (env .values) 0 at vs bs ≡ topped vs bs (held (decodedAt s at))
     unfolding stepOf pushStep
     literal-step at k = text-is depth vs h space bs (decodedAt s at) k
 
-    name-step : (at : ℕ) → length bs + 4096 ≤ space → stepOf depth space s look (env .values) 1 at vs bs ≡ topped vs bs (held (lookup env (nameAt s at)))
+    name-step : (at : ℕ) → length bs + mostString ≤ space → stepOf depth space s look (env .values) 1 at vs bs ≡ topped vs bs (held (lookup env (nameAt s at)))
     unfolding stepOf pushStep runAt nameAt
     name-step at k = text-is depth vs h space bs _ k ∙ ap (λ (b : List ℕ). topped vs bs (held b)) (same _)
 
-    number-step : (at : ℕ) → stepOf depth space s look (env .values) 2 at vs bs ≡ topped vs bs (ranged false (numberAt s at))
-    unfolding stepOf pushStep runAt numberAt
+    number-step : (at : ℕ) → stepOf depth space s look (env .values) 2 at vs bs ≡ topped vs bs (ranged false (numberFrom s at))
+    unfolding stepOf pushStep runAt numberFrom digitsAt
     number-step at = place-is depth vs h bs (ranged false _) (plain-ranged false _ .none)
 
     true-step : stepOf depth space s look (env .values) 3 0 vs bs ≡ topped vs bs (test true)

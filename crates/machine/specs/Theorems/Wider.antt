@@ -14,11 +14,12 @@ use Rattle.expression.specs.Conditions.{top}
 use Rattle.expression.specs.Tables.{lookupIn}
 use Rattle.expression.specs.declared.value.Operand.{Operand}
 use Rattle.expression.specs.declared.value.Operand.the-variants.{Fault}
-use Rattle.machine.specs.Working.Machine.{State, on, stuck, placed, textStep, topOf, below, unaryOn, unaryStep, lookupOn, lookupStep, settledOn, binaryOn, binaryStep, raised, pushStep, isIdle, clauseStep, actOf, stepOf, stepped, ahead, execBehind, exec, resultOf}
+use Rattle.machine.specs.Working.Machine.{State, on, stuck, placed, textStep, topOf, below, unaryOn, unaryStep, lookupOn, lookupStep, putBelowOn, binaryOn, binaryStep, raised, pushStep, isIdle, clauseStep, actOf, stepOf, stepped, ahead, execBehind, exec, resultOf}
 use Rattle.machine.specs.Working.Passing.{exec-stuck}
 use Rattle.machine.specs.Working.Left.{leftIn}
 use Rattle.machine.specs.Working.Given.{gave, stringOf, stringIn}
 use Rattle.machine.specs.declared.Given.the-variants.{Bytes}
+use Rattle.limits.specs.Limits.{mostString}
 
 -- the machine could not go on, or is where it is with more room
 data Kept : State → State → Type 0 where
@@ -37,9 +38,9 @@ module _ (depth depth′ : ℕ) (d : depth ≤ depth′) where
       (λ f. rw f lost)
       (λ f. let l : 2 ≤ depth - length vs = ltb-false _ _ f in rw (f, le-ltb (depth′ - length vs) 2 (omega (arith, l, d))) same)
 
-  settled-kept : (vs bs : List ℕ) (base : ℕ) (v : Operand) → Kept (settledOn depth vs bs base v) (settledOn depth′ vs bs base v)
-  unfolding settledOn
-  settled-kept vs bs base v = kept-pick (ltb (length bs - base) (width v)) (same {a = stuck}) (placed-kept vs (take (base + width v) bs) v)
+  put-below-kept : (vs bs : List ℕ) (base : ℕ) (v : Operand) → Kept (putBelowOn depth vs bs base v) (putBelowOn depth′ vs bs base v)
+  unfolding putBelowOn
+  put-below-kept vs bs base v = kept-pick (ltb (length bs - base) (width v)) (same {a = stuck}) (placed-kept vs (take (base + width v) bs) v)
 
   module _ (vals : List (List ℕ)) (op : ℕ) where
     unary-kept : (vs bs : List ℕ) → Kept (unaryStep depth vals op vs bs) (unaryStep depth′ vals op vs bs)
@@ -52,7 +53,7 @@ module _ (depth depth′ : ℕ) (d : depth ≤ depth′) where
     binary-kept vs bs =
         kept-pick (ltb (length vs) 4) (same {a = stuck})
         (kept-pick (ltb (length bs) (width (topOf vs))) (same {a = stuck})
-        (kept-pick (ltb (length bs - width (topOf vs)) (width (topOf (below vs)))) (same {a = stuck}) (settled-kept _ _ _ _)))
+        (kept-pick (ltb (length bs - width (topOf vs)) (width (topOf (below vs)))) (same {a = stuck}) (put-below-kept _ _ _ _)))
 
   raised-kept : (vals : List (List ℕ)) (a b : State) → Kept a b → Kept (raised depth vals a) (raised depth′ vals b)
   unfolding raised
@@ -71,7 +72,7 @@ module _ (depth depth′ : ℕ) (d : depth ≤ depth′) (room room′ : ℕ) (h
   text-kept : (b vs bs : List ℕ) → Kept (textStep depth room b vs bs) (textStep depth′ room′ b vs bs)
   unfolding textStep
   text-kept b vs bs =
-      kept-pick (ltb 4096 (length b)) (placed-kept depth depth′ d vs bs Fault)
+      kept-pick (ltb mostString (length b)) (placed-kept depth depth′ d vs bs Fault)
       (split (leb (length bs + length b) room)
       (λ f. let l : length bs + length b ≤ room = leb-true _ _ f in rw (f, le-leb (length bs + length b) room′ (omega (arith, l, h))) (placed-kept depth depth′ d _ _ _))
       (λ f. rw f lost))

@@ -19,7 +19,7 @@ use Rattle.expression.specs.Working.Operating.{does-equal, does-differ}
 use Rattle.expression.specs.declared.value.Operand.{Operand}
 use Rattle.expression.specs.declared.value.Operand.the-variants.{Text, Test}
 use Rattle.expression.specs.declared.value.Packed.{Packed}
-use Rattle.machine.specs.Working.Machine.{State, on, stuck, placed, settledOn, binaryOn, binaryStep}
+use Rattle.machine.specs.Working.Machine.{State, on, stuck, placed, putBelowOn, binaryOn, binaryStep}
 use Rattle.machine.specs.Working.Live.{Live, Landed, landed, putAt}
 use Rattle.machine.specs.Working.Stepping.{drop-take, live-stuck, put-live, binary-two}
 use Rattle.machine.specs.Working.Quick.{putTwo, two-put, top-first, top-second, pick-both}
@@ -116,7 +116,7 @@ told-texts vals op a b h =
 
 alike-on : (vals : List (List ℕ)) (op : ℕ) → pick (eqb op 19) true (eqb op 20) ≡ true → (depth wx wy : ℕ) (vs bs : List ℕ)
     → binaryOn depth vals op (Text wx) (Text wy) vs bs ≡ alikeOn depth op wx wy vs bs
-unfolding binaryOn alikeOn settledOn width valueOf
+unfolding binaryOn alikeOn putBelowOn width valueOf
 alike-on vals op h depth wx wy vs bs =
     let base : ℕ = length bs - wy - wx in
     rw (told-texts vals op (drop base (take (length bs - wy) bs)) (drop (length bs - wy) bs) h, le-ltb (length bs - base) 0 (omega arith), add-zero base)

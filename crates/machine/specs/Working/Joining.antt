@@ -18,13 +18,14 @@ use Rattle.expression.specs.Working.Clauses.{combined}
 use Rattle.expression.specs.Working.Operating.{join-over, join-in}
 use Rattle.expression.specs.declared.value.Operand.{Operand}
 use Rattle.expression.specs.declared.value.Operand.the-variants.{Text, Fault}
-use Rattle.machine.specs.Working.Machine.{State, on, stuck, placed, settledOn, binaryOn, binaryStep}
+use Rattle.machine.specs.Working.Machine.{State, on, stuck, placed, putBelowOn, binaryOn, binaryStep}
 use Rattle.machine.specs.Working.Live.{Live, Landed, landed, putAt}
 use Rattle.machine.specs.Working.Stepping.{live-stuck, put-live, binary-two}
 use Rattle.machine.specs.Working.Quick.{top-first, top-second, pick-both}
 use Rattle.machine.specs.Working.Alike.{text-kind}
 use Rattle.machine.specs.declared.Tops.{Tops}
 use Rattle.machine.specs.declared.Tops.the-variants.{At, Stuck}
+use Rattle.limits.specs.Limits.{mostString}
 
 -- ".", and the kinds of strings
 unfoldable pub isJoining : ℕ → ℕ → ℕ → Bool
@@ -35,7 +36,7 @@ unfoldable pub joinOn : ℕ → ℕ → ℕ → List ℕ → List ℕ → State
 joinOn depth wx wy vs bs =
     pick (ltb (length bs) wy) stuck
     (pick (ltb (length bs - wy) wx) stuck
-    (pick (ltb 4096 (wx + wy)) (placed depth vs (take (length bs - wy - wx) bs) Fault) (placed depth vs bs (Text (wx + wy)))))
+    (pick (ltb mostString (wx + wy)) (placed depth vs (take (length bs - wy - wx) bs) Fault) (placed depth vs bs (Text (wx + wy)))))
 
 -- the ways out of `is_joining`
 module _ (op x y : ℕ) where
@@ -64,16 +65,16 @@ module _ (st m : List ℕ) (n t : ℕ) (two : n + 2 ≤ length st) (ht : t ≤ l
     join-shorter h st′ = live-stuck Stuck st′ m _ refl (rw (length-take-le t m ht, le-ltb t wy up, lt-ltb (t - wy) wx h))
 
     module _ (in-bytes : wx ≤ t - wy) (r : Tops) (st′ : List ℕ) where
-      pub join-long : 4096 < wx + wy → landed r st′ ≡ putAt st n (t - wy - wx) Fault → Live r st′ m (joinOn (length st) wx wy (take n st) (take t m))
+      pub join-long : mostString < wx + wy → landed r st′ ≡ putAt st n (t - wy - wx) Fault → Live r st′ m (joinOn (length st) wx wy (take n st) (take t m))
       unfolding joinOn
       join-long h is =
-          rw (length-take-le t m ht, le-ltb t wy up, le-ltb (t - wy) wx in-bytes, lt-ltb 4096 (wx + wy) h, take-take (t - wy - wx) t m (omega arith))
+          rw (length-take-le t m ht, le-ltb t wy up, le-ltb (t - wy) wx in-bytes, lt-ltb mostString (wx + wy) h, take-take (t - wy - wx) t m (omega arith))
           (put-live st m n (t - wy - wx) Fault (omega (arith, two)) (omega (arith, ht)) r st′ is)
 
-      pub join-held : wx + wy ≤ 4096 → landed r st′ ≡ putAt st n t (Text (wx + wy)) → Live r st′ m (joinOn (length st) wx wy (take n st) (take t m))
+      pub join-held : wx + wy ≤ mostString → landed r st′ ≡ putAt st n t (Text (wx + wy)) → Live r st′ m (joinOn (length st) wx wy (take n st) (take t m))
       unfolding joinOn
       join-held h is =
-          rw (length-take-le t m ht, le-ltb t wy up, le-ltb (t - wy) wx in-bytes, le-ltb 4096 (wx + wy) h)
+          rw (length-take-le t m ht, le-ltb t wy up, le-ltb (t - wy) wx in-bytes, le-ltb mostString (wx + wy) h)
           (put-live st m n t (Text (wx + wy)) (omega (arith, two)) ht r st′ is)
 
 -- what the operation gives
@@ -99,13 +100,13 @@ module _ (vals : List (List ℕ)) (depth wx wy : ℕ) (vs bs : List ℕ) (up : w
   unfolding second
   second-long = rw (length-drop (length bs - wy) bs) (omega (arith, up))
 
-  on-long : 4096 < wx + wy → settledOn depth vs bs base (operand (combined vals 12 (text first) (text second))) ≡ placed depth vs (take base bs) Fault
-  unfolding settledOn width
+  on-long : mostString < wx + wy → putBelowOn depth vs bs base (operand (combined vals 12 (text first) (text second))) ≡ placed depth vs (take base bs) Fault
+  unfolding putBelowOn width
   on-long h =
       rw (made vals first second Fault (join-over first second (omega (arith, h, first-long, second-long))), le-ltb (length bs - base) 0 (omega arith), add-zero base)
 
-  on-held : wx + wy ≤ 4096 → settledOn depth vs bs base (operand (combined vals 12 (text first) (text second))) ≡ placed depth vs bs (Text (wx + wy))
-  unfolding settledOn width base
+  on-held : wx + wy ≤ mostString → putBelowOn depth vs bs base (operand (combined vals 12 (text first) (text second))) ≡ placed depth vs bs (Text (wx + wy))
+  unfolding putBelowOn width base
   on-held h =
       let k : length first + length second ≡ wx + wy = omega (arith, first-long, second-long) in
       let e : Text (wx + wy) ≡ operand (held (first ++ second)) = ap Text (sym k) ∙ join-in first second (omega (arith, h, k)) in
@@ -122,7 +123,7 @@ join-on vals depth wx wy vs bs =
     (λ e. split (ltb (length bs - wy) wx) (λ f. rw (e, f))
     (λ f. let up : wy ≤ length bs = ltb-false _ _ e in
     let i : wx ≤ length bs - wy = ltb-false _ _ f in
-    split (ltb 4096 (wx + wy)) (λ g. rw (e, f, g) (on-long vals depth wx wy vs bs up i (ltb-true _ _ g)))
+    split (ltb mostString (wx + wy)) (λ g. rw (e, f, g) (on-long vals depth wx wy vs bs up i (ltb-true _ _ g)))
     (λ g. rw (e, f, g) (on-held vals depth wx wy vs bs up i (ltb-false _ _ g)))))
 
 -- the way out of `operator_step`

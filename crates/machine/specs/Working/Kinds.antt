@@ -28,6 +28,7 @@ use Rattle.expression.specs.Theorems.Matched.{matched-cases}
 use Rattle.expression.specs.Working.Numbered.{arithmetic, textual, logical, floating, ofTexts, ofIntegers, ofFloats, ofTests, isTextual, binaryBy}
 use Rattle.expression.specs.Conditions.{evaluate}
 use Rattle.expression.specs.Theorems.Numbered.{binary-number}
+use Rattle.limits.specs.Limits.{mostString}
 
 module _ (P : Value → Type 0) where
   pub of-pick : (t : Bool) {a b : Value} → P a → P b → P (pick t a b)
@@ -170,7 +171,7 @@ fault-unranked = record { other = refl }
 
 held-unranked : (b : List ℕ) → Unranked (held b)
 unfolding held
-held-unranked b = of-pick Unranked (ltb 4096 (length b)) fault-unranked (text-unranked b)
+held-unranked b = of-pick Unranked (ltb mostString (length b)) fault-unranked (text-unranked b)
 
 unary-unranked : (look : List ℕ → List ℕ) (op : Unary) (v : Value) → Unranked (unaryOf look op v)
 unfolding unaryOf
@@ -222,7 +223,7 @@ Said fault = Unit
 
 held-said : (b : List ℕ) → Said (held b)
 unfolding held
-held-said b = of-pick Said (ltb 4096 (length b)) {a = fault} {b = text b} tt tt
+held-said b = of-pick Said (ltb mostString (length b)) {a = fault} {b = text b} tt tt
 
 negative-said : (v : Value) → Said v → Said (floatNegative v)
 unfolding floatNegative

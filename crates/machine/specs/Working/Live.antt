@@ -33,6 +33,7 @@ putAt stack n t v =
     pick (ltb (length stack) n) (landed Stuck stack)
     (pick (ltb (length stack - n) 2) (landed Stuck stack) (landed (At (n + 2) t) (set (set stack n (kindOf v)) (n + 1) (sizeOf v))))
 
-unfoldable pub settled : List ℕ → ℕ → ℕ → ℕ → Operand → Landed
-settled stack n t base v =
+-- an operand whose string starts at `base`, put below the top
+unfoldable pub putBelow : List ℕ → ℕ → ℕ → ℕ → Operand → Landed
+putBelow stack n t base v =
     pick (ltb t base) (landed Stuck stack) (pick (ltb (t - base) (width v)) (landed Stuck stack) (putAt stack n (base + width v) v))

@@ -7,7 +7,7 @@ use lib.ListN.{length, getD, take, drop}
 use Rattle.text.specs.Choice.{pick}
 use Rattle.text.specs.Scan.{run}
 use Rattle.text.specs.Class.{inClass, digit, word}
-use Rattle.text.specs.Digits.{value, limit}
+use Rattle.text.specs.Digits.{value}
 use Rattle.lexical.specs.Literal.{decodedAt}
 use Rattle.float.specs.Written.{floatOf}
 use Rattle.syntax.specs.Code.{decimalAt}
@@ -19,6 +19,7 @@ use Rattle.expression.specs.Conditions.{top}
 use Rattle.expression.specs.Working.Clauses.{applied, combined}
 use Rattle.expression.specs.declared.value.Operand.{Operand}
 use Rattle.expression.specs.declared.value.Operand.the-variants.{Text, Test, Rank, Float, Fault}
+use Rattle.limits.specs.Limits.{mostString}
 
 -- the two stacks; or that the machine can't go on
 pub data State : Type 0 where
@@ -32,7 +33,7 @@ placed depth vs bs v = pick (ltb (depth - length vs) 2) stuck (on (vs ++ (kindOf
 -- a string put on top, where there is room; "string over 4,096 bytes" is a fault
 unfoldable pub textStep : ℕ → ℕ → List ℕ → List ℕ → List ℕ → State
 textStep depth room b vs bs =
-    pick (ltb 4096 (length b)) (placed depth vs bs Fault) (pick (leb (length bs + length b) room) (placed depth vs (bs ++ b) (Text (length b))) stuck)
+    pick (ltb mostString (length b)) (placed depth vs bs Fault) (pick (leb (length bs + length b) room) (placed depth vs (bs ++ b) (Text (length b))) stuck)
 
 -- the operand on top, and what lies below it
 unfoldable pub topOf : List ℕ → Operand
@@ -61,14 +62,14 @@ unfoldable pub lookupStep : ℕ → ℕ → (List ℕ → List ℕ) → List ℕ
 lookupStep depth room look vs bs = pick (ltb (length vs) 2) stuck (lookupOn depth room look (topOf vs) (below vs) bs)
 
 -- an operation on two operands: a string that it gives is made of theirs and lies where they lay
-unfoldable pub settledOn : ℕ → List ℕ → List ℕ → ℕ → Operand → State
-settledOn depth vs bs base v = pick (ltb (length bs - base) (width v)) stuck (placed depth vs (take (base + width v) bs) v)
+unfoldable pub putBelowOn : ℕ → List ℕ → List ℕ → ℕ → Operand → State
+putBelowOn depth vs bs base v = pick (ltb (length bs - base) (width v)) stuck (placed depth vs (take (base + width v) bs) v)
 
 unfoldable pub binaryOn : ℕ → List (List ℕ) → ℕ → Operand → Operand → List ℕ → List ℕ → State
 binaryOn depth vals op x y vs bs =
     pick (ltb (length bs) (width y)) stuck
     (pick (ltb (length bs - width y) (width x)) stuck
-    (settledOn depth vs bs (length bs - width y - width x)
+    (putBelowOn depth vs bs (length bs - width y - width x)
     (operand (combined vals op (valueOf x (drop (length bs - width y - width x) (take (length bs - width y) bs))) (valueOf y (drop (length bs - width y) bs))))))
 
 unfoldable pub binaryStep : ℕ → List (List ℕ) → ℕ → List ℕ → List ℕ → State
@@ -88,7 +89,7 @@ unfoldable pub pushStep : ℕ → ℕ → List ℕ → (List ℕ → List ℕ) �
 pushStep depth room s look op at vs bs =
     pick (eqb op LITERAL) (textStep depth room (decodedAt s at) vs bs)
     (pick (eqb op NAME) (textStep depth room (look (runAt word s at)) vs bs)
-    (pick (eqb op NUMBER) (placed depth vs bs (operand (ranged false (min (value (runAt digit s at)) limit))))
+    (pick (eqb op NUMBER) (placed depth vs bs (operand (ranged false (value (runAt digit s at)))))
     (pick (eqb op DECIMAL) (placed depth vs bs (Float (floatOf (decimalAt s at))))
     (placed depth vs bs (Test (eqb op TRUE))))))
 

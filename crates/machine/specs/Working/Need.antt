@@ -2,6 +2,7 @@
 use Prim.Native.Nat.{ℕ, _+_, max}
 use Rattle.syntax.specs.Operator.{Sort, a-string, an-integer, a-float, a-test, unaryGives, binaryGives}
 use Rattle.syntax.specs.Expr.{Expr, literal, name, number, truth, decimal, unary, binary, Program, none, also, Clause, plain, valued, nested}
+use Rattle.limits.specs.Limits.{mostString}
 
 -- operands that are on the stack at once
 unfoldable pub need : Expr → ℕ
@@ -25,15 +26,15 @@ unfoldable mutual
 
 -- the bytes that a value may have: "string over 4,096 bytes" is a fault
 abbrev pub spanOf : Sort → ℕ
-spanOf a-string = 4096
+spanOf a-string = mostString
 spanOf an-integer = 0
 spanOf a-float = 0
 spanOf a-test = 0
 
 -- those of an expression's value
 unfoldable pub span : Expr → ℕ
-span (literal b) = 4096
-span (name n) = 4096
+span (literal b) = mostString
+span (name n) = mostString
 span (number n) = 0
 span (truth t) = 0
 span (decimal b) = 0
@@ -42,8 +43,8 @@ span (binary op e f) = spanOf (binaryGives op)
 
 -- the bytes that lie on the string stack at once
 unfoldable pub room : Expr → ℕ
-room (literal b) = 4096
-room (name n) = 4096
+room (literal b) = mostString
+room (name n) = mostString
 room (number n) = 0
 room (truth t) = 0
 room (decimal b) = 0

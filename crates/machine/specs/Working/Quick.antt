@@ -21,7 +21,7 @@ use Rattle.expression.specs.Working.Clauses.{applied, combined}
 use Rattle.expression.specs.declared.value.Operand.{Operand}
 use Rattle.expression.specs.declared.value.Operand.the-variants.{Number, Test, Rank}
 use Rattle.expression.specs.declared.value.Packed.{Packed}
-use Rattle.machine.specs.Working.Machine.{on, placed, topOf, below, unaryOn, unaryStep, settledOn, binaryOn, binaryStep, raised}
+use Rattle.machine.specs.Working.Machine.{on, placed, topOf, below, unaryOn, unaryStep, putBelowOn, binaryOn, binaryStep, raised}
 use Rattle.machine.specs.Working.Live.{Live, Landed, landed, putAt}
 use Rattle.machine.specs.Working.Widths.{front-combined}
 use Rattle.machine.specs.Working.Stacking.{pair, topped, width-is, place-is, binary-is}
@@ -129,7 +129,7 @@ module _ (vals : List (List ℕ)) (op : ℕ) (x y : Operand) (sx : Still x) (sy 
       width-is (combined vals op (valueOf x []) (valueOf y [])) ∙ omega (arith, f, e)
 
   on-still : (depth : ℕ) (vs bs : List ℕ) → binaryOn depth vals op x y vs bs ≡ placed depth vs bs made
-  unfolding binaryOn settledOn
+  unfolding binaryOn putBelowOn
   on-still depth vs bs =
       let a : length bs - 0 ≡ length bs = omega arith in
       rw (

@@ -9,16 +9,17 @@ use lib.Dec.{eqb, leb, ltb}
 use lib.Ieee.{Float as Single}
 use lib.ListN.{length, getD, take, drop, drop-of-length-le, length-map}
 use lib.Seq.{drop-cons, drop-drop, getD-take, length-take-le}
-use borrow.Author.Tests.{le-leb, lt-leb, lt-ltb, le-ltb, ltb-false, eq-eqb, ne-eqb}
+use borrow.Author.Tests.{le-leb, lt-leb, lt-ltb, le-ltb, ltb-true, ltb-false, eq-eqb, ne-eqb}
 use Rattle.text.specs.Choice.{pick, split, clash}
 use Rattle.text.specs.Counted.{counted}
-use Rattle.text.specs.Digits.{digitsAt, value, limit}
+use Rattle.text.specs.Digits.{digitsAt, value}
 use Rattle.lexical.specs.Literal.{decodedAt}
 use Rattle.float.specs.Written.{floatOf}
 use Rattle.syntax.specs.Code.{decimalAt}
 use Rattle.expression.specs.Value.{operand}
 use Rattle.expression.specs.Integers.{ranged}
 use Rattle.expression.specs.Conditions.{top}
+use Rattle.expression.specs.Working.Arithmetic.{range-out}
 use Rattle.expression.specs.declared.value.Operand.{Operand}
 use Rattle.expression.specs.declared.value.Operand.the-variants.{Test, Rank, Float, Fault}
 use Rattle.machine.specs.Working.Machine.{State, on, stuck, textStep, topOf, unaryStep, lookupStep, binaryStep, raised, runAt, pushStep, isIdle, clauseStep, actOf, stepOf, stepped, needless, ahead, execBehind, exec, resultOf}
@@ -35,6 +36,13 @@ live-in r st m x n t re l =
 
 pub live-out : (r : Tops) (st m : List ℕ) (x : State) → r ≡ Stuck → Live r st m x → x ≡ stuck
 live-out r st m x re l = let l′ : Live Stuck st m x = rw re at l in sym (l′ .holds)
+
+-- a number held where the code holds it is in range just where it is
+held-ranged : (m : ℕ) → operand (ranged false (min m 4294967295)) ≡ operand (ranged false m)
+held-ranged m =
+    split (ltb 2147483648 m)
+    (λ t. let h : 2147483648 < m = ltb-true _ _ t in sym (range-out false (min m 4294967295) (omega arith)) ∙ range-out false m h)
+    (λ t. let h : m ≤ 2147483648 = ltb-false _ _ t in let e : min m 4294967295 ≡ m = omega arith in rw e)
 
 -- the ways out of `push_step`
 module _ (s : List ℕ) (look : List ℕ → List ℕ) (op at : ℕ) where
@@ -53,7 +61,7 @@ module _ (s : List ℕ) (look : List ℕ → List ℕ) (op at : ℕ) where
         → landed r st′ ≡ putAt st n t v → Live r st′ m (pushStep (length st) room s look op at (take n st) (take t m))
     unfolding pushStep runAt digitsAt
     push-number h k ke v ve is =
-        let q : v ≡ operand (ranged false (min (value (digitsAt s at)) limit)) = ve ∙ ap (λ (j : ℕ). operand (ranged false j)) ke in
+        let q : v ≡ operand (ranged false (value (digitsAt s at))) = ve ∙ ap (λ (j : ℕ). operand (ranged false j)) ke ∙ held-ranged (value (digitsAt s at)) in
         rw (ne-eqb op 0 n0, ne-eqb op 1 n1, eq-eqb op 2 h, ← q) (put-live st m n t v hn ht r st′ is)
 
     pub push-decimal : (op ≡ 2 → ⊥) → op ≡ 5 → (x : Single) → x ≡ floatOf (decimalAt s at) → landed r st′ ≡ putAt st n t (Float x)

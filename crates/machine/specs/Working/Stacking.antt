@@ -17,9 +17,10 @@ use Rattle.expression.specs.Operations.{held, unaryOf}
 use Rattle.expression.specs.Working.Clauses.{applied, combined}
 use Rattle.expression.specs.declared.value.Operand.{Operand}
 use Rattle.expression.specs.declared.value.Operand.the-variants.{Text, Float, Fault}
-use Rattle.machine.specs.Working.Machine.{State, on, placed, textStep, topOf, below, isFalse, isHighest, isIdle, unaryOn, unaryStep, lookupOn, lookupStep, settledOn, binaryOn, binaryStep}
+use Rattle.machine.specs.Working.Machine.{State, on, placed, textStep, topOf, below, isFalse, isHighest, isIdle, unaryOn, unaryStep, lookupOn, lookupStep, putBelowOn, binaryOn, binaryStep}
 use Rattle.machine.specs.Working.Kinds.{Said}
 use Rattle.machine.specs.Working.Widths.{plain-applied, Front, front-combined}
+use Rattle.limits.specs.Limits.{mostString}
 
 -- the numbers of a value's operand, and the stacks with a value on top
 unfoldable pub pair : Value → List ℕ
@@ -147,12 +148,12 @@ module _ (depth : ℕ) (vs : List ℕ) (h : length vs + 2 ≤ depth) where
   place-fault bs = rw (le-ltb (depth - length vs) 2 (omega arith), append-nil bs)
 
   -- a string
-  pub text-is : (room : ℕ) (bs b : List ℕ) → length bs + 4096 ≤ room → textStep depth room b vs bs ≡ topped vs bs (held b)
+  pub text-is : (room : ℕ) (bs b : List ℕ) → length bs + mostString ≤ room → textStep depth room b vs bs ≡ topped vs bs (held b)
   unfolding textStep held
   text-is room bs b k =
-      split (ltb 4096 (length b))
+      split (ltb mostString (length b))
       (λ f. rw f (place-fault bs))
-      (λ f. let l : length b ≤ 4096 = ltb-false _ _ f in rw (f, le-leb (length bs + length b) room (omega arith)) (place-text bs b))
+      (λ f. let l : length b ≤ mostString = ltb-false _ _ f in rw (f, le-leb (length bs + length b) room (omega arith)) (place-text bs b))
 
   -- one operand
   pub unary-is : (vals : List (List ℕ)) (op : ℕ) (bs : List ℕ) (v : Value) → Said v → unaryStep depth vals op (vs ++ pair v) (bs ++ bytesOf v) ≡ topped vs bs (applied vals op v)
@@ -163,7 +164,7 @@ module _ (depth : ℕ) (vs : List ℕ) (h : length vs + 2 ≤ depth) where
 
   -- "$"
   module _ (room : ℕ) (look look′ : List ℕ → List ℕ) (same : (n : List ℕ) → look n ≡ look′ n) where
-    lookup-on : (bs : List ℕ) (v : Value) → length bs + 4096 ≤ room
+    lookup-on : (bs : List ℕ) (v : Value) → length bs + mostString ≤ room
         → pick (isText (operand v)) (textStep depth room (look (bytesOf v)) vs bs) (placed depth vs bs Fault) ≡ topped vs bs (onText (λ a. held (look′ a)) v)
     unfolding isText operand bytesOf
     lookup-on bs (text b) k = rw (same b) (text-is room bs (look′ b) k)
@@ -173,7 +174,7 @@ module _ (depth : ℕ) (vs : List ℕ) (h : length vs + 2 ≤ depth) where
     lookup-on bs (float x) k = place-fault bs
     lookup-on bs fault k = place-fault bs
 
-    pub lookup-is : (bs : List ℕ) (v : Value) → Said v → length bs + 4096 ≤ room
+    pub lookup-is : (bs : List ℕ) (v : Value) → Said v → length bs + mostString ≤ room
         → lookupStep depth room look (vs ++ pair v) (bs ++ bytesOf v) ≡ topped vs bs (unaryOf look′ Operator.lookup v)
     unfolding lookupStep lookupOn unaryOf
     lookup-is bs v z k =
@@ -181,9 +182,9 @@ module _ (depth : ℕ) (vs : List ℕ) (h : length vs + 2 ≤ depth) where
         (lookup-on bs v k)
 
   -- two operands
-  settle-is : (bs l : List ℕ) (v : Value) → Front v l → settledOn depth vs (bs ++ l) (length bs) (operand v) ≡ topped vs bs v
-  unfolding settledOn placed topped pair
-  settle-is bs l v f =
+  put-below-is : (bs l : List ℕ) (v : Value) → Front v l → putBelowOn depth vs (bs ++ l) (length bs) (operand v) ≡ topped vs bs v
+  unfolding putBelowOn placed topped pair
+  put-below-is bs l v f =
       let e : length (bs ++ l) - length bs ≡ length l = rw (length-append bs l) (omega arith) in
       rw (width-is v, e, le-ltb (length l) (length (bytesOf v)) (f .fits), take-append-add bs l (length (bytesOf v)), f .is, le-ltb (depth - length vs) 2 (omega arith))
 
@@ -211,4 +212,4 @@ module _ (depth : ℕ) (vs : List ℕ) (h : length vs + 2 ≤ depth) where
         value-is v,
         append-assoc bs (bytesOf v) (bytesOf w),
       )
-      (settle-is bs (bytesOf v ++ bytesOf w) (combined vals op v w) (front-combined vals op v w))
+      (put-below-is bs (bytesOf v ++ bytesOf w) (combined vals op v w) (front-combined vals op v w))

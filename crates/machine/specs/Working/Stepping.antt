@@ -22,16 +22,17 @@ use Rattle.lexical.specs.Literal.{decodedAt}
 use Rattle.lexical.specs.Decode.{within, decodeInto, decodeWithin}
 use Rattle.lexical.specs.declared.literal.Decoded.{Decoded}
 use Rattle.lexical.specs.declared.literal.Decoded.the-variants.{Put, Long, Full}
-use Rattle.lexical.specs.Plain.{bareEnd, bare-given}
+use Rattle.lexical.specs.Working.Plain.{bareEnd, bare-given}
 use Rattle.expression.specs.Value.{operand}
 use Rattle.expression.specs.Operands.{kindOf, sizeOf, unpacked, width, valueOf, isText}
 use Rattle.expression.specs.Working.Clauses.{applied, combined}
 use Rattle.expression.specs.declared.value.Operand.{Operand}
 use Rattle.expression.specs.declared.value.Operand.the-variants.{Text, Fault}
-use Rattle.machine.specs.Working.Machine.{State, on, stuck, placed, textStep, topOf, below, unaryOn, unaryStep, lookupOn, lookupStep, settledOn, binaryOn, binaryStep, runAt}
-use Rattle.machine.specs.Working.Live.{Live, landed, putAt, settled}
+use Rattle.machine.specs.Working.Machine.{State, on, stuck, placed, textStep, topOf, below, unaryOn, unaryStep, lookupOn, lookupStep, putBelowOn, binaryOn, binaryStep, runAt}
+use Rattle.machine.specs.Working.Live.{Live, landed, putAt, putBelow}
 use Rattle.machine.specs.declared.Tops.{Tops}
 use Rattle.machine.specs.declared.Tops.the-variants.{At, Stuck}
+use Rattle.limits.specs.Limits.{mostString}
 
 -- a part of a front
 pub drop-take : (b n : ℕ) (l : List ℕ) → drop b (take n l) ≡ take (n - b) (drop b l)
@@ -97,25 +98,25 @@ put-front m t b h = take-at (take t m ++ b) (drop (t + length b) m) (t + length 
     length-append-is m t b h = rw (length-append, length-take-le t m h)
 
 module _ (st m : List ℕ) (n t : ℕ) (hn : n ≤ length st) (ht : t ≤ length m) (b : List ℕ) where
-  pub text-over : 4096 < length b → (r : Tops) (st′ : List ℕ) → landed r st′ ≡ putAt st n t Fault
+  pub text-over : mostString < length b → (r : Tops) (st′ : List ℕ) → landed r st′ ≡ putAt st n t Fault
       → Live r st′ m (textStep (length st) (length m) b (take n st) (take t m))
   unfolding textStep
-  text-over h r st′ is = rw (lt-ltb 4096 (length b) h) (put-live st m n t Fault hn ht r st′ is)
+  text-over h r st′ is = rw (lt-ltb mostString (length b) h) (put-live st m n t Fault hn ht r st′ is)
 
-  module _ (short : length b ≤ 4096) where
+  module _ (short : length b ≤ mostString) where
     -- the bytes stand in the buffer
     text-in : (m′ : List ℕ) → length m′ ≡ length m → t + length b ≤ length m → take (t + length b) m′ ≡ take t m ++ b
         → (r : Tops) (st′ : List ℕ) → landed r st′ ≡ putAt st n (t + length b) (Text (length b))
         → Live r st′ m′ (textStep (length st) (length m) b (take n st) (take t m))
     unfolding textStep
     text-in m′ le room fe r st′ is =
-        rw (le-ltb 4096 (length b) short, length-take-le t m ht, le-leb (t + length b) (length m) room, ← fe)
+        rw (le-ltb mostString (length b) short, length-take-le t m ht, le-leb (t + length b) (length m) room, ← fe)
         (put-live st m′ n (t + length b) (Text (length b)) hn (rw le room) r st′ is)
 
     text-stuck : length m < t + length b → (st′ m′ : List ℕ) → Live Stuck st′ m′ (textStep (length st) (length m) b (take n st) (take t m))
     unfolding textStep
     text-stuck out st′ m′ =
-        live-stuck Stuck st′ m′ _ refl (rw (le-ltb 4096 (length b) short, length-take-le t m ht, lt-leb (t + length b) (length m) out))
+        live-stuck Stuck st′ m′ _ refl (rw (le-ltb mostString (length b) short, length-take-le t m ht, lt-leb (t + length b) (length m) out))
 
     module _ (c : Bool) (m′ : List ℕ) (ce : copied c m′ ≡ copyAt m t b) where
       pub text-copied : c ≡ true → (r : Tops) (st′ : List ℕ) → landed r st′ ≡ putAt st n (t + length b) (Text (length b))
@@ -138,14 +139,14 @@ module _ (st m : List ℕ) (n t : ℕ) (hn : n ≤ length st) (ht : t ≤ length
 
 -- what `decode_within` tells of a literal
 data Decoding (s : List ℕ) (at : ℕ) (m : List ℕ) (t : ℕ) : Decoded → List ℕ → Type 0 where
-  too-long : 4096 < length (decodedAt s at) → Decoding s at m t Long m
-  too-full : length (decodedAt s at) ≤ 4096 → length m < t + length (decodedAt s at) → Decoding s at m t Full m
-  put-there : length (decodedAt s at) ≤ 4096 → t + length (decodedAt s at) ≤ length m → Decoding s at m t (Put (length (decodedAt s at))) (sets m t (decodedAt s at))
+  too-long : mostString < length (decodedAt s at) → Decoding s at m t Long m
+  too-full : length (decodedAt s at) ≤ mostString → length m < t + length (decodedAt s at) → Decoding s at m t Full m
+  put-there : length (decodedAt s at) ≤ mostString → t + length (decodedAt s at) ≤ length m → Decoding s at m t (Put (length (decodedAt s at))) (sets m t (decodedAt s at))
 
-decodings : (s : List ℕ) (at : ℕ) (m : List ℕ) (t : ℕ) → t ≤ length m → (d : Decoded) (m′ : List ℕ) → within d m′ ≡ decodeWithin s at m t 4096 → Decoding s at m t d m′
+decodings : (s : List ℕ) (at : ℕ) (m : List ℕ) (t : ℕ) → t ≤ length m → (d : Decoded) (m′ : List ℕ) → within d m′ ≡ decodeWithin s at m t mostString → Decoding s at m t d m′
 unfolding decodeWithin decodeInto
 decodings s at m t ht d m′ e =
-    split (ltb 4096 (length (decodedAt s at)))
+    split (ltb mostString (length (decodedAt s at)))
     (λ f. let q : within d m′ ≡ within Long m = rw f at e in rw (within-is q .0, within-is q .1) (too-long (ltb-true _ _ f)))
     (λ f. split (ltb (length m - t) (length (decodedAt s at)))
     (λ g. let q : within d m′ ≡ within Full m = rw (f, le-ltb (length m) t ht, g) at e in
@@ -158,7 +159,7 @@ decodings s at m t ht d m′ e =
     within-is : {d d′ : Decoded} {m m′ : List ℕ} → within d m ≡ within d′ m′ → (d ≡ d′) × (m ≡ m′)
     within-is e = (cc, cc)
 
-module _ (s : List ℕ) (at : ℕ) (st m : List ℕ) (n t : ℕ) (hn : n ≤ length st) (ht : t ≤ length m) (d : Decoded) (m′ : List ℕ) (de : within d m′ ≡ decodeWithin s at m t 4096) where
+module _ (s : List ℕ) (at : ℕ) (st m : List ℕ) (n t : ℕ) (hn : n ≤ length st) (ht : t ≤ length m) (d : Decoded) (m′ : List ℕ) (de : within d m′ ≡ decodeWithin s at m t mostString) where
   abbrev step : State
   step = textStep (length st) (length m) (decodedAt s at) (take n st) (take t m)
 
@@ -271,25 +272,25 @@ module _ (look : List ℕ → List ℕ) (st m : List ℕ) (n t : ℕ) (hn : n �
           rw (lookup-is (length st) (length m), length-take-le t m ht, ← we, le-ltb t w wt, ← ie, it, take-take (t - w) t m (omega arith))
           (put-live st m (n - 2) (t - w) Fault (omega arith) (omega arith) r st′ is)
 
--- the ways out of `settle`
+-- the ways out of `put_below`
 module _ (st : List ℕ) (n t base : ℕ) (v : Operand) (w : ℕ) (we : w ≡ width v) where
-  pub settle-past : t < base → landed Stuck st ≡ settled st n t base v
-  unfolding settled
-  settle-past h = simp (lt-ltb _ _ h)
+  pub put-below-past : t < base → landed Stuck st ≡ putBelow st n t base v
+  unfolding putBelow
+  put-below-past h = simp (lt-ltb _ _ h)
 
   module _ (up : base ≤ t) where
-    pub settle-short : t - base < w → landed Stuck st ≡ settled st n t base v
-    unfolding settled
-    settle-short h = simp (le-ltb _ _ up, sym we, lt-ltb _ _ h)
+    pub put-below-short : t - base < w → landed Stuck st ≡ putBelow st n t base v
+    unfolding putBelow
+    put-below-short h = simp (le-ltb _ _ up, sym we, lt-ltb _ _ h)
 
-    pub settle-in : w ≤ t - base → (r : Tops) (st′ : List ℕ) → landed r st′ ≡ putAt st n (base + w) v → landed r st′ ≡ settled st n t base v
-    unfolding settled
-    settle-in h r st′ e = e ∙ simp (le-ltb _ _ up, sym we, le-ltb _ _ h)
+    pub put-below-in : w ≤ t - base → (r : Tops) (st′ : List ℕ) → landed r st′ ≡ putAt st n (base + w) v → landed r st′ ≡ putBelow st n t base v
+    unfolding putBelow
+    put-below-in h r st′ e = e ∙ simp (le-ltb _ _ up, sym we, le-ltb _ _ h)
 
-settle-live : (st m : List ℕ) (n t base : ℕ) (v : Operand) → n ≤ length st → t ≤ length m → base ≤ t → (r : Tops) (st′ : List ℕ) → landed r st′ ≡ settled st n t base v
-    → Live r st′ m (settledOn (length st) (take n st) (take t m) base v)
-unfolding settledOn settled
-settle-live st m n t base v hn ht up r st′ is =
+put-below-live : (st m : List ℕ) (n t base : ℕ) (v : Operand) → n ≤ length st → t ≤ length m → base ≤ t → (r : Tops) (st′ : List ℕ) → landed r st′ ≡ putBelow st n t base v
+    → Live r st′ m (putBelowOn (length st) (take n st) (take t m) base v)
+unfolding putBelowOn putBelow
+put-below-live st m n t base v hn ht up r st′ is =
     split (ltb (t - base) (width v))
     (λ f. let q : landed r st′ ≡ landed Stuck st = rw (le-ltb t base up, f) at is in
     live-stuck r st′ m _ (landed-is q .0) (rw (length-take-le t m ht, f)))
@@ -310,11 +311,11 @@ module _ (vals : List (List ℕ)) (op : ℕ) (x y : Operand) (st m : List ℕ) (
 
     pub binary-in : wx ≤ t - wy → (v : Operand)
         → v ≡ operand (combined vals op (valueOf x (take (t - wy - (t - wy - wx)) (drop (t - wy - wx) m))) (valueOf y (take (t - (t - wy)) (drop (t - wy) m))))
-        → (r : Tops) (st′ : List ℕ) → landed r st′ ≡ settled st n t (t - wy - wx) v → Live r st′ m (binaryOn (length st) vals op x y (take n st) (take t m))
+        → (r : Tops) (st′ : List ℕ) → landed r st′ ≡ putBelow st n t (t - wy - wx) v → Live r st′ m (binaryOn (length st) vals op x y (take n st) (take t m))
     unfolding binaryOn
     binary-in h v ve r st′ is =
         rw (length-take-le t m ht, ← wye, le-ltb t wy up, ← wxe, le-ltb (t - wy) wx h, take-take (t - wy) t m (omega arith), drop-take (t - wy - wx) (t - wy) m, drop-take (t - wy) t m, ← ve)
-        (settle-live st m n t (t - wy - wx) v hn ht (omega arith) r st′ is)
+        (put-below-live st m n t (t - wy - wx) v hn ht (omega arith) r st′ is)
 
 -- the ways out of `binary_step`
 module _ (depth : ℕ) (vals : List (List ℕ)) (op : ℕ) (st m : List ℕ) (n t : ℕ) (hn : n ≤ length st) (st′ : List ℕ) where

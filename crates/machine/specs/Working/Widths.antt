@@ -27,6 +27,7 @@ use Rattle.expression.specs.Working.Clauses.{applied, combined}
 use Rattle.expression.specs.Theorems.Numbered.{binary-number}
 use Rattle.machine.specs.Working.Need.{spanOf, span}
 use Rattle.machine.specs.Working.Kinds.{of-pick, of-text, of-ranged, of-integers, of-tests, of-converted, of-negative, of-opposite, of-floats, of-to-float, of-float-negative}
+use Rattle.limits.specs.Limits.{mostString}
 
 -- a value without bytes
 pub record Plain (v : Value) : Type 0 where
@@ -113,7 +114,7 @@ front-pick false p q = q
 
 front-held : (l : List ℕ) → Front (held l) l
 unfolding held
-front-held l = front-pick (ltb 4096 (length l)) {a = fault} {b = text l} (front-plain fault l plain-fault) (front-all l)
+front-held l = front-pick (ltb mostString (length l)) {a = fault} {b = text l} (front-plain fault l plain-fault) (front-all l)
 
 front-textual : (op : ℕ) (a b : List ℕ) → Front (textual op a b) (a ++ b)
 unfolding textual
@@ -145,14 +146,14 @@ front-combined vals op v w =
 
 -- a value of at most 4,096 bytes
 record Short (v : Value) : Type 0 where
-  pub most : length (bytesOf v) ≤ 4096
+  pub most : length (bytesOf v) ≤ mostString
 
 short-plain : (v : Value) → Plain v → Short v
 short-plain v p = record { most = rw (p .none) (omega arith) }
 
 short-held : (b : List ℕ) → Short (held b)
 unfolding held bytesOf
-short-held b = record { most = split (ltb 4096 (length b)) (λ f. rw f (omega arith)) (λ f. rw f (ltb-false _ _ f)) }
+short-held b = record { most = split (ltb mostString (length b)) (λ f. rw f (omega arith)) (λ f. rw f (ltb-false _ _ f)) }
 
 short-pick : (t : Bool) {a b : Value} → Short a → Short b → Short (pick t a b)
 short-pick true p q = p

@@ -16,17 +16,19 @@ use Rattle.principal.specs.Members.{member}
 use Rattle.principal.specs.Places.{place}
 use Rattle.expression.specs.Names.{environment}
 use Rattle.expression.specs.Tables.{Shows}
-use Rattle.index.specs.Entry.{nameAt}
+use Rattle.index.specs.Entry.{identifierAt}
 use Rattle.index.specs.Index.{enter, Holds}
 use Rattle.index.specs.IndexLaws.{names-are}
 use Rattle.index.specs.EnterLaws.{fresh, enter-is, enter-member, place-same, place-below}
+use Rattle.index.specs.Working.Adding.{indexOf}
 use Rattle.index.specs.Working.Entering.{Kept}
 use Rattle.lexical.specs.Kind
+use Rattle.lexical.specs.Kind.{ending}
 use Rattle.lexical.specs.declared.token.Token.{Token}
 use Rattle.syntax.specs.Parsed.{Parsed, ok, aside, andThen, refusal}
 use Rattle.syntax.specs.Stood.{Stood}
 use Rattle.conditions.specs.Word.{nextAt}
-use Rattle.fields.specs.Parsed.{ending, ended}
+use Rattle.fields.specs.Parsed.{ended}
 use Rattle.fields.specs.Theorems.Together.{refusal-some}
 use Rattle.naming.specs.Theorems.Entry.{holds-before, EntryRead, entry-at}
 use Rattle.naming.specs.Source.{Source, Author}
@@ -35,10 +37,11 @@ use Rattle.naming.specs.Authorizer.{authorizer}
 use Rattle.naming.specs.Naming.{identified, author}
 use Rattle.naming.specs.Fault as Spec
 use Rattle.naming.specs.Fault.{verified, clear, faulty, sourceFault, policyFault, authorFault}
-use Rattle.naming.specs.Working.Faults.{against, meant, reasonOf}
+use Rattle.naming.specs.Working.Faults.{meant}
+use Rattle.syntax.specs.Working.Faults.{against}
 use Rattle.naming.specs.Working.Identifying.{sight, Done, named, ofNumber, ofKept, stringNamed, isPlain}
 use Rattle.naming.specs.Working.Authorizing.{Made, made, policyAt, barredAt, barFault, authorizerEnd, authoredIn, onAuthor, authorNamed, authorizerIn}
-use Rattle.naming.specs.declared.fault.Fault.{Fault}
+use Rattle.syntax.specs.declared.fault.Fault.{Fault}
 use Rattle.naming.specs.declared.identifier.Named.the-variants.{Nobody}
 use Rattle.naming.specs.declared.authorizer.Author.the-variants.{On, Aside}
 use Rattle.naming.specs.Theorems.StandIn.{entered, entered-is}
@@ -51,11 +54,11 @@ authorNow q a = entered (environment q (a .constants)) (a .by)
 -- the same fault, or the same authorizer and token behind: the index holds the principal, at the number found, and the fault kept is the field's
 pub data AuthorRead (standing : ℕ) (q : Query) (s pool places : List ℕ) (count end : ℕ) (names : List Principal) : Parsed Author → Made → Type 0 where
   author-aside : (r p : ℕ) (pool′ places′ : List ℕ) → (r ≡ 0 → ⊥) → length pool′ ≡ length pool → length places′ ≡ length places → Holds pool′ places′ count end names
-      → AuthorRead standing q s pool places count end names (aside r p) (made (Aside r p) pool′ places′)
+      → AuthorRead standing q s pool places count end names (aside r p) (made (Aside (against r p)) pool′ places′)
   author-on : (a : Author) (i c e : ℕ) (f : Fault) (n : Token) (pool′ places′ : List ℕ) → Stood s n
       → i ≡ place (enter names (authorNow q a)) (authorNow q a) → Holds pool′ places′ c e (enter names (authorNow q a)) → e ≤ mostCounted * c → e ≤ end + mostCounted
       → meant f ≡ authorFault standing q a → length pool′ ≡ length pool → length places′ ≡ length places
-      → AuthorRead standing q s pool places count end names (ok a n) (made (On i c e f n) pool′ places′)
+      → AuthorRead standing q s pool places count end names (ok a n) (made (On i (indexOf c e) f n) pool′ places′)
 
 -- is the principal at a member's number POLICY? as the member is
 policy-is : {pool places : List ℕ} {c e : ℕ} {names : List Principal} → Holds pool places c e names → (p : Principal) → member p names ≡ true
@@ -63,12 +66,12 @@ policy-is : {pool places : List ℕ} {c e : ℕ} {names : List Principal} → Ho
 unfolding policyAt
 policy-is {pool} {places} {c} {e} {names} holds p m =
     let b : place names p < c = omega (arith, place-below names p m, holds .counted) in
-    let a : map (nameAt pool) (take c places) ≡ names = names-are holds in
-    let g : nameAt pool (getD places (place names p) 0) ≡ getD names (place names p) (nameAt pool 0)
-    = ap (nameAt pool) (sym (getD-take c places (place names p) 0 b)) ∙ sym (List·getD-map (nameAt pool) (take c places) (place names p) 0)
-    ∙ ap (λ (l : List Principal). getD l (place names p) (nameAt pool 0)) a in
+    let a : map (identifierAt pool) (take c places) ≡ names = names-are holds in
+    let g : identifierAt pool (getD places (place names p) 0) ≡ getD names (place names p) (identifierAt pool 0)
+    = ap (identifierAt pool) (sym (getD-take c places (place names p) 0 b)) ∙ sym (List·getD-map (identifierAt pool) (take c places) (place names p) 0)
+    ∙ ap (λ (l : List Principal). getD l (place names p) (identifierAt pool 0)) a in
     rw (lt-leb (length places) (place names p) (omega (arith, holds .inTable)), g)
-    (sym (same-left p (getD names (place names p) (nameAt pool 0)) policy (place-same names p (nameAt pool 0) m)))
+    (sym (same-left p (getD names (place names p) (identifierAt pool 0)) policy (place-same names p (identifierAt pool 0) m)))
 
 module _ (standing : ℕ) (q : Query) (constants : List Attribute) (s pool places : List ℕ) (count end : ℕ) (names : List Principal) (holds : Holds pool places count end names) where
   abbrev Read : Parsed Author → Made → Type 0
@@ -81,7 +84,7 @@ module _ (standing : ℕ) (q : Query) (constants : List Attribute) (s pool place
   module _ (x : Source) (c e : ℕ) (pool′ places′ : List ℕ) (new : Holds pool′ places′ c e (enter names (authorNow q (Of x)))) (low : e ≤ mostCounted * c) (near : e ≤ end + mostCounted)
       (samePool : length pool′ ≡ length pool) (samePlaces : length places′ ≡ length places) where
     end-read : (i : ℕ) (f : Fault) (n : Token) → Stood s n → i ≡ place (enter names (authorNow q (Of x))) (authorNow q (Of x)) → meant f ≡ authorFault standing q (Of x)
-        → Read (ended (Of x) n) (made (authorizerEnd i c e f n) pool′ places′)
+        → Read (ended (Of x) n) (made (authorizerEnd i (indexOf c e) f n) pool′ places′)
     unfolding authorizerEnd
     end-read i f n sn ie fe =
         split (ending (n .kind))
@@ -92,7 +95,7 @@ module _ (standing : ℕ) (q : Query) (constants : List Attribute) (s pool place
   -- what is against a principal that is one
   bar-meant : (x : Source) → sourceFault (environment q constants) x ≡ clear → (pool′ places′ : List ℕ) (i : ℕ)
       → policyAt pool′ places′ i ≡ same (identified (environment q constants) x) policy → meant (barFault standing pool′ places′ i (x .place)) ≡ authorFault standing q (Of x)
-  unfolding barFault barredAt meant reasonOf authorFault policyFault author
+  unfolding barFault barredAt meant authorFault policyFault author
   bar-meant x f pool′ places′ i e =
       split (eqb standing verified)
       (λ g. split (same (identified (environment q constants) x) policy) (λ h. rw (f, g, e, h)) (λ h. rw (f, g, e, h)))
@@ -119,7 +122,7 @@ module _ (standing : ℕ) (q : Query) (constants : List Attribute) (s pool place
 
     -- where it is nobody, only 10 is against it
     nobody-meant : (x : Source) → sourceFault (environment q constants) x ≡ faulty 10 (x .place) → meant (against 10 (x .place)) ≡ authorFault standing q (Of x)
-    unfolding meant reasonOf authorFault policyFault
+    unfolding meant authorFault policyFault
     nobody-meant x f =
         split (eqb standing verified)
         (λ g. split (same (author q (Of x)) policy) (λ h. rw (f, g, h) (rw (le-leb (x .place) (x .place) (omega arith)))) (λ h. rw (f, g, h)))

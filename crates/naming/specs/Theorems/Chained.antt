@@ -39,6 +39,7 @@ use Rattle.naming.specs.declared.list.Licensed.the-variants.{On, Aside}
 use Rattle.naming.specs.Theorems.StandIn.{peopleNow, faults, faults-one, faults-append, named-count}
 use Rattle.naming.specs.Theorems.Growing.{Ready, Stays, Grown, stays-self, stays-then, stays-ready, stays-again, grown-then, grown-push, grown-ready, grown-again}
 use Rattle.naming.specs.Theorems.Listed.{ExpressionRead, expression-aside, expression-on, LicenseeRead, licensee-aside, licensee-on, licensee-read, threshold-read}
+use Rattle.syntax.specs.Working.Faults.{against}
 
 module _ (env : Environment) where
   -- whom it names, and the code for it
@@ -98,7 +99,7 @@ module _ (env : Environment) where
 
       abbrev Turns : Sources × Token → Loop → Step (Sources × Token) (Parsed Sources) → Step Loop Ran → Type 0
       Turns = Steps (λ x. mostLicensees - (st .listed + length (sources (x .0)))) (λ x. unexpected (x .1)) (chainTurn s joint join operand (st .listed))
-          (λ x. mostLicensees - x .0 .listed) (λ x. ran (Aside 0 0) (x .2) (x .3) (x .4)) (moreTurn writer s level)
+          (λ x. mostLicensees - x .0 .listed) (λ x. ran (Aside (against 0 0)) (x .2) (x .3) (x .4)) (moreTurn writer s level)
           (Operands s pool places code st names) Whole
 
       module _ (x : Sources) (t : Token) (u : State) (pool′ places′ code′ : List ℕ) (st-t : Stood s t) (formed : Formed (peopleNow env x))
@@ -118,7 +119,7 @@ module _ (env : Environment) where
         joined-turn : (p : Parsed Sources) (r : Ran) → ExpressionRead env s pool′ places′ code′ u (enterAll names (namesOf x)) p r
             → Turns (x, t) (u, t, pool′, places′, code′) (onOperand join x p) (onJoined level u r)
         joined-turn _ _ (expression-aside r p pool″ places″ code″ h more) =
-            both-done (aside r p) (ran (Aside r p) pool″ places″ code″) (expression-aside r p pool″ places″ code″ h (stays-then grown more))
+            both-done (aside r p) (ran (Aside (against r p)) pool″ places″ code″) (expression-aside r p pool″ places″ code″ h (stays-then grown more))
         joined-turn _ _ (expression-on y w n pool″ places″ code″ sn f more) =
             let some : 0 < length (namesOf y) = named-some f in
             let k : length (sources (join x y)) ≡ length (sources x) + length (sources y) = ap length (joins .lists x y) ∙ length-append (sources x) (sources y) in
@@ -260,7 +261,7 @@ module _ {rec consts values keys constants : List ℕ} {env : Environment} (show
 
   pub primary-reads : (left : ℕ) → Reads env s (λ n t. primary s left n t) (λ p q m u n. primaryAt left s (sight rec consts values keys constants) p q m u n)
   unfolding primary primaryAt
-  primary-reads zero = body-reads 0 (λ n t. unexpected t) (λ p q m u n. ran (Aside 0 0) p q m) (λ h. absurd (h refl))
+  primary-reads zero = body-reads 0 (λ n t. unexpected t) (λ p q m u n. ran (Aside (against 0 0)) p q m) (λ h. absurd (h refl))
   primary-reads (suc left) =
       body-reads (suc left) (λ n t. expressionOf s (λ n t. primary s left n t) n t)
       (λ p q m u n. operandOf (λ p q m u n. primaryAt left s (sight rec consts values keys constants) p q m u n) s 2 p q m u n)

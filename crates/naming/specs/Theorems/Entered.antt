@@ -15,7 +15,7 @@ use Rattle.limits.specs.Limits.{mostIdentifier, mostCounted, mostNumbers}
 use Rattle.lexical.specs.Theorems.Bounds.{chosen}
 use Rattle.lexical.specs.Kind
 use Rattle.lexical.specs.Literal.{decodedAt}
-use Rattle.lexical.specs.Plain.{bare-given}
+use Rattle.lexical.specs.Working.Plain.{bare-given}
 use Rattle.lexical.specs.declared.token.Token.{Token}
 use Rattle.principal.specs.Principal.{Principal}
 use Rattle.syntax.specs.Operator.{a-string}
@@ -50,7 +50,8 @@ use Rattle.naming.specs.Working.Identifying.{sight, Done, named, ofKept,
 use Rattle.judge.specs.declared.string.Said.the-variants.{On}
 use Rattle.naming.specs.declared.identifier.Named.the-variants.{Nobody, Aside}
 use Rattle.naming.specs.Theorems.Says.{Saying, said-not, said-value, string-field-read}
-use Rattle.naming.specs.Theorems.Words.{word-is}
+use Rattle.fields.specs.Theorems.Words.{word-is}
+use Rattle.syntax.specs.Working.Faults.{against}
 
 -- no operator that binds a string goes on behind another token than "."
 not-bound : (k : ℕ) → (k ≡ Kind.DOT → ⊥) → Table.binds 3 (Table.operator (sorted a-string) k) ≡ false
@@ -95,7 +96,7 @@ module _ (s : List ℕ) (nest : ℕ) (t : Token) (other : nextAt s (t .end) .kin
 
 -- the same fault, or the same expression and token behind, at the same place: it identifies nobody, or the index holds whom it identifies
 pub data SourceRead (env : Environment) (s pool places : List ℕ) (count end : ℕ) (names : List Principal) : ℕ → Parsed Source → Done → Type 0 where
-  source-aside : (at r p : ℕ) → (r ≡ 0 → ⊥) → SourceRead env s pool places count end names at (aside r p) (named (Aside r p) pool places)
+  source-aside : (at r p : ℕ) → (r ≡ 0 → ⊥) → SourceRead env s pool places count end names at (aside r p) (named (Aside (against r p)) pool places)
   source-nobody : (x : Source) (n : Token) → Stood s n → sourceFault env x ≡ faulty 10 (x .place)
       → SourceRead env s pool places count end names (x .place) (ok x n) (named (Nobody n) pool places)
   source-at : (x : Source) (n : Token) → Stood s n → sourceFault env x ≡ clear → (k : Kept) → EntryRead pool places count end names (identified env x) k
@@ -273,7 +274,7 @@ module _ (s : List ℕ) where
 
 -- a fault in both
 pub data BothAside (pool places : List ℕ) : Parsed Source → Done → Type 0 where
-  both-aside : (r p : ℕ) → (r ≡ 0 → ⊥) → BothAside pool places (aside r p) (named (Aside r p) pool places)
+  both-aside : (r p : ℕ) → (r ≡ 0 → ⊥) → BothAside pool places (aside r p) (named (Aside (against r p)) pool places)
 
 isRead : {A : Type 0} → Parsed A → Bool
 isRead (ok x n) = true

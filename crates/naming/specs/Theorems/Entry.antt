@@ -28,7 +28,7 @@ holds-before {pool} {places} {pool′} {places′} {count} {end} names more old 
 -- an identifier entered: its number, and the index with it
 pub data EntryRead (pool places : List ℕ) (count end : ℕ) (names : List Principal) (id : Principal) : Kept → Type 0 where
   entry-at : (c e : ℕ) (pool′ places′ : List ℕ) → Holds pool′ places′ c e (enter names id) → e ≤ mostCounted * c → c ≤ count + 1 → e ≤ end + mostCounted
-      → length pool′ ≡ length pool → length places′ ≡ length places → EntryRead pool places count end names id (numbered (At (place (enter names id) id) c e) pool′ places′)
+      → length pool′ ≡ length pool → length places′ ≡ length places → EntryRead pool places count end names id (numbered (At c (place (enter names id) id) e) pool′ places′)
 
 module _ (pool places : List ℕ) (count end : ℕ) (names : List Principal) (holds : Holds pool places count end names) (low : end ≤ mostCounted * count) (id : Principal)
     (short : length id ≤ mostIdentifier) (few : count < mostNumbers) (room : count < length places) (fits : end + mostCounted ≤ length pool) where
@@ -38,7 +38,7 @@ module _ (pool places : List ℕ) (count end : ℕ) (names : List Principal) (ho
   known m =
       let same : enter names id ≡ names = rw m in
       let h : Holds pool places count end (enter names id) = rw same holds in
-      let r : EntryRead pool places count end names id (numbered (At (place (enter names id) id) count end) pool places)
+      let r : EntryRead pool places count end names id (numbered (At count (place (enter names id) id) end) pool places)
       = entry-at count end pool places h low (omega arith) (omega arith) refl refl in
       rw (walk-known holds id m) (rw same at r)
 
@@ -50,7 +50,7 @@ module _ (pool places : List ℕ) (count end : ℕ) (names : List Principal) (ho
       let more : enter names id ≡ names ++ (id ∷ []) = rw m in
       let at : place (enter names id) id ≡ count = rw m (place-added names id m ∙ sym (holds .counted)) in
       let h : Holds (put pool end (stringBytes id)) (f .table) (count + 1) (end + 2 + length id) (enter names id) = rw more (f .held) in
-      let r : EntryRead pool places count end names id (numbered (At (place (enter names id) id) (count + 1) (end + 2 + length id)) (put pool end (stringBytes id)) (f .table))
+      let r : EntryRead pool places count end names id (numbered (At (count + 1) (place (enter names id) id) (end + 2 + length id)) (put pool end (stringBytes id)) (f .table))
       = entry-at (count + 1) (end + 2 + length id) (put pool end (stringBytes id)) (f .table) h (omega (arith, low, short)) (omega arith) (omega (arith, short)) (put-length pool end (stringBytes id) (omega (arith, short, fits))) (f .long) in
       rw (f .gives) (rw at at r)
 

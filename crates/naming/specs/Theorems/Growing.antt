@@ -25,14 +25,14 @@ use Rattle.naming.specs.Theorems.StandIn.{earlier-clear, earlier-assoc}
 
 -- the index holds the names, POLICY first, and the room is enough for the licensees that may follow
 pub record Ready (pool places code : List ℕ) (st : State) (names : List Principal) : Type 0 where
-  pub holds : Holds pool places (st .count) (st .end) names
-  pub low : st .end ≤ mostCounted * st .count
+  pub holds : Holds pool places (st .index .count) (st .index .end) names
+  pub low : st .index .end ≤ mostCounted * st .index .count
   pub known : member policy names ≡ true
   pub first : place names policy ≡ 0
   pub few : st .listed ≤ mostLicensees
-  pub tableRoom : st .count + mostLicensees ≤ length places + st .listed
-  pub namesRoom : st .count + mostLicensees ≤ mostNumbers + st .listed
-  pub poolRoom : st .end + mostLicensees * mostCounted ≤ length pool + mostCounted * st .listed
+  pub tableRoom : st .index .count + mostLicensees ≤ length places + st .listed
+  pub namesRoom : st .index .count + mostLicensees ≤ mostNumbers + st .listed
+  pub poolRoom : st .index .end + mostLicensees * mostCounted ≤ length pool + mostCounted * st .listed
   pub codeRoom : st .size + mostCode ≤ length code + 3 * st .listed
 
 -- what was there before is there still
@@ -40,16 +40,16 @@ pub record Stays (pool places code : List ℕ) (st : State) (names : List Princi
   pub samePool : length pool′ ≡ length pool
   pub samePlaces : length places′ ≡ length places
   pub sameCode : length code′ ≡ length code
-  pub held : Holds pool′ places′ (st .count) (st .end) names
+  pub held : Holds pool′ places′ (st .index .count) (st .index .end) names
   pub front : take (st .size) code′ ≡ take (st .size) code
 
 -- the licensees ps were entered, prog was written, and f is against them
 pub record Grown (pool places code : List ℕ) (st : State) (names ps : List Principal) (prog : List ℕ) (f : Fault) (u : State) (pool′ places′ code′ : List ℕ) : Type 0 where
   pub stays : Stays pool places code st names pool′ places′ code′
-  pub holds : Holds pool′ places′ (u .count) (u .end) (enterAll names ps)
-  pub low : u .end ≤ mostCounted * u .count
-  pub countUp : u .count ≤ st .count + length ps
-  pub endUp : u .end ≤ st .end + mostCounted * length ps
+  pub holds : Holds pool′ places′ (u .index .count) (u .index .end) (enterAll names ps)
+  pub low : u .index .end ≤ mostCounted * u .index .count
+  pub countUp : u .index .count ≤ st .index .count + length ps
+  pub endUp : u .index .end ≤ st .index .end + mostCounted * length ps
   pub listed : u .listed ≡ st .listed + length ps
   pub few : u .listed ≤ mostLicensees
   pub size : u .size ≡ st .size + length prog

@@ -21,7 +21,8 @@ use Rattle.index.specs.Index.{enterAll, Holds}
 use Rattle.lexical.specs.declared.token.Token.{Token}
 use Rattle.syntax.specs.Parsed.{Parsed, ok, aside, andThen, refusal}
 use Rattle.syntax.specs.Stood.{Stood}
-use Rattle.fields.specs.Parsed.{ending, ended}
+use Rattle.lexical.specs.Kind.{ending}
+use Rattle.fields.specs.Parsed.{ended}
 use Rattle.naming.specs.Working.Code.{above, pushed}
 use Rattle.fields.specs.Theorems.Together.{both, refusal-some}
 use Rattle.naming.specs.Theorems.Code.{compile-short}
@@ -29,6 +30,7 @@ use Rattle.naming.specs.Source.{Sources, Licensees, missing, empty, give
 use Rattle.naming.specs.Licensees.{primary, expression, licensees}
 use Rattle.naming.specs.Fault.{licenseesFault}
 use Rattle.naming.specs.Working.Faults.{meant, clearAt}
+use Rattle.syntax.specs.Working.Faults.{against}
 use Rattle.naming.specs.Working.Identifying.{sight}
 use Rattle.naming.specs.Working.List.{Ran, ran, stateOf}
 use Rattle.naming.specs.Working.Chain.{onOn, primaryAt, operandAt, moreAt, chainAt, endIn, fieldIn}
@@ -48,10 +50,10 @@ heldBy q f = Compliance.licensees (licensedNow q f)
 pub data LicenseesRead (q : Query) (s pool places code : List ℕ) (count end size : ℕ) (names : List Principal) : Parsed Licensees → Ran → Type 0 where
   licensees-aside : (r p : ℕ) (pool′ places′ code′ : List ℕ) → (r ≡ 0 → ⊥)
       → length pool′ ≡ length pool → length places′ ≡ length places → length code′ ≡ length code → Holds pool′ places′ count end names → take size code′ ≡ take size code
-      → LicenseesRead q s pool places code count end size names (aside r p) (ran (Aside r p) pool′ places′ code′)
+      → LicenseesRead q s pool places code count end size names (aside r p) (ran (Aside (against r p)) pool′ places′ code′)
   licensees-on : (f : Licensees) (u : State) (n : Token) (pool′ places′ code′ : List ℕ) → Stood s n
-      → Holds pool′ places′ (u .count) (u .end) (enterAll names (heldBy q f)) → u .end ≤ mostCounted * u .count
-      → u .end ≤ end + mostCounted * length (heldBy q f)
+      → Holds pool′ places′ (u .index .count) (u .index .end) (enterAll names (heldBy q f)) → u .index .end ≤ mostCounted * u .index .count
+      → u .index .end ≤ end + mostCounted * length (heldBy q f)
       → take (u .size) code′ ≡ take size code ++ compiled (enterAll names (heldBy q f)) (licensedNow q f)
       → u .size ≡ size + length (compiled (enterAll names (heldBy q f)) (licensedNow q f)) → u .size ≤ size + mostCode
       → length (heldBy q f) ≤ mostLicensees → ((e : Compliance.Expression) → licensedNow q f ≡ Compliance.given e → Formed e) → (licensedNow q f ≡ Compliance.missing → ⊥)
@@ -78,7 +80,7 @@ module _ (q : Query) (constants : List Attribute) (s pool places code : List ℕ
   abbrev Start : State
   Start = stateOf count end size 0 clearAt
 
-  set-aside : (r p : ℕ) (pool′ places′ code′ : List ℕ) → (r ≡ 0 → ⊥) → Stays pool places code Start names pool′ places′ code′ → Read (aside r p) (ran (Aside r p) pool′ places′ code′)
+  set-aside : (r p : ℕ) (pool′ places′ code′ : List ℕ) → (r ≡ 0 → ⊥) → Stays pool places code Start names pool′ places′ code′ → Read (aside r p) (ran (Aside (against r p)) pool′ places′ code′)
   set-aside r p pool′ places′ code′ h more = licensees-aside r p pool′ places′ code′ h (more .samePool) (more .samePlaces) (more .sameCode) (more .held) (more .front)
 
   set-down : (f : Licensees) (u : State) (n : Token) (pool′ places′ code′ : List ℕ) → Stood s n

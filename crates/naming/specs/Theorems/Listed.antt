@@ -36,7 +36,8 @@ use Rattle.naming.specs.String.{plainFrom}
 use Rattle.naming.specs.Licensees.{after, licensee, listed, onListed, listTurn, listFrom, listOpened, ofRead, threshold}
 use Rattle.naming.specs.Naming.{identified}
 use Rattle.naming.specs.Fault.{clear, faulty, sourceFault, firstFault}
-use Rattle.naming.specs.Working.Faults.{against, firstOf, meant, reasonOf, first-meant}
+use Rattle.naming.specs.Working.Faults.{firstOf, meant, first-meant}
+use Rattle.syntax.specs.Working.Faults.{against}
 use Rattle.naming.specs.Working.Identifying.{sight, Done, named, ofNumber, ofKept, isPlain}
 use Rattle.naming.specs.Working.List.{Ran, ran, wrote, refusedLicensed, sized, stateOf, placedIn, onWrote, onNamed, beforeIn, isOver, stringIn, licenseeIn, itemsOf, listedIn, Loop, onItem, listIn, openedIn, ofIn, thresholdOf, thresholdIn}
 use Rattle.naming.specs.Working.List.{listTurn as itemTurn}
@@ -50,7 +51,7 @@ use Rattle.naming.specs.Theorems.Entered.{SourceRead, source-aside, sour
 -- the same fault, or the same expression and token behind: its licensees entered, its code written, what is against them kept
 pub data ExpressionRead (env : Environment) (s pool places code : List ℕ) (st : State) (names : List Principal) : Parsed Sources → Ran → Type 0 where
   expression-aside : (r p : ℕ) (pool′ places′ code′ : List ℕ) → (r ≡ 0 → ⊥) → Stays pool places code st names pool′ places′ code′
-      → ExpressionRead env s pool places code st names (aside r p) (ran (Aside r p) pool′ places′ code′)
+      → ExpressionRead env s pool places code st names (aside r p) (ran (Aside (against r p)) pool′ places′ code′)
   expression-on : (x : Sources) (u : State) (n : Token) (pool′ places′ code′ : List ℕ) → Stood s n → Formed (peopleNow env x)
       → Grown pool places code st names (Compliance.named (peopleNow env x)) (compile (enterAll names (Compliance.named (peopleNow env x))) (peopleNow env x)) (faults env (sources x)) u
       pool′ places′ code′
@@ -59,7 +60,7 @@ pub data ExpressionRead (env : Environment) (s pool places code : List ℕ) (st 
 -- the same of one licensee
 pub data LicenseeRead (env : Environment) (s pool places code : List ℕ) (st : State) (names : List Principal) : Parsed Source → Ran → Type 0 where
   licensee-aside : (r p : ℕ) (pool′ places′ code′ : List ℕ) → (r ≡ 0 → ⊥) → Stays pool places code st names pool′ places′ code′
-      → LicenseeRead env s pool places code st names (aside r p) (ran (Aside r p) pool′ places′ code′)
+      → LicenseeRead env s pool places code st names (aside r p) (ran (Aside (against r p)) pool′ places′ code′)
   licensee-on : (x : Source) (u : State) (n : Token) (pool′ places′ code′ : List ℕ) → Stood s n
       → Grown pool places code st names (entered env x ∷ []) (place (enterAll names (entered env x ∷ [])) (entered env x) ∷ []) (sourceFault env x) u pool′ places′ code′
       → LicenseeRead env s pool places code st names (ok x n) (ran (On u n) pool′ places′ code′)
@@ -69,8 +70,8 @@ module _ (env : Environment) (s pool places code : List ℕ) (st : State) (names
   Here = LicenseeRead env s pool places code st names
 
   -- whom an expression identifies, entered
-  module _ (id : Principal) (c e : ℕ) (pool′ places′ : List ℕ) (new : Holds pool′ places′ c e (enter names id)) (low : e ≤ mostCounted * c) (few : c ≤ st .count + 1)
-      (near : e ≤ st .end + mostCounted) (samePool : length pool′ ≡ length pool) (samePlaces : length places′ ≡ length places) where
+  module _ (id : Principal) (c e : ℕ) (pool′ places′ : List ℕ) (new : Holds pool′ places′ c e (enter names id)) (low : e ≤ mostCounted * c) (few : c ≤ st .index .count + 1)
+      (near : e ≤ st .index .end + mostCounted) (samePool : length pool′ ≡ length pool) (samePlaces : length places′ ≡ length places) where
     entered-grown : Grown pool places code st names (id ∷ []) [] clear (stateOf c e (st .size) (st .listed + 1) (st .fault)) pool′ places′ code
     unfolding enterAll
     entered-grown = record {
@@ -100,7 +101,7 @@ module _ (env : Environment) (s pool places code : List ℕ) (st : State) (names
     unfolding enterAll
     at-grown = grown-push entered-grown (place (enter names id) id) (omega (arith, more, ready .codeRoom))
 
-  at-read : (x : Source) (n : Token) → Stood s n → sourceFault env x ≡ clear → (k : Kept) → EntryRead pool places (st .count) (st .end) names (identified env x) k
+  at-read : (x : Source) (n : Token) → Stood s n → sourceFault env x ≡ clear → (k : Kept) → EntryRead pool places (st .index .count) (st .index .end) names (identified env x) k
       → Here (ok x n) (onNamed code st (x .place) (ofKept n k))
   unfolding placedIn ofNumber
   at-read x n sn f _ (entry-at c e pool′ places′ new low few near samePool samePlaces) =
@@ -113,8 +114,8 @@ module _ (env : Environment) (s pool places code : List ℕ) (st : State) (names
   unfolding enterAll enter
   policy-kept = rw (ready .known)
 
-  nobody-grown : (at : ℕ) → Grown pool places code st names (policy ∷ []) [] (faulty 10 at) (stateOf (st .count) (st .end) (st .size) (st .listed + 1) (firstOf (st .fault) (against 10 at))) pool places code
-  unfolding meant reasonOf
+  nobody-grown : (at : ℕ) → Grown pool places code st names (policy ∷ []) [] (faulty 10 at) (stateOf (st .index .count) (st .index .end) (st .size) (st .listed + 1) (firstOf (st .fault) (against 10 at))) pool places code
+  unfolding meant
   nobody-grown at = record {
     stays = stays-self ready;
     holds = rw policy-kept (ready .holds);
@@ -137,10 +138,10 @@ module _ (env : Environment) (s pool places code : List ℕ) (st : State) (names
   nobody-read x n sn f =
       let z : place (enterAll names (policy ∷ [])) policy ≡ 0 = rw policy-kept (ready .first) in
       rw (lt-leb mostLicensees (st .listed) more)
-      (licensee-on x (stateOf (st .count) (st .end) (above code (st .size)) (st .listed + 1) (firstOf (st .fault) (against 10 (x .place)))) n pool places (pushed code (st .size) 0) sn
+      (licensee-on x (stateOf (st .index .count) (st .index .end) (above code (st .size)) (st .listed + 1) (firstOf (st .fault) (against 10 (x .place)))) n pool places (pushed code (st .size) 0) sn
       (rw (f, stand-in x (x .place) f, z) (grown-push (nobody-grown (x .place)) 0 (omega (arith, more, ready .codeRoom)))))
 
-  named-read : (at : ℕ) (x : Parsed Source) (y : Done) → SourceRead env s pool places (st .count) (st .end) names at x y → Here x (onNamed code st at y)
+  named-read : (at : ℕ) (x : Parsed Source) (y : Done) → SourceRead env s pool places (st .index .count) (st .index .end) names at x y → Here x (onNamed code st at y)
   unfolding placedIn
   named-read _ _ _ (source-aside at r p h) = licensee-aside r p pool places code h (stays-self ready)
   named-read _ _ _ (source-nobody x n sn f) = nobody-read x n sn f
@@ -163,11 +164,11 @@ module _ {rec consts values keys constants : List ℕ} {env : Environment} (show
         (λ g. rw g
         (both One (beginsString (plainFrom left s t .kind)) _ _ _ _
         (λ b. licensee-aside 7 (plainFrom left s t .start) pool places code (λ y. omega (arith, y)) (stays-self ready))
-        (λ b. none-read (plainFrom left s t .start) _ _ (string-refused shows s short pool places (st .count) (st .end) left t stood b))))
+        (λ b. none-read (plainFrom left s t .start) _ _ (string-refused shows s short pool places (st .index .count) (st .index .end) left t stood b))))
         (λ g. let more : st .listed < mostLicensees = leb-false _ _ g in
         rw g
         (named-read env s pool places code st names ready more (plainFrom left s t .start) _ _
-        (string-named-read shows s short pool places (st .count) (st .end) names (ready .holds) (ready .low)
+        (string-named-read shows s short pool places (st .index .count) (st .index .end) names (ready .holds) (ready .low)
         (omega (arith, more, ready .namesRoom)) (omega (arith, more, ready .tableRoom)) (omega (arith, more, ready .poolRoom)) left t stood)))
 
     -- a name or a clear literal alone
@@ -179,7 +180,7 @@ module _ {rec consts values keys constants : List ℕ} {env : Environment} (show
         split (leb mostLicensees (st .listed))
         (λ g. rw (g, z, plain-begins s t p) (licensee-aside 7 (t .start) pool places code (λ y. omega (arith, y)) (stays-self ready)))
         (λ g. let more : st .listed < mostLicensees = leb-false _ _ g in
-        let r : _ = plain-named-read shows s short pool places (st .count) (st .end) names (ready .holds) (ready .low)
+        let r : _ = plain-named-read shows s short pool places (st .index .count) (st .index .end) names (ready .holds) (ready .low)
         (omega (arith, more, ready .namesRoom)) (omega (arith, more, ready .tableRoom)) (omega (arith, more, ready .poolRoom)) left t stood other p in
         rw g (named-read env s pool places code st names ready more (t .start) _ _ (rw z at r)))
 
@@ -246,7 +247,7 @@ module _ {rec consts values keys constants : List ℕ} {env : Environment} (show
   module _ (left : ℕ) where
     abbrev Turns : List Source × Token → Loop → Step (List Source × Token) (Parsed Sources) → Step Loop Ran → Type 0
     Turns = Steps (λ x. mostLicensees - (st .listed + length (x .0))) (λ x. unexpected (x .1)) (listTurn s left (st .listed) k)
-        (λ x. mostLicensees - x .0 .listed) (λ x. ran (Aside 0 0) (x .2) (x .3) (x .4)) (itemTurn s (sight rec consts values keys constants) left k (st .listed))
+        (λ x. mostLicensees - x .0 .listed) (λ x. ran (Aside (against 0 0)) (x .2) (x .3) (x .4)) (itemTurn s (sight rec consts values keys constants) left k (st .listed))
         (Items env s pool places code st names) Whole
 
     module _ (xs : List Source) (t : Token) (u : State) (pool′ places′ code′ : List ℕ) (stood : Stood s t) (grown : Listing env pool places code st names xs u pool′ places′ code′) where
@@ -264,7 +265,7 @@ module _ {rec consts values keys constants : List ℕ} {env : Environment} (show
       item-turned : (x : Parsed Source) (y : Ran) → LicenseeRead env s pool′ places′ code′ u (enterAll names (map (entered env) xs)) x y
           → Turns (xs, t) (u, t, pool′, places′, code′) (onListed s k xs x) (onItem s k (st .listed) u y)
       item-turned _ _ (licensee-aside r p pool″ places″ code″ h more) =
-          both-done (aside r p) (ran (Aside r p) pool″ places″ code″) (expression-aside r p pool″ places″ code″ h (stays-then grown more))
+          both-done (aside r p) (ran (Aside (against r p)) pool″ places″ code″) (expression-aside r p pool″ places″ code″ h (stays-then grown more))
       item-turned _ _ (licensee-on x w n pool″ places″ code″ sn more) =
           let g : Listing env pool places code st names (xs ++ (x ∷ [])) w pool″ places″ code″ = joined x w pool″ places″ code″ more in
           let j : length (xs ++ (x ∷ [])) ≡ length xs + 1 = length-append xs (x ∷ []) in
@@ -297,7 +298,7 @@ module _ {rec consts values keys constants : List ℕ} {env : Environment} (show
         loop-same _ _ (listTurn s left (st .listed) k) _ _ (itemTurn s (sight rec consts values keys constants) left k (st .listed)) (Items env s pool places code st names) Whole
         list-turns ([], t) (st, t, pool, places, code) (items [] t st pool places code stood empty-listing)
 
-  set-aside : (r p : ℕ) → (r ≡ 0 → ⊥) → Whole (aside r p) (ran (Aside r p) pool places code)
+  set-aside : (r p : ℕ) → (r ≡ 0 → ⊥) → Whole (aside r p) (ran (Aside (against r p)) pool places code)
   set-aside r p h = expression-aside r p pool places code h (stays-self ready)
 
   refused : (t : Token) → Whole (unexpected t) (ran (refusedLicensed t) pool places code)

@@ -46,6 +46,8 @@ use Rattle.judge.specs.Working.Fit.{Holds, holds-is, Fits, fit, expression-fits
 use Rattle.judge.specs.Working.Saying.{Told, said, valuedAt, saidOf, onRead, saidIn, stringSize, saidHere}
 use Rattle.judge.specs.declared.string.Said.the-variants.{On, Aside}
 use Rattle.naming.specs.Theorems.Strings.{Strung, strung-aside, strung-ok, expression-strung}
+use Rattle.syntax.specs.Working.Faults.{against}
+use Rattle.syntax.specs.declared.fault.Fault.{Fault}
 
 -- a token of the text lies in it
 pub stood-sound : (s : List ℕ) (t : Token) → Stood s t → Sound s t
@@ -65,7 +67,7 @@ stood-sound s t st = rw (st .is) (sound start (λ h. let p : (st .at ≤ u .star
 -- The same reason of document 01 at the same place, nothing written; or the string's value, its bytes counted and put where they fit, before a
 -- token of the text.
 pub data Saying (s : List ℕ) (env : Environment) (out : List ℕ) : Parsed Part → Told → Type 0 where
-  said-not : (r p : ℕ) → (r ≡ 0 → ⊥) → Saying s env out (aside r p) (said (Aside r p) out)
+  said-not : (r p : ℕ) → (r ≡ 0 → ⊥) → Saying s env out (aside r p) (said (Aside (against r p)) out)
   said-value : (e : Expr) (n : Token) → Stood s n
       → Saying s env out (ok (part (sorted a-string) e) n) (said (On (length (bytesOf (evaluate env e))) n) (bufferOf (copyAt out 0 (bytesOf (evaluate env e)))))
 
@@ -100,8 +102,8 @@ module _ {rec consts values names constants : List ℕ} {env : Environment} (sho
     abbrev value : List ℕ → ℕ → Gave
     value b u = valuedAt b u s rec consts values names constants out
 
-    not-none : (r p : ℕ) (b : List ℕ) (x : Ran) → Paced s 0 (t .start) (t .start) x → x ≡ ran (Refused r p) b → r ≡ 0 → ⊥
-    not-none r p b _ (paced-aside r′ p′ b′ h) e z = h (let q : r′ ≡ r = cc e in q ∙ z)
+    not-none : (r p : ℕ) (b : List ℕ) (x : Ran) → Paced s 0 (t .start) (t .start) x → x ≡ ran (Refused (against r p)) b → r ≡ 0 → ⊥
+    not-none r p b _ (paced-aside r′ p′ b′ h) e z = h (let q : against r′ p′ ≡ against r p = cc e in ap (λ (f : Fault). f .reason) q ∙ z)
     not-none r p b _ (paced-found _ _ _ _ _ _ _ _) e z = absurd (let q : _≡_ {A = ℕ} 0 1 = cc e in omega (arith, q))
 
     short-code : (k p u : ℕ) (n : Token) (b : List ℕ) (x : Ran) → Paced s 0 (t .start) (t .start) x → x ≡ ran (Found k p u n) b → u + t .start ≤ n .start

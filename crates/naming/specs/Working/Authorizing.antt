@@ -8,26 +8,29 @@ use lib.ListN.{length, getD}
 use borrow.Author.Tests.{le-leb, lt-leb, eq-eqb, ne-eqb}
 use Rattle.text.specs.Choice.{pick, split}
 use Rattle.limits.specs.Limits.{mostBrackets}
-use Rattle.index.specs.Entry.{nameAt}
+use Rattle.index.specs.Entry.{identifierAt}
 use Rattle.lexical.specs.Kind
+use Rattle.lexical.specs.Kind.{ending}
 use Rattle.lexical.specs.Line.{tokenAt}
 use Rattle.lexical.specs.declared.token.Token.{Token}
 use Rattle.principal.specs.Principal.{same, policy}
 use Rattle.syntax.specs.Parsed.{refusal}
 use Rattle.conditions.specs.Word.{nextAt}
-use Rattle.fields.specs.Parsed.{ending}
 use Rattle.naming.specs.String.{plainFrom}
 use Rattle.naming.specs.Fault.{verified}
-use Rattle.naming.specs.Working.Faults.{against, clearAt}
+use Rattle.naming.specs.Working.Faults.{clearAt}
+use Rattle.syntax.specs.Working.Faults.{against, misplacedAt}
 use Rattle.naming.specs.Working.Identifying.{Sight, Done, named, stringNamed, isPlain, plainNamed}
-use Rattle.naming.specs.declared.fault.Fault.{Fault}
+use Rattle.syntax.specs.declared.fault.Fault.{Fault}
 use Rattle.naming.specs.declared.identifier.Named.{Named}
 use Rattle.naming.specs.declared.identifier.Named.the-variants.{At, Nobody, Aside as Refused}
 use Rattle.naming.specs.declared.authorizer.Author.{Author}
 use Rattle.naming.specs.declared.authorizer.Author.the-variants.{On, Aside}
+use Rattle.index.specs.Working.Adding.{indexOf}
+use Rattle.index.specs.declared.Index.{Index}
 
 unfoldable pub policyAt : List ℕ → List ℕ → ℕ → Bool
-policyAt pool places i = pick (leb (length places) i) false (same (nameAt pool (getD places i 0)) policy)
+policyAt pool places i = pick (leb (length places) i) false (same (identifierAt pool (getD places i 0)) policy)
 
 unfoldable pub barredAt : ℕ → List ℕ → List ℕ → ℕ → Bool
 barredAt standing pool places i = pick (eqb standing verified) (policyAt pool places i) false
@@ -35,8 +38,8 @@ barredAt standing pool places i = pick (eqb standing verified) (policyAt pool pl
 unfoldable pub barFault : ℕ → List ℕ → List ℕ → ℕ → ℕ → Fault
 barFault standing pool places i place = pick (barredAt standing pool places i) (against 9 place) clearAt
 
-unfoldable pub authorizerEnd : ℕ → ℕ → ℕ → Fault → Token → Author
-authorizerEnd i c e f t = pick (ending (t .kind)) (On i c e f t) (Aside (refusal (t .kind)) (t .start))
+unfoldable pub authorizerEnd : ℕ → Index → Fault → Token → Author
+authorizerEnd i x f t = pick (ending (t .kind)) (On i x f t) (Aside (misplacedAt t))
 
 -- an answer, the pool and the table
 pub data Made : Type 0 where
@@ -44,9 +47,9 @@ pub data Made : Type 0 where
 
 -- the field by its name; POLICY, whose number is 0, stands in for nobody
 unfoldable pub authoredIn : ℕ → List ℕ → List ℕ → ℕ → ℕ → ℕ → Named → Author
-authoredIn standing pool places count end place (Refused r p) = Aside r p
-authoredIn standing pool places count end place (Nobody n) = authorizerEnd 0 count end (against 10 place) n
-authoredIn standing pool places count end place (At i c e n) = authorizerEnd i c e (barFault standing pool places i place) n
+authoredIn standing pool places count end place (Refused f) = Aside f
+authoredIn standing pool places count end place (Nobody n) = authorizerEnd 0 (indexOf count end) (against 10 place) n
+authoredIn standing pool places count end place (At i x n) = authorizerEnd i x (barFault standing pool places i place) n
 
 abbrev pub onAuthor : ℕ → ℕ → ℕ → ℕ → Done → Made
 onAuthor standing count end place (named e pool places) = made (authoredIn standing pool places count end place e) pool places
@@ -69,7 +72,7 @@ module _ (pool places : List ℕ) (i : ℕ) where
   unfolding policyAt
   policy-out h = simp (le-leb _ _ h)
 
-  pub policy-in : (b : Bool) (p : ℕ) (x : List ℕ) → i < length places → p ≡ getD places i 0 → x ≡ nameAt pool p
+  pub policy-in : (b : Bool) (p : ℕ) (x : List ℕ) → i < length places → p ≡ getD places i 0 → x ≡ identifierAt pool p
       → b ≡ same x (80 ∷ 79 ∷ 76 ∷ 73 ∷ 67 ∷ 89 ∷ []) → b ≡ policyAt pool places i
   unfolding policyAt policy
   policy-in b p x h pe xe be = be ∙ simp (lt-leb _ _ h, xe, pe)
@@ -94,30 +97,30 @@ module _ (standing : ℕ) (pool places : List ℕ) (i : ℕ) where
     fault-none y f fe = fe ∙ simp (sym be, y)
 
 -- `finished`
-module _ (i c e : ℕ) (f : Fault) (t : Token) (b : Bool) (be : b ≡ ending (t .kind)) where
-  pub finished-on : b ≡ true → On i c e f t ≡ authorizerEnd i c e f t
+module _ (i : ℕ) (x : Index) (f : Fault) (t : Token) (b : Bool) (be : b ≡ ending (t .kind)) where
+  pub finished-on : b ≡ true → On i x f t ≡ authorizerEnd i x f t
   unfolding authorizerEnd
   finished-on y = simp (sym be, y)
 
-  pub finished-not : (r : ℕ) → b ≡ false → r ≡ refusal (t .kind) → Aside r (t .start) ≡ authorizerEnd i c e f t
+  pub finished-not : (w : Fault) → b ≡ false → w ≡ misplacedAt t → Aside w ≡ authorizerEnd i x f t
   unfolding authorizerEnd
-  finished-not r n re = rw re (simp (sym be, n))
+  finished-not w n we = rw we (simp (sym be, n))
 
 -- `authored`
 module _ (standing : ℕ) (pool places : List ℕ) (count end place : ℕ) (r : Named) where
-  pub authored-aside : (x p : ℕ) → r ≡ Refused x p → Aside x p ≡ authoredIn standing pool places count end place r
+  pub authored-aside : (f : Fault) → r ≡ Refused f → Aside f ≡ authoredIn standing pool places count end place r
   unfolding authoredIn
-  authored-aside x p h = rw h
+  authored-aside f h = rw h
 
-  pub authored-nobody : (n : Token) → r ≡ Nobody n → (f : Fault) → f ≡ against 10 place → (a : Author) → a ≡ authorizerEnd 0 count end f n
+  pub authored-nobody : (n : Token) → r ≡ Nobody n → (f : Fault) → f ≡ against 10 place → (a : Author) → a ≡ authorizerEnd 0 (indexOf count end) f n
       → a ≡ authoredIn standing pool places count end place r
   unfolding authoredIn
   authored-nobody n h f fe a ae = rw (h, ← fe) ae
 
-  pub authored-at : (i c e : ℕ) (n : Token) → r ≡ At i c e n → (f : Fault) → f ≡ barFault standing pool places i place → (a : Author) → a ≡ authorizerEnd i c e f n
+  pub authored-at : (i : ℕ) (x : Index) (n : Token) → r ≡ At i x n → (f : Fault) → f ≡ barFault standing pool places i place → (a : Author) → a ≡ authorizerEnd i x f n
       → a ≡ authoredIn standing pool places count end place r
   unfolding authoredIn
-  authored-at i c e n h f fe a ae = rw (h, ← fe) ae
+  authored-at i x n h f fe a ae = rw (h, ← fe) ae
 
 -- `author_named`
 module _ (s : List ℕ) (look : Sight) (pool places : List ℕ) (count end : ℕ) (t : Token) (r : Done) (b : Bool) (be : b ≡ isPlain s t) where

@@ -11,24 +11,26 @@ use Rattle.text.specs.Choice.{split, clash}
 use Rattle.text.specs.Loop.{loop-next, loop-done}
 use Rattle.limits.specs.Limits.{mostCode}
 use Rattle.lexical.specs.Kind
+use Rattle.lexical.specs.Kind.{ending}
 use Rattle.lexical.specs.Theorems.Bounds.{chosen}
 use Rattle.lexical.specs.Line.{tokenAt}
 use Rattle.lexical.specs.Token.{token}
 use Rattle.lexical.specs.declared.token.Token.{Token}
 use Rattle.compliance.specs.Codes.{andCode, orCode, zeroCode}
-use Rattle.fields.specs.Parsed.{ending}
 use Rattle.naming.specs.Working.Code.{above, pushed}
 use Rattle.conditions.specs.Word.{nextAt}
 use Rattle.naming.specs.String.{nestOf}
 use Rattle.naming.specs.Working.Faults.{clearAt}
+use Rattle.syntax.specs.Working.Faults.{against}
 use Rattle.naming.specs.Working.Identifying.{Sight, isPlain}
-use Rattle.naming.specs.Working.List.{Ran, ran, refusedLicensed, sized, stateOf, beforeIn, literalIn, licenseeIn, thresholdIn}
+use Rattle.naming.specs.Working.List.{Ran, ran, refusedLicensed, sized, stateAt, stateOf, beforeIn, literalIn, licenseeIn, thresholdIn}
 use Rattle.naming.specs.Working.ListWays.{licensee-plain, literal-before, before-next}
 use Rattle.naming.specs.Working.Chain.{jointOf, joinOf, onOn, single, isLone, isLonger, behindIn, closedIn, operandAt, moreAt, chainAt, primaryAt, primaryBody, innerAt, endIn, fieldIn}
-use Rattle.naming.specs.declared.fault.Fault.{Fault}
+use Rattle.syntax.specs.declared.fault.Fault.{Fault}
 use Rattle.naming.specs.declared.list.State.{State}
 use Rattle.naming.specs.declared.list.Licensed.{Licensed}
 use Rattle.naming.specs.declared.list.Licensed.the-variants.{On, Aside}
+use Rattle.index.specs.declared.Index.{Index}
 
 -- `joint_of` and `join_of`
 module _ (level : ℕ) where
@@ -80,9 +82,9 @@ operand-chain left (suc level) s look pool places code st t r h re =
 -- `chain`
 module _ (left level : ℕ) (s : List ℕ) (look : Sight) (pool places code : List ℕ) (st : State) (t : Token) (r : Licensed) (p q m : List ℕ)
     (re : ran r p q m ≡ operandAt left level s look pool places code st t) where
-  pub chain-aside : (x y : ℕ) → r ≡ Aside x y → ran (Aside x y) p q m ≡ chainAt left level s look pool places code st t
+  pub chain-aside : (f : Fault) → r ≡ Aside f → ran r p q m ≡ chainAt left level s look pool places code st t
   unfolding chainAt
-  chain-aside x y h = simp (sym re, h)
+  chain-aside f h = simp (sym re, h)
 
   pub chain-on : (u : State) (n : Token) (w : Ran) → r ≡ On u n → w ≡ moreAt left level s look p q m u n → w ≡ chainAt left level s look pool places code st t
   unfolding chainAt
@@ -103,14 +105,14 @@ module _ (left level : ℕ) (s : List ℕ) (look : Sight) (pool places code : Li
     at-next : operandAt left level s look pool places code st (tokenAt s Kind.IN-LICENSEES (t .end)) ≡ ran r p q m
     at-next = rw (sym ne) (sym re)
 
-    pub more-aside : (x y : ℕ) → r ≡ Aside x y → ran (Aside x y) p q m ≡ a
+    pub more-aside : (f : Fault) → r ≡ Aside f → ran r p q m ≡ a
     unfolding moreAt
-    more-aside x y k = sym (loop-done _ _ _ (st, t, pool, places, code) (ran (Aside x y) p q m) (simp (eq-eqb _ _ is, at-next, k))) ∙ inv
+    more-aside f k = sym (loop-done _ _ _ (st, t, pool, places, code) (ran r p q m) (simp (eq-eqb _ _ is, at-next, k))) ∙ inv
 
     module _ (u : State) (v : Token) (rv : r ≡ On u v) (x y : ℕ) (xe : x ≡ 16 - st .listed) (ye : y ≡ 16 - u .listed) where
-      pub more-stuck : x ≤ y → ran (Aside 0 0) p q m ≡ a
+      pub more-stuck : x ≤ y → ran (Aside (against 0 0)) p q m ≡ a
       unfolding moreAt
-      more-stuck g = sym (loop-done _ _ _ (st, t, pool, places, code) (ran (Aside 0 0) p q m) (simp (eq-eqb _ _ is, at-next, rv, sym xe, sym ye, le-leb _ _ g))) ∙ inv
+      more-stuck g = sym (loop-done _ _ _ (st, t, pool, places, code) (ran (Aside (against 0 0)) p q m) (simp (eq-eqb _ _ is, at-next, rv, sym xe, sym ye, le-leb _ _ g))) ∙ inv
 
       pub more-again : (o z : ℕ) (b : List ℕ) → y < x → o ≡ joinOf level → z ≡ above m (u .size) → b ≡ pushed m (u .size) o
           → moreAt left level s look p q b (sized u z) v ≡ a
@@ -145,7 +147,7 @@ module _ (left : ℕ) (s : List ℕ) (look : Sight) (pool places code : List ℕ
     primary-one r h re = re ∙ simp (primary-unfold left, ne-eqb _ _ nd, ne-eqb _ _ h)
 
     module _ (h : t .kind ≡ Kind.OPEN) where
-      pub primary-most : left ≡ 0 → ran (Aside 7 (t .start)) pool places code ≡ primaryAt left s look pool places code st t
+      pub primary-most : left ≡ 0 → ran (Aside (against 7 (t .start))) pool places code ≡ primaryAt left s look pool places code st t
       primary-most z = simp (primary-unfold left, ne-eqb _ _ nd, eq-eqb _ _ h, eq-eqb _ _ z)
 
       module _ (nz : left ≡ 0 → ⊥) (n : Token) (ne : n ≡ tokenAt s Kind.IN-LICENSEES (t .end)) (r : Licensed) (p q m : List ℕ)
@@ -153,12 +155,12 @@ module _ (left : ℕ) (s : List ℕ) (look : Sight) (pool places code : List ℕ
         inside : innerAt left s look pool places code st (tokenAt s Kind.IN-LICENSEES (t .end)) ≡ ran r p q m
         inside = inner-is left nz s look pool places code st (tokenAt s Kind.IN-LICENSEES (t .end)) ∙ rw (sym ne) (sym re)
 
-        pub primary-aside : (x y : ℕ) → r ≡ Aside x y → ran (Aside x y) p q m ≡ primaryAt left s look pool places code st t
-        primary-aside x y k = simp (primary-unfold left, ne-eqb _ _ nd, eq-eqb _ _ h, ne-eqb _ _ nz, inside, k)
+        pub primary-aside : (f : Fault) → r ≡ Aside f → ran r p q m ≡ primaryAt left s look pool places code st t
+        primary-aside f k = simp (primary-unfold left, ne-eqb _ _ nd, eq-eqb _ _ h, ne-eqb _ _ nz, inside, k)
 
         module _ (u : State) (v : Token) (k : r ≡ On u v) (c : Licensed) (ce : c ≡ closedIn s u v) where
-          pub primary-open : (x y : ℕ) → c ≡ Aside x y → ran (Aside x y) p q m ≡ primaryAt left s look pool places code st t
-          primary-open x y g = simp (primary-unfold left, ne-eqb _ _ nd, eq-eqb _ _ h, ne-eqb _ _ nz, inside, k, sym ce, g)
+          pub primary-open : (f : Fault) → c ≡ Aside f → ran c p q m ≡ primaryAt left s look pool places code st t
+          primary-open f g = simp (primary-unfold left, ne-eqb _ _ nd, eq-eqb _ _ h, ne-eqb _ _ nz, inside, k, sym ce, g)
 
           module _ (w : State) (o : Token) (g : c ≡ On w o) (b : Bool) (be : b ≡ isLonger st w (o .kind)) where
             pub primary-longer : b ≡ true → (z : Ran) → z ≡ licenseeIn s look p q m st left t → z ≡ primaryAt left s look pool places code st t
@@ -238,7 +240,7 @@ module _ (left : ℕ) (s : List ℕ) (look : Sight) (pool places code : List ℕ
   -- behind what was read nothing is joined by &&
   unjoined : (r : Ran) → ((u : State) (v : Token) (p q m : List ℕ) → r ≡ ran (On u v) p q m → v .kind ≡ Kind.AND → ⊥)
       → onOn r (λ u v p q m. moreAt left 0 s look p q m u v) ≡ r
-  unjoined (ran (Aside x y) p q m) f = refl
+  unjoined (ran (Aside w) p q m) f = refl
   unjoined (ran (On u v) p q m) f = sym (more-end left 0 s look p q m u v _ refl Kind.AND (joint-all 0 refl) (f u v p q m refl))
 
   module _ (level : ℕ) (b : Bool) (be : b ≡ single level (t .kind)) (y : b ≡ true) (n : Token) (ne : n ≡ tokenAt s Kind.IN-FIELD (t .end)) (c : Bool) (ce : c ≡ isLone (n .kind)) (o : c ≡ true) (d : Bool) (de : d ≡ isPlain s t) (w : d ≡ true) where
@@ -285,31 +287,31 @@ module _ (st : State) (t : Token) (b : Bool) (be : b ≡ ending (t .kind)) where
   end-not r y re = re ∙ simp (sym be, y)
 
 -- `licensees`
-module _ (s : List ℕ) (look : Sight) (pool places code : List ℕ) (count end size : ℕ) (t : Token) where
-  pub field-past : length code < size → ran (Aside 0 0) pool places code ≡ fieldIn s look pool places code count end size t
+module _ (s : List ℕ) (look : Sight) (pool places code : List ℕ) (index : Index) (size : ℕ) (t : Token) where
+  pub field-past : length code < size → ran (Aside (against 0 0)) pool places code ≡ fieldIn s look pool places code (index .count) (index .end) size t
   unfolding fieldIn
   field-past h = simp (lt-ltb _ _ h)
 
   module _ (h : size ≤ length code) where
-    pub field-short : length code - size < mostCode → ran (Aside 0 0) pool places code ≡ fieldIn s look pool places code count end size t
+    pub field-short : length code - size < mostCode → ran (Aside (against 0 0)) pool places code ≡ fieldIn s look pool places code (index .count) (index .end) size t
     unfolding fieldIn
     field-short k = simp (le-ltb _ _ h, lt-ltb _ _ k)
 
     module _ (k : mostCode ≤ length code - size) (b : Bool) (be : b ≡ ending (t .kind)) where
       pub field-empty : (z : ℕ) (m : List ℕ) → b ≡ true → z ≡ above code size → m ≡ pushed code size zeroCode → (f : Fault) → f ≡ clearAt
-          → ran (On (stateOf count end z 0 f) t) pool places m ≡ fieldIn s look pool places code count end size t
+          → ran (On (stateAt index z 0 f) t) pool places m ≡ fieldIn s look pool places code (index .count) (index .end) size t
       unfolding fieldIn
       field-empty z m y ze me f fe = rw (ze, me, fe) (simp (le-ltb _ _ h, le-ltb _ _ k, sym be, y))
 
       module _ (nb : b ≡ false) (f : Fault) (fe : f ≡ clearAt) (r : Licensed) (p q m : List ℕ)
-          (re : ran r p q m ≡ chainAt 16 1 s look pool places code (stateOf count end size 0 f) t) where
-        whole-is : chainAt 16 1 s look pool places code (stateOf count end size 0 clearAt) t ≡ ran r p q m
-        whole-is = rw (← fe) (sym re)
+          (re : ran r p q m ≡ chainAt 16 1 s look pool places code (stateAt index size 0 f) t) where
+        whole-is : chainAt 16 1 s look pool places code (stateOf (index .count) (index .end) size 0 clearAt) t ≡ ran r p q m
+        whole-is = ap (λ (f : Fault). chainAt 16 1 s look pool places code (stateAt index size 0 f) t) (sym fe) ∙ sym re
 
-        pub field-aside : (x y : ℕ) → r ≡ Aside x y → ran (Aside x y) p q m ≡ fieldIn s look pool places code count end size t
+        pub field-aside : (w : Fault) → r ≡ Aside w → ran r p q m ≡ fieldIn s look pool places code (index .count) (index .end) size t
         unfolding fieldIn
-        field-aside x y g = simp (le-ltb _ _ h, le-ltb _ _ k, sym be, nb, whole-is, g)
+        field-aside w g = simp (le-ltb _ _ h, le-ltb _ _ k, sym be, nb, whole-is, g)
 
-        pub field-on : (u : State) (n : Token) (w : Licensed) → r ≡ On u n → w ≡ endIn u n → ran w p q m ≡ fieldIn s look pool places code count end size t
+        pub field-on : (u : State) (n : Token) (w : Licensed) → r ≡ On u n → w ≡ endIn u n → ran w p q m ≡ fieldIn s look pool places code (index .count) (index .end) size t
         unfolding fieldIn
         field-on u n w g we = rw we (simp (le-ltb _ _ h, le-ltb _ _ k, sym be, nb, whole-is, g))

@@ -1,4 +1,4 @@
--- Working definitions: a fault as the code has it. Assumes nothing.
+-- Working definitions: the faults of identifiers as the code has them. Assumes nothing.
 use mathlib.Core.Path.{_≡_, refl}
 use mathlib.Core.Bool.{Bool, true, false}
 use Prim.Native.Nat.{ℕ, _<_, _≤_}
@@ -7,10 +7,8 @@ use lib.Dec.{eqb, leb}
 use borrow.Author.Tests.{le-leb, lt-leb, eq-eqb, ne-eqb}
 use Rattle.text.specs.Choice.{pick, split}
 use Rattle.naming.specs.Fault as Spec
-use Rattle.naming.specs.declared.fault.Fault.{Fault}
-
-abbrev pub against : ℕ → ℕ → Fault
-against reason place = record { reason = reason; place = place }
+use Rattle.syntax.specs.Working.Faults.{against}
+use Rattle.syntax.specs.declared.fault.Fault.{Fault}
 
 abbrev pub clearAt : Fault
 clearAt = against 0 0
@@ -18,27 +16,9 @@ clearAt = against 0 0
 unfoldable pub firstOf : Fault → Fault → Fault
 firstOf a b = pick (eqb (a .reason) 0) b (pick (eqb (b .reason) 0) a (pick (leb (a .place) (b .place)) a b))
 
--- its reason
-unfoldable pub reasonOf : Fault → ℕ
-reasonOf f = pick (eqb (f .reason) 9) 9 10
-
 -- what it says
 unfoldable pub meant : Fault → Spec.Fault
-meant f = pick (eqb (f .reason) 0) Spec.clear (Spec.faulty (reasonOf f) (f .place))
-
--- `reason_of`
-module _ (f : Fault) where
-  pub reason-barred : f .reason ≡ 9 → 9 ≡ reasonOf f
-  unfolding reasonOf
-  reason-barred h = rw (eq-eqb _ _ h)
-
-  pub reason-nobody : (f .reason ≡ 9 → ⊥) → 10 ≡ reasonOf f
-  unfolding reasonOf
-  reason-nobody h = rw (ne-eqb _ _ h)
-
-pub reason-some : (f : Fault) → reasonOf f ≡ 0 → ⊥
-unfolding reasonOf
-reason-some f = split (eqb (f .reason) 9) (λ e. rw e (λ z. omega (arith, z))) (λ e. rw e (λ z. omega (arith, z)))
+meant f = pick (eqb (f .reason) 0) Spec.clear (Spec.faulty (f .reason) (f .place))
 
 -- `earlier`
 module _ (a b : Fault) where

@@ -15,9 +15,11 @@ use Rattle.lexical.specs.declared.token.Token.{Token}
 use Rattle.principal.specs.Principal.{Principal}
 use Rattle.limits.specs.Limits.{mostIdentifier}
 use Rattle.expression.specs.Tables.{lookupIn}
-use Rattle.fields.specs.Parsed.{wordOf}
+use Rattle.fields.specs.Working.Word.{wordOf}
 use Rattle.naming.specs.Working.Whole.{whole, inner, whole-some, whole-fits, whole-from, whole-within}
+use Rattle.index.specs.Working.Adding.{indexOf}
 use Rattle.index.specs.Working.Entering.{Kept, numbered, enterIn}
+use Rattle.index.specs.declared.Index.{Index}
 use Rattle.index.specs.declared.Numbered.{Numbered}
 use Rattle.index.specs.declared.Numbered.the-variants.{At as Known, Full}
 use Rattle.judge.specs.Working.Saying.{Told, said, saidHere}
@@ -25,6 +27,8 @@ use Rattle.judge.specs.declared.string.Said.{Said}
 use Rattle.judge.specs.declared.string.Said.the-variants.{On, Aside as Refused}
 use Rattle.naming.specs.declared.identifier.Named.{Named}
 use Rattle.naming.specs.declared.identifier.Named.the-variants.{At, Nobody, Aside}
+use Rattle.syntax.specs.Working.Faults.{against}
+use Rattle.syntax.specs.declared.fault.Fault.{Fault}
 
 -- where names are looked up: the record, the constants' bytes, and the places of the values, the names and the constants
 pub data Sight : Type 0 where
@@ -41,8 +45,8 @@ pub data Done : Type 0 where
   named : Named → List ℕ → List ℕ → Done
 
 unfoldable pub ofNumber : Token → Numbered → Named
-ofNumber n Full = Aside 0 0
-ofNumber n (Known i c e) = At i c e n
+ofNumber n Full = Aside (against 0 0)
+ofNumber n (Known c i e) = At i (indexOf c e) n
 
 abbrev pub ofKept : Token → Kept → Done
 ofKept n (numbered r pool places) = named (ofNumber n r) pool places
@@ -54,7 +58,7 @@ enteredIn pool places count end n id =
     (pick (ltb mostIdentifier (length id)) (named (Nobody n) pool places) (ofKept n (enterIn pool places count end id)))
 
 abbrev pub saidAs : List ℕ → List ℕ → ℕ → ℕ → Told → Done
-saidAs pool places count end (said (Refused r p) out) = named (Aside r p) pool places
+saidAs pool places count end (said (Refused f) out) = named (Aside f) pool places
 saidAs pool places count end (said (On k n) out) =
     pick (ltb mostIdentifier k) (named (Nobody n) pool places) (enteredIn pool places count end n (take k out))
 
@@ -71,11 +75,11 @@ plainNamed s look pool places count end t n =
     pick (eqb (t .kind) Kind.NAME) (enteredIn pool places count end n (lookedUp look (wordOf s t))) (enteredIn pool places count end n (inner s (t .start) (t .end)))
 
 -- `of_number`
-pub number-full : (n : Token) (e : Numbered) → e ≡ Full → Aside 0 0 ≡ ofNumber n e
+pub number-full : (n : Token) (e : Numbered) → e ≡ Full → Aside (against 0 0) ≡ ofNumber n e
 unfolding ofNumber
 number-full n e h = rw h
 
-pub number-known : (n : Token) (e : Numbered) (i c m : ℕ) → e ≡ Known i c m → At i c m n ≡ ofNumber n e
+pub number-known : (n : Token) (e : Numbered) (i c m : ℕ) → e ≡ Known c i m → At i (indexOf c m) n ≡ ofNumber n e
 unfolding ofNumber
 number-known n e i c m h = rw h
 
@@ -98,9 +102,9 @@ module _ (pool places : List ℕ) (count end : ℕ) (n : Token) (id : Principal)
 -- `string_named`
 module _ (s rec consts values names constants pool places : List ℕ) (count end nest : ℕ) (t : Token) (r : Said) (m to : List ℕ) (me : m ≡ replicate mostIdentifier 0)
     (re : said r to ≡ saidHere s t nest rec consts values names constants m) where
-  pub string-aside : (x p : ℕ) → r ≡ Refused x p → named (Aside x p) pool places ≡ stringNamed s (sight rec consts values names constants) pool places count end nest t
+  pub string-aside : (f : Fault) → r ≡ Refused f → named (Aside f) pool places ≡ stringNamed s (sight rec consts values names constants) pool places count end nest t
   unfolding stringNamed
-  string-aside x p h = rw (← me, ← re, h)
+  string-aside f h = rw (← me, ← re, h)
 
   module _ (k : ℕ) (n : Token) (h : r ≡ On k n) where
     pub string-long : mostIdentifier < k → named (Nobody n) pool places ≡ stringNamed s (sight rec consts values names constants) pool places count end nest t
@@ -160,13 +164,13 @@ module _ (s rec consts values names constants pool places : List ℕ) (count end
 
 -- the token behind what was named
 abbrev behind : Token → Done → Token
-behind d (named (At i c e n) pool places) = n
+behind d (named (At i x n) pool places) = n
 behind d (named (Nobody n) pool places) = n
-behind d (named (Aside r p) pool places) = d
+behind d (named (Aside f) pool places) = d
 
 kept-behind : (n : Token) (k : Kept) → behind n (ofKept n k) ≡ n
 unfolding ofNumber
-kept-behind n (numbered (Known i c e) pool places) = refl
+kept-behind n (numbered (Known c i e) pool places) = refl
 kept-behind n (numbered Full pool places) = refl
 
 entered-behind : (pool places : List ℕ) (count end : ℕ) (n : Token) (id : Principal) → behind n (enteredIn pool places count end n id) ≡ n
@@ -180,9 +184,9 @@ unfolding plainNamed
 plain-behind s look pool places count end t n =
     split (eqb (t .kind) Kind.NAME) (λ e. rw e (entered-behind pool places count end n _)) (λ e. rw e (entered-behind pool places count end n _))
 
-pub plain-at : (s : List ℕ) (look : Sight) (pool places : List ℕ) (count end : ℕ) (t n : Token) (p q : List ℕ) (i c e : ℕ) (m : Token)
-    → named (At i c e m) p q ≡ plainNamed s look pool places count end t n → m ≡ n
-plain-at s look pool places count end t n p q i c e m h = ap (behind n) h ∙ plain-behind s look pool places count end t n
+pub plain-at : (s : List ℕ) (look : Sight) (pool places : List ℕ) (count end : ℕ) (t n : Token) (p q : List ℕ) (i : ℕ) (x : Index) (m : Token)
+    → named (At i x m) p q ≡ plainNamed s look pool places count end t n → m ≡ n
+plain-at s look pool places count end t n p q i x m h = ap (behind n) h ∙ plain-behind s look pool places count end t n
 
 pub plain-nobody : (s : List ℕ) (look : Sight) (pool places : List ℕ) (count end : ℕ) (t n : Token) (p q : List ℕ) (m : Token)
     → named (Nobody m) p q ≡ plainNamed s look pool places count end t n → m ≡ n

@@ -2,7 +2,7 @@
 use mathlib.Core.Path.{_≡_, refl, sym, ap, _∙_}
 use mathlib.Core.Bool.{Bool, true, false}
 use mathlib.Core.List.{List, []}
-use Prim.Native.Nat.{ℕ, zero, suc, _+_, _-_, _^_, _<_, _≤_}
+use Prim.Native.Nat.{ℕ, zero, suc, _+_, _-_, _^_, _<_, _≤_, min}
 use native.Mathlib.Omega.{arith}
 use lib.Dec.{eqb, leb, ltb}
 use lib.ListN.{length, set, take, drop, length-drop}
@@ -25,15 +25,18 @@ use Rattle.naming.specs.Working.Code.{above, pushed}
 use Rattle.conditions.specs.Table.{beginsString}
 use Rattle.conditions.specs.Word.{nextAt}
 use Rattle.naming.specs.String.{plainFrom, nestOf}
-use Rattle.naming.specs.Working.Faults.{against, firstOf}
+use Rattle.naming.specs.Working.Faults.{firstOf}
+use Rattle.syntax.specs.Working.Faults.{against}
 use Rattle.naming.specs.Working.Identifying.{Sight, sight, Done, named, ofNumber, ofKept, enteredIn, stringNamed, isPlain, plainNamed, plain-at, plain-nobody}
 use Rattle.limits.specs.Limits.{mostIdentifier}
 use Rattle.naming.specs.Working.Whole.{whole, wholeAt, inner, Whole, whole-is}
+use Rattle.index.specs.Working.Adding.{indexOf}
 use Rattle.index.specs.Working.Entering.{Kept, numbered, enterIn}
+use Rattle.index.specs.declared.Index.{Index}
 use Rattle.index.specs.declared.Numbered.{Numbered}
 use Rattle.index.specs.declared.Numbered.the-variants.{At as Known, Full}
-use Rattle.naming.specs.Working.List.{Ran, ran, Wrote, wrote, refusedLicensed, sized, stateOf, placedIn, onNamed, beforeIn, literalIn, Leads, resumed, isOver, stringIn, licenseeIn, itemsOf, listedIn, onWrote, listIn, openedIn, thresholdIn}
-use Rattle.naming.specs.declared.fault.Fault.{Fault}
+use Rattle.naming.specs.Working.List.{Ran, ran, Wrote, wrote, refusedLicensed, sized, stateAt, placedIn, onNamed, beforeIn, literalIn, Leads, resumed, isOver, stringIn, licenseeIn, itemsOf, listedIn, onWrote, listIn, openedIn, thresholdIn}
+use Rattle.syntax.specs.declared.fault.Fault.{Fault}
 use Rattle.naming.specs.declared.identifier.Named.{Named}
 use Rattle.naming.specs.declared.identifier.Named.the-variants.{At, Nobody, Aside as Refused}
 use Rattle.naming.specs.declared.list.State.{State}
@@ -83,48 +86,48 @@ module _ (listed k : ℕ) where
 
 -- `placed`
 module _ (code : List ℕ) (st : State) (place : ℕ) (e : Named) where
-  pub placed-aside : (r p : ℕ) → e ≡ Refused r p → wrote (Aside r p) code ≡ placedIn code st place e
+  pub placed-aside : (f : Fault) → e ≡ Refused f → wrote (Aside f) code ≡ placedIn code st place e
   unfolding placedIn
-  placed-aside r p k = rw k
+  placed-aside f k = rw k
 
   module _ (n : Token) (k : e ≡ Nobody n) where
-    pub nobody-most : mostLicensees ≤ st .listed → wrote (Aside 0 0) code ≡ placedIn code st place e
+    pub nobody-most : mostLicensees ≤ st .listed → wrote (Aside (against 0 0)) code ≡ placedIn code st place e
     unfolding placedIn
     nobody-most h = rw k (rw (le-leb _ _ h))
 
     pub nobody-on : st .listed < mostLicensees → (y : ℕ) (b : List ℕ) (g f : Fault) → y ≡ above code (st .size) → b ≡ pushed code (st .size) 0
-        → g ≡ against 10 place → f ≡ firstOf (st .fault) g → wrote (On (stateOf (st .count) (st .end) y (st .listed + 1) f) n) b ≡ placedIn code st place e
+        → g ≡ against 10 place → f ≡ firstOf (st .fault) g → wrote (On (stateAt (st .index) y (st .listed + 1) f) n) b ≡ placedIn code st place e
     unfolding placedIn
     nobody-on h y b g f ye be ge fe = rw (k, ye, be, fe, ge) (rw (lt-leb _ _ h))
 
-  module _ (i c m : ℕ) (n : Token) (k : e ≡ At i c m n) where
-    pub number-most : mostLicensees ≤ st .listed → wrote (Aside 0 0) code ≡ placedIn code st place e
+  module _ (i : ℕ) (index : Index) (n : Token) (k : e ≡ At i index n) where
+    pub number-most : mostLicensees ≤ st .listed → wrote (Aside (against 0 0)) code ≡ placedIn code st place e
     unfolding placedIn
     number-most h = rw k (rw (le-leb _ _ h))
 
     module _ (few : st .listed < mostLicensees) where
-      pub placed-high : 32768 ≤ i → wrote (Aside 0 0) code ≡ placedIn code st place e
+      pub placed-high : 32768 ≤ i → wrote (Aside (against 0 0)) code ≡ placedIn code st place e
       unfolding placedIn
       placed-high g = rw k (rw (lt-leb _ _ few, le-leb _ _ g))
 
       pub placed-on : (x y : ℕ) (b : List ℕ) → i < 32768 → x ≡ i → y ≡ above code (st .size) → b ≡ pushed code (st .size) x
-          → wrote (On (stateOf c m y (st .listed + 1) (st .fault)) n) b ≡ placedIn code st place e
+          → wrote (On (stateAt index y (st .listed + 1) (st .fault)) n) b ≡ placedIn code st place e
       unfolding placedIn
       placed-on x y b g xe ye be = rw (k, ye, be, xe) (rw (lt-leb _ _ few, lt-leb _ _ g))
 
 -- `placed_number`
 module _ (code : List ℕ) (st : State) (n : Token) (e : Numbered) where
-  pub number-none : e ≡ Full → wrote (Aside 0 0) code ≡ placedIn code st 0 (ofNumber n e)
+  pub number-none : e ≡ Full → wrote (Aside (against 0 0)) code ≡ placedIn code st 0 (ofNumber n e)
   unfolding ofNumber placedIn
   number-none k = rw k
 
-  module _ (i c m : ℕ) (k : e ≡ Known i c m) (few : st .listed < 16) where
-    pub number-high : 32768 ≤ i → wrote (Aside 0 0) code ≡ placedIn code st 0 (ofNumber n e)
+  module _ (i c m : ℕ) (k : e ≡ Known c i m) (few : st .listed < 16) where
+    pub number-high : 32768 ≤ i → wrote (Aside (against 0 0)) code ≡ placedIn code st 0 (ofNumber n e)
     unfolding ofNumber placedIn
     number-high g = rw k (rw (lt-leb _ _ few, le-leb _ _ g))
 
     pub number-on : (x y : ℕ) (b : List ℕ) → i < 32768 → x ≡ i → y ≡ above code (st .size) → b ≡ pushed code (st .size) x
-        → wrote (On (stateOf c m y (st .listed + 1) (st .fault)) n) b ≡ placedIn code st 0 (ofNumber n e)
+        → wrote (On (stateAt (indexOf c m) y (st .listed + 1) (st .fault)) n) b ≡ placedIn code st 0 (ofNumber n e)
     unfolding ofNumber placedIn
     number-on x y b g xe ye be = rw (k, ye, be, xe) (rw (lt-leb _ _ few, lt-leb _ _ g))
 
@@ -132,16 +135,16 @@ module _ (code : List ℕ) (st : State) (n : Token) (e : Numbered) where
 any-place : (code : List ℕ) (st : State) (a b : ℕ) (n : Token) (e : Numbered) → placedIn code st a (ofNumber n e) ≡ placedIn code st b (ofNumber n e)
 unfolding ofNumber placedIn
 any-place code st a b n Full = refl
-any-place code st a b n (Known i c m) = refl
+any-place code st a b n (Known c i m) = refl
 
 -- `name_before`
 module _ (s : List ℕ) (look : Sight) (pool places code : List ℕ) (st : State) (k start stop : ℕ) (n : Token) where
-  pub before-most : mostLicensees ≤ st .listed → ran (Aside 7 start) pool places code ≡ beforeIn s look pool places code st (token k start stop) n
+  pub before-most : mostLicensees ≤ st .listed → ran (Aside (against 7 start)) pool places code ≡ beforeIn s look pool places code st (token k start stop) n
   unfolding beforeIn
   before-most h = rw (le-leb _ _ h)
 
 module _ (s : List ℕ) (look : Sight) (pool places code : List ℕ) (st : State) (t n : Token) where
-  pub before-placed : st .listed < mostLicensees → (e : Named) (p q : List ℕ) → named e p q ≡ plainNamed s look pool places (st .count) (st .end) t n
+  pub before-placed : st .listed < mostLicensees → (e : Named) (p q : List ℕ) → named e p q ≡ plainNamed s look pool places (st .index .count) (st .index .end) t n
       → (x : Licensed) (m : List ℕ) → wrote x m ≡ placedIn code st (t .start) e → ran x p q m ≡ beforeIn s look pool places code st t n
   unfolding beforeIn
   before-placed h e p q ee x m we = rw (lt-leb _ _ h, ← ee, ← we)
@@ -156,11 +159,11 @@ inner-long s t h =
 
 -- `literal_before`
 module _ (s pool places code : List ℕ) (st : State) (start stop : ℕ) (n : Token) where
-  pub literal-most : mostLicensees ≤ st .listed → ran (Aside 7 start) pool places code ≡ literalIn s pool places code st start stop n
+  pub literal-most : mostLicensees ≤ st .listed → ran (Aside (against 7 start)) pool places code ≡ literalIn s pool places code st start stop n
   unfolding literalIn
   literal-most h = rw (le-leb _ _ h)
 
-  pub literal-placed : st .listed < mostLicensees → (e : Numbered) (p q : List ℕ) → numbered e p q ≡ enterIn pool places (st .count) (st .end) (inner s start stop)
+  pub literal-placed : st .listed < mostLicensees → (e : Numbered) (p q : List ℕ) → numbered e p q ≡ enterIn pool places (st .index .count) (st .index .end) (inner s start stop)
       → (x : Licensed) (m : List ℕ) → wrote x m ≡ placedIn code st 0 (ofNumber n e) → ran x p q m ≡ literalIn s pool places code st start stop n
   unfolding literalIn
   literal-placed h e p q ee x m we = rw (lt-leb _ _ h, ← ee, ← we)
@@ -216,26 +219,26 @@ unfolding literalIn beforeIn plainNamed enteredIn
 literal-before s look pool places code st t n nn is =
     let w : whole s t ≡ true = plain-whole s t nn is in
     let l : _ = inner-long s t w in
-    rw (ne-eqb _ _ nn, ne-eqb _ _ (l .0), le-ltb _ _ (l .1)) (ap (λ (x : Ran). pick (leb mostLicensees (st .listed)) (ran (Aside 7 (t .start)) pool places code) x) (anywhere (enterIn pool places (st .count) (st .end) (inner s (t .start) (t .end)))))
+    rw (ne-eqb _ _ nn, ne-eqb _ _ (l .0), le-ltb _ _ (l .1)) (ap (λ (x : Ran). pick (leb mostLicensees (st .listed)) (ran (Aside (against 7 (t .start))) pool places code) x) (anywhere (enterIn pool places (st .index .count) (st .index .end) (inner s (t .start) (t .end)))))
   where
     anywhere : (e : Kept) → onNamed code st 0 (ofKept n e) ≡ onNamed code st (t .start) (ofKept n e)
     anywhere (numbered e p q) = ap (onWrote p q) (any-place code st 0 (t .start) n e)
 
 -- the token behind such a licensee
-behind-placed : (code : List ℕ) (st : State) (place : ℕ) (n : Token) (e : Named) (u : State) (v : Token) (m : List ℕ) → ((i c d : ℕ) (o : Token) → e ≡ At i c d o → o ≡ n) → ((o : Token) → e ≡ Nobody o → o ≡ n)
+behind-placed : (code : List ℕ) (st : State) (place : ℕ) (n : Token) (e : Named) (u : State) (v : Token) (m : List ℕ) → ((i : ℕ) (x : Index) (o : Token) → e ≡ At i x o → o ≡ n) → ((o : Token) → e ≡ Nobody o → o ≡ n)
     → wrote (On u v) m ≡ placedIn code st place e → v ≡ n
 unfolding placedIn
-behind-placed code st place n (Refused r p) u v m f g h = absurd (let z : _≡_ {A = ℕ} 0 1 = cc h in omega (arith, z))
+behind-placed code st place n (Refused w) u v m f g h = absurd (let z : _≡_ {A = ℕ} 0 1 = cc h in omega (arith, z))
 behind-placed code st place n (Nobody o) u v m f g h =
-    split (leb mostLicensees (st .listed)) (λ e. let k : wrote (On u v) m ≡ wrote (Aside 0 0) code = rw e at h in absurd (let z : _≡_ {A = ℕ} 0 1 = cc k in omega (arith, z)))
+    split (leb mostLicensees (st .listed)) (λ e. let k : wrote (On u v) m ≡ wrote (Aside (against 0 0)) code = rw e at h in absurd (let z : _≡_ {A = ℕ} 0 1 = cc k in omega (arith, z)))
     (λ e. let k : wrote (On u v) m ≡ _ = rw e at h in let w : v ≡ o = cc k in w ∙ g o refl)
-behind-placed code st place n (At i c d o) u v m f g h =
-    split (leb mostLicensees (st .listed)) (λ e. let k : wrote (On u v) m ≡ wrote (Aside 0 0) code = rw e at h in absurd (let z : _≡_ {A = ℕ} 0 1 = cc k in omega (arith, z)))
-    (λ e. split (leb 32768 i) (λ l. let k : wrote (On u v) m ≡ wrote (Aside 0 0) code = rw (e, l) at h in absurd (let z : _≡_ {A = ℕ} 0 1 = cc k in omega (arith, z)))
-    (λ l. let k : wrote (On u v) m ≡ _ = rw (e, l) at h in let w : v ≡ o = cc k in w ∙ f i c d o refl))
+behind-placed code st place n (At i x o) u v m f g h =
+    split (leb mostLicensees (st .listed)) (λ e. let k : wrote (On u v) m ≡ wrote (Aside (against 0 0)) code = rw e at h in absurd (let z : _≡_ {A = ℕ} 0 1 = cc k in omega (arith, z)))
+    (λ e. split (leb 32768 i) (λ l. let k : wrote (On u v) m ≡ wrote (Aside (against 0 0)) code = rw (e, l) at h in absurd (let z : _≡_ {A = ℕ} 0 1 = cc k in omega (arith, z)))
+    (λ l. let k : wrote (On u v) m ≡ _ = rw (e, l) at h in let w : v ≡ o = cc k in w ∙ f i x o refl))
 
 before-from : (code : List ℕ) (st : State) (place : ℕ) (n : Token) (d : Done) (u : State) (v : Token) (p q m : List ℕ)
-    → ((i c e : ℕ) (o : Token) (a b : List ℕ) → d ≡ named (At i c e o) a b → o ≡ n) → ((o : Token) (a b : List ℕ) → d ≡ named (Nobody o) a b → o ≡ n)
+    → ((i : ℕ) (x : Index) (o : Token) (a b : List ℕ) → d ≡ named (At i x o) a b → o ≡ n) → ((o : Token) (a b : List ℕ) → d ≡ named (Nobody o) a b → o ≡ n)
     → ran (On u v) p q m ≡ onNamed code st place d → v ≡ n
 before-from code st place n (named e a b) u v p q m f g h =
     from (placedIn code st place e) refl h
@@ -243,26 +246,26 @@ before-from code st place n (named e a b) u v p q m f g h =
     from : (w : Wrote) → placedIn code st place e ≡ w → ran (On u v) p q m ≡ onWrote a b w → v ≡ n
     from (wrote x k) we i =
         let j : wrote (On u v) k ≡ placedIn code st place e = (let z : x ≡ On u v = cc i in rw (sym z) (sym we)) in
-        behind-placed code st place n e u v k (λ i c d o z. f i c d o a b (rw z)) (λ o z. g o a b (rw z)) j
+        behind-placed code st place n e u v k (λ i x o z. f i x o a b (rw z)) (λ o z. g o a b (rw z)) j
 
 pub before-next : (s : List ℕ) (look : Sight) (pool places code : List ℕ) (st : State) (t n : Token) (u : State) (v : Token) (p q m : List ℕ)
     → ran (On u v) p q m ≡ beforeIn s look pool places code st t n → v ≡ n
 unfolding beforeIn
 before-next s look pool places code st t n u v p q m h =
     split (leb mostLicensees (st .listed))
-    (λ e. let k : ran (On u v) p q m ≡ ran (Aside 7 (t .start)) pool places code = rw e at h in absurd (let z : _≡_ {A = ℕ} 0 1 = cc k in omega (arith, z)))
-    (λ e. let k : ran (On u v) p q m ≡ onNamed code st (t .start) (plainNamed s look pool places (st .count) (st .end) t n) = rw e at h in
-    before-from code st (t .start) n (plainNamed s look pool places (st .count) (st .end) t n) u v p q m
-    (λ i c e o a b z. plain-at s look pool places (st .count) (st .end) t n a b i c e o (sym z))
-    (λ o a b z. plain-nobody s look pool places (st .count) (st .end) t n a b o (sym z)) k)
+    (λ e. let k : ran (On u v) p q m ≡ ran (Aside (against 7 (t .start))) pool places code = rw e at h in absurd (let z : _≡_ {A = ℕ} 0 1 = cc k in omega (arith, z)))
+    (λ e. let k : ran (On u v) p q m ≡ onNamed code st (t .start) (plainNamed s look pool places (st .index .count) (st .index .end) t n) = rw e at h in
+    before-from code st (t .start) n (plainNamed s look pool places (st .index .count) (st .index .end) t n) u v p q m
+    (λ i x o a b z. plain-at s look pool places (st .index .count) (st .index .end) t n a b i x o (sym z))
+    (λ o a b z. plain-nobody s look pool places (st .index .count) (st .index .end) t n a b o (sym z)) k)
 
 -- `string_licensee`
 module _ (s : List ℕ) (look : Sight) (pool places code : List ℕ) (st : State) (left : ℕ) (t p : Token) (pe : p ≡ plainFrom left s t) (b : Bool) (be : b ≡ isOver (st .listed) (p .kind)) where
-  pub string-most : b ≡ true → ran (Aside 7 (p .start)) pool places code ≡ stringIn s look pool places code st left t
+  pub string-most : b ≡ true → ran (Aside (against 7 (p .start))) pool places code ≡ stringIn s look pool places code st left t
   unfolding stringIn
   string-most y = rw (← pe, ← be, y)
 
-  pub string-placed : b ≡ false → (nest : ℕ) → nest ≡ nestOf left → (e : Named) (p′ q : List ℕ) → named e p′ q ≡ stringNamed s look pool places (st .count) (st .end) nest t
+  pub string-placed : b ≡ false → (nest : ℕ) → nest ≡ nestOf left → (e : Named) (p′ q : List ℕ) → named e p′ q ≡ stringNamed s look pool places (st .index .count) (st .index .end) nest t
       → (x : Licensed) (m : List ℕ) → wrote x m ≡ placedIn code st (p .start) e → ran x p′ q m ≡ stringIn s look pool places code st left t
   unfolding stringIn
   string-placed y nest ne e p′ q ee x m we = rw (← pe, ← be, y, ← ne, ← ee, ← we)
@@ -309,7 +312,7 @@ module _ (s code : List ℕ) (k before : ℕ) (st : State) (t : Token) (m : ℕ)
   nm : itemsOf before (st .listed) ≡ n
   nm = sym me ∙ sym ne
 
-  pub list-few : n < k → wrote (Aside 5 (t .start)) code ≡ listedIn s code k before st t
+  pub list-few : n < k → wrote (Aside (against 5 (t .start))) code ≡ listedIn s code k before st t
   unfolding listedIn
   list-few h = rw nm (simp (lt-ltb _ _ h))
 
@@ -321,9 +324,9 @@ module _ (s code : List ℕ) (k before : ℕ) (st : State) (t : Token) (m : ℕ)
 -- the loop of `list`, with the invariant `listIn .. ≡ a`
 module _ (s : List ℕ) (look : Sight) (left k before : ℕ) (pool places code : List ℕ) (st : State) (t : Token) (a : Ran)
     (inv : listIn s look left k before pool places code st t ≡ a) (r : Licensed) (p q m : List ℕ) (re : ran r p q m ≡ licenseeIn s look pool places code st left t) where
-  pub item-aside : (x y : ℕ) → r ≡ Aside x y → ran (Aside x y) p q m ≡ a
+  pub item-aside : (f : Fault) → r ≡ Aside f → ran r p q m ≡ a
   unfolding listIn
-  item-aside x y h = sym (loop-done _ _ _ (st, t, pool, places, code) (ran (Aside x y) p q m) (simp (sym re, h))) ∙ inv
+  item-aside f h = sym (loop-done _ _ _ (st, t, pool, places, code) (ran r p q m) (simp (sym re, h))) ∙ inv
 
   module _ (u : State) (n : Token) (rv : r ≡ On u n) where
     pub item-close : (w : Licensed) (b : List ℕ) → n .kind ≡ Kind.CLOSE → wrote w b ≡ listedIn s m k before u n → ran w p q b ≡ a
@@ -338,10 +341,10 @@ module _ (s : List ℕ) (look : Sight) (left k before : ℕ) (pool places code :
           rw we (sym (loop-done _ _ _ (st, t, pool, places, code) (ran (refusedLicensed n) p q m) (simp (sym re, rv, ne-eqb _ _ nc, ne-eqb _ _ h))) ∙ inv)
 
       module _ (h : n .kind ≡ Kind.COMMA) (x y : ℕ) (xe : x ≡ 16 - st .listed) (ye : y ≡ 16 - u .listed) where
-        pub item-stuck : x ≤ y → ran (Aside 0 0) p q m ≡ a
+        pub item-stuck : x ≤ y → ran (Aside (against 0 0)) p q m ≡ a
         unfolding listIn
         item-stuck g =
-            sym (loop-done _ _ _ (st, t, pool, places, code) (ran (Aside 0 0) p q m) (simp (sym re, rv, ne-eqb _ _ nc, eq-eqb _ _ h, sym xe, sym ye, le-leb _ _ g))) ∙ inv
+            sym (loop-done _ _ _ (st, t, pool, places, code) (ran (Aside (against 0 0)) p q m) (simp (sym re, rv, ne-eqb _ _ nc, eq-eqb _ _ h, sym xe, sym ye, le-leb _ _ g))) ∙ inv
 
         pub item-more : (v : Token) → y < x → v ≡ tokenAt s Kind.IN-LICENSEES (n .end) → listIn s look left k before p q m u v ≡ a
         unfolding listIn
@@ -377,10 +380,11 @@ module _ (s pool₀ places₀ code₀ : List ℕ) (st₀ : State) (t₀ : Token)
   item : (look : Sight) (left : ℕ) → ran r p q m ≡ licenseeIn s look pool places code st left t
   item look left = licensee-literal s look pool places code st left t (ran r p q m) true is-plain refl n ne no-dot no-name re
 
-  pub literals-aside : (x z : ℕ) → r ≡ Aside x z → Leads s pool₀ places₀ code₀ st₀ t₀ (ran (Aside x z) p q m)
-  literals-aside x z h = record {
+  pub literals-aside : (f : Fault) → r ≡ Aside f → Leads s pool₀ places₀ code₀ st₀ t₀ (ran r p q m)
+  literals-aside f h = record {
     leads = λ look left k before.
-        item-aside s look left k before pool places code st t _ (inv .leads look left k before) r p q m (item look left) x z h;
+        ap (λ (v : Licensed). resumed s look left k before (ran v p q m)) h ∙ sym (ap (λ (v : Licensed). ran v p q m) h)
+        ∙ item-aside s look left k before pool places code st t _ (inv .leads look left k before) r p q m (item look left) f h;
   }
 
   module _ (u : State) (v : Token) (rv : r ≡ On u v) where
@@ -395,7 +399,7 @@ module _ (s pool₀ places₀ code₀ : List ℕ) (st₀ : State) (t₀ : Token)
     next-close k = no-close (sym (ap (λ (o : Token). o .kind) same-next) ∙ k)
 
     module _ (x z : ℕ) (xe : x ≡ 16 - st .listed) (ze : z ≡ 16 - u .listed) where
-      pub literals-stuck : x ≤ z → Leads s pool₀ places₀ code₀ st₀ t₀ (ran (Aside 0 0) p q m)
+      pub literals-stuck : x ≤ z → Leads s pool₀ places₀ code₀ st₀ t₀ (ran (Aside (against 0 0)) p q m)
       literals-stuck g = record {
         leads = λ look left k before.
             item-stuck s look left k before pool places code st t _ (inv .leads look left k before) r p q m (item look left) u v rv next-close next-comma x z xe ze g;
@@ -418,7 +422,7 @@ module _ (left : ℕ) (s : List ℕ) (look : Sight) (k : ℕ) (pool places code 
   opened-not r h re = rw re (simp (ne-eqb _ _ h))
 
   module _ (h : t .kind ≡ Kind.OPEN) where
-    pub opened-most : left ≡ 0 → ran (Aside 7 (t .start)) pool places code ≡ openedIn left s look k pool places code st t
+    pub opened-most : left ≡ 0 → ran (Aside (against 7 (t .start))) pool places code ≡ openedIn left s look k pool places code st t
     unfolding openedIn
     opened-most z = simp (eq-eqb _ _ h, eq-eqb _ _ z)
 
@@ -428,29 +432,33 @@ module _ (left : ℕ) (s : List ℕ) (look : Sight) (k : ℕ) (pool places code 
       all = simp (eq-eqb _ _ h, ne-eqb _ _ z, ne)
 
       module _ (w : Licensed) (p q m : List ℕ) (we : Leads s pool places code st n (ran w p q m)) where
-        pub opened-aside : (x y : ℕ) → w ≡ Aside x y → ran (Aside x y) p q m ≡ openedIn left s look k pool places code st t
-        opened-aside x y e = ap (λ (v : Licensed). resumed s look (left - 1) k (st .listed) (ran v p q m)) (sym e) ∙ we .leads look (left - 1) k (st .listed) ∙ all
+        pub opened-aside : (f : Fault) → w ≡ Aside f → ran w p q m ≡ openedIn left s look k pool places code st t
+        opened-aside f e = ap (λ (v : Licensed). ran v p q m) e ∙ ap (λ (v : Licensed). resumed s look (left - 1) k (st .listed) (ran v p q m)) (sym e) ∙ we .leads look (left - 1) k (st .listed) ∙ all
 
         pub opened-list : (u : State) (v : Token) → w ≡ On u v → (r : Ran) → r ≡ listIn s look (left - 1) k (st .listed) p q m u v → r ≡ openedIn left s look k pool places code st t
         opened-list u v e r re = re ∙ ap (λ (v : Licensed). resumed s look (left - 1) k (st .listed) (ran v p q m)) (sym e) ∙ we .leads look (left - 1) k (st .listed) ∙ all
 
 -- `threshold`
-module _ (left : ℕ) (s : List ℕ) (look : Sight) (pool places code : List ℕ) (st : State) (t : Token) (k : ℕ) (ke : k ≡ numberAt s (t .start) (t .end)) where
-  pub threshold-none : k ≡ 0 → ran (Aside 5 (t .start)) pool places code ≡ thresholdIn left s look pool places code st t
+module _ (left : ℕ) (s : List ℕ) (look : Sight) (pool places code : List ℕ) (st : State) (t : Token) (k : ℕ) (ke : k ≡ min (numberAt s (t .start) (t .end)) 2147483648) where
+  pub threshold-none : k ≡ 0 → ran (Aside (against 5 (t .start))) pool places code ≡ thresholdIn left s look pool places code st t
   unfolding thresholdIn
-  threshold-none z = simp (sym ke, eq-eqb _ _ z)
+  threshold-none z = rw (eq-eqb (numberAt s (t .start) (t .end)) 0 (omega (arith, ke, z)))
 
   module _ (nz : k ≡ 0 → ⊥) where
-    pub threshold-high : 16 < k → ran (Aside 5 (t .start)) pool places code ≡ thresholdIn left s look pool places code st t
+    pub threshold-high : 16 < k → ran (Aside (against 5 (t .start))) pool places code ≡ thresholdIn left s look pool places code st t
     unfolding thresholdIn
-    threshold-high h = simp (sym ke, ne-eqb _ _ nz, lt-ltb _ _ h)
+    threshold-high h = rw (lt-ltb 16 (numberAt s (t .start) (t .end)) (omega (arith, ke, h)), ne-eqb (numberAt s (t .start) (t .end)) 0 (λ z. omega (arith, ke, h, z)))
 
     module _ (low : k ≤ 16) (o : Token) (oe : o ≡ tokenAt s Kind.IN-LICENSEES (t .end)) where
+      -- a number that is small was not held
+      small-is : numberAt s (t .start) (t .end) ≡ k
+      small-is = omega (arith, ke, low)
+
       pub threshold-not : (r : Licensed) → (o .kind ≡ Kind.OF → ⊥) → r ≡ refusedLicensed o → ran r pool places code ≡ thresholdIn left s look pool places code st t
       unfolding thresholdIn
-      threshold-not r h re = rw re (simp (sym ke, ne-eqb _ _ nz, le-ltb _ _ low, sym oe, ne-eqb _ _ h))
+      threshold-not r h re = rw re (simp (small-is, ne-eqb _ _ nz, le-ltb _ _ low, sym oe, ne-eqb _ _ h))
 
       pub threshold-of : (n : Token) (x : ℕ) (r : Ran) → o .kind ≡ Kind.OF → n ≡ tokenAt s Kind.IN-LICENSEES (o .end) → x ≡ k → r ≡ openedIn left s look x pool places code st n
           → r ≡ thresholdIn left s look pool places code st t
       unfolding thresholdIn
-      threshold-of n x r h ne xe re = re ∙ rw xe (simp (sym ke, ne-eqb _ _ nz, le-ltb _ _ low, sym oe, eq-eqb _ _ h, ne))
+      threshold-of n x r h ne xe re = re ∙ rw xe (simp (small-is, ne-eqb _ _ nz, le-ltb _ _ low, sym oe, eq-eqb _ _ h, ne))

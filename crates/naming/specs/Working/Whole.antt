@@ -18,7 +18,7 @@ use Rattle.text.specs.All.{all, all-empty, all-fails, all-passes}
 use Rattle.lexical.specs.Theorems.Bounds.{chosen}
 use Rattle.lexical.specs.Kind
 use Rattle.lexical.specs.Unit.{barred}
-use Rattle.lexical.specs.Plain.{plain, bareEnd}
+use Rattle.lexical.specs.Working.Plain.{plain, bareEnd}
 use Rattle.lexical.specs.declared.token.Token.{Token}
 use Rattle.limits.specs.Limits.{mostIdentifier}
 

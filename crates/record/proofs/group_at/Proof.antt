@@ -17,23 +17,23 @@ by-group-requires-2 c κs = search needs
 count-requires : tie.Need-count-requires
 count-requires c κs = search needs
 
-enum-known-number : tie.Need-enum-known-number
-enum-known-number c = search needs
-
 enum-known-value : tie.Need-enum-known-value
 enum-known-value c = search needs
 
 items-requires : tie.Need-items-requires
 items-requires c κs = search needs
 
-returns : tie.Need-returns
-returns c = search group-count
+enum-told : tie.Need-enum-told
+enum-told c = search needs
 
 same-length : tie.Need-same-length
 same-length c = search needs
 
+returns : tie.Need-returns
+returns c = search group-items
+
 returns-2 : tie.Need-returns-2
-returns-2 c = search group-items
+returns-2 c = search group-count
 
 pub group-at-spec : {M : Type 1} → statement M
 group-at-spec =
@@ -42,9 +42,9 @@ group-at-spec =
     by-group-requires
     by-group-requires-2
     count-requires
-    enum-known-number
     enum-known-value
     items-requires
-    returns
+    enum-told
     same-length
+    returns
     returns-2)

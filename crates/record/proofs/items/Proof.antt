@@ -26,15 +26,6 @@ returns c = search items-room
 item-requires : tie.Need-item-requires Inv-loop μ-loop
 item-requires c κs = search needs
 
-enum-known-number : tie.Need-enum-known-number Inv-loop μ-loop
-enum-known-number c = search needs
-
-same-length-2 : tie.Need-same-length-2 Inv-loop μ-loop
-same-length-2 c = search needs
-
-returns-2 : tie.Need-returns-2 Inv-loop μ-loop
-returns-2 c = search items-refused
-
 enum-known-value : tie.Need-enum-known-value Inv-loop μ-loop
 enum-known-value c = search needs
 
@@ -56,6 +47,15 @@ loop-less c = search needs
 loop-again : tie.Need-loop-again Inv-loop μ-loop
 loop-again c = (search needs, search items-more)
 
+enum-told : tie.Need-enum-told Inv-loop μ-loop
+enum-told c = search needs
+
+same-length-2 : tie.Need-same-length-2 Inv-loop μ-loop
+same-length-2 c = search needs
+
+returns-2 : tie.Need-returns-2 Inv-loop μ-loop
+returns-2 c = search items-refused
+
 same-length-3 : tie.Need-same-length-3 Inv-loop μ-loop
 same-length-3 c = search needs
 
@@ -72,9 +72,6 @@ items-spec =
     same-length
     returns
     item-requires
-    enum-known-number
-    same-length-2
-    returns-2
     enum-known-value
     mul-table
     slice-write-table
@@ -82,5 +79,8 @@ items-spec =
     sub-left
     loop-less
     loop-again
+    enum-told
+    same-length-2
+    returns-2
     same-length-3
     returns-3)

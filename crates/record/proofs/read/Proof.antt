@@ -13,9 +13,6 @@ slice-aggregate-record-at c = search needs
 record-at-requires : tie.Need-record-at-requires
 record-at-requires c κs = search needs
 
-enum-known-number : tie.Need-enum-known-number
-enum-known-number c = search needs
-
 enum-known-values : tie.Need-enum-known-values
 enum-known-values c = search needs
 
@@ -25,11 +22,14 @@ slice-aggregate-copy-entries c = search needs
 copy-entries-requires : tie.Need-copy-entries-requires
 copy-entries-requires c κs = (search read-found, search read-table)
 
+enum-told : tie.Need-enum-told
+enum-told c = search needs
+
 returns : tie.Need-returns
-returns c = (search read-refused, search tabled-refused)
+returns c = (search read-accepted, search tabled-accepted)
 
 returns-2 : tie.Need-returns-2
-returns-2 c = (search read-accepted, search tabled-accepted)
+returns-2 c = (search read-refused, search tabled-refused)
 
 pub read-spec : {M : Type 1} → statement M
 read-spec =
@@ -37,9 +37,9 @@ read-spec =
     (tie.spec
     slice-aggregate-record-at
     record-at-requires
-    enum-known-number
     enum-known-values
     slice-aggregate-copy-entries
     copy-entries-requires
+    enum-told
     returns
     returns-2)

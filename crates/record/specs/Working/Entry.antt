@@ -96,13 +96,13 @@ module _ (s table : List ℕ) (m : Reading) (u : List ℕ) (me : told m u ≡ ta
   unfolding empty
   from-empty = me
 
-  pub read-refused : (k p : ℕ) → m ≡ Refused k p → told (Refused k p) table ≡ readInto s table
+  pub read-refused : (k p : ℕ) → m ≡ Refused k p → told m table ≡ readInto s table
   unfolding readInto leaves
-  read-refused k p e = rw (refused-of (table-tie s empty room) m u from-empty k p e)
+  read-refused k p e = rw (e, refused-of (table-tie s empty room) m u from-empty k p e)
 
-  pub tabled-refused : (k p : ℕ) → m ≡ Refused k p → tabled (Refused k p) ≡ tabledVerdict (readRecord s)
+  pub tabled-refused : (k p : ℕ) → m ≡ Refused k p → tabled m ≡ tabledVerdict (readRecord s)
   unfolding tabled tabledVerdict
-  tabled-refused k p e = rw (refused-of (table-tie s empty room) m u from-empty k p e)
+  tabled-refused k p e = rw (e, refused-of (table-tie s empty room) m u from-empty k p e)
 
   module _ (v r a c : ℕ) (e : m ≡ Accepted v r a c) where
     took : Took empty (readRecord s) u v r a c

@@ -98,15 +98,15 @@ module _ (g : ℕ) (s : List ℕ) (from n i : ℕ) (t : List ℕ) (at : ℕ) (r 
           let z : itemsBody (λ j u p. itemsInto g s from (n - 1) j u p) g s from i t at ≡ r = sym (items-unfold g s from n i t at h) ∙ inv in
           rw (lt-leb (length t) i l, ← me) at z
 
-      pub items-refused : (k p : ℕ) → m ≡ Refused k p → ran (Refused k p) t ≡ r
-      items-refused k p e = let z : onMove m t (λ v p. itemsInto g s from (n - 1) (i + 1) (set t i v) p) ≡ r = body in rw e at z
+      pub items-refused : (k p : ℕ) → m ≡ Refused k p → ran m t ≡ r
+      items-refused k p e = let z : onMove m t (λ v p. itemsInto g s from (n - 1) (i + 1) (set t i v) p) ≡ r = body in rw e (rw e at z)
 
       pub items-more : (v : ℕ) (c : Cursor) → m ≡ To v c → itemsInto g s from (n - 1) (i + 1) (set t i v) (c .at) ≡ r
       items-more v c e = let z : onMove m t (λ v p. itemsInto g s from (n - 1) (i + 1) (set t i v) p) ≡ r = body in rw e at z
 
 -- `group_at`
 module _ (g : ℕ) (s t : List ℕ) (from at least most : ℕ) (le : least ≡ leastCount g) (mo : most ≡ mostCount g) (m : Moved) (me : m ≡ countMove s least most at) where
-  pub group-count : (k p : ℕ) → m ≡ Refused k p → ran (Refused k p) t ≡ groupInto g s t from at
+  pub group-count : (k p : ℕ) → m ≡ Refused k p → ran m t ≡ groupInto g s t from at
   unfolding groupInto
   group-count k p e = simp (sym le, sym mo, sym me, e)
 

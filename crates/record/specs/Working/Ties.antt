@@ -18,7 +18,7 @@ use Rattle.record.specs.Read.{Read, got, bad, andThen}
 use Rattle.text.specs.Equal.{equal}
 use Rattle.principal.specs.Principal.{policy}
 use Rattle.record.specs.Field.{countAt, lengthAt, contentAt, fieldAt, nameFront, permitted, askable, among, distinct}
-use Rattle.record.specs.Item.{plainAt, valueAt, requesterAt, nameAt, attributeAt, assertionAt}
+use Rattle.record.specs.Item.{plainAt, valueAt, requesterAt, attributeNameAt, attributeAt, assertionAt}
 use Rattle.record.specs.Places.{stringSize, attributeSize, assertionSize}
 use Rattle.record.specs.Lies.{StringAt, AttributeAt, AssertionAt}
 use Rattle.record.specs.Working.Moves.{cursor, onTo, countMove, lengthMove, contentMove, fieldMove, permittedMove, askableMove, distinctMove, plainMove, valueMove, requesterMove, nameMove, attributeMove, assertionMove}
@@ -133,8 +133,8 @@ module _ (s : List ℕ) (seen : List (List ℕ)) (at : ℕ) where
       tie-then (λ b p. askable b (at + 2) (got b p)) (λ v p. askableMove (counted s v) v (To v (cursor p)))
       (plain-tie s leastRequester mostRequester at) (λ v p b spot. askable-tie s at v b (spot .start) (spot .string) (tie-to spot))
 
-  name-tie : Ties (Spot s itself (StringAt s) stringSize 2 at) (nameAt s seen at) (nameMove s seen at)
-  unfolding nameAt nameMove
+  name-tie : Ties (Spot s itself (StringAt s) stringSize 2 at) (attributeNameAt s seen at) (nameMove s seen at)
+  unfolding attributeNameAt nameMove
   name-tie =
       tie-then (λ b p. permitted (nameFront b) b (at + 2) (distinct b seen (at + 2) (got b p)))
       (λ v p. permittedMove (nameFront (counted s v)) (counted s v) v (distinctMove (counted s v) seen v (To v (cursor p))))

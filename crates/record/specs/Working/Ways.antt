@@ -132,7 +132,7 @@ module _ (s : List ℕ) (n at : ℕ) where
 
 -- `field`
 module _ (s : List ℕ) (least most at : ℕ) (m : Moved) (me : m ≡ lengthMove s least most at) where
-  pub field-refused : (n p : ℕ) → m ≡ Refused n p → Refused n p ≡ fieldMove s least most at
+  pub field-refused : (n p : ℕ) → m ≡ Refused n p → m ≡ fieldMove s least most at
   unfolding fieldMove
   field-refused n p e = simp (sym me, e)
 
@@ -154,7 +154,7 @@ byte-room s at k b e h = let l : length b ≤ length s - at = rw e (counted-room
 
 -- `plain`
 module _ (s : List ℕ) (least most at : ℕ) (m : Moved) (me : m ≡ fieldMove s least most at) where
-  pub plain-refused : (n p : ℕ) → m ≡ Refused n p → Refused n p ≡ plainMove s least most at
+  pub plain-refused : (n p : ℕ) → m ≡ Refused n p → m ≡ plainMove s least most at
   unfolding plainMove
   plain-refused n p e = simp (sym me, e)
 
@@ -169,7 +169,7 @@ module _ (s : List ℕ) (least most at : ℕ) (m : Moved) (me : m ≡ fieldMove 
 
 -- `compliance_value`
 module _ (s : List ℕ) (seen : List (List ℕ)) (at : ℕ) (m : Moved) (me : m ≡ plainMove s leastValue mostValue at) where
-  pub value-refused : (n p : ℕ) → m ≡ Refused n p → Refused n p ≡ valueMove s seen at
+  pub value-refused : (n p : ℕ) → m ≡ Refused n p → m ≡ valueMove s seen at
   unfolding valueMove
   value-refused n p e = simp (sym me, e)
 
@@ -184,7 +184,7 @@ module _ (s : List ℕ) (seen : List (List ℕ)) (at : ℕ) (m : Moved) (me : m 
 
 -- `requester`
 module _ (s : List ℕ) (at : ℕ) (m : Moved) (me : m ≡ plainMove s leastRequester mostRequester at) where
-  pub requester-refused : (n p : ℕ) → m ≡ Refused n p → Refused n p ≡ requesterMove s at
+  pub requester-refused : (n p : ℕ) → m ≡ Refused n p → m ≡ requesterMove s at
   unfolding requesterMove
   requester-refused n p e = simp (sym me, e)
 
@@ -199,7 +199,7 @@ module _ (s : List ℕ) (at : ℕ) (m : Moved) (me : m ≡ plainMove s leastRequ
 
 -- `name`
 module _ (s : List ℕ) (seen : List (List ℕ)) (at : ℕ) (m : Moved) (me : m ≡ fieldMove s leastName mostName at) where
-  pub name-refused : (n p : ℕ) → m ≡ Refused n p → Refused n p ≡ nameMove s seen at
+  pub name-refused : (n p : ℕ) → m ≡ Refused n p → m ≡ nameMove s seen at
   unfolding nameMove
   name-refused n p e = simp (sym me, e)
 
@@ -219,12 +219,12 @@ module _ (s : List ℕ) (seen : List (List ℕ)) (at : ℕ) (m : Moved) (me : m 
 
 -- `attribute`
 module _ (s : List ℕ) (seen : List (List ℕ)) (at : ℕ) (m : Moved) (me : m ≡ nameMove s seen at) where
-  pub attribute-name : (n p : ℕ) → m ≡ Refused n p → Refused n p ≡ attributeMove s seen at
+  pub attribute-name : (n p : ℕ) → m ≡ Refused n p → m ≡ attributeMove s seen at
   unfolding attributeMove
   attribute-name n p e = simp (sym me, e)
 
   module _ (v : ℕ) (c : Cursor) (e : m ≡ To v c) (m₂ : Moved) (me₂ : m₂ ≡ plainMove s leastSetting mostSetting (c .at)) where
-    pub attribute-value : (n p : ℕ) → m₂ ≡ Refused n p → Refused n p ≡ attributeMove s seen at
+    pub attribute-value : (n p : ℕ) → m₂ ≡ Refused n p → m₂ ≡ attributeMove s seen at
     unfolding attributeMove
     attribute-value n p e₂ = simp (sym me, e, sym me₂, e₂)
 

@@ -20,7 +20,7 @@ use Rattle.compliance.specs.Theorems.Fill.{place-added}
 use Rattle.compliance.specs.Theorems.Filling.{asking, Filling, fill-name}
 use Rattle.index.specs.Working.Entering.{Kept}
 use Rattle.naming.specs.Theorems.Entry.{EntryRead, entry-at, entry-read}
-use Rattle.system.specs.declared.asked.Index.{Index}
+use Rattle.index.specs.declared.Index.{Index}
 use Rattle.system.specs.Working.Sizes.{small}
 use Rattle.system.specs.Working.Asking.{Asked, asked, onEntered, askIn, allFrom}
 

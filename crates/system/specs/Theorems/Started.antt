@@ -12,7 +12,7 @@ use Rattle.principal.specs.Principal.{Principal, policy}
 use Rattle.compliance.specs.Theorems.Filling.{Filling, asking}
 use Rattle.index.specs.Index.{enterAll, Holds}
 use Rattle.expression.specs.Conditions.{top}
-use Rattle.system.specs.declared.asked.Index.{Index}
+use Rattle.index.specs.declared.Index.{Index}
 use Rattle.system.specs.Working.Sizes.{small}
 
 -- POLICY and the requesters

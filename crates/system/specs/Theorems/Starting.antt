@@ -24,7 +24,7 @@ use Rattle.constants.specs.Constants.{written, countedInto, begunInto}
 use Rattle.expression.specs.Conditions.{top}
 use Rattle.index.specs.Working.Entering.{Kept}
 use Rattle.naming.specs.Theorems.Entry.{EntryRead, entry-at, entry-read}
-use Rattle.system.specs.declared.asked.Index.{Index}
+use Rattle.index.specs.declared.Index.{Index}
 use Rattle.system.specs.Working.Sizes.{small}
 use Rattle.system.specs.Working.Asking.{Begun, begun, onBegun, beginIn}
 use Rattle.system.specs.Theorems.Marked.{Stage}

@@ -8,21 +8,19 @@ use lib.ListN.{length, getD, drop, set, drop-of-length-le}
 use lib.Seq.{drop-cons, set-out}
 use Rattle.text.specs.Counted.{counted}
 use Rattle.principal.specs.Principal.{policy}
+use Rattle.index.specs.Working.Adding.{indexOf}
 use Rattle.index.specs.Working.Entering.{Kept, numbered, enterIn}
 use Rattle.index.specs.declared.Numbered.{Numbered}
 use Rattle.index.specs.declared.Numbered.the-variants.{At, Full}
-use Rattle.system.specs.declared.asked.Index.{Index}
+use Rattle.index.specs.declared.Index.{Index}
 
 -- the index's count and end, its pool and table, and the marks
 pub data Asked : Type 0 where
   asked : Index → List ℕ → List ℕ → List ℕ → Asked
 
-abbrev pub indexed : ℕ → ℕ → Index
-indexed c e = record { count = c; end = e }
-
 abbrev pub onEntered : List ℕ → Index → Kept → Asked
 onEntered direct x (numbered Full p l) = asked x p l direct
-onEntered direct x (numbered (At i c e) p l) = asked (indexed c e) p l (set direct i 1)
+onEntered direct x (numbered (At c i e) p l) = asked (indexOf c e) p l (set direct i 1)
 
 unfoldable pub askIn : List ℕ → List ℕ → List ℕ → Index → List ℕ → Asked
 askIn pool places direct x id = onEntered direct x (enterIn pool places (x .count) (x .end) id)
@@ -42,9 +40,9 @@ module _ (pool places direct : List ℕ) (x : Index) (id : List ℕ) (r : Number
   unfolding askIn
   ask-full k = rw (← e, k)
 
-  pub ask-at : (i c m : ℕ) (d : List ℕ) → r ≡ At i c m → d ≡ set direct i 1 → asked (indexed c m) p l d ≡ askIn pool places direct x id
+  pub ask-at : (c i m : ℕ) (d : List ℕ) → r ≡ At c i m → d ≡ set direct i 1 → asked (indexOf c m) p l d ≡ askIn pool places direct x id
   unfolding askIn
-  ask-at i c m d k de = rw (de, ← e, k)
+  ask-at c i m d k de = rw (de, ← e, k)
 
 -- `ask_all`, with the invariant `allFrom s (drop i ps) (asked ..) ≡ a`
 pub all-start : (s ps : List ℕ) (a : Asked) → allFrom s (drop 0 ps) a ≡ allFrom s ps a
@@ -66,18 +64,18 @@ pub data Begun : Type 0 where
   begun : Index → List ℕ → List ℕ → Begun
 
 abbrev pub onBegun : Kept → Begun
-onBegun (numbered Full p l) = begun (indexed 0 0) p l
-onBegun (numbered (At i c e) p l) = begun (indexed c e) p l
+onBegun (numbered Full p l) = begun (indexOf 0 0) p l
+onBegun (numbered (At c i e) p l) = begun (indexOf c e) p l
 
 unfoldable pub beginIn : List ℕ → List ℕ → Begun
 beginIn pool places = onBegun (enterIn pool places 0 0 policy)
 
 -- `begin`
 module _ (pool places : List ℕ) (r : Numbered) (p l : List ℕ) (e : numbered r p l ≡ enterIn pool places 0 0 (80 ∷ 79 ∷ 76 ∷ 73 ∷ 67 ∷ 89 ∷ [])) where
-  pub begin-full : r ≡ Full → begun (indexed 0 0) p l ≡ beginIn pool places
+  pub begin-full : r ≡ Full → begun (indexOf 0 0) p l ≡ beginIn pool places
   unfolding beginIn policy
   begin-full k = rw (← e, k)
 
-  pub begin-at : (i c m : ℕ) → r ≡ At i c m → begun (indexed c m) p l ≡ beginIn pool places
+  pub begin-at : (c i m : ℕ) → r ≡ At c i m → begun (indexOf c m) p l ≡ beginIn pool places
   unfolding beginIn policy
-  begin-at i c m k = rw (← e, k)
+  begin-at c i m k = rw (← e, k)

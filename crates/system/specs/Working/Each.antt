@@ -14,7 +14,7 @@ use Rattle.text.specs.Choice.{pick, split}
 use Rattle.text.specs.Counted.{counted}
 use Rattle.assertion.specs.Working.Field.{given, tabled}
 use Rattle.assertion.specs.Working.Reading.{Result, readBy, readIn}
-use Rattle.assertion.specs.declared.Reading.{Reading}
+use Rattle.assertion.specs.declared.Assessment.{Assessment}
 use Rattle.system.specs.Working.Noting.{Noted, noted, noteIn}
 use Rattle.system.specs.declared.note.Ends.{Ends}
 
@@ -40,7 +40,7 @@ abbrev pub store : List ℕ → List ℕ → List ℕ → List ℕ → Store
 store consts pool places code = record { consts = consts; pool = pool; places = places; code = code }
 
 pub data One : Type 0 where
-  oneBy : Reading → Store → One
+  oneBy : Assessment → Store → One
 
 abbrev pub oneOf : Result → One
 oneOf (readBy r x) = oneBy r (store (x .consts) (x .pool) (x .places) (x .code))
@@ -67,7 +67,7 @@ full consts start text pool end places count =
     pick (leb (start + mostLengths + text) consts) (pick (leb (end + mostEntered) pool) (pick (leb (count + mostNamed) places) false true) true) true
 
 abbrev pub fullAt : Fixed → ℕ → Ends → Store → Bool
-fullAt f at e x = full (length (x .consts)) (f .start) (length (counted (f .bytes) at)) (length (x .pool)) (e .end) (length (x .places)) (e .count)
+fullAt f at e x = full (length (x .consts)) (f .start) (length (counted (f .bytes) at)) (length (x .pool)) (e .index .end) (length (x .places)) (e .index .count)
 
 -- how far the reading went
 pub data Went : Type 0 where
@@ -77,7 +77,7 @@ pub data Went : Type 0 where
 unfoldable pub eachFrom : Fixed → List ℕ → ℕ → Each → Went
 eachFrom f [] i z = wentBy i z
 eachFrom f (p ∷ ps) i (eachBy e x a c d page) =
-    pick (fullAt f p e x) (wentBy i (eachBy e x a c d page)) (eachFrom f ps (suc i) (onOne a c d page i e (oneIn f p x (e .count) (e .end) (e .size))))
+    pick (fullAt f p e x) (wentBy i (eachBy e x a c d page)) (eachFrom f ps (suc i) (onOne a c d page i e (oneIn f p x (e .index .count) (e .index .end) (e .size))))
 
 -- `byte_at` and `standing_at`
 pub byte-past : (s : List ℕ) (at : ℕ) → length s ≤ at → 0 ≡ getD s at 0
@@ -87,7 +87,7 @@ pub standing-low : (s : List ℕ) (at r : ℕ) → at < 3 → r ≡ getD s 0 0 �
 standing-low s at r h e = let z : at - 3 ≡ 0 = omega (arith, h) in e ∙ rw z
 
 -- `read_one`
-pub one-is : (bytes values names : List ℕ) (top start at : ℕ) (x : Store) (count end size : ℕ) (text : List ℕ) (standing : ℕ) (r : Reading) (consts constants pool places code : List ℕ)
+pub one-is : (bytes values names : List ℕ) (top start at : ℕ) (x : Store) (count end size : ℕ) (text : List ℕ) (standing : ℕ) (r : Assessment) (consts constants pool places code : List ℕ)
     → text ≡ counted bytes at → standing ≡ getD bytes (at - 3) 0
     → readBy r (tabled consts constants pool places code)
     ≡ readIn (given text standing bytes values names start) top (tabled (x .consts) (replicate mostConstants 0) (x .pool) (x .places) (x .code)) count end size
@@ -154,20 +154,20 @@ module _ (bytes values names : List ℕ) (top start : ℕ) (ps : List ℕ) (i : 
   each-end h = let w : eachFrom f [] i (eachBy e x a c d page) ≡ z = rw (drop-of-length-le ps h) at inv in w
 
   module _ (h : i < length ps) (at : ℕ) (ate : at ≡ getD ps i 0) (text : List ℕ) (te : text ≡ counted bytes at)
-      (b : Bool) (be : b ≡ full (length (x .consts)) start (length text) (length (x .pool)) (e .end) (length (x .places)) (e .count)) where
-    here : pick b (wentBy i (eachBy e x a c d page)) (eachFrom f (drop (suc i) ps) (suc i) (onOne a c d page i e (oneIn f at x (e .count) (e .end) (e .size)))) ≡ z
+      (b : Bool) (be : b ≡ full (length (x .consts)) start (length text) (length (x .pool)) (e .index .end) (length (x .places)) (e .index .count)) where
+    here : pick b (wentBy i (eachBy e x a c d page)) (eachFrom f (drop (suc i) ps) (suc i) (onOne a c d page i e (oneIn f at x (e .index .count) (e .index .end) (e .size)))) ≡ z
     unfolding eachFrom
     here = rw (be, te, ate) (rw (drop-cons ps i 0 h) at inv)
 
     pub each-full : b ≡ true → wentBy i (eachBy e x a c d page) ≡ z
     each-full k = rw k at here
 
-    module _ (k : b ≡ false) (r : Reading) (y : Store) (re : oneBy r y ≡ oneIn f at x (e .count) (e .end) (e .size)) (u : Ends) (a′ c′ d′ page′ : List ℕ)
+    module _ (k : b ≡ false) (r : Assessment) (y : Store) (re : oneBy r y ≡ oneIn f at x (e .index .count) (e .index .end) (e .size)) (u : Ends) (a′ c′ d′ page′ : List ℕ)
         (ne : noted u a′ c′ d′ page′ ≡ noteIn a c d page i e r) (j : ℕ) (je : j ≡ pick (ltb i (length ps)) (i + 1) i) where
       pub each-more : eachFrom f (drop j ps) j (eachBy u y a′ c′ d′ page′) ≡ z
       each-more =
           let on : j ≡ suc i = je ∙ rw (lt-ltb _ _ h, add-one i) in
-          let w : eachFrom f (drop (suc i) ps) (suc i) (onOne a c d page i e (oneIn f at x (e .count) (e .end) (e .size))) ≡ z = rw k at here in
+          let w : eachFrom f (drop (suc i) ps) (suc i) (onOne a c d page i e (oneIn f at x (e .index .count) (e .index .end) (e .size))) ≡ z = rw k at here in
           rw on (rw (← re, ← ne) at w)
 
 pub each-less : (n i j : ℕ) → i < n → j ≡ pick (ltb i n) (i + 1) i → n - j < n - i

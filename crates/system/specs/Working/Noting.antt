@@ -8,14 +8,17 @@ use lib.ListN.{length, set}
 use borrow.Author.Tests.{le-leb, lt-leb, lt-ltb, le-ltb}
 use Rattle.text.specs.Choice.{pick}
 use Rattle.text.specs.Copy.{put}
-use Rattle.assertion.specs.declared.Reading.{Reading}
-use Rattle.assertion.specs.declared.Reading.the-variants.{Kept, Dropped}
+use Rattle.assertion.specs.declared.Assessment.{Assessment}
+use Rattle.assertion.specs.declared.Assessment.the-variants.{Kept, Dropped}
 use Rattle.system.specs.declared.note.Ends.{Ends}
+use Rattle.syntax.specs.declared.fault.Fault.{Fault}
+use Rattle.index.specs.declared.Index.{Index}
+use Rattle.naming.specs.Working.Faults.{clearAt}
 
 -- the entry of assertion i, where the page has room for it
-unfoldable pub entryInto : List ℕ → ℕ → ℕ → ℕ → List ℕ
-entryInto page i reason place =
-    pick (ltb (length page) (3 * i + 6)) page (put page (3 + 3 * i) (reason ∷ place / 256 % 256 ∷ place % 256 ∷ []))
+unfoldable pub entryInto : List ℕ → ℕ → Fault → List ℕ
+entryInto page i f =
+    pick (ltb (length page) (3 * i + 6)) page (put page (3 + 3 * i) (f .reason % 256 ∷ f .place / 256 % 256 ∷ f .place % 256 ∷ []))
 
 -- how many rows there are, and the rows: authorizers, ranks of Conditions, ends of programs
 pub data Rowed : Type 0 where
@@ -31,15 +34,15 @@ rowInto a c d k author rank size =
 pub data Noted : Type 0 where
   noted : Ends → List ℕ → List ℕ → List ℕ → List ℕ → Noted
 
-abbrev pub endsOf : ℕ → ℕ → ℕ → ℕ → Ends
-endsOf count end size kept = record { count = count; end = end; size = size; kept = kept }
+abbrev pub endsAt : Index → ℕ → ℕ → Ends
+endsAt index size kept = record { index = index; size = size; kept = kept }
 
-abbrev pub onRowed : ℕ → ℕ → ℕ → List ℕ → Rowed → Noted
-onRowed count end size page (rowed k a c d) = noted (endsOf count end size k) a c d page
+abbrev pub onRowed : Index → ℕ → List ℕ → Rowed → Noted
+onRowed index size page (rowed k a c d) = noted (endsAt index size k) a c d page
 
-unfoldable pub noteIn : List ℕ → List ℕ → List ℕ → List ℕ → ℕ → Ends → Reading → Noted
-noteIn a c d page i e (Dropped r p) = noted e a c d (entryInto page i r p)
-noteIn a c d page i e (Kept author rank count end size) = onRowed count end size (entryInto page i 0 0) (rowInto a c d (e .kept) author rank size)
+unfoldable pub noteIn : List ℕ → List ℕ → List ℕ → List ℕ → ℕ → Ends → Assessment → Noted
+noteIn a c d page i e (Dropped f) = noted e a c d (entryInto page i f)
+noteIn a c d page i e (Kept author index size rank) = onRowed index size (entryInto page i clearAt) (rowInto a c d (e .kept) author rank size)
 
 -- the report's first three bytes, where the page has room for them
 unfoldable pub headerInto : List ℕ → ℕ → List ℕ

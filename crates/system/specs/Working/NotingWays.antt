@@ -8,12 +8,16 @@ use lib.ListN.{length, set}
 use borrow.Author.Tests.{le-leb, lt-leb, lt-ltb, le-ltb}
 use Rattle.text.specs.Copy.{copied, put}
 use Rattle.text.specs.CopyLaws.{put-front}
-use Rattle.text.specs.Counted.{pairBytes, putPair}
+use Rattle.text.specs.Counted.{pairBytes}
+use Rattle.text.specs.Put.{putPair}
 use Rattle.text.specs.CountedLaws.{pair-put}
-use Rattle.assertion.specs.declared.Reading.{Reading}
-use Rattle.assertion.specs.declared.Reading.the-variants.{Kept, Dropped}
-use Rattle.system.specs.Working.Noting.{entryInto, headerInto, rowed, rowInto, noted, endsOf, noteIn}
+use Rattle.assertion.specs.declared.Assessment.{Assessment}
+use Rattle.assertion.specs.declared.Assessment.the-variants.{Kept, Dropped}
+use Rattle.system.specs.Working.Noting.{entryInto, headerInto, rowed, rowInto, noted, endsAt, noteIn}
 use Rattle.system.specs.declared.note.Ends.{Ends}
+use Rattle.syntax.specs.declared.fault.Fault.{Fault}
+use Rattle.index.specs.declared.Index.{Index}
+use Rattle.naming.specs.Working.Faults.{clearAt}
 
 -- the two bytes of a number's last two
 high-of : (m p : ℕ) → m ≡ p % 65536 → m / 256 ≡ p / 256 % 256
@@ -23,24 +27,24 @@ low-of : (m p : ℕ) → m ≡ p % 65536 → m % 256 ≡ p % 256
 low-of m p e = omega arith
 
 -- `put_entry`
-module _ (page : List ℕ) (i reason place : ℕ) where
-  pub entry-none : length page < 6 → page ≡ entryInto page i reason place
+module _ (page : List ℕ) (i : ℕ) (f : Fault) where
+  pub entry-none : length page < 6 → page ≡ entryInto page i f
   unfolding entryInto
   entry-none h = rw (lt-ltb (length page) (3 * i + 6) (omega arith))
 
-  pub entry-far : 6 ≤ length page → (length page - 6) / 3 < i → page ≡ entryInto page i reason place
+  pub entry-far : 6 ≤ length page → (length page - 6) / 3 < i → page ≡ entryInto page i f
   unfolding entryInto
   entry-far h k = rw (lt-ltb (length page) (3 * i + 6) (omega arith))
 
   module _ (h : 6 ≤ length page) (k : i ≤ (length page - 6) / 3) where
-    pub entry-in : (m : ℕ) → m ≡ place % 65536 → (u : Bool) (e : List ℕ) → copied u e ≡ putPair page (3 + 3 * i + 1) m → set e (3 + 3 * i) reason ≡ entryInto page i reason place
+    pub entry-in : (m v : ℕ) → m ≡ f .place % 65536 → v ≡ f .reason % 256 → (u : Bool) (e : List ℕ) → copied u e ≡ putPair page (3 + 3 * i + 1) m → set e (3 + 3 * i) v ≡ entryInto page i f
     unfolding entryInto pairBytes
-    entry-in m me u e ue =
+    entry-in m v me ve u e ue =
         let at : ℕ = 3 + 3 * i in
-        let x : m / 256 ≡ place / 256 % 256 = high-of m place me in
-        let y : m % 256 ≡ place % 256 = low-of m place me in
+        let x : m / 256 ≡ f .place / 256 % 256 = high-of m (f .place) me in
+        let y : m % 256 ≡ f .place % 256 = low-of m (f .place) me in
         let ee : e ≡ put page (at + 1) (m / 256 ∷ m % 256 ∷ []) = pair-put page (at + 1) m (omega arith) (omega arith) u e ue in
-        rw (le-ltb (length page) (3 * i + 6) (omega arith), ← x, ← y, ee) (put-front page at reason (m / 256 ∷ m % 256 ∷ []) (omega arith))
+        rw (le-ltb (length page) (3 * i + 6) (omega arith), ← x, ← y, ee, ← ve) (put-front page at v (m / 256 ∷ m % 256 ∷ []) (omega arith))
 
 -- `put_header`
 pub header-none : (page : List ℕ) (n : ℕ) → length page < 3 → page ≡ headerInto page n
@@ -77,11 +81,11 @@ module _ (a c d : List ℕ) (k author rank size : ℕ) where
 
 -- `note`
 module _ (a c d page : List ℕ) (i : ℕ) (e : Ends) where
-  pub note-dropped : (r : Reading) (x p : ℕ) (q : List ℕ) → r ≡ Dropped x p → q ≡ entryInto page i x p → noted e a c d q ≡ noteIn a c d page i e r
+  pub note-dropped : (r : Assessment) (f : Fault) (q : List ℕ) → r ≡ Dropped f → q ≡ entryInto page i f → noted e a c d q ≡ noteIn a c d page i e r
   unfolding noteIn
-  note-dropped r x p q k qe = rw (k, qe)
+  note-dropped r f q k qe = rw (k, qe)
 
-  pub note-kept : (r : Reading) (author rank count end size : ℕ) (q : List ℕ) → r ≡ Kept author rank count end size → q ≡ entryInto page i 0 0
-      → (k : ℕ) (a′ c′ d′ : List ℕ) → rowed k a′ c′ d′ ≡ rowInto a c d (e .kept) author rank size → noted (endsOf count end size k) a′ c′ d′ q ≡ noteIn a c d page i e r
+  pub note-kept : (r : Assessment) (author : ℕ) (index : Index) (size rank : ℕ) (q : List ℕ) → r ≡ Kept author index size rank → (f : Fault) → f ≡ clearAt → q ≡ entryInto page i f
+      → (k : ℕ) (a′ c′ d′ : List ℕ) → rowed k a′ c′ d′ ≡ rowInto a c d (e .kept) author rank size → noted (endsAt index size k) a′ c′ d′ q ≡ noteIn a c d page i e r
   unfolding noteIn
-  note-kept r author rank count end size q f qe k a′ c′ d′ re = rw (f, qe, ← re)
+  note-kept r author index size rank q g f fe qe k a′ c′ d′ re = rw (g, qe, fe, ← re)

@@ -15,10 +15,10 @@ use Rattle.compliance.specs.Working.Solve.{solutionOf}
 use Rattle.compliance.specs.declared.Solution.{Solution}
 use Rattle.constants.specs.Constants.{Written, written, begunInto}
 use Rattle.system.specs.Working.Asking.{Asked, asked, allFrom, Begun, begun, beginIn}
-use Rattle.system.specs.Working.Noting.{endsOf, headerInto}
+use Rattle.system.specs.Working.Noting.{endsAt, headerInto}
 use Rattle.system.specs.Working.Each.{Fixed, fixed, Store, store, eachBy, Went, wentBy, eachFrom}
 use Rattle.system.specs.Working.Sizes.{Size, small, middle, large, larger-ones, someRows, someCode, longRecord, middleMost}
-use Rattle.system.specs.declared.asked.Index.{Index}
+use Rattle.index.specs.declared.Index.{Index}
 use Rattle.system.specs.declared.note.Ends.{Ends}
 
 -- the solution and the page
@@ -31,7 +31,7 @@ topOf values = (length values - 1) % 256
 
 -- the tables' fronts that are in use
 unfoldable pub rowsGive : List ℕ → List ℕ → List ℕ → List ℕ → List ℕ → Ends → ℕ → Solution
-rowsGive a c d code direct e top = solutionOf (take (e .kept) a) (take (e .kept) c) (take (e .kept) d) (take (e .size) code) (take (e .count) direct) top
+rowsGive a c d code direct e top = solutionOf (take (e .kept) a) (take (e .kept) c) (take (e .kept) d) (take (e .size) code) (take (e .index .count) direct) top
 
 -- a table with another's entries in front
 abbrev pub laidBy : Copied → List ℕ
@@ -49,8 +49,8 @@ unfoldable pub onStretch : List Size → Fixed → List ℕ → List ℕ → Wen
 onStretch [] f texts direct (wentBy i (eachBy e x a c d page)) = solvedBy (rowsGive a c d (x .code) direct e (f .top)) page
 onStretch (next ∷ sizes) f texts direct (wentBy i (eachBy e x a c d page)) =
     pick (ltb i (length texts))
-    (onStretch sizes f texts (laid (replicate (next .places) 0) (take (e .count) direct))
-    (eachFrom f (drop i texts) i (eachBy e (larger next (take (f .start) (x .consts)) (take (e .end) (x .pool)) (take (e .count) (x .places)) (x .code)) a c d page)))
+    (onStretch sizes f texts (laid (replicate (next .places) 0) (take (e .index .count) direct))
+    (eachFrom f (drop i texts) i (eachBy e (larger next (take (f .start) (x .consts)) (take (e .index .end) (x .pool)) (take (e .index .count) (x .places)) (x .code)) a c d page)))
     (solvedBy (rowsGive a c d (x .code) direct e (f .top)) page)
 
 -- the assertions from i on read into tables of a size, and what is left into those of the next
@@ -62,16 +62,16 @@ unfoldable pub filledIn : List ℕ → List ℕ → List ℕ → List ℕ → �
 filledIn s values names texts start consts pool places direct x page =
     onStretch larger-ones (fixed s values names (topOf values) start) texts direct
     (eachFrom (fixed s values names (topOf values) start) texts 0
-    (eachBy (endsOf (x .count) (x .end) 0 0) (store consts pool places (replicate someCode 0)) (replicate someRows 0) (replicate someRows 0) (replicate someRows 0) (headerInto page (length texts))))
+    (eachBy (endsAt x 0 0) (store consts pool places (replicate someCode 0)) (replicate someRows 0) (replicate someRows 0) (replicate someRows 0) (headerInto page (length texts))))
 
 -- all of them read into middle tables, or into large ones where those have no room for an assertion more
 unfoldable pub filledLong : List ℕ → List ℕ → List ℕ → List ℕ → ℕ → List ℕ → List ℕ → List ℕ → List ℕ → Index → List ℕ → Solved
 filledLong s values names texts start consts pool places direct x page =
     pick (ltb middleMost (x .end))
     (grownIn large [] (fixed s values names (topOf values) start) texts (take start consts) (take (x .end) pool) (take (x .count) places) (take (x .count) direct) (replicate mostPrograms 0)
-    (replicate mostAssertions 0) (replicate mostAssertions 0) (replicate mostAssertions 0) (headerInto page (length texts)) 0 (endsOf (x .count) (x .end) 0 0))
+    (replicate mostAssertions 0) (replicate mostAssertions 0) (replicate mostAssertions 0) (headerInto page (length texts)) 0 (endsAt x 0 0))
     (grownIn middle (large ∷ []) (fixed s values names (topOf values) start) texts (take start consts) (take (x .end) pool) (take (x .count) places) (take (x .count) direct) (replicate mostPrograms 0)
-    (replicate mostAssertions 0) (replicate mostAssertions 0) (replicate mostAssertions 0) (headerInto page (length texts)) 0 (endsOf (x .count) (x .end) 0 0))
+    (replicate mostAssertions 0) (replicate mostAssertions 0) (replicate mostAssertions 0) (headerInto page (length texts)) 0 (endsAt x 0 0))
 
 -- small tables first, but for a long record, or one with many assertions
 abbrev pub onAsked : List ℕ → List ℕ → List ℕ → List ℕ → ℕ → List ℕ → List ℕ → Asked → Solved
@@ -98,7 +98,7 @@ top-none n h = rw h
 
 -- `solve_rows`
 pub rows-are : (a c d code direct : List ℕ) (e : Ends) (top : ℕ) (a′ c′ d′ code′ direct′ : List ℕ)
-    → a′ ≡ take (e .kept) a → c′ ≡ take (e .kept) c → d′ ≡ take (e .kept) d → code′ ≡ take (e .size) code → direct′ ≡ take (e .count) direct
+    → a′ ≡ take (e .kept) a → c′ ≡ take (e .kept) c → d′ ≡ take (e .kept) d → code′ ≡ take (e .size) code → direct′ ≡ take (e .index .count) direct
     → (r : Solution) → r ≡ solutionOf a′ c′ d′ code′ direct′ top → r ≡ rowsGive a c d code direct e top
 unfolding rowsGive
 rows-are a c d code direct e top a′ c′ d′ code′ direct′ ae ce de ke re r rr = rw (rr, ae, ce, de, ke, re)
@@ -137,7 +137,7 @@ module _ (size : Size) (f : Fixed) (texts consts pool places direct code a c d p
         ap (λ (w : Solution). solvedBy w page′) re ∙ sym z ∙ grown (next ∷ sizes)
 
     pub grown-rest : j < length texts → (old-consts old-pool old-places old-direct : List ℕ)
-        → old-consts ≡ take (f .start) (y .consts) → old-pool ≡ take (u .end) (y .pool) → old-places ≡ take (u .count) (y .places) → old-direct ≡ take (u .count) direct′
+        → old-consts ≡ take (f .start) (y .consts) → old-pool ≡ take (u .index .end) (y .pool) → old-places ≡ take (u .index .count) (y .places) → old-direct ≡ take (u .index .count) direct′
         → (r : Solved) → r ≡ grownIn next sizes f texts old-consts old-pool old-places old-direct (y .code) a′ c′ d′ page′ j u
         → r ≡ grownIn size (next ∷ sizes) f texts consts pool places direct code a c d page i e
     unfolding onStretch grownIn
@@ -151,10 +151,10 @@ module _ (s values names texts : List ℕ) (start : ℕ) (consts pool places dir
     (i : ℕ) (e : Ends) (y : Store) (a c d out : List ℕ)
     (ee : wentBy i (eachBy e y a c d out)
     ≡ eachFrom (fixed s values names top start) (drop 0 texts) 0
-    (eachBy (endsOf (x .count) (x .end) 0 0) (store consts pool places (replicate someCode 0)) (replicate someRows 0) (replicate someRows 0) (replicate someRows 0) head)) where
+    (eachBy (endsAt x 0 0) (store consts pool places (replicate someCode 0)) (replicate someRows 0) (replicate someRows 0) (replicate someRows 0) head)) where
   went : wentBy i (eachBy e y a c d out)
       ≡ eachFrom (fixed s values names (topOf values) start) texts 0
-      (eachBy (endsOf (x .count) (x .end) 0 0) (store consts pool places (replicate someCode 0)) (replicate someRows 0) (replicate someRows 0) (replicate someRows 0) (headerInto page (length texts)))
+      (eachBy (endsAt x 0 0) (store consts pool places (replicate someCode 0)) (replicate someRows 0) (replicate someRows 0) (replicate someRows 0) (headerInto page (length texts)))
   went = ee ∙ rw (te, he)
 
   pub fill-all : length texts ≤ i → (r : Solution) → r ≡ rowsGive a c d (y .code) direct e top → solvedBy r out ≡ filledIn s values names texts start consts pool places direct x page
@@ -162,7 +162,7 @@ module _ (s values names texts : List ℕ) (start : ℕ) (consts pool places dir
   fill-all h r re = rw (re, te, ← went, le-ltb _ _ h)
 
   pub fill-rest : i < length texts → (old-consts old-pool old-places old-direct : List ℕ)
-      → old-consts ≡ take start (y .consts) → old-pool ≡ take (e .end) (y .pool) → old-places ≡ take (e .count) (y .places) → old-direct ≡ take (e .count) direct
+      → old-consts ≡ take start (y .consts) → old-pool ≡ take (e .index .end) (y .pool) → old-places ≡ take (e .index .count) (y .places) → old-direct ≡ take (e .index .count) direct
       → (r : Solution) (page′ : List ℕ)
       → solvedBy r page′ ≡ grownIn middle (large ∷ []) (fixed s values names top start) texts old-consts old-pool old-places old-direct (y .code) a c d out i e
       → solvedBy r page′ ≡ filledIn s values names texts start consts pool places direct x page
@@ -176,14 +176,14 @@ module _ (s values names texts : List ℕ) (start : ℕ) (consts pool places dir
     (ce : old-consts ≡ take start consts) (pe : old-pool ≡ take (x .end) pool) (le : old-places ≡ take (x .count) places) (de : old-direct ≡ take (x .count) direct) (r : Solved) where
   pub fill-large : middleMost < x .end
       → r ≡ grownIn large [] (fixed s values names top start) texts old-consts old-pool old-places old-direct (replicate mostPrograms 0)
-      (replicate mostAssertions 0) (replicate mostAssertions 0) (replicate mostAssertions 0) head 0 (endsOf (x .count) (x .end) 0 0)
+      (replicate mostAssertions 0) (replicate mostAssertions 0) (replicate mostAssertions 0) head 0 (endsAt x 0 0)
       → r ≡ filledLong s values names texts start consts pool places direct x page
   unfolding filledLong
   fill-large h re = re ∙ rw (te, he, ce, pe, le, de, lt-ltb middleMost (x .end) h)
 
   pub fill-middle : x .end ≤ middleMost
       → r ≡ grownIn middle (large ∷ []) (fixed s values names top start) texts old-consts old-pool old-places old-direct (replicate mostPrograms 0)
-      (replicate mostAssertions 0) (replicate mostAssertions 0) (replicate mostAssertions 0) head 0 (endsOf (x .count) (x .end) 0 0)
+      (replicate mostAssertions 0) (replicate mostAssertions 0) (replicate mostAssertions 0) head 0 (endsAt x 0 0)
       → r ≡ filledLong s values names texts start consts pool places direct x page
   unfolding filledLong
   fill-middle h re = re ∙ rw (te, he, ce, pe, le, de, le-ltb middleMost (x .end) h)

@@ -1,8 +1,8 @@
 use mathlib.Core.Path.{_≡_}
 use Prim.Native.Nat.{_-_, min}
 use lib.ListN.{length}
-use Rattle.text.specs.Digits.{value, limit}
-use Rattle.text.specs.Working.Holding.{holdRest, hold-start, hold-more, hold-end}
+use Rattle.text.specs.Digits.{value}
+use Rattle.text.specs.Working.Holding.{mostHeld, holdRest, hold-start, hold-more, hold-end}
 use borrow.Author.Needs.{needs}
 use Rattle.text.proofs.number.Statement.{statement}
 use Rattle.text.proofs.number.Tie as tie
@@ -11,7 +11,7 @@ use Rattle.text.proofs.number.Lts as lts
 use Rattle.text.proofs.hold_digit.Reads as hold-digit-reads
 
 abbrev Inv-loop : tie.InvT-loop
-Inv-loop digits v₀ i₀ v i = holdRest digits i v ≡ min (value digits) limit
+Inv-loop digits v₀ i₀ v i = holdRest digits i v ≡ min (value digits) mostHeld
 
 abbrev μ-loop : tie.MeasureT-loop
 μ-loop digits v₀ i₀ v i = length digits - i

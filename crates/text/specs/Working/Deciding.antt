@@ -14,8 +14,9 @@ use borrow.Author.Tests.{lt-ltb, le-ltb, le-leb, lt-leb, eq-eqb, ne-eqb, eqb-tru
 use Rattle.text.specs.Choice.{pick, split}
 use Rattle.text.specs.Scan.{run}
 use Rattle.text.specs.Class.{inClass, digit}
-use Rattle.text.specs.Digits.{value, limit}
+use Rattle.text.specs.Digits.{value}
 use Rattle.text.specs.Decimal.{integer, inRange, roundedDown, withFraction, unsigned, decimal}
+use Rattle.text.specs.Working.Holding.{mostHeld}
 use Rattle.text.specs.declared.Integer.{Integer}
 
 -- the ways out of `in_range`
@@ -57,26 +58,26 @@ held-either n m m′ e =
     (λ t. let d : m ≡ m′ → ⊥ = eqb-false m m′ t in held-range n m m′ d (omega arith) (omega arith))
 
 -- holding the fraction, or the whole part, loses nothing
-fraction-held : (f : ℕ) → eqb (min f limit) 0 ≡ eqb f 0
+fraction-held : (f : ℕ) → eqb (min f mostHeld) 0 ≡ eqb f 0
 fraction-held f =
     split (eqb f 0)
-    (λ t. let z : f ≡ 0 = eqb-true f 0 t in rw t (eq-eqb (min f limit) 0 (omega arith)))
-    (λ t. let z : f ≡ 0 → ⊥ = eqb-false f 0 t in rw t (ne-eqb (min f limit) 0 (λ q. omega arith)))
+    (λ t. let z : f ≡ 0 = eqb-true f 0 t in rw t (eq-eqb (min f mostHeld) 0 (omega arith)))
+    (λ t. let z : f ≡ 0 → ⊥ = eqb-false f 0 t in rw t (ne-eqb (min f mostHeld) 0 (λ q. omega arith)))
 
-part-held : (n : Bool) (w f : ℕ) → roundedDown n w (min f limit) ≡ roundedDown n w f
+part-held : (n : Bool) (w f : ℕ) → roundedDown n w (min f mostHeld) ≡ roundedDown n w f
 unfolding roundedDown
 part-held n w f = rw (fraction-held f)
 
-step-held : (b : Bool) (w : ℕ) → min (pick b (min w limit) (min w limit + 1)) 2147483649 ≡ min (pick b w (w + 1)) 2147483649
+step-held : (b : Bool) (w : ℕ) → min (pick b (min w mostHeld) (min w mostHeld + 1)) 2147483649 ≡ min (pick b w (w + 1)) 2147483649
 step-held true w = omega arith
 step-held false w = omega arith
 
-whole-held : (n : Bool) (w f : ℕ) → roundedDown n (min w limit) f ≡ roundedDown n w f
+whole-held : (n : Bool) (w f : ℕ) → roundedDown n (min w mostHeld) f ≡ roundedDown n w f
 unfolding roundedDown
 whole-held true w f = held-either true _ _ (step-held (eqb f 0) w)
-whole-held false w f = held-either false (min w limit) w (omega arith)
+whole-held false w f = held-either false (min w mostHeld) w (omega arith)
 
-rest-held : (n : Bool) (w : ℕ) (ds : List ℕ) → withFraction n (min w limit) ds ≡ withFraction n w ds
+rest-held : (n : Bool) (w : ℕ) (ds : List ℕ) → withFraction n (min w mostHeld) ds ≡ withFraction n w ds
 unfolding withFraction
 rest-held n w ds = rw (whole-held n w (value ds))
 

@@ -9,21 +9,25 @@ use lib.Dec.{leb}
 use lib.ListN.{length, getD, drop, drop-of-length-le}
 use lib.Seq.{drop-cons}
 use Rattle.text.specs.Class.{isDigit, inClass}
-use Rattle.text.specs.Digits.{digitsAt, valueFrom, value, limit}
+use Rattle.text.specs.Digits.{digitsAt, valueFrom, value}
 
--- one digit more, held at the limit
+-- where the code holds a number: above 2147483649, from which on none is in range, also below 0
+abbrev pub mostHeld : ℕ
+mostHeld = 4294967295
+
+-- one digit more, held there
 unfoldable pub hold : ℕ → ℕ → ℕ
-hold v b = min (min v limit * 10 + (b - 48)) limit
+hold v b = min (min v mostHeld * 10 + (b - 48)) mostHeld
 
 unfoldable pub holdAll : ℕ → List ℕ → ℕ
 holdAll v [] = v
 holdAll v (b ∷ bs) = holdAll (hold v b) bs
 
-hold-step : (v b : ℕ) → hold (min v limit) b ≡ min (v * 10 + (b - 48)) limit
+hold-step : (v b : ℕ) → hold (min v mostHeld) b ≡ min (v * 10 + (b - 48)) mostHeld
 unfolding hold
 hold-step v b = omega arith
 
-hold-all : (bs : List ℕ) (v : ℕ) → holdAll (min v limit) bs ≡ min (valueFrom v bs) limit
+hold-all : (bs : List ℕ) (v : ℕ) → holdAll (min v mostHeld) bs ≡ min (valueFrom v bs) mostHeld
 unfolding holdAll valueFrom
 hold-all [] v = refl
 hold-all (b ∷ bs) v = rw (hold-step v b) (hold-all bs (v * 10 + (b - 48)))
@@ -32,7 +36,7 @@ hold-all (b ∷ bs) v = rw (hold-step v b) (hold-all bs (v * 10 + (b - 48)))
 unfoldable pub holdRest : List ℕ → ℕ → ℕ → ℕ
 holdRest s i v = holdAll v (drop i s)
 
-pub hold-start : (s : List ℕ) → holdRest s 0 0 ≡ min (value s) limit
+pub hold-start : (s : List ℕ) → holdRest s 0 0 ≡ min (value s) mostHeld
 unfolding holdRest value
 hold-start s = hold-all s 0
 
@@ -49,7 +53,7 @@ module _ (s : List ℕ) (i v r : ℕ) (inv : holdRest s i v ≡ r) where
 unfoldable pub holdDigits : List ℕ → ℕ → ℕ → ℕ
 holdDigits s i v = holdAll v (digitsAt s i)
 
-pub digits-start : (s : List ℕ) (at : ℕ) → holdDigits s at 0 ≡ min (value (digitsAt s at)) limit
+pub digits-start : (s : List ℕ) (at : ℕ) → holdDigits s at 0 ≡ min (value (digitsAt s at)) mostHeld
 unfolding holdDigits value
 digits-start s at = hold-all (digitsAt s at) 0
 

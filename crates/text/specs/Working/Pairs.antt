@@ -13,7 +13,8 @@ use borrow.Author.Tests.{lt-ltb, le-ltb, le-leb, lt-leb, leb-true, leb-false}
 use Rattle.text.specs.Choice.{split, clash}
 use Rattle.text.specs.Copy.{copied, put, copyAt}
 use Rattle.text.specs.CopyLaws.{put-front, put-length}
-use Rattle.text.specs.Counted.{pairBytes, countedBytes, putPair, putCounted}
+use Rattle.text.specs.Counted.{pairBytes, countedBytes}
+use Rattle.text.specs.Put.{putPair, putCounted}
 use Rattle.text.specs.CountedLaws.{pair-room}
 
 -- two bytes stored one after the other are put

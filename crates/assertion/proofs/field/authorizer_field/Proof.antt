@@ -13,8 +13,8 @@ front-requires c κs = search needs
 authorizer-requires : tie.Need-authorizer-requires
 authorizer-requires c κs = search needs
 
-enum-known-reason : tie.Need-enum-known-reason
-enum-known-reason c = search needs
+enum-known-fault : tie.Need-enum-known-fault
+enum-known-fault c = search needs
 
 enum-known-number : tie.Need-enum-known-number
 enum-known-number c = search needs
@@ -43,7 +43,7 @@ authorizer-field-spec =
     (tie.spec
     front-requires
     authorizer-requires
-    enum-known-reason
+    enum-known-fault
     enum-known-number
     same-length
     same-length-2

@@ -13,8 +13,8 @@ front-requires c κs = search needs
 judge-field-requires : tie.Need-judge-field-requires
 judge-field-requires c κs = search needs
 
-enum-known-reason : tie.Need-enum-known-reason
-enum-known-reason c = search needs
+enum-known-fault : tie.Need-enum-known-fault
+enum-known-fault c = search needs
 
 enum-known-rank : tie.Need-enum-known-rank
 enum-known-rank c = search needs
@@ -31,7 +31,7 @@ conditions-field-spec =
     (tie.spec
     front-requires
     judge-field-requires
-    enum-known-reason
+    enum-known-fault
     enum-known-rank
     returns
     returns-2)

@@ -9,11 +9,11 @@ use Rattle.fields.proofs.constants.constants.Reads as constants-reads
 constants-requires : tie.Need-constants-requires
 constants-requires c κs = search needs
 
-enum-known-reason : tie.Need-enum-known-reason
-enum-known-reason c = search needs
+enum-known-fault : tie.Need-enum-known-fault
+enum-known-fault c = search needs
 
-enum-known-count : tie.Need-enum-known-count
-enum-known-count c = search needs
+enum-known-known : tie.Need-enum-known-known
+enum-known-known c = search needs
 
 same-length : tie.Need-same-length
 same-length c = search needs
@@ -38,8 +38,8 @@ constants-field-spec =
     tie.close
     (tie.spec
     constants-requires
-    enum-known-reason
-    enum-known-count
+    enum-known-fault
+    enum-known-known
     same-length
     same-length-2
     returns

@@ -13,8 +13,8 @@ front-requires c κs = search needs
 licensees-requires : tie.Need-licensees-requires
 licensees-requires c κs = search needs
 
-enum-known-reason : tie.Need-enum-known-reason
-enum-known-reason c = search needs
+enum-known-fault : tie.Need-enum-known-fault
+enum-known-fault c = search needs
 
 enum-known-state : tie.Need-enum-known-state
 enum-known-state c = search needs
@@ -49,7 +49,7 @@ licensees-field-spec =
     (tie.spec
     front-requires
     licensees-requires
-    enum-known-reason
+    enum-known-fault
     enum-known-state
     same-length
     same-length-2

@@ -4,7 +4,7 @@ use Rattle.compliance.proofs.fast.worth_of.Statement.{statement}
 use Rattle.compliance.proofs.fast.worth_of.Tie as tie
 use Rattle.compliance.proofs.fast.worth_of.Reads as reads
 use Rattle.compliance.proofs.fast.worth_of.Lts as lts
-use Rattle.compliance.proofs.machine.number_at.Reads as number-at-reads
+use Rattle.compliance.proofs.machine.value_at.Reads as value-at-reads
 use Rattle.compliance.proofs.machine.run.Reads as run-reads
 use Rattle.compliance.proofs.machine.wide.Reads as wide-reads
 
@@ -17,8 +17,8 @@ shared-slice-read-wide c = search needs
 wide-requires : tie.Need-wide-requires
 wide-requires c κs = search needs
 
-number-at-requires : tie.Need-number-at-requires
-number-at-requires c κs = search needs
+value-at-requires : tie.Need-value-at-requires
+value-at-requires c κs = search needs
 
 returns : tie.Need-returns
 returns c = search worth-alone
@@ -39,7 +39,7 @@ worth-of-spec =
     shared-slice-read-if3
     shared-slice-read-wide
     wide-requires
-    number-at-requires
+    value-at-requires
     returns
     run-requires
     same-length

@@ -5,15 +5,15 @@ use Rattle.compliance.proofs.machine.step.Tie as tie
 use Rattle.compliance.proofs.machine.step.Reads as reads
 use Rattle.compliance.proofs.machine.step.Lts as lts
 use Rattle.compliance.proofs.machine.combine.Reads as combine-reads
-use Rattle.compliance.proofs.machine.number_at.Reads as number-at-reads
+use Rattle.compliance.proofs.machine.value_at.Reads as value-at-reads
 use Rattle.compliance.proofs.machine.push.Reads as push-reads
 use Rattle.compliance.proofs.machine.wide.Reads as wide-reads
 
 wide-requires : tie.Need-wide-requires
 wide-requires c κs = search needs
 
-number-at-requires : tie.Need-number-at-requires
-number-at-requires c κs = search needs
+value-at-requires : tie.Need-value-at-requires
+value-at-requires c κs = search needs
 
 push-requires : tie.Need-push-requires
 push-requires c κs = search needs
@@ -56,7 +56,7 @@ step-spec =
     tie.close
     (tie.spec
     wide-requires
-    number-at-requires
+    value-at-requires
     push-requires
     same-length
     returns

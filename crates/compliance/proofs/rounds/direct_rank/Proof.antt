@@ -4,14 +4,14 @@ use Rattle.compliance.proofs.rounds.direct_rank.Statement.{statement}
 use Rattle.compliance.proofs.rounds.direct_rank.Tie as tie
 use Rattle.compliance.proofs.rounds.direct_rank.Reads as reads
 use Rattle.compliance.proofs.rounds.direct_rank.Lts as lts
-use Rattle.compliance.proofs.machine.number_at.Reads as number-at-reads
+use Rattle.compliance.proofs.machine.value_at.Reads as value-at-reads
 use Rattle.compliance.proofs.words.flag.Reads as flag-reads
 
 flag-requires : tie.Need-flag-requires
 flag-requires c κs = search needs
 
-number-at-requires : tie.Need-number-at-requires
-number-at-requires c κs = search needs
+value-at-requires : tie.Need-value-at-requires
+value-at-requires c κs = search needs
 
 returns : tie.Need-returns
 returns c = search direct-top
@@ -24,4 +24,4 @@ returns-3 c = search direct-out
 
 pub direct-rank-spec : {M : Type 1} → statement M
 direct-rank-spec =
-    tie.close (tie.spec flag-requires number-at-requires returns returns-2 returns-3)
+    tie.close (tie.spec flag-requires value-at-requires returns returns-2 returns-3)

@@ -4,7 +4,7 @@ use Rattle.compliance.proofs.rounds.granted.Statement.{statement}
 use Rattle.compliance.proofs.rounds.granted.Tie as tie
 use Rattle.compliance.proofs.rounds.granted.Reads as reads
 use Rattle.compliance.proofs.rounds.granted.Lts as lts
-use Rattle.compliance.proofs.machine.number_at.Reads as number-at-reads
+use Rattle.compliance.proofs.machine.value_at.Reads as value-at-reads
 use Rattle.compliance.proofs.fast.worth_of.Reads as worth-of-reads
 use Rattle.compliance.proofs.highest.lesser.Reads as lesser-reads
 use Rattle.compliance.proofs.tables.program.Reads as program-reads
@@ -15,8 +15,8 @@ program-requires c κs = search needs
 worth-of-requires : tie.Need-worth-of-requires
 worth-of-requires c κs = search needs
 
-number-at-requires : tie.Need-number-at-requires
-number-at-requires c κs = search needs
+value-at-requires : tie.Need-value-at-requires
+value-at-requires c κs = search needs
 
 lesser-requires : tie.Need-lesser-requires
 lesser-requires c κs = search needs
@@ -33,7 +33,7 @@ granted-spec =
     (tie.spec
     program-requires
     worth-of-requires
-    number-at-requires
+    value-at-requires
     lesser-requires
     same-length
     returns)

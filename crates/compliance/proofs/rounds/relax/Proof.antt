@@ -5,7 +5,7 @@ use Rattle.compliance.proofs.rounds.relax.Tie as tie
 use Rattle.compliance.proofs.rounds.relax.Reads as reads
 use Rattle.compliance.proofs.rounds.relax.Lts as lts
 use Rattle.compliance.proofs.machine.index_at.Reads as index-at-reads
-use Rattle.compliance.proofs.machine.number_at.Reads as number-at-reads
+use Rattle.compliance.proofs.machine.value_at.Reads as value-at-reads
 use Rattle.compliance.proofs.rounds.granted.Reads as granted-reads
 use Rattle.compliance.proofs.rounds.raise.Reads as raise-reads
 use Rattle.compliance.proofs.words.flag.Reads as flag-reads
@@ -16,11 +16,11 @@ index-at-requires c κs = search needs
 flag-requires : tie.Need-flag-requires
 flag-requires c κs = search needs
 
-number-at-requires : tie.Need-number-at-requires
-number-at-requires c κs = search needs
+value-at-requires : tie.Need-value-at-requires
+value-at-requires c κs = search needs
 
-number-at-requires-2 : tie.Need-number-at-requires-2
-number-at-requires-2 c κs = search needs
+value-at-requires-2 : tie.Need-value-at-requires-2
+value-at-requires-2 c κs = search needs
 
 granted-requires : tie.Need-granted-requires
 granted-requires c κs = search needs
@@ -52,8 +52,8 @@ relax-spec =
     (tie.spec
     index-at-requires
     flag-requires
-    number-at-requires
-    number-at-requires-2
+    value-at-requires
+    value-at-requires-2
     granted-requires
     raise-requires
     same-length

@@ -5,7 +5,7 @@ use Rattle.conditions.proofs.emit.finish_any.Tie as tie
 use Rattle.conditions.proofs.emit.finish_any.Reads as reads
 use Rattle.conditions.proofs.emit.finish_any.Lts as lts
 use Rattle.conditions.proofs.emit.push.Reads as push-reads
-use Rattle.conditions.proofs.emit.settle_for.Reads as settle-for-reads
+use Rattle.conditions.proofs.emit.write_word_for.Reads as write-word-for-reads
 use Rattle.conditions.proofs.emit.unexpected.Reads as unexpected-reads
 use Rattle.conditions.proofs.table.is_fit.Reads as is-fit-reads
 use Rattle.conditions.proofs.table.operand_of.Reads as operand-of-reads
@@ -17,8 +17,8 @@ operand-of-requires c κs = search needs
 is-fit-requires : tie.Need-is-fit-requires
 is-fit-requires c κs = search needs
 
-settle-for-requires : tie.Need-settle-for-requires
-settle-for-requires c κs = search needs
+write-word-for-requires : tie.Need-write-word-for-requires
+write-word-for-requires c κs = search needs
 
 push-requires : tie.Need-push-requires
 push-requires c κs = search needs
@@ -44,7 +44,7 @@ finish-any-spec =
     (tie.spec
     operand-of-requires
     is-fit-requires
-    settle-for-requires
+    write-word-for-requires
     push-requires
     result-of-requires
     same-length

@@ -5,15 +5,15 @@ use Rattle.conditions.proofs.emit.valued.Tie as tie
 use Rattle.conditions.proofs.emit.valued.Reads as reads
 use Rattle.conditions.proofs.emit.valued.Lts as lts
 use Rattle.conditions.proofs.emit.ended.Reads as ended-reads
-use Rattle.conditions.proofs.emit.settle.Reads as settle-reads
+use Rattle.conditions.proofs.emit.write_word.Reads as write-word-reads
 use Rattle.conditions.proofs.emit.unexpected.Reads as unexpected-reads
 use Rattle.conditions.proofs.table.is_fit.Reads as is-fit-reads
 
 is-fit-requires : tie.Need-is-fit-requires
 is-fit-requires c κs = search needs
 
-settle-requires : tie.Need-settle-requires
-settle-requires c κs = search needs
+write-word-requires : tie.Need-write-word-requires
+write-word-requires c κs = search needs
 
 ended-requires : tie.Need-ended-requires
 ended-requires c κs = search needs
@@ -35,7 +35,7 @@ valued-spec =
     tie.close
     (tie.spec
     is-fit-requires
-    settle-requires
+    write-word-requires
     ended-requires
     same-length
     returns

@@ -28,7 +28,7 @@ use Rattle.conditions.proofs.expression.+bracketed+chain+expression+joi
 use Rattle.conditions.proofs.emit.closed.Reads as closed-reads
 use Rattle.conditions.proofs.emit.finish.Reads as finish-reads
 use Rattle.conditions.proofs.emit.finish_prefix.Reads as finish-prefix-reads
-use Rattle.conditions.proofs.emit.settle_for.Reads as settle-for-reads
+use Rattle.conditions.proofs.emit.write_word_for.Reads as write-word-for-reads
 use Rattle.conditions.proofs.emit.unexpected.Reads as unexpected-reads
 use Rattle.conditions.proofs.leaf.leaf.Reads as leaf-reads
 use Rattle.conditions.proofs.table.inside_level.Reads as inside-level-reads
@@ -138,8 +138,8 @@ expression-claims t = (
 
 abbrev joined-claims : ℕ → joined-lts.Claims
 joined-claims t = (
-  settle-for-reads.Asked,
-  settle-for-reads.Learnt,
+  write-word-for-reads.Asked,
+  write-word-for-reads.Learnt,
   token-at-reads.Asked,
   token-at-reads.Learnt,
   right-level-reads.Asked,
@@ -203,8 +203,8 @@ bracketed-sub-expression t c = search needs
 bracketed-expression-requires : (t : ℕ) → bracketed-lts.Need-expression-requires (bracketed-claims t) (bracketed-at t) bracketed.Post
 bracketed-expression-requires t c κs = search needs
 
-bracketed-enum-known-reason : (t : ℕ) → bracketed-lts.Need-enum-known-reason (bracketed-claims t) (bracketed-at t) bracketed.Post
-bracketed-enum-known-reason t c = search needs
+bracketed-enum-known-fault : (t : ℕ) → bracketed-lts.Need-enum-known-fault (bracketed-claims t) (bracketed-at t) bracketed.Post
+bracketed-enum-known-fault t c = search needs
 
 bracketed-enum-known-sort : (t : ℕ) → bracketed-lts.Need-enum-known-sort (bracketed-claims t) (bracketed-at t) bracketed.Post
 bracketed-enum-known-sort t c = search needs
@@ -216,13 +216,13 @@ bracketed-same-length : (t : ℕ) → bracketed-lts.Need-same-length (bracketed-
 bracketed-same-length t c = search needs
 
 bracketed-returns-3 : (t : ℕ) → bracketed-lts.Need-returns-3 (bracketed-claims t) (bracketed-at t) bracketed.Post
-bracketed-returns-3 t c = search bracketed-aside
+bracketed-returns-3 t c = search bracketed-found
 
 bracketed-same-length-2 : (t : ℕ) → bracketed-lts.Need-same-length-2 (bracketed-claims t) (bracketed-at t) bracketed.Post
 bracketed-same-length-2 t c = search needs
 
 bracketed-returns-4 : (t : ℕ) → bracketed-lts.Need-returns-4 (bracketed-claims t) (bracketed-at t) bracketed.Post
-bracketed-returns-4 t c = search bracketed-found
+bracketed-returns-4 t c = search bracketed-aside
 
 abbrev chain-Inv-loop : chain-lts.InvT-loop
 chain-Inv-loop s code₀ from level nest before spot d sort₀ place₀ top₀ t₀ code sort place top t =
@@ -255,14 +255,14 @@ chain-sub-joined t c = search needs
 chain-joined-requires : (t : ℕ) → chain-lts.Need-joined-requires (chain-claims t) (chain-at t) chain.Post chain-Inv-loop chain-μ-loop
 chain-joined-requires t c κs = search needs
 
-chain-enum-known-reason : (t : ℕ) → chain-lts.Need-enum-known-reason (chain-claims t) (chain-at t) chain.Post chain-Inv-loop chain-μ-loop
-chain-enum-known-reason t c = search needs
+chain-enum-known-fault : (t : ℕ) → chain-lts.Need-enum-known-fault (chain-claims t) (chain-at t) chain.Post chain-Inv-loop chain-μ-loop
+chain-enum-known-fault t c = search needs
 
 chain-same-length-2 : (t : ℕ) → chain-lts.Need-same-length-2 (chain-claims t) (chain-at t) chain.Post chain-Inv-loop chain-μ-loop
 chain-same-length-2 t c = search needs
 
 chain-returns-3 : (t : ℕ) → chain-lts.Need-returns-3 (chain-claims t) (chain-at t) chain.Post chain-Inv-loop chain-μ-loop
-chain-returns-3 t c = search chain-aside
+chain-returns-3 t c = search chain-stuck
 
 chain-enum-known-x : (t : ℕ) → chain-lts.Need-enum-known-x (chain-claims t) (chain-at t) chain.Post chain-Inv-loop chain-μ-loop
 chain-enum-known-x t c = search needs
@@ -271,7 +271,7 @@ chain-same-length-3 : (t : ℕ) → chain-lts.Need-same-length-3 (chain-claims t
 chain-same-length-3 t c = search needs
 
 chain-returns-4 : (t : ℕ) → chain-lts.Need-returns-4 (chain-claims t) (chain-at t) chain.Post chain-Inv-loop chain-μ-loop
-chain-returns-4 t c = search chain-stuck
+chain-returns-4 t c = search chain-aside
 
 chain-loop-less : (t : ℕ) → chain-lts.Need-loop-less (chain-claims t) (chain-at t) chain.Post chain-Inv-loop chain-μ-loop
 chain-loop-less t c = search needs
@@ -294,8 +294,8 @@ expression-sub-operand t c = search needs
 expression-operand-requires : (t : ℕ) → expression-lts.Need-operand-requires (expression-claims t) (expression-at t) expression.Post
 expression-operand-requires t c κs = search needs
 
-expression-enum-known-reason : (t : ℕ) → expression-lts.Need-enum-known-reason (expression-claims t) (expression-at t) expression.Post
-expression-enum-known-reason t c = search needs
+expression-enum-known-fault : (t : ℕ) → expression-lts.Need-enum-known-fault (expression-claims t) (expression-at t) expression.Post
+expression-enum-known-fault t c = search needs
 
 expression-enum-known-sort : (t : ℕ) → expression-lts.Need-enum-known-sort (expression-claims t) (expression-at t) expression.Post
 expression-enum-known-sort t c = search needs
@@ -310,19 +310,19 @@ expression-same-length : (t : ℕ) → expression-lts.Need-same-length (expressi
 expression-same-length t c = search needs
 
 expression-returns-2 : (t : ℕ) → expression-lts.Need-returns-2 (expression-claims t) (expression-at t) expression.Post
-expression-returns-2 t c = search expr-aside
+expression-returns-2 t c = search expr-found
 
 expression-same-length-2 : (t : ℕ) → expression-lts.Need-same-length-2 (expression-claims t) (expression-at t) expression.Post
 expression-same-length-2 t c = search needs
 
 expression-returns-3 : (t : ℕ) → expression-lts.Need-returns-3 (expression-claims t) (expression-at t) expression.Post
-expression-returns-3 t c = search expr-found
+expression-returns-3 t c = search expr-aside
 
 joined-returns : (t : ℕ) → joined-lts.Need-returns (joined-claims t) (joined-at t) joined.Post
 joined-returns t c = search joined-0
 
-joined-settle-for-requires : (t : ℕ) → joined-lts.Need-settle-for-requires (joined-claims t) (joined-at t) joined.Post
-joined-settle-for-requires t c κs = search needs
+joined-write-word-for-requires : (t : ℕ) → joined-lts.Need-write-word-for-requires (joined-claims t) (joined-at t) joined.Post
+joined-write-word-for-requires t c κs = search needs
 
 joined-token-at-requires : (t : ℕ) → joined-lts.Need-token-at-requires (joined-claims t) (joined-at t) joined.Post
 joined-token-at-requires t c κs = search needs
@@ -339,8 +339,8 @@ joined-sub-expression t c = search needs
 joined-expression-requires : (t : ℕ) → joined-lts.Need-expression-requires (joined-claims t) (joined-at t) joined.Post
 joined-expression-requires t c κs = search needs
 
-joined-enum-known-reason : (t : ℕ) → joined-lts.Need-enum-known-reason (joined-claims t) (joined-at t) joined.Post
-joined-enum-known-reason t c = search needs
+joined-enum-known-fault : (t : ℕ) → joined-lts.Need-enum-known-fault (joined-claims t) (joined-at t) joined.Post
+joined-enum-known-fault t c = search needs
 
 joined-enum-known-x : (t : ℕ) → joined-lts.Need-enum-known-x (joined-claims t) (joined-at t) joined.Post
 joined-enum-known-x t c = search needs
@@ -352,13 +352,13 @@ joined-same-length : (t : ℕ) → joined-lts.Need-same-length (joined-claims t)
 joined-same-length t c = search needs
 
 joined-returns-2 : (t : ℕ) → joined-lts.Need-returns-2 (joined-claims t) (joined-at t) joined.Post
-joined-returns-2 t c = search joined-aside
+joined-returns-2 t c = search joined-found
 
 joined-same-length-2 : (t : ℕ) → joined-lts.Need-same-length-2 (joined-claims t) (joined-at t) joined.Post
 joined-same-length-2 t c = search needs
 
 joined-returns-3 : (t : ℕ) → joined-lts.Need-returns-3 (joined-claims t) (joined-at t) joined.Post
-joined-returns-3 t c = search joined-found
+joined-returns-3 t c = search joined-aside
 
 operand-returns : (t : ℕ) → operand-lts.Need-returns (operand-claims t) (operand-at t) operand.Post
 operand-returns t c = search operand-0
@@ -432,8 +432,8 @@ prefixed-sub-expression t c = search needs
 prefixed-expression-requires : (t : ℕ) → prefixed-lts.Need-expression-requires (prefixed-claims t) (prefixed-at t) prefixed.Post
 prefixed-expression-requires t c κs = search needs
 
-prefixed-enum-known-reason : (t : ℕ) → prefixed-lts.Need-enum-known-reason (prefixed-claims t) (prefixed-at t) prefixed.Post
-prefixed-enum-known-reason t c = search needs
+prefixed-enum-known-fault : (t : ℕ) → prefixed-lts.Need-enum-known-fault (prefixed-claims t) (prefixed-at t) prefixed.Post
+prefixed-enum-known-fault t c = search needs
 
 prefixed-enum-known-sort : (t : ℕ) → prefixed-lts.Need-enum-known-sort (prefixed-claims t) (prefixed-at t) prefixed.Post
 prefixed-enum-known-sort t c = search needs
@@ -445,13 +445,13 @@ prefixed-same-length : (t : ℕ) → prefixed-lts.Need-same-length (prefixed-cla
 prefixed-same-length t c = search needs
 
 prefixed-returns-3 : (t : ℕ) → prefixed-lts.Need-returns-3 (prefixed-claims t) (prefixed-at t) prefixed.Post
-prefixed-returns-3 t c = search prefixed-aside
+prefixed-returns-3 t c = search prefixed-found
 
 prefixed-same-length-2 : (t : ℕ) → prefixed-lts.Need-same-length-2 (prefixed-claims t) (prefixed-at t) prefixed.Post
 prefixed-same-length-2 t c = search needs
 
 prefixed-returns-4 : (t : ℕ) → prefixed-lts.Need-returns-4 (prefixed-claims t) (prefixed-at t) prefixed.Post
-prefixed-returns-4 t c = search prefixed-found
+prefixed-returns-4 t c = search prefixed-aside
 
 pub +bracketed+chain+expression+joined+operand+prefixed-spec : {M : Type 1} → statement M
 +bracketed+chain+expression+joined+operand+prefixed-spec =
@@ -474,9 +474,9 @@ pub +bracketed+chain+expression+joined+operand+prefixed-spec : {M : Type 1} → 
     (bracketed-add-expression t)
     (bracketed-sub-expression t)
     (bracketed-expression-requires t)
-    (bracketed-enum-known-reason t)
     (bracketed-enum-known-sort t)
     (bracketed-closed-requires t)
+    (bracketed-enum-known-fault t)
     (bracketed-same-length t)
     (bracketed-returns-3 t)
     (bracketed-same-length-2 t)
@@ -501,14 +501,14 @@ pub +bracketed+chain+expression+joined+operand+prefixed-spec : {M : Type 1} → 
     (chain-returns-2 t)
     (chain-sub-joined t)
     (chain-joined-requires t)
-    (chain-enum-known-reason t)
+    (chain-enum-known-x t)
     (chain-same-length-2 t)
     (chain-returns-3 t)
-    (chain-enum-known-x t)
-    (chain-same-length-3 t)
-    (chain-returns-4 t)
     (chain-loop-less t)
     (chain-loop-again t)
+    (chain-enum-known-fault t)
+    (chain-same-length-3 t)
+    (chain-returns-4 t)
     (chain-same-length-4 t)
     (chain-returns-5 t))
     (λ t. expression-lts.spec
@@ -518,17 +518,17 @@ pub +bracketed+chain+expression+joined+operand+prefixed-spec : {M : Type 1} → 
     (expression-returns t)
     (expression-sub-operand t)
     (expression-operand-requires t)
-    (expression-enum-known-reason t)
     (expression-enum-known-sort t)
     (expression-sub-chain t)
     (expression-chain-requires t)
+    (expression-enum-known-fault t)
     (expression-same-length t)
     (expression-returns-2 t)
     (expression-same-length-2 t)
     (expression-returns-3 t))
     (λ t. joined-lts.spec (
-      settle-for-reads.Asked,
-      settle-for-reads.Learnt,
+      write-word-for-reads.Asked,
+      write-word-for-reads.Learnt,
       token-at-reads.Asked,
       token-at-reads.Learnt,
       right-level-reads.Asked,
@@ -543,15 +543,15 @@ pub +bracketed+chain+expression+joined+operand+prefixed-spec : {M : Type 1} → 
     (joined-at t)
     joined.Post
     (joined-returns t)
-    (joined-settle-for-requires t)
+    (joined-write-word-for-requires t)
     (joined-token-at-requires t)
     (joined-right-level-requires t)
     (joined-right-want-requires t)
     (joined-sub-expression t)
     (joined-expression-requires t)
-    (joined-enum-known-reason t)
     (joined-enum-known-x t)
     (joined-finish-requires t)
+    (joined-enum-known-fault t)
     (joined-same-length t)
     (joined-returns-2 t)
     (joined-same-length-2 t)
@@ -610,9 +610,9 @@ pub +bracketed+chain+expression+joined+operand+prefixed-spec : {M : Type 1} → 
     (prefixed-add-expression t)
     (prefixed-sub-expression t)
     (prefixed-expression-requires t)
-    (prefixed-enum-known-reason t)
     (prefixed-enum-known-sort t)
     (prefixed-finish-prefix-requires t)
+    (prefixed-enum-known-fault t)
     (prefixed-same-length t)
     (prefixed-returns-3 t)
     (prefixed-same-length-2 t)

@@ -27,7 +27,7 @@ use Rattle.conditions.proofs.program.value.Kinds as value-kinds
 use Rattle.conditions.proofs.program.+clause+clauses+nested+program+tested+value.Lts-value as value-lts
 use Rattle.conditions.proofs.emit.ended.Reads as ended-reads
 use Rattle.conditions.proofs.emit.push.Reads as push-reads
-use Rattle.conditions.proofs.emit.settle.Reads as settle-reads
+use Rattle.conditions.proofs.emit.write_word.Reads as write-word-reads
 use Rattle.conditions.proofs.emit.unexpected.Reads as unexpected-reads
 use Rattle.conditions.proofs.emit.valued.Reads as valued-reads
 use Rattle.conditions.proofs.expression.expression.Reads as expression-reads
@@ -136,8 +136,8 @@ abbrev tested-claims : ℕ → tested-lts.Claims
 tested-claims t = (
   is-fit-reads.Asked,
   is-fit-reads.Learnt,
-  settle-reads.Asked,
-  settle-reads.Learnt,
+  write-word-reads.Asked,
+  write-word-reads.Learnt,
   token-at-reads.Asked,
   token-at-reads.Learnt,
   value-below t,
@@ -167,8 +167,8 @@ clause-sub-expression t c = search needs
 clause-expression-requires : (t : ℕ) → clause-lts.Need-expression-requires (clause-claims t) (clause-at t) clause.Post
 clause-expression-requires t c κs = search needs
 
-clause-enum-known-reason : (t : ℕ) → clause-lts.Need-enum-known-reason (clause-claims t) (clause-at t) clause.Post
-clause-enum-known-reason t c = search needs
+clause-enum-known-fault : (t : ℕ) → clause-lts.Need-enum-known-fault (clause-claims t) (clause-at t) clause.Post
+clause-enum-known-fault t c = search needs
 
 clause-enum-known-sort : (t : ℕ) → clause-lts.Need-enum-known-sort (clause-claims t) (clause-at t) clause.Post
 clause-enum-known-sort t c = search needs
@@ -183,13 +183,13 @@ clause-same-length : (t : ℕ) → clause-lts.Need-same-length (clause-claims t)
 clause-same-length t c = search needs
 
 clause-returns-2 : (t : ℕ) → clause-lts.Need-returns-2 (clause-claims t) (clause-at t) clause.Post
-clause-returns-2 t c = search clause-aside
+clause-returns-2 t c = search clause-found
 
 clause-same-length-2 : (t : ℕ) → clause-lts.Need-same-length-2 (clause-claims t) (clause-at t) clause.Post
 clause-same-length-2 t c = search needs
 
 clause-returns-3 : (t : ℕ) → clause-lts.Need-returns-3 (clause-claims t) (clause-at t) clause.Post
-clause-returns-3 t c = search clause-found
+clause-returns-3 t c = search clause-aside
 
 abbrev clauses-Inv-loop : clauses-lts.InvT-loop
 clauses-Inv-loop s code₀ from nest d top₀ t₀ code top t =
@@ -219,14 +219,14 @@ clauses-sub-clause t c = search needs
 clauses-clause-requires : (t : ℕ) → clauses-lts.Need-clause-requires (clauses-claims t) (clauses-at t) clauses.Post clauses-Inv-loop clauses-μ-loop
 clauses-clause-requires t c κs = search needs
 
-clauses-enum-known-reason : (t : ℕ) → clauses-lts.Need-enum-known-reason (clauses-claims t) (clauses-at t) clauses.Post clauses-Inv-loop clauses-μ-loop
-clauses-enum-known-reason t c = search needs
+clauses-enum-known-fault : (t : ℕ) → clauses-lts.Need-enum-known-fault (clauses-claims t) (clauses-at t) clauses.Post clauses-Inv-loop clauses-μ-loop
+clauses-enum-known-fault t c = search needs
 
 clauses-same-length-2 : (t : ℕ) → clauses-lts.Need-same-length-2 (clauses-claims t) (clauses-at t) clauses.Post clauses-Inv-loop clauses-μ-loop
 clauses-same-length-2 t c = search needs
 
 clauses-returns-3 : (t : ℕ) → clauses-lts.Need-returns-3 (clauses-claims t) (clauses-at t) clauses.Post clauses-Inv-loop clauses-μ-loop
-clauses-returns-3 t c = search clauses-aside
+clauses-returns-3 t c = search clauses-stuck
 
 clauses-enum-known-u : (t : ℕ) → clauses-lts.Need-enum-known-u (clauses-claims t) (clauses-at t) clauses.Post clauses-Inv-loop clauses-μ-loop
 clauses-enum-known-u t c = search needs
@@ -235,7 +235,7 @@ clauses-same-length-3 : (t : ℕ) → clauses-lts.Need-same-length-3 (clauses-cl
 clauses-same-length-3 t c = search needs
 
 clauses-returns-4 : (t : ℕ) → clauses-lts.Need-returns-4 (clauses-claims t) (clauses-at t) clauses.Post clauses-Inv-loop clauses-μ-loop
-clauses-returns-4 t c = search clauses-stuck
+clauses-returns-4 t c = search clauses-aside
 
 clauses-loop-less : (t : ℕ) → clauses-lts.Need-loop-less (clauses-claims t) (clauses-at t) clauses.Post clauses-Inv-loop clauses-μ-loop
 clauses-loop-less t c = search needs
@@ -270,8 +270,8 @@ nested-sub-program t c = search needs
 nested-program-requires : (t : ℕ) → nested-lts.Need-program-requires (nested-claims t) (nested-at t) nested.Post
 nested-program-requires t c κs = search needs
 
-nested-enum-known-reason : (t : ℕ) → nested-lts.Need-enum-known-reason (nested-claims t) (nested-at t) nested.Post
-nested-enum-known-reason t c = search needs
+nested-enum-known-fault : (t : ℕ) → nested-lts.Need-enum-known-fault (nested-claims t) (nested-at t) nested.Post
+nested-enum-known-fault t c = search needs
 
 nested-enum-known-u : (t : ℕ) → nested-lts.Need-enum-known-u (nested-claims t) (nested-at t) nested.Post
 nested-enum-known-u t c = search needs
@@ -286,13 +286,13 @@ nested-same-length : (t : ℕ) → nested-lts.Need-same-length (nested-claims t)
 nested-same-length t c = search needs
 
 nested-returns-3 : (t : ℕ) → nested-lts.Need-returns-3 (nested-claims t) (nested-at t) nested.Post
-nested-returns-3 t c = search nested-aside
+nested-returns-3 t c = search nested-found
 
 nested-same-length-2 : (t : ℕ) → nested-lts.Need-same-length-2 (nested-claims t) (nested-at t) nested.Post
 nested-same-length-2 t c = search needs
 
 nested-returns-4 : (t : ℕ) → nested-lts.Need-returns-4 (nested-claims t) (nested-at t) nested.Post
-nested-returns-4 t c = search nested-found
+nested-returns-4 t c = search nested-aside
 
 program-returns : (t : ℕ) → program-lts.Need-returns (program-claims t) (program-at t) program.Post
 program-returns t c = search program-0
@@ -318,8 +318,8 @@ tested-returns t c = search tested-0
 tested-is-fit-requires : (t : ℕ) → tested-lts.Need-is-fit-requires (tested-claims t) (tested-at t) tested.Post
 tested-is-fit-requires t c κs = search needs
 
-tested-settle-requires : (t : ℕ) → tested-lts.Need-settle-requires (tested-claims t) (tested-at t) tested.Post
-tested-settle-requires t c κs = search needs
+tested-write-word-requires : (t : ℕ) → tested-lts.Need-write-word-requires (tested-claims t) (tested-at t) tested.Post
+tested-write-word-requires t c κs = search needs
 
 tested-token-at-requires : (t : ℕ) → tested-lts.Need-token-at-requires (tested-claims t) (tested-at t) tested.Post
 tested-token-at-requires t c κs = search needs
@@ -372,8 +372,8 @@ value-sub-expression t c = search needs
 value-expression-requires : (t : ℕ) → value-lts.Need-expression-requires (value-claims t) (value-at t) value.Post
 value-expression-requires t c κs = search needs
 
-value-enum-known-reason : (t : ℕ) → value-lts.Need-enum-known-reason (value-claims t) (value-at t) value.Post
-value-enum-known-reason t c = search needs
+value-enum-known-fault : (t : ℕ) → value-lts.Need-enum-known-fault (value-claims t) (value-at t) value.Post
+value-enum-known-fault t c = search needs
 
 value-enum-known-sort : (t : ℕ) → value-lts.Need-enum-known-sort (value-claims t) (value-at t) value.Post
 value-enum-known-sort t c = search needs
@@ -385,13 +385,13 @@ value-same-length-2 : (t : ℕ) → value-lts.Need-same-length-2 (value-claims t
 value-same-length-2 t c = search needs
 
 value-returns-3 : (t : ℕ) → value-lts.Need-returns-3 (value-claims t) (value-at t) value.Post
-value-returns-3 t c = search value-aside
+value-returns-3 t c = search value-found
 
 value-same-length-3 : (t : ℕ) → value-lts.Need-same-length-3 (value-claims t) (value-at t) value.Post
 value-same-length-3 t c = search needs
 
 value-returns-4 : (t : ℕ) → value-lts.Need-returns-4 (value-claims t) (value-at t) value.Post
-value-returns-4 t c = search value-found
+value-returns-4 t c = search value-aside
 
 pub +clause+clauses+nested+program+tested+value-spec : {M : Type 1} → statement M
 +clause+clauses+nested+program+tested+value-spec =
@@ -406,10 +406,10 @@ pub +clause+clauses+nested+program+tested+value-spec : {M : Type 1} → statemen
     (clause-returns t)
     (clause-sub-expression t)
     (clause-expression-requires t)
-    (clause-enum-known-reason t)
     (clause-enum-known-sort t)
     (clause-sub-tested t)
     (clause-tested-requires t)
+    (clause-enum-known-fault t)
     (clause-same-length t)
     (clause-returns-2 t)
     (clause-same-length-2 t)
@@ -433,14 +433,14 @@ pub +clause+clauses+nested+program+tested+value-spec : {M : Type 1} → statemen
     (clauses-returns-2 t)
     (clauses-sub-clause t)
     (clauses-clause-requires t)
-    (clauses-enum-known-reason t)
+    (clauses-enum-known-u t)
     (clauses-same-length-2 t)
     (clauses-returns-3 t)
-    (clauses-enum-known-u t)
-    (clauses-same-length-3 t)
-    (clauses-returns-4 t)
     (clauses-loop-less t)
     (clauses-loop-again t)
+    (clauses-enum-known-fault t)
+    (clauses-same-length-3 t)
+    (clauses-returns-4 t)
     (clauses-last-requires t)
     (clauses-same-length-4 t)
     (clauses-returns-5 t))
@@ -460,10 +460,10 @@ pub +clause+clauses+nested+program+tested+value-spec : {M : Type 1} → statemen
     (nested-add-program t)
     (nested-sub-program t)
     (nested-program-requires t)
-    (nested-enum-known-reason t)
     (nested-enum-known-u t)
     (nested-token-at-requires-2 t)
     (nested-ended-requires t)
+    (nested-enum-known-fault t)
     (nested-same-length t)
     (nested-returns-3 t)
     (nested-same-length-2 t)
@@ -481,8 +481,8 @@ pub +clause+clauses+nested+program+tested+value-spec : {M : Type 1} → statemen
     (λ t. tested-lts.spec (
       is-fit-reads.Asked,
       is-fit-reads.Learnt,
-      settle-reads.Asked,
-      settle-reads.Learnt,
+      write-word-reads.Asked,
+      write-word-reads.Learnt,
       token-at-reads.Asked,
       token-at-reads.Learnt,
       value-below t,
@@ -496,7 +496,7 @@ pub +clause+clauses+nested+program+tested+value-spec : {M : Type 1} → statemen
     tested.Post
     (tested-returns t)
     (tested-is-fit-requires t)
-    (tested-settle-requires t)
+    (tested-write-word-requires t)
     (tested-token-at-requires t)
     (tested-sub-value t)
     (tested-value-requires t)
@@ -524,9 +524,9 @@ pub +clause+clauses+nested+program+tested+value-spec : {M : Type 1} → statemen
     (value-returns-2 t)
     (value-sub-expression t)
     (value-expression-requires t)
-    (value-enum-known-reason t)
     (value-enum-known-sort t)
     (value-valued-requires t)
+    (value-enum-known-fault t)
     (value-same-length-2 t)
     (value-returns-3 t)
     (value-same-length-3 t)

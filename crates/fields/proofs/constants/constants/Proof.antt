@@ -1,7 +1,7 @@
 use Prim.Native.Nat.{_-_}
 use Rattle.fields.proofs.constants.constants.Statement.{statement}
 use Rattle.fields.specs.Constants.{assigned}
-use Rattle.fields.specs.Working.Setting.{setting-more, constantsIn, setting-aside, setting-end, setting-fault, setting-most}
+use Rattle.fields.specs.Working.Setting.{setting-more, constantsIn, setting-aside, constants-end, setting-fault, setting-most}
 use borrow.Author.Needs.{needs}
 use lib.ListN.{length}
 use mathlib.Core.Path.{_≡_}
@@ -13,10 +13,10 @@ use Rattle.fields.proofs.constants.name_fault.Reads as name-fault-reads
 use Rattle.fields.proofs.out.is_ending.Reads as is-ending-reads
 
 abbrev Inv-loop : tie.InvT-loop
-Inv-loop s consts₀ places₀ start count₀ end₀ t₀ consts places count end t = (length consts ≡ length consts₀) × (length places ≡ length places₀) × (constantsIn s consts places count end t ≡ constantsIn s consts₀ places₀ 0 start t₀)
+Inv-loop s consts₀ places₀ start index₀ t₀ consts places index t = (length consts ≡ length consts₀) × (length places ≡ length places₀) × (constantsIn s consts places (index .count) (index .end) t ≡ constantsIn s consts₀ places₀ 0 start t₀)
 
 abbrev μ-loop : tie.MeasureT-loop
-μ-loop s consts₀ places₀ start count₀ end₀ t₀ consts places count end t = 16 - count
+μ-loop s consts₀ places₀ start index₀ t₀ consts places index t = 16 - index .count
 
 loop-holds : tie.Need-loop-holds Inv-loop μ-loop
 loop-holds c = search needs
@@ -31,7 +31,7 @@ same-length-2 : tie.Need-same-length-2 Inv-loop μ-loop
 same-length-2 c = search needs
 
 returns : tie.Need-returns Inv-loop μ-loop
-returns c = search setting-end
+returns c = search constants-end
 
 name-fault-requires : tie.Need-name-fault-requires Inv-loop μ-loop
 name-fault-requires c κs = search needs
@@ -57,8 +57,8 @@ returns-3 c = search setting-most
 assigned-requires : tie.Need-assigned-requires Inv-loop μ-loop
 assigned-requires c κs = search needs
 
-enum-known-reason : tie.Need-enum-known-reason Inv-loop μ-loop
-enum-known-reason c = search needs
+enum-told : tie.Need-enum-told Inv-loop μ-loop
+enum-told c = search needs
 
 same-length-7 : tie.Need-same-length-7 Inv-loop μ-loop
 same-length-7 c = search needs
@@ -69,17 +69,17 @@ same-length-8 c = search needs
 returns-4 : tie.Need-returns-4 Inv-loop μ-loop
 returns-4 c = search setting-aside
 
-enum-known-e : tie.Need-enum-known-e Inv-loop μ-loop
-enum-known-e c = search needs
-
-add-count : tie.Need-add-count Inv-loop μ-loop
-add-count c = search needs
+enum-known-u : tie.Need-enum-known-u Inv-loop μ-loop
+enum-known-u c = search needs
 
 loop-less : tie.Need-loop-less Inv-loop μ-loop
 loop-less c = search needs
 
 loop-again : tie.Need-loop-again Inv-loop μ-loop
-loop-again c = (search needs, search needs, (let f = setting-more _ _ _ _ _ _ _ (c .before .before .before .before .before .before .before .before .before .before .before .before .before .before .before .before .before .loop .inv .2) _ (c .before .before .before .before .before .before .before .before .before .before .before .before .before .before .before .before .is-ending .ensures) (c .before .before .before .before .before .before .before .before .before .before .before .before .before .before .before .if1 .left) _ (c .before .before .before .before .before .before .before .before .before .before .before .before .name-fault .ensures) (c .before .before .before .before .before .before .before .before .before .before .before .if2 .left) (c .before .before .before .before .before .before .before .before .before .before .if3 .left) _ _ _ (c .before .before .before .before .before .before .before .assigned .ensures) in search f))
+loop-again c = (search needs, search needs, (let f = setting-more _ _ _ _ _ _ _ (c .before .before .before .before .before .before .before .before .before .before .before .before .before .before .before .before .before .before .before .loop .inv .2) _ (c .before .before .before .before .before .before .before .before .before .before .before .before .before .before .before .before .before .before .is-ending .ensures) (c .before .before .before .before .before .before .before .before .before .before .before .before .before .before .before .before .before .if1 .left) _ (c .before .before .before .before .before .before .before .before .before .before .before .before .before .before .name-fault .ensures) (c .before .before .before .before .before .before .before .before .before .before .before .before .before .if2 .left) (c .before .before .before .before .before .before .before .before .before .before .before .if3 .left) _ _ _ (c .before .before .before .before .before .before .before .before .assigned .ensures) in search f))
+
+add-t25 : tie.Need-add-t25 Inv-loop μ-loop
+add-t25 c = search needs
 
 pub constants-spec : {M : Type 1} → statement M
 constants-spec =
@@ -100,11 +100,11 @@ constants-spec =
     same-length-6
     returns-3
     assigned-requires
-    enum-known-reason
+    enum-known-u
+    add-t25
+    loop-less
+    loop-again
+    enum-told
     same-length-7
     same-length-8
-    returns-4
-    enum-known-e
-    add-count
-    loop-less
-    loop-again)
+    returns-4)

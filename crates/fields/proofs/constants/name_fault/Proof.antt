@@ -6,7 +6,7 @@ use Rattle.fields.proofs.constants.name_fault.Reads as reads
 use Rattle.fields.proofs.constants.name_fault.Lts as lts
 use Rattle.fields.proofs.constants.is_reserved.Reads as is-reserved-reads
 use Rattle.fields.proofs.constants.is_taken.Reads as is-taken-reads
-use Rattle.fields.proofs.out.refusal_of.Reads as refusal-of-reads
+use Rattle.syntax.proofs.fault.refusal_of.Reads as refusal-of-reads
 use Rattle.fields.proofs.out.word.Reads as word-reads
 
 refusal-of-requires : tie.Need-refusal-of-requires

@@ -5,29 +5,23 @@ use Rattle.fields.proofs.constants.store.Tie as tie
 use Rattle.fields.proofs.constants.store.Reads as reads
 use Rattle.fields.proofs.constants.store.Lts as lts
 use Rattle.fields.proofs.constants.put_literal.Reads as put-literal-reads
-use Rattle.index.proofs.add.Reads as add-reads
+use Rattle.index.proofs.append.Reads as append-reads
 use Rattle.lexical.proofs.literal_length.Reads as literal-length-reads
 
-add-requires : tie.Need-add-requires
-add-requires c κs = search needs
+append-requires : tie.Need-append-requires
+append-requires c κs = search needs
 
 enum-told : tie.Need-enum-told
 enum-told c = search needs
 
-enum-known-c : tie.Need-enum-known-c
-enum-known-c c = search needs
+enum-known-named : tie.Need-enum-known-named
+enum-known-named c = search needs
 
 literal-length-requires : tie.Need-literal-length-requires
 literal-length-requires c κs = search needs
 
 put-literal-requires : tie.Need-put-literal-requires
 put-literal-requires c κs = search needs
-
-add-t20 : tie.Need-add-t20
-add-t20 c = let w = put-room _ _ _ _ _ (c .before .before .before .put-literal .ensures) (c .if1 .taken) in search needs
-
-add-t21 : tie.Need-add-t21
-add-t21 c = let w = put-room _ _ _ _ _ (c .before .before .before .put-literal .ensures) (c .if1 .taken) in search needs
 
 same-length : tie.Need-same-length
 same-length c = search needs
@@ -56,17 +50,23 @@ same-length-6 c = search needs
 returns-3 : tie.Need-returns-3
 returns-3 c = search store-none
 
+add-t18 : tie.Need-add-t18
+add-t18 c = let w = put-room _ _ _ _ _ (c .before .before .before .before .put-literal .ensures) (c .before .if1 .taken) in search needs
+
+add-t19 : tie.Need-add-t19
+add-t19 c = let w = put-room _ _ _ _ _ (c .before .before .before .before .put-literal .ensures) (c .before .if1 .taken) in search needs
+
 pub store-spec : {M : Type 1} → statement M
 store-spec =
     tie.close
     (tie.spec
-    add-requires
+    append-requires
     enum-told
-    enum-known-c
+    enum-known-named
     literal-length-requires
     put-literal-requires
-    add-t20
-    add-t21
+    add-t18
+    add-t19
     same-length
     same-length-2
     returns

@@ -31,9 +31,6 @@ store-requires c κs = search needs
 enum-told : tie.Need-enum-told
 enum-told c = search needs
 
-enum-known-c : tie.Need-enum-known-c
-enum-known-c c = search needs
-
 token-at-requires : tie.Need-token-at-requires
 token-at-requires c κs = search needs
 
@@ -55,6 +52,9 @@ same-length-4 c = search needs
 returns-4 : tie.Need-returns-4
 returns-4 c = search value-on
 
+enum-known-next : tie.Need-enum-known-next
+enum-known-next c = search needs
+
 pub valued-spec : {M : Type 1} → statement M
 valued-spec =
     tie.close
@@ -66,7 +66,7 @@ valued-spec =
     word-requires
     store-requires
     enum-told
-    enum-known-c
+    enum-known-next
     token-at-requires
     same-length
     same-length-2

@@ -1,5 +1,5 @@
 use Rattle.fields.proofs.out.is_ending.Statement.{statement}
-use Rattle.fields.specs.Parsed.{ending}
+use Rattle.lexical.specs.Kind.{ending}
 use Rattle.text.specs.Choice.{tests}
 use borrow.Author.Needs.{needs}
 use Rattle.fields.proofs.out.is_ending.Tie as tie

@@ -10,8 +10,8 @@ use Rattle.judge.proofs.string.value_of.Reads as value-of-reads
 expression-requires : tie.Need-expression-requires
 expression-requires c κs = search needs
 
-enum-known-reason : tie.Need-enum-known-reason
-enum-known-reason c = search needs
+enum-known-fault : tie.Need-enum-known-fault
+enum-known-fault c = search needs
 
 enum-known-top : tie.Need-enum-known-top
 enum-known-top c = search needs
@@ -54,7 +54,7 @@ string-in-spec =
     tie.close
     (tie.spec
     expression-requires
-    enum-known-reason
+    enum-known-fault
     enum-known-top
     value-of-requires
     enum-told

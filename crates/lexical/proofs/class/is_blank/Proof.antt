@@ -1,5 +1,5 @@
 use Rattle.lexical.proofs.ClassWays.{blank-high}
-use Rattle.lexical.specs.Runs.{blank}
+use Rattle.lexical.specs.Working.Runs.{blank}
 use Rattle.text.specs.Choice.{tests}
 use borrow.Author.Needs.{needs}
 use Rattle.lexical.proofs.class.is_blank.Statement.{statement}

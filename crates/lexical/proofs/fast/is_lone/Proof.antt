@@ -1,4 +1,4 @@
-use Rattle.lexical.specs.Lone.{lone}
+use Rattle.lexical.specs.Working.Lone.{lone}
 use borrow.Author.Needs.{needs}
 use Rattle.text.specs.Choice.{tests}
 use Rattle.lexical.proofs.fast.is_lone.Statement.{statement}

@@ -8,13 +8,13 @@ use Rattle.lexical.proofs.class.is_hash.Reads as is-hash-reads
 use Rattle.lexical.proofs.line.in_line.Reads as in-line-reads
 use Rattle.lexical.proofs.line.rest_of_line.Reads as rest-of-line-reads
 use Rattle.lexical.proofs.scan.byte_at.Reads as byte-at-reads
-use Rattle.lexical.proofs.token.settle.Reads as settle-reads
+use Rattle.lexical.proofs.token.completed.Reads as completed-reads
 
 in-line-requires : tie.Need-in-line-requires
 in-line-requires c κs = search needs
 
-settle-requires : tie.Need-settle-requires
-settle-requires c κs = search needs
+completed-requires : tie.Need-completed-requires
+completed-requires c κs = search needs
 
 returns : tie.Need-returns
 returns c = search indented-field
@@ -39,7 +39,7 @@ indented-line-spec =
     tie.close
     (tie.spec
     in-line-requires
-    settle-requires
+    completed-requires
     returns
     byte-at-requires
     is-hash-requires

@@ -1,5 +1,5 @@
 use Rattle.text.specs.Choice.{tests}
-use Rattle.lexical.specs.Short.{near}
+use Rattle.lexical.specs.Working.Short.{near}
 use borrow.Author.Needs.{needs}
 use Rattle.lexical.proofs.literal.is_near.Statement.{statement}
 use Rattle.lexical.proofs.literal.is_near.Tie as tie

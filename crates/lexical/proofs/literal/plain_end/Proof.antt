@@ -2,7 +2,7 @@ use mathlib.Core.Path.{_≡_}
 use Prim.Native.Nat.{_-_}
 use lib.ListN.{length}
 use Rattle.text.specs.Scan.{scan, past}
-use Rattle.lexical.specs.Plain.{plain}
+use Rattle.lexical.specs.Working.Plain.{plain}
 use borrow.Author.Needs.{needs}
 use Rattle.lexical.proofs.literal.plain_end.Statement.{statement}
 use Rattle.lexical.proofs.literal.plain_end.Tie as tie

@@ -1,7 +1,6 @@
 use Rattle.lexical.proofs.NumberWays.{numberRest, number-start, number-end, number-past, number-more, number-low}
 use Rattle.lexical.specs.Number.{LIMIT, numberAt}
-use Prim.Native.Nat.{_≤_}
-use Prim.Native.Nat.{_-_}
+use Prim.Native.Nat.{_-_, _≤_, min}
 use mathlib.Core.Path.{_≡_}
 use borrow.Author.Needs.{needs}
 use Rattle.lexical.proofs.number.number_at.Statement.{statement}
@@ -12,7 +11,7 @@ use Rattle.lexical.proofs.number.digit.Reads as digit-reads
 use Rattle.lexical.proofs.number.hold.Reads as hold-reads
 
 abbrev Inv-loop : tie.InvT-loop
-Inv-loop s start end i₀ v₀ i v = (numberRest s i end v ≡ numberAt s start end) × (v ≤ LIMIT)
+Inv-loop s start end i₀ v₀ i v = (numberRest s i end v ≡ min (numberAt s start end) LIMIT) × (v ≤ LIMIT)
 
 abbrev μ-loop : tie.MeasureT-loop
 μ-loop s start end i₀ v₀ i v = end - i

@@ -1,5 +1,5 @@
 use Rattle.text.specs.Choice.{tests}
-use Rattle.lexical.specs.Runs.{free}
+use Rattle.lexical.specs.Working.Runs.{free}
 use borrow.Author.Needs.{needs}
 use Rattle.lexical.proofs.scan.is_free.Statement.{statement}
 use Rattle.lexical.proofs.scan.is_free.Tie as tie

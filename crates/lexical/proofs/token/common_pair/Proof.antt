@@ -1,4 +1,4 @@
-use Rattle.lexical.specs.Common.{commonPair}
+use Rattle.lexical.specs.Working.Common.{commonPair}
 use borrow.Author.Needs.{needs}
 use Rattle.text.specs.Choice.{tests}
 use Rattle.lexical.proofs.token.common_pair.Statement.{statement}

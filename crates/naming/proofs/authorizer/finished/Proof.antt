@@ -5,7 +5,7 @@ use Rattle.naming.proofs.authorizer.finished.Tie as tie
 use Rattle.naming.proofs.authorizer.finished.Reads as reads
 use Rattle.naming.proofs.authorizer.finished.Lts as lts
 use Rattle.fields.proofs.out.is_ending.Reads as is-ending-reads
-use Rattle.fields.proofs.out.refusal_of.Reads as refusal-of-reads
+use Rattle.syntax.proofs.fault.misplaced.Reads as misplaced-reads
 
 is-ending-requires : tie.Need-is-ending-requires
 is-ending-requires c κs = search needs
@@ -13,11 +13,11 @@ is-ending-requires c κs = search needs
 returns : tie.Need-returns
 returns c = search finished-on
 
-refusal-of-requires : tie.Need-refusal-of-requires
-refusal-of-requires c κs = search needs
+misplaced-requires : tie.Need-misplaced-requires
+misplaced-requires c κs = search needs
 
 returns-2 : tie.Need-returns-2
 returns-2 c = search finished-not
 
 pub finished-spec : {M : Type 1} → statement M
-finished-spec = tie.close (tie.spec is-ending-requires returns refusal-of-requires returns-2)
+finished-spec = tie.close (tie.spec is-ending-requires returns misplaced-requires returns-2)

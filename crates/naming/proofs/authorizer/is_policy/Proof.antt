@@ -4,7 +4,7 @@ use Rattle.naming.proofs.authorizer.is_policy.Statement.{statement}
 use Rattle.naming.proofs.authorizer.is_policy.Tie as tie
 use Rattle.naming.proofs.authorizer.is_policy.Reads as reads
 use Rattle.naming.proofs.authorizer.is_policy.Lts as lts
-use Rattle.index.proofs.name_at.Reads as name-at-reads
+use Rattle.index.proofs.identifier_at.Reads as identifier-at-reads
 use Rattle.principal.proofs.same_principal.Reads as same-principal-reads
 
 returns : tie.Need-returns
@@ -16,8 +16,8 @@ mul-e c = search needs
 shared-slice-read-e : tie.Need-shared-slice-read-e
 shared-slice-read-e c = search needs
 
-name-at-requires : tie.Need-name-at-requires
-name-at-requires c κs = search needs
+identifier-at-requires : tie.Need-identifier-at-requires
+identifier-at-requires c κs = search needs
 
 slice-aggregate-same-principal : tie.Need-slice-aggregate-same-principal
 slice-aggregate-same-principal c = search needs
@@ -35,7 +35,7 @@ is-policy-spec =
     returns
     mul-e
     shared-slice-read-e
-    name-at-requires
+    identifier-at-requires
     slice-aggregate-same-principal
     same-principal-requires
     returns-2)

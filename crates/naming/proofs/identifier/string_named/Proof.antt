@@ -14,8 +14,8 @@ slice-aggregate-string-field c = search needs
 string-field-requires : tie.Need-string-field-requires
 string-field-requires c κs = search needs
 
-enum-known-reason : tie.Need-enum-known-reason
-enum-known-reason c = search needs
+enum-known-fault : tie.Need-enum-known-fault
+enum-known-fault c = search needs
 
 enum-known-k : tie.Need-enum-known-k
 enum-known-k c = search needs
@@ -50,7 +50,7 @@ string-named-spec =
     (tie.spec
     slice-aggregate-string-field
     string-field-requires
-    enum-known-reason
+    enum-known-fault
     enum-known-k
     returns
     array-share-prefix-id

@@ -136,26 +136,14 @@ primary-claims t = (
 chain-operand-requires : (t : ℕ) → chain-lts.Need-operand-requires (chain-claims t) (chain-at t) chain.Post
 chain-operand-requires t c κs = search needs
 
-chain-enum-known-reason : (t : ℕ) → chain-lts.Need-enum-known-reason (chain-claims t) (chain-at t) chain.Post
-chain-enum-known-reason t c = search needs
+chain-enum-told : (t : ℕ) → chain-lts.Need-enum-told (chain-claims t) (chain-at t) chain.Post
+chain-enum-told t c = search needs
 
 chain-enum-known-state : (t : ℕ) → chain-lts.Need-enum-known-state (chain-claims t) (chain-at t) chain.Post
 chain-enum-known-state t c = search needs
 
 chain-more-requires : (t : ℕ) → chain-lts.Need-more-requires (chain-claims t) (chain-at t) chain.Post
 chain-more-requires t c κs = let w = c .before .before .before .before .before .before .before .before .before .before .before .before .before .before .before .before .before .before .before .before .before .before .before .before .before .pre in search needs
-
-chain-same-length : (t : ℕ) → chain-lts.Need-same-length (chain-claims t) (chain-at t) chain.Post
-chain-same-length t c = search needs
-
-chain-same-length-2 : (t : ℕ) → chain-lts.Need-same-length-2 (chain-claims t) (chain-at t) chain.Post
-chain-same-length-2 t c = search needs
-
-chain-same-length-3 : (t : ℕ) → chain-lts.Need-same-length-3 (chain-claims t) (chain-at t) chain.Post
-chain-same-length-3 t c = search needs
-
-chain-returns : (t : ℕ) → chain-lts.Need-returns (chain-claims t) (chain-at t) chain.Post
-chain-returns t c = search chain-aside
 
 chain-same-length-4 : (t : ℕ) → chain-lts.Need-same-length-4 (chain-claims t) (chain-at t) chain.Post
 chain-same-length-4 t c = search needs
@@ -167,7 +155,19 @@ chain-same-length-6 : (t : ℕ) → chain-lts.Need-same-length-6 (chain-claims t
 chain-same-length-6 t c = search needs
 
 chain-returns-2 : (t : ℕ) → chain-lts.Need-returns-2 (chain-claims t) (chain-at t) chain.Post
-chain-returns-2 t c = search chain-on
+chain-returns-2 t c = search chain-aside
+
+chain-same-length : (t : ℕ) → chain-lts.Need-same-length (chain-claims t) (chain-at t) chain.Post
+chain-same-length t c = search needs
+
+chain-same-length-2 : (t : ℕ) → chain-lts.Need-same-length-2 (chain-claims t) (chain-at t) chain.Post
+chain-same-length-2 t c = search needs
+
+chain-same-length-3 : (t : ℕ) → chain-lts.Need-same-length-3 (chain-claims t) (chain-at t) chain.Post
+chain-same-length-3 t c = search needs
+
+chain-returns : (t : ℕ) → chain-lts.Need-returns (chain-claims t) (chain-at t) chain.Post
+chain-returns t c = search chain-on
 
 abbrev more-Inv-loop : more-lts.InvT-loop
 more-Inv-loop s query consts values names constants pool₀ places₀ code₀ level left joint state₀ t₀ pool places code state t =
@@ -189,20 +189,20 @@ more-token-at-requires t c κs = search needs
 more-operand-requires : (t : ℕ) → more-lts.Need-operand-requires (more-claims t) (more-at t) more.Post more-Inv-loop more-μ-loop
 more-operand-requires t c κs = search needs
 
-more-enum-known-reason : (t : ℕ) → more-lts.Need-enum-known-reason (more-claims t) (more-at t) more.Post more-Inv-loop more-μ-loop
-more-enum-known-reason t c = search needs
+more-enum-told : (t : ℕ) → more-lts.Need-enum-told (more-claims t) (more-at t) more.Post more-Inv-loop more-μ-loop
+more-enum-told t c = search needs
 
-more-same-length : (t : ℕ) → more-lts.Need-same-length (more-claims t) (more-at t) more.Post more-Inv-loop more-μ-loop
-more-same-length t c = search needs
+more-same-length-4 : (t : ℕ) → more-lts.Need-same-length-4 (more-claims t) (more-at t) more.Post more-Inv-loop more-μ-loop
+more-same-length-4 t c = search needs
 
-more-same-length-2 : (t : ℕ) → more-lts.Need-same-length-2 (more-claims t) (more-at t) more.Post more-Inv-loop more-μ-loop
-more-same-length-2 t c = search needs
+more-same-length-5 : (t : ℕ) → more-lts.Need-same-length-5 (more-claims t) (more-at t) more.Post more-Inv-loop more-μ-loop
+more-same-length-5 t c = search needs
 
-more-same-length-3 : (t : ℕ) → more-lts.Need-same-length-3 (more-claims t) (more-at t) more.Post more-Inv-loop more-μ-loop
-more-same-length-3 t c = search needs
+more-same-length-6 : (t : ℕ) → more-lts.Need-same-length-6 (more-claims t) (more-at t) more.Post more-Inv-loop more-μ-loop
+more-same-length-6 t c = search needs
 
-more-returns : (t : ℕ) → more-lts.Need-returns (more-claims t) (more-at t) more.Post more-Inv-loop more-μ-loop
-more-returns t c = search more-aside
+more-returns-2 : (t : ℕ) → more-lts.Need-returns-2 (more-claims t) (more-at t) more.Post more-Inv-loop more-μ-loop
+more-returns-2 t c = search more-aside
 
 more-enum-known-u : (t : ℕ) → more-lts.Need-enum-known-u (more-claims t) (more-at t) more.Post more-Inv-loop more-μ-loop
 more-enum-known-u t c = search needs
@@ -213,17 +213,17 @@ more-rest-requires t c κs = search needs
 more-rest-requires-2 : (t : ℕ) → more-lts.Need-rest-requires-2 (more-claims t) (more-at t) more.Post more-Inv-loop more-μ-loop
 more-rest-requires-2 t c κs = search needs
 
-more-same-length-4 : (t : ℕ) → more-lts.Need-same-length-4 (more-claims t) (more-at t) more.Post more-Inv-loop more-μ-loop
-more-same-length-4 t c = let w = c .before .before .before .before .before .before .before .before .before .before .before .before .before .before .before .before .before .before .before .loop .inv .0 in search needs
+more-same-length : (t : ℕ) → more-lts.Need-same-length (more-claims t) (more-at t) more.Post more-Inv-loop more-μ-loop
+more-same-length t c = let w = c .before .before .before .before .before .before .before .before .before .before .before .before .before .before .before .before .before .before .before .loop .inv .0 in search needs
 
-more-same-length-5 : (t : ℕ) → more-lts.Need-same-length-5 (more-claims t) (more-at t) more.Post more-Inv-loop more-μ-loop
-more-same-length-5 t c = let w = c .before .before .before .before .before .before .before .before .before .before .before .before .before .before .before .before .before .before .before .loop .inv .1 in search needs
+more-same-length-2 : (t : ℕ) → more-lts.Need-same-length-2 (more-claims t) (more-at t) more.Post more-Inv-loop more-μ-loop
+more-same-length-2 t c = let w = c .before .before .before .before .before .before .before .before .before .before .before .before .before .before .before .before .before .before .before .loop .inv .1 in search needs
 
-more-same-length-6 : (t : ℕ) → more-lts.Need-same-length-6 (more-claims t) (more-at t) more.Post more-Inv-loop more-μ-loop
-more-same-length-6 t c = let w = c .before .before .before .before .before .before .before .before .before .before .before .before .before .before .before .before .before .before .before .loop .inv .2 in search needs
+more-same-length-3 : (t : ℕ) → more-lts.Need-same-length-3 (more-claims t) (more-at t) more.Post more-Inv-loop more-μ-loop
+more-same-length-3 t c = let w = c .before .before .before .before .before .before .before .before .before .before .before .before .before .before .before .before .before .before .before .loop .inv .2 in search needs
 
-more-returns-2 : (t : ℕ) → more-lts.Need-returns-2 (more-claims t) (more-at t) more.Post more-Inv-loop more-μ-loop
-more-returns-2 t c = let f = more-stuck _ _ _ _ _ _ _ _ _ _ (c .before .before .before .before .before .before .before .before .before .before .before .before .before .before .before .before .before .before .before .loop .inv .3) _ (c .before .before .before .before .before .before .before .before .before .before .before .before .before .before .before .before .before .before .before .before .joint-of .ensures) (c .before .before .before .before .before .before .before .before .before .before .before .before .before .before .before .before .before .if1 .taken) _ (c .before .before .before .before .before .before .before .before .before .before .before .before .before .before .before .before .token-at .ensures) _ _ _ _ (c .before .before .before .before .before .before .before .before .before .before .before .before .operand .ensures) in search f
+more-returns : (t : ℕ) → more-lts.Need-returns (more-claims t) (more-at t) more.Post more-Inv-loop more-μ-loop
+more-returns t c = let f = more-stuck _ _ _ _ _ _ _ _ _ _ (c .before .before .before .before .before .before .before .before .before .before .before .before .before .before .before .before .before .before .before .loop .inv .3) _ (c .before .before .before .before .before .before .before .before .before .before .before .before .before .before .before .before .before .before .before .before .joint-of .ensures) (c .before .before .before .before .before .before .before .before .before .before .before .before .before .before .before .before .before .if1 .taken) _ (c .before .before .before .before .before .before .before .before .before .before .before .before .before .before .before .before .token-at .ensures) _ _ _ _ (c .before .before .before .before .before .before .before .before .before .before .before .before .operand .ensures) in search f
 
 more-join-of-requires : (t : ℕ) → more-lts.Need-join-of-requires (more-claims t) (more-at t) more.Post more-Inv-loop more-μ-loop
 more-join-of-requires t c κs = search needs
@@ -232,10 +232,10 @@ more-push-requires : (t : ℕ) → more-lts.Need-push-requires (more-claims t) (
 more-push-requires t c κs = search needs
 
 more-loop-less : (t : ℕ) → more-lts.Need-loop-less (more-claims t) (more-at t) more.Post more-Inv-loop more-μ-loop
-more-loop-less t c = let f = more-less _ _ _ _ _ _ _ _ _ _ (c .before .before .before .before .before .before .before .before .before .before .before .before .before .before .before .before .before .before .before .before .before .before .before .before .before .loop .inv .3) _ (c .before .before .before .before .before .before .before .before .before .before .before .before .before .before .before .before .before .before .before .before .before .before .before .before .before .before .joint-of .ensures) (c .before .before .before .before .before .before .before .before .before .before .before .before .before .before .before .before .before .before .before .before .before .before .before .if1 .taken) _ (c .before .before .before .before .before .before .before .before .before .before .before .before .before .before .before .before .before .before .before .before .before .before .token-at .ensures) _ _ _ _ (c .before .before .before .before .before .before .before .before .before .before .before .before .before .before .before .before .before .before .operand .ensures) in search f
+more-loop-less t c = let f = more-less _ _ _ _ _ _ _ _ _ _ (c .before .before .before .before .before .before .before .before .before .before .before .before .before .before .before .before .before .before .before .before .before .before .before .before .before .before .loop .inv .3) _ (c .before .before .before .before .before .before .before .before .before .before .before .before .before .before .before .before .before .before .before .before .before .before .before .before .before .before .before .joint-of .ensures) (c .before .before .before .before .before .before .before .before .before .before .before .before .before .before .before .before .before .before .before .before .before .before .before .before .if1 .taken) _ (c .before .before .before .before .before .before .before .before .before .before .before .before .before .before .before .before .before .before .before .before .before .before .before .token-at .ensures) _ _ _ _ (c .before .before .before .before .before .before .before .before .before .before .before .before .before .before .before .before .before .before .before .operand .ensures) in search f
 
 more-loop-again : (t : ℕ) → more-lts.Need-loop-again (more-claims t) (more-at t) more.Post more-Inv-loop more-μ-loop
-more-loop-again t c = ((let w = c .before .before .before .before .before .before .before .before .before .before .before .before .before .before .before .before .before .before .before .before .before .before .before .before .before .loop .inv .0 in search needs), (let w = c .before .before .before .before .before .before .before .before .before .before .before .before .before .before .before .before .before .before .before .before .before .before .before .before .before .loop .inv .1 in search needs), (let w = c .before .before .before .before .before .before .before .before .before .before .before .before .before .before .before .before .before .before .before .before .before .before .before .before .before .loop .inv .2 in search needs), (let f = more-again _ _ _ _ _ _ _ _ _ _ (c .before .before .before .before .before .before .before .before .before .before .before .before .before .before .before .before .before .before .before .before .before .before .before .before .before .loop .inv .3) _ (c .before .before .before .before .before .before .before .before .before .before .before .before .before .before .before .before .before .before .before .before .before .before .before .before .before .before .joint-of .ensures) (c .before .before .before .before .before .before .before .before .before .before .before .before .before .before .before .before .before .before .before .before .before .before .before .if1 .taken) _ (c .before .before .before .before .before .before .before .before .before .before .before .before .before .before .before .before .before .before .before .before .before .before .token-at .ensures) _ _ _ _ (c .before .before .before .before .before .before .before .before .before .before .before .before .before .before .before .before .before .before .operand .ensures) in search f))
+more-loop-again t c = ((let w = c .before .before .before .before .before .before .before .before .before .before .before .before .before .before .before .before .before .before .before .before .before .before .before .before .before .before .loop .inv .0 in search needs), (let w = c .before .before .before .before .before .before .before .before .before .before .before .before .before .before .before .before .before .before .before .before .before .before .before .before .before .before .loop .inv .1 in search needs), (let w = c .before .before .before .before .before .before .before .before .before .before .before .before .before .before .before .before .before .before .before .before .before .before .before .before .before .before .loop .inv .2 in search needs), (let f = more-again _ _ _ _ _ _ _ _ _ _ (c .before .before .before .before .before .before .before .before .before .before .before .before .before .before .before .before .before .before .before .before .before .before .before .before .before .before .loop .inv .3) _ (c .before .before .before .before .before .before .before .before .before .before .before .before .before .before .before .before .before .before .before .before .before .before .before .before .before .before .before .joint-of .ensures) (c .before .before .before .before .before .before .before .before .before .before .before .before .before .before .before .before .before .before .before .before .before .before .before .before .if1 .taken) _ (c .before .before .before .before .before .before .before .before .before .before .before .before .before .before .before .before .before .before .before .before .before .before .before .token-at .ensures) _ _ _ _ (c .before .before .before .before .before .before .before .before .before .before .before .before .before .before .before .before .before .before .before .operand .ensures) in search f))
 
 more-same-length-7 : (t : ℕ) → more-lts.Need-same-length-7 (more-claims t) (more-at t) more.Post more-Inv-loop more-μ-loop
 more-same-length-7 t c = search needs
@@ -366,8 +366,8 @@ primary-sub-chain t c = search needs
 primary-chain-requires : (t : ℕ) → primary-lts.Need-chain-requires (primary-claims t) (primary-at t) primary.Post
 primary-chain-requires t c κs = search needs
 
-primary-enum-known-reason : (t : ℕ) → primary-lts.Need-enum-known-reason (primary-claims t) (primary-at t) primary.Post
-primary-enum-known-reason t c = search needs
+primary-enum-told-2 : (t : ℕ) → primary-lts.Need-enum-told-2 (primary-claims t) (primary-at t) primary.Post
+primary-enum-told-2 t c = search needs
 
 primary-enum-known-state : (t : ℕ) → primary-lts.Need-enum-known-state (primary-claims t) (primary-at t) primary.Post
 primary-enum-known-state t c = search needs
@@ -375,8 +375,8 @@ primary-enum-known-state t c = search needs
 primary-closed-requires : (t : ℕ) → primary-lts.Need-closed-requires (primary-claims t) (primary-at t) primary.Post
 primary-closed-requires t c κs = search needs
 
-primary-enum-known-reason-2 : (t : ℕ) → primary-lts.Need-enum-known-reason-2 (primary-claims t) (primary-at t) primary.Post
-primary-enum-known-reason-2 t c = search needs
+primary-enum-told : (t : ℕ) → primary-lts.Need-enum-told (primary-claims t) (primary-at t) primary.Post
+primary-enum-told t c = search needs
 
 primary-enum-known-u : (t : ℕ) → primary-lts.Need-enum-known-u (primary-claims t) (primary-at t) primary.Post
 primary-enum-known-u t c = search needs
@@ -399,17 +399,17 @@ primary-same-length-9 t c = let v = c .before .before .before .before .before .b
 primary-returns-4 : (t : ℕ) → primary-lts.Need-returns-4 (primary-claims t) (primary-at t) primary.Post
 primary-returns-4 t c = let a = c .before .before .before .before .before .before .before .before .before .before .before .before .before .before .before .before .before .before .before .before .before .before .before .before .before .before .before .before .before .before .before .before .before .if1 .left in let b = c .before .before .before .before .before .before .before .before .before .before .before .before .before .before .before .before .before .before .before .before .before .before .before .before .before .before .before .before .before .before .before .if2 .left in let d = c .before .before .before .before .before .before .before .before .before .before .before .before .before .before .before .before .before .before .before .before .before .before .before .before .before .before .before .before .before .before .if3 .left in let e = c .before .before .before .before .before .before .before .before .before .before .before .before .before .before .before .before .before .before .before .before .before .before .before .before .before .before .before .before .before .token-at .ensures in let f = c .before .before .before .before .before .before .before .before .before .before .before .before .before .before .before .before .before .before .before .before .before .before .before .before .before .chain .ensures in search primary-longer
 
-primary-same-length-10 : (t : ℕ) → primary-lts.Need-same-length-10 (primary-claims t) (primary-at t) primary.Post
-primary-same-length-10 t c = search needs
+primary-same-length-16 : (t : ℕ) → primary-lts.Need-same-length-16 (primary-claims t) (primary-at t) primary.Post
+primary-same-length-16 t c = search needs
 
-primary-same-length-11 : (t : ℕ) → primary-lts.Need-same-length-11 (primary-claims t) (primary-at t) primary.Post
-primary-same-length-11 t c = search needs
+primary-same-length-17 : (t : ℕ) → primary-lts.Need-same-length-17 (primary-claims t) (primary-at t) primary.Post
+primary-same-length-17 t c = search needs
 
-primary-same-length-12 : (t : ℕ) → primary-lts.Need-same-length-12 (primary-claims t) (primary-at t) primary.Post
-primary-same-length-12 t c = search needs
+primary-same-length-18 : (t : ℕ) → primary-lts.Need-same-length-18 (primary-claims t) (primary-at t) primary.Post
+primary-same-length-18 t c = search needs
 
-primary-returns-5 : (t : ℕ) → primary-lts.Need-returns-5 (primary-claims t) (primary-at t) primary.Post
-primary-returns-5 t c = search primary-aside
+primary-returns-7 : (t : ℕ) → primary-lts.Need-returns-7 (primary-claims t) (primary-at t) primary.Post
+primary-returns-7 t c = search primary-aside
 
 primary-same-length-13 : (t : ℕ) → primary-lts.Need-same-length-13 (primary-claims t) (primary-at t) primary.Post
 primary-same-length-13 t c = search needs
@@ -421,28 +421,28 @@ primary-same-length-15 : (t : ℕ) → primary-lts.Need-same-length-15 (primary-
 primary-same-length-15 t c = search needs
 
 primary-returns-6 : (t : ℕ) → primary-lts.Need-returns-6 (primary-claims t) (primary-at t) primary.Post
-primary-returns-6 t c = let a = c .before .before .before .before .before .before .before .before .before .before .before .before .before .before .before .before .before .before .before .before .before .if1 .left in let b = c .before .before .before .before .before .before .before .before .before .before .before .before .before .before .before .before .before .before .before .if2 .left in let d = c .before .before .before .before .before .before .before .before .before .before .before .before .before .before .before .before .before .before .if3 .left in let e = c .before .before .before .before .before .before .before .before .before .before .before .before .before .before .before .before .before .token-at .ensures in let f = c .before .before .before .before .before .before .before .before .before .before .before .before .before .chain .ensures in search primary-open
+primary-returns-6 t c = let a = c .before .before .before .before .before .before .before .before .before .before .before .before .before .before .before .before .before .before .before .before .if1 .left in let b = c .before .before .before .before .before .before .before .before .before .before .before .before .before .before .before .before .before .before .if2 .left in let d = c .before .before .before .before .before .before .before .before .before .before .before .before .before .before .before .before .before .if3 .left in let e = c .before .before .before .before .before .before .before .before .before .before .before .before .before .before .before .before .token-at .ensures in let f = c .before .before .before .before .before .before .before .before .before .before .before .before .chain .ensures in search primary-open
 
-primary-same-length-16 : (t : ℕ) → primary-lts.Need-same-length-16 (primary-claims t) (primary-at t) primary.Post
-primary-same-length-16 t c = search needs
+primary-same-length-10 : (t : ℕ) → primary-lts.Need-same-length-10 (primary-claims t) (primary-at t) primary.Post
+primary-same-length-10 t c = let v = c .before .before .before .before .before .before .before .before .before .before .before .before .before .before .before .chain .last in let w = c .before .before .before .before .before .before .before .before .before .before .before .before .before .before .before .chain .kept in search needs
 
-primary-same-length-17 : (t : ℕ) → primary-lts.Need-same-length-17 (primary-claims t) (primary-at t) primary.Post
-primary-same-length-17 t c = search needs
+primary-same-length-11 : (t : ℕ) → primary-lts.Need-same-length-11 (primary-claims t) (primary-at t) primary.Post
+primary-same-length-11 t c = let v = c .before .before .before .before .before .before .before .before .before .before .before .before .before .before .before .chain .last in let w = c .before .before .before .before .before .before .before .before .before .before .before .before .before .before .before .chain .kept in search needs
 
-primary-same-length-18 : (t : ℕ) → primary-lts.Need-same-length-18 (primary-claims t) (primary-at t) primary.Post
-primary-same-length-18 t c = search needs
+primary-same-length-12 : (t : ℕ) → primary-lts.Need-same-length-12 (primary-claims t) (primary-at t) primary.Post
+primary-same-length-12 t c = let v = c .before .before .before .before .before .before .before .before .before .before .before .before .before .before .before .chain .last in let w = c .before .before .before .before .before .before .before .before .before .before .before .before .before .before .before .chain .kept in search needs
 
-primary-returns-7 : (t : ℕ) → primary-lts.Need-returns-7 (primary-claims t) (primary-at t) primary.Post
-primary-returns-7 t c = let a = c .before .before .before .before .before .before .before .before .before .before .before .before .before .before .before .before .before .before .before .before .before .before .before .if1 .left in let b = c .before .before .before .before .before .before .before .before .before .before .before .before .before .before .before .before .before .before .before .before .before .if2 .left in let d = c .before .before .before .before .before .before .before .before .before .before .before .before .before .before .before .before .before .before .before .before .if3 .left in let e = c .before .before .before .before .before .before .before .before .before .before .before .before .before .before .before .before .before .before .before .token-at .ensures in let f = c .before .before .before .before .before .before .before .before .before .before .before .before .before .before .before .chain .ensures in search primary-on
+primary-returns-5 : (t : ℕ) → primary-lts.Need-returns-5 (primary-claims t) (primary-at t) primary.Post
+primary-returns-5 t c = let a = c .before .before .before .before .before .before .before .before .before .before .before .before .before .before .before .before .before .before .before .before .before .before .before .if1 .left in let b = c .before .before .before .before .before .before .before .before .before .before .before .before .before .before .before .before .before .before .before .before .before .if2 .left in let d = c .before .before .before .before .before .before .before .before .before .before .before .before .before .before .before .before .before .before .before .before .if3 .left in let e = c .before .before .before .before .before .before .before .before .before .before .before .before .before .before .before .before .before .before .before .token-at .ensures in let f = c .before .before .before .before .before .before .before .before .before .before .before .before .before .before .before .chain .ensures in search primary-on
 
 pub +chain+more+operand+primary-spec : {M : Type 1} → statement M
 +chain+more+operand+primary-spec = close μ-chain μ-more μ-operand μ-primary (λ t. chain-lts.spec (chain-claims t)
     (chain-at t)
     chain.Post
     (chain-operand-requires t)
-    (chain-enum-known-reason t)
     (chain-enum-known-state t)
     (chain-more-requires t)
+    (chain-enum-told t)
     (chain-same-length t)
     (chain-same-length-2 t)
     (chain-same-length-3 t)
@@ -473,22 +473,22 @@ pub +chain+more+operand+primary-spec : {M : Type 1} → statement M
     (more-loop-holds t)
     (more-token-at-requires t)
     (more-operand-requires t)
-    (more-enum-known-reason t)
+    (more-enum-known-u t)
+    (more-rest-requires t)
+    (more-rest-requires-2 t)
     (more-same-length t)
     (more-same-length-2 t)
     (more-same-length-3 t)
     (more-returns t)
-    (more-enum-known-u t)
-    (more-rest-requires t)
-    (more-rest-requires-2 t)
-    (more-same-length-4 t)
-    (more-same-length-5 t)
-    (more-same-length-6 t)
-    (more-returns-2 t)
     (more-join-of-requires t)
     (more-push-requires t)
     (more-loop-less t)
     (more-loop-again t)
+    (more-enum-told t)
+    (more-same-length-4 t)
+    (more-same-length-5 t)
+    (more-same-length-6 t)
+    (more-returns-2 t)
     (more-same-length-7 t)
     (more-same-length-8 t)
     (more-same-length-9 t)
@@ -568,10 +568,8 @@ pub +chain+more+operand+primary-spec : {M : Type 1} → statement M
     (primary-token-at-requires t)
     (primary-sub-chain t)
     (primary-chain-requires t)
-    (primary-enum-known-reason t)
     (primary-enum-known-state t)
     (primary-closed-requires t)
-    (primary-enum-known-reason-2 t)
     (primary-enum-known-u t)
     (primary-is-longer-requires t)
     (primary-licensee-requires-2 t)
@@ -579,6 +577,8 @@ pub +chain+more+operand+primary-spec : {M : Type 1} → statement M
     (primary-same-length-8 t)
     (primary-same-length-9 t)
     (primary-returns-4 t)
+    (primary-enum-told t)
+    (primary-enum-told-2 t)
     (primary-same-length-10 t)
     (primary-same-length-11 t)
     (primary-same-length-12 t)

@@ -40,26 +40,14 @@ clear-requires-2 c κs = search needs
 chain-requires : tie.Need-chain-requires
 chain-requires c κs = search needs
 
-enum-known-reason : tie.Need-enum-known-reason
-enum-known-reason c = search needs
+enum-told : tie.Need-enum-told
+enum-told c = search needs
 
 enum-known-state : tie.Need-enum-known-state
 enum-known-state c = search needs
 
 finished-requires : tie.Need-finished-requires
 finished-requires c κs = search needs
-
-same-length-2 : tie.Need-same-length-2
-same-length-2 c = search needs
-
-same-length-3 : tie.Need-same-length-3
-same-length-3 c = search needs
-
-same-length-4 : tie.Need-same-length-4
-same-length-4 c = search needs
-
-returns-4 : tie.Need-returns-4
-returns-4 c = search field-aside
 
 same-length-5 : tie.Need-same-length-5
 same-length-5 c = search needs
@@ -71,7 +59,19 @@ same-length-7 : tie.Need-same-length-7
 same-length-7 c = search needs
 
 returns-5 : tie.Need-returns-5
-returns-5 c = search field-on
+returns-5 c = search field-aside
+
+same-length-2 : tie.Need-same-length-2
+same-length-2 c = search needs
+
+same-length-3 : tie.Need-same-length-3
+same-length-3 c = search needs
+
+same-length-4 : tie.Need-same-length-4
+same-length-4 c = search needs
+
+returns-4 : tie.Need-returns-4
+returns-4 c = search field-on
 
 pub licensees-spec : {M : Type 1} → statement M
 licensees-spec =
@@ -87,9 +87,9 @@ licensees-spec =
     returns-3
     clear-requires-2
     chain-requires
-    enum-known-reason
     enum-known-state
     finished-requires
+    enum-told
     same-length-2
     same-length-3
     same-length-4

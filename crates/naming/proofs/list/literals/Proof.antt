@@ -45,20 +45,20 @@ returns c = search needs
 literal-before-requires : tie.Need-literal-before-requires Inv-loop μ-loop
 literal-before-requires c κs = search literal-asked
 
-enum-known-reason : tie.Need-enum-known-reason Inv-loop μ-loop
-enum-known-reason c = search needs
+enum-told : tie.Need-enum-told Inv-loop μ-loop
+enum-told c = search needs
 
-same-length-4 : tie.Need-same-length-4 Inv-loop μ-loop
-same-length-4 c = search needs
+same-length-7 : tie.Need-same-length-7 Inv-loop μ-loop
+same-length-7 c = search needs
 
-same-length-5 : tie.Need-same-length-5 Inv-loop μ-loop
-same-length-5 c = search needs
+same-length-8 : tie.Need-same-length-8 Inv-loop μ-loop
+same-length-8 c = search needs
 
-same-length-6 : tie.Need-same-length-6 Inv-loop μ-loop
-same-length-6 c = search needs
+same-length-9 : tie.Need-same-length-9 Inv-loop μ-loop
+same-length-9 c = search needs
 
-returns-2 : tie.Need-returns-2 Inv-loop μ-loop
-returns-2 c = search literals-aside
+returns-3 : tie.Need-returns-3 Inv-loop μ-loop
+returns-3 c = search literals-aside
 
 enum-known-u : tie.Need-enum-known-u Inv-loop μ-loop
 enum-known-u c = search needs
@@ -69,17 +69,17 @@ rest-requires c κs = search needs
 rest-requires-2 : tie.Need-rest-requires-2 Inv-loop μ-loop
 rest-requires-2 c κs = search needs
 
-same-length-7 : tie.Need-same-length-7 Inv-loop μ-loop
-same-length-7 c = let w = c .before .before .before .before .before .before .before .before .before .before .before .before .before .before .before .before .before .before .before .before .before .loop .inv .0 in search needs
+same-length-4 : tie.Need-same-length-4 Inv-loop μ-loop
+same-length-4 c = let w = c .before .before .before .before .before .before .before .before .before .before .before .before .before .before .before .before .before .before .before .before .before .loop .inv .0 in search needs
 
-same-length-8 : tie.Need-same-length-8 Inv-loop μ-loop
-same-length-8 c = let w = c .before .before .before .before .before .before .before .before .before .before .before .before .before .before .before .before .before .before .before .before .before .loop .inv .1 in search needs
+same-length-5 : tie.Need-same-length-5 Inv-loop μ-loop
+same-length-5 c = let w = c .before .before .before .before .before .before .before .before .before .before .before .before .before .before .before .before .before .before .before .before .before .loop .inv .1 in search needs
 
-same-length-9 : tie.Need-same-length-9 Inv-loop μ-loop
-same-length-9 c = let w = c .before .before .before .before .before .before .before .before .before .before .before .before .before .before .before .before .before .before .before .before .before .loop .inv .2 in search needs
+same-length-6 : tie.Need-same-length-6 Inv-loop μ-loop
+same-length-6 c = let w = c .before .before .before .before .before .before .before .before .before .before .before .before .before .before .before .before .before .before .before .before .before .loop .inv .2 in search needs
 
-returns-3 : tie.Need-returns-3 Inv-loop μ-loop
-returns-3 c = literals-stuck _ _ _ _ _ _ _ _ _ _ _ (c .before .before .before .before .before .before .before .before .before .before .before .before .before .before .before .before .before .before .before .before .before .loop .inv .3) _ (c .before .before .before .before .before .before .before .before .before .before .before .before .before .before .before .before .before .before .before .before .is-whole .ensures) (c .before .before .before .before .before .before .before .before .before .before .before .before .before .before .before .before .before .before .before .if1 .taken) _ (c .before .before .before .before .before .before .before .before .before .before .before .before .before .before .before .before .before .before .token-at .ensures) (c .before .before .before .before .before .before .before .before .before .before .before .before .before .before .before .before .if2 .left) _ _ _ _ (c .before .before .before .before .before .before .before .before .before .before .before .before .literal-before .ensures) _ _ (c .before .before .before .before .u .given .1) _ _ (c .before .before .rest .ensures) (c .before .rest2 .ensures) (c .if3 .taken)
+returns-2 : tie.Need-returns-2 Inv-loop μ-loop
+returns-2 c = literals-stuck _ _ _ _ _ _ _ _ _ _ _ (c .before .before .before .before .before .before .before .before .before .before .before .before .before .before .before .before .before .before .before .before .before .loop .inv .3) _ (c .before .before .before .before .before .before .before .before .before .before .before .before .before .before .before .before .before .before .before .before .is-whole .ensures) (c .before .before .before .before .before .before .before .before .before .before .before .before .before .before .before .before .before .before .before .if1 .taken) _ (c .before .before .before .before .before .before .before .before .before .before .before .before .before .before .before .before .before .before .token-at .ensures) (c .before .before .before .before .before .before .before .before .before .before .before .before .before .before .before .before .if2 .left) _ _ _ _ (c .before .before .before .before .before .before .before .before .before .before .before .before .literal-before .ensures) _ _ (c .before .before .before .before .u .given .1) _ _ (c .before .before .rest .ensures) (c .before .rest2 .ensures) (c .if3 .taken)
 
 token-at-requires-2 : tie.Need-token-at-requires-2 Inv-loop μ-loop
 token-at-requires-2 c κs = search needs
@@ -116,21 +116,21 @@ literals-spec =
     same-length-3
     returns
     literal-before-requires
-    enum-known-reason
+    enum-known-u
+    rest-requires
+    rest-requires-2
     same-length-4
     same-length-5
     same-length-6
     returns-2
-    enum-known-u
-    rest-requires
-    rest-requires-2
+    token-at-requires-2
+    loop-less
+    loop-again
+    enum-told
     same-length-7
     same-length-8
     same-length-9
     returns-3
-    token-at-requires-2
-    loop-less
-    loop-again
     same-length-10
     same-length-11
     same-length-12

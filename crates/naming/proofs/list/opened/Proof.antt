@@ -24,8 +24,8 @@ token-at-requires c κs = search needs
 literals-requires : tie.Need-literals-requires
 literals-requires c κs = search needs
 
-enum-known-reason : tie.Need-enum-known-reason
-enum-known-reason c = search needs
+enum-told : tie.Need-enum-told
+enum-told c = search needs
 
 enum-known-state : tie.Need-enum-known-state
 enum-known-state c = search needs
@@ -35,18 +35,6 @@ sub-t34 c = search needs
 
 list-requires : tie.Need-list-requires
 list-requires c κs = search needs
-
-same-length : tie.Need-same-length
-same-length c = search needs
-
-same-length-2 : tie.Need-same-length-2
-same-length-2 c = search needs
-
-same-length-3 : tie.Need-same-length-3
-same-length-3 c = search needs
-
-returns-3 : tie.Need-returns-3
-returns-3 c = search opened-aside
 
 same-length-4 : tie.Need-same-length-4
 same-length-4 c = search needs
@@ -58,7 +46,19 @@ same-length-6 : tie.Need-same-length-6
 same-length-6 c = search needs
 
 returns-4 : tie.Need-returns-4
-returns-4 c = opened-list _ _ _ _ _ _ _ _ _ (c .before .before .before .before .before .before .before .before .before .before .before .before .before .before .before .before .before .before .before .before .before .before .before .before .before .if1 .left) (c .before .before .before .before .before .before .before .before .before .before .before .before .before .before .before .before .before .before .before .before .before .before .before .before .if2 .left) _ (c .before .before .before .before .before .before .before .before .before .before .before .before .before .before .before .before .before .before .before .before .before .before .before .token-at .ensures) _ _ _ _ (c .before .before .before .before .before .before .before .before .before .before .before .before .before .before .before .before .before .before .before .literals .ensures) _ _ (c .before .before .before .before .before .before .before .before .before .before .before .state .given .1) _ (c .before .before .before .before .before .before .list .ensures)
+returns-4 c = search opened-aside
+
+same-length : tie.Need-same-length
+same-length c = search needs
+
+same-length-2 : tie.Need-same-length-2
+same-length-2 c = search needs
+
+same-length-3 : tie.Need-same-length-3
+same-length-3 c = search needs
+
+returns-3 : tie.Need-returns-3
+returns-3 c = opened-list _ _ _ _ _ _ _ _ _ (c .before .before .before .before .before .before .before .before .before .before .before .before .before .before .before .before .before .before .before .before .before .before .before .before .before .if1 .left) (c .before .before .before .before .before .before .before .before .before .before .before .before .before .before .before .before .before .before .before .before .before .before .before .before .if2 .left) _ (c .before .before .before .before .before .before .before .before .before .before .before .before .before .before .before .before .before .before .before .before .before .before .before .token-at .ensures) _ _ _ _ (c .before .before .before .before .before .before .before .before .before .before .before .before .before .before .before .before .before .before .before .literals .ensures) _ _ (c .before .before .before .before .before .before .before .before .before .before .before .state .given .1) _ (c .before .before .before .before .before .before .list .ensures)
 
 pub opened-spec : {M : Type 1} → statement M
 opened-spec =
@@ -69,10 +69,10 @@ opened-spec =
     returns-2
     token-at-requires
     literals-requires
-    enum-known-reason
     enum-known-state
     sub-t34
     list-requires
+    enum-told
     same-length
     same-length-2
     same-length-3

@@ -45,9 +45,6 @@ narrow-requires c κs = search needs
 push-requires-2 : tie.Need-push-requires-2
 push-requires-2 c κs = search needs
 
-add-t28 : tie.Need-add-t28
-add-t28 c = search needs
-
 returns-4 : tie.Need-returns-4
 returns-4 c = search (placed-aside, nobody-most, nobody-on, number-most, placed-high, placed-on)
 
@@ -62,6 +59,9 @@ same-length-2 c = search needs
 
 returns-6 : tie.Need-returns-6
 returns-6 c = search (placed-aside, nobody-most, nobody-on, number-most, placed-high, placed-on)
+
+add-t30 : tie.Need-add-t30
+add-t30 c = search needs
 
 pub placed-spec : {M : Type 1} → statement M
 placed-spec =
@@ -79,7 +79,7 @@ placed-spec =
     returns-3
     narrow-requires
     push-requires-2
-    add-t28
+    add-t30
     returns-4
     same-length
     returns-5

@@ -22,9 +22,6 @@ narrow-requires c κs = search needs
 push-requires : tie.Need-push-requires
 push-requires c κs = search needs
 
-add-t15 : tie.Need-add-t15
-add-t15 c = search needs
-
 returns-2 : tie.Need-returns-2
 returns-2 c = search (number-none, number-high, number-on)
 
@@ -33,6 +30,9 @@ same-length c = search needs
 
 returns-3 : tie.Need-returns-3
 returns-3 c = search (number-none, number-high, number-on)
+
+add-t18 : tie.Need-add-t18
+add-t18 c = search needs
 
 pub placed-number-spec : {M : Type 1} → statement M
 placed-number-spec =
@@ -43,7 +43,7 @@ placed-number-spec =
     returns
     narrow-requires
     push-requires
-    add-t15
+    add-t18
     returns-2
     same-length
     returns-3)

@@ -10,40 +10,40 @@ use Rattle.record.proofs.Cursor.plain.Reads as plain-reads
 name-requires : tie.Need-name-requires
 name-requires c κs = search needs
 
-enum-known-number : tie.Need-enum-known-number
-enum-known-number c = search needs
-
 enum-known-value : tie.Need-enum-known-value
 enum-known-value c = search needs
 
 plain-requires : tie.Need-plain-requires
 plain-requires c κs = search needs
 
-enum-known-number-2 : tie.Need-enum-known-number-2
-enum-known-number-2 c = search needs
-
 enum-known-end : tie.Need-enum-known-end
 enum-known-end c = search needs
 
+enum-told : tie.Need-enum-told
+enum-told c = search needs
+
+enum-told-2 : tie.Need-enum-told-2
+enum-told-2 c = search needs
+
 returns : tie.Need-returns
-returns c = search attribute-name
+returns c = search attribute-to
 
 returns-2 : tie.Need-returns-2
 returns-2 c = search attribute-value
 
 returns-3 : tie.Need-returns-3
-returns-3 c = search attribute-to
+returns-3 c = search attribute-name
 
 pub attribute-spec : {M : Type 1} → statement M
 attribute-spec =
     tie.close
     (tie.spec
     name-requires
-    enum-known-number
     enum-known-value
     plain-requires
-    enum-known-number-2
     enum-known-end
+    enum-told
+    enum-told-2
     returns
     returns-2
     returns-3)

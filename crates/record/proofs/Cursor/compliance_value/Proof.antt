@@ -10,9 +10,6 @@ use Rattle.record.proofs.repeated.Reads as repeated-reads
 plain-requires : tie.Need-plain-requires
 plain-requires c κs = search needs
 
-enum-known-number : tie.Need-enum-known-number
-enum-known-number c = search needs
-
 enum-known-value : tie.Need-enum-known-value
 enum-known-value c = search needs
 
@@ -22,20 +19,23 @@ repeated-requires c κs = search needs
 returns : tie.Need-returns
 returns c = search value-again
 
+enum-told : tie.Need-enum-told
+enum-told c = search needs
+
 returns-2 : tie.Need-returns-2
-returns-2 c = search value-refused
+returns-2 c = search value-to
 
 returns-3 : tie.Need-returns-3
-returns-3 c = search value-to
+returns-3 c = search value-refused
 
 pub compliance-value-spec : {M : Type 1} → statement M
 compliance-value-spec =
     tie.close
     (tie.spec
     plain-requires
-    enum-known-number
     enum-known-value
     repeated-requires
     returns
+    enum-told
     returns-2
     returns-3)

@@ -11,9 +11,6 @@ use Rattle.text.proofs.counted_at.Reads as counted-at-reads
 plain-requires : tie.Need-plain-requires
 plain-requires c κs = search needs
 
-enum-known-number : tie.Need-enum-known-number
-enum-known-number c = search needs
-
 enum-known-value : tie.Need-enum-known-value
 enum-known-value c = search needs
 
@@ -26,21 +23,24 @@ is-policy-requires c κs = search needs
 returns : tie.Need-returns
 returns c = search requester-policy
 
+enum-told : tie.Need-enum-told
+enum-told c = search needs
+
 returns-2 : tie.Need-returns-2
-returns-2 c = search requester-refused
+returns-2 c = search requester-to
 
 returns-3 : tie.Need-returns-3
-returns-3 c = search requester-to
+returns-3 c = search requester-refused
 
 pub requester-spec : {M : Type 1} → statement M
 requester-spec =
     tie.close
     (tie.spec
     plain-requires
-    enum-known-number
     enum-known-value
     counted-at-requires
     is-policy-requires
     returns
+    enum-told
     returns-2
     returns-3)

@@ -13,8 +13,8 @@ enter-requires c κs = search needs
 enum-told : tie.Need-enum-told
 enum-told c = search needs
 
-enum-known-number : tie.Need-enum-known-number
-enum-known-number c = search needs
+enum-known-count : tie.Need-enum-known-count
+enum-known-count c = search needs
 
 mark-requires : tie.Need-mark-requires
 mark-requires c κs = search needs
@@ -46,7 +46,7 @@ ask-spec =
     (tie.spec
     enter-requires
     enum-told
-    enum-known-number
+    enum-known-count
     mark-requires
     same-length
     same-length-2

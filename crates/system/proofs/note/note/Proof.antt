@@ -3,6 +3,7 @@ use Rattle.system.proofs.note.note.Statement.{statement}
 use Rattle.system.proofs.note.note.Tie as tie
 use Rattle.system.proofs.note.note.Reads as reads
 use Rattle.system.proofs.note.note.Lts as lts
+use Rattle.naming.proofs.fault.clear.Reads as clear-reads
 use Rattle.system.proofs.note.put_entry.Reads as put-entry-reads
 use Rattle.system.proofs.note.put_row.Reads as put-row-reads
 use Rattle.system.specs.Working.NotingWays.{note-dropped, note-kept}
@@ -43,6 +44,9 @@ same-length-5 c = search needs
 returns-2 : tie.Need-returns-2
 returns-2 c = search note-kept
 
+clear-requires : tie.Need-clear-requires
+clear-requires c κs = search needs
+
 pub note-spec : {M : Type 1} → statement M
 note-spec =
     tie.close
@@ -50,6 +54,7 @@ note-spec =
     enum-known-r
     put-entry-requires
     enum-known-r-2
+    clear-requires
     put-entry-requires-2
     put-row-requires
     same-length

@@ -4,6 +4,7 @@ use Rattle.system.proofs.note.put_entry.Tie as tie
 use Rattle.system.proofs.note.put_entry.Reads as reads
 use Rattle.system.proofs.note.put_entry.Lts as lts
 use Rattle.text.proofs.put_pair.Reads as put-pair-reads
+use Rattle.system.proofs.note.low.Reads as low-reads
 use Rattle.system.specs.Working.NotingWays.{entry-none, entry-far, entry-in}
 
 returns : tie.Need-returns
@@ -36,6 +37,9 @@ same-length c = search needs
 returns-3 : tie.Need-returns-3
 returns-3 c = search entry-in
 
+low-requires : tie.Need-low-requires
+low-requires c κs = search needs
+
 pub put-entry-spec : {M : Type 1} → statement M
 put-entry-spec =
     tie.close
@@ -47,6 +51,7 @@ put-entry-spec =
     add-at
     add-put-pair
     put-pair-requires
+    low-requires
     slice-write-page
     same-length
     returns-3)
