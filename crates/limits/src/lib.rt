@@ -1,4 +1,6 @@
 // The limits of queries and assertions, each named once.
+#![tactic(auto)]
+
 pub const MOST_RECORD: usize = 65535;
 
 pub const LEAST_VALUES: usize = 2;

@@ -1,4 +1,6 @@
 // Byte strings: equality, order, copying, joining, counted strings and decimal numbers, as the layers above need them.
+#![tactic(auto)]
+
 mod long;
 
 ghost use Rattle.std.specs.Prelude.{◌≡◌, ◌&&◌, map, ◌++◌, ◌+◌, ◌-◌, ◌*◌, ◌≤◌, ◌<◌, min, leb, length, take};
