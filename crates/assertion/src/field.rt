@@ -22,7 +22,7 @@ use syntax::fault::Fault;
 // What is read so far: the ends of the index and of the licensees' programs, the authorizer's number, how many constants are known, what is against the
 // identifiers of either field, whether there were an Authorizer and Licensees, and the rank of Conditions. The bytes stand last: where a `Fault` of `Went`
 // has a word and this a byte, the bytes beside it are copied in pieces.
-#[derive(Drop)]
+#[derive(Clone, Copy)]
 pub struct Partial {
     pub index: Index,
     pub size: usize,
@@ -36,7 +36,7 @@ pub struct Partial {
 }
 
 // What is read with one field more and the token behind it, or the first fault.
-#[derive(Drop)]
+#[derive(Clone, Copy)]
 pub enum Went {
     On { partial: Partial, next: Token },
     Aside { fault: Fault },

@@ -22,7 +22,7 @@ use naming::fault::{clear, earlier};
 use syntax::fault::{Fault, UNVERIFIED, WRONG_LINE, misplaced};
 
 // A kept assertion: its authorizer's number, the ends of the index and of the code, and the rank of its Conditions; or what is against it.
-#[derive(Drop)]
+#[derive(Clone, Copy)]
 pub enum Assessment {
     Kept {
         author: usize,

@@ -21,7 +21,7 @@ use words::count;
 const WORDS: usize = (MOST_PRINCIPALS + 63) / 64;
 
 // The rank of POLICY, the rounds that changed a rank in the reach, and how many principals are in it.
-#[derive(Drop)]
+#[derive(Clone, Copy)]
 pub struct Solution {
     pub rank: u8,
     pub rounds: usize,

@@ -12,7 +12,7 @@ use syntax::fault::{Fault, misplaced};
 
 // What was read: its sort, the place of a bare word that is not settled yet, the end of the code, and the token behind it. Or the
 // first fault: reason 0 is that of a reader that was given too little.
-#[derive(Drop)]
+#[derive(Clone, Copy)]
 pub enum Out {
     Found {
         sort: u8,

@@ -6,7 +6,7 @@ ghost use Rattle.expression.specs.Operands.{kind_of, size_of, pack, unpacked, wi
 use float::bits::{bits_of, float_of};
 use text::Integer;
 
-#[derive(Drop)]
+#[derive(Clone, Copy)]
 pub enum Operand {
     Text { length: usize },
     Number { negative: bool, size: u64 },
@@ -54,7 +54,7 @@ pub fn size_of(v: Operand) -> u64
 }
 
 // Both.
-#[derive(Drop)]
+#[derive(Clone, Copy)]
 pub struct Packed {
     pub kind: u64,
     pub size: u64,

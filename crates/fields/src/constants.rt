@@ -19,7 +19,7 @@ use limits::MOST_CONSTANTS;
 use syntax::fault::{Fault, NO_ROOM, OVER_LIMIT, WRONG_NAME, misplaced, refusal_of};
 
 // The index of the constants and the token behind them; or the first fault.
-#[derive(Drop)]
+#[derive(Clone, Copy)]
 pub enum Settings {
     On { index: Index, next: Token },
     Aside { fault: Fault },

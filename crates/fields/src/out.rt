@@ -10,7 +10,7 @@ use lexical::token::Token;
 use syntax::fault::{Fault, misplaced};
 
 // The token behind what was read, or the first fault.
-#[derive(Drop)]
+#[derive(Clone, Copy)]
 pub enum Out {
     On { next: Token },
     Aside { fault: Fault },

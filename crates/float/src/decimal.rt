@@ -22,7 +22,7 @@ fn ten_to(k: u64) -> u64
 }
 
 // A fraction below 1 and the place of its leading digit.
-#[derive(Drop)]
+#[derive(Clone, Copy)]
 pub struct Scaled {
     pub over: u64,
     pub under: u64,
@@ -66,7 +66,7 @@ fn over_doubled(from: u64, b: u64, place: u64) -> Scaled
 }
 
 // 24 digits of a / b, and what is left.
-#[derive(Drop)]
+#[derive(Clone, Copy)]
 pub struct Cut {
     pub digits: u64,
     pub rest: u64,

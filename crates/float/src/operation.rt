@@ -2,7 +2,7 @@
 ghost use Rattle.std.specs.Prelude.{◌≡◌};
 ghost use Rattle.float.specs.Operations.{is_finite, checked, plus, minus, times, over, negated, raised, power};
 
-#[derive(Drop)]
+#[derive(Clone, Copy)]
 pub enum Computed {
     Finite { value: f32 },
     Error,

@@ -52,7 +52,7 @@ fn is_between(a: usize, b: usize, c: usize) -> bool
 }
 
 // Where a search ends: at the identifier's entry, or at the entry that it would follow by the rest of its tag.
-#[derive(Drop)]
+#[derive(Clone, Copy)]
 enum Walk {
     Found { number: usize },
     Missing { last: usize, rest: usize },
@@ -94,14 +94,14 @@ pub fn identifier_at(pool: &[u8], e: usize) -> &[u8]
 }
 
 // How many entries there are, and where the pool's front, which holds them, ends.
-#[derive(Drop)]
+#[derive(Clone, Copy)]
 pub struct Index {
     pub count: usize,
     pub end: usize,
 }
 
 // What entering gives: the index then, or no room.
-#[derive(Drop)]
+#[derive(Clone, Copy)]
 pub enum Entered {
     Now { index: Index },
     Full,
@@ -172,7 +172,7 @@ fn link(places: &mut [usize], i: usize, t: usize, c: usize)
 
 // A principal's number in the index, with the index's count and end; or no room for it. They are not an `Index`, and the number stands between them: a copy
 // of both at once would wait for the stores of each, which costs 5 % of names that are all distinct.
-#[derive(Drop)]
+#[derive(Clone, Copy)]
 pub enum Numbered {
     At {
         count: usize,

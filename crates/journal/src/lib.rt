@@ -26,14 +26,14 @@ pub const NO_ROOM: u8 = 9;
 
 // The number and the place of a refusal, 0 and 0 where the request was granted.
 #[repr(C)]
-#[derive(Drop)]
+#[derive(Clone, Copy)]
 pub struct Outcome {
     pub number: u8,
     pub place: usize,
 }
 
 // Where the stores of a request go, or the number it is refused with.
-#[derive(Drop)]
+#[derive(Clone, Copy)]
 pub enum Room {
     At { place: usize },
     Not { number: u8 },

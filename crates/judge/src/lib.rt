@@ -11,7 +11,7 @@ use machine::run_here;
 use syntax::fault::Fault;
 
 // The rank and the token behind the field; or the first fault: reason 0 is that of buffers that are too small.
-#[derive(Drop)]
+#[derive(Clone, Copy)]
 pub enum Judged {
     On { rank: u8, next: Token },
     Aside { fault: Fault },

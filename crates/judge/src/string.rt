@@ -11,7 +11,7 @@ use machine::{Given, string_here};
 use syntax::fault::{Fault, NO_ROOM};
 
 // How many bytes the string has, and the token behind it; or the first fault: reason 0 is that of buffers that are too small.
-#[derive(Drop)]
+#[derive(Clone, Copy)]
 pub enum Said {
     On { count: usize, next: Token },
     Aside { fault: Fault },

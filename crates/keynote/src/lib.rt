@@ -11,7 +11,7 @@ use system::solved::solved;
 // The number and the place of a refusal, 0 and 0 for an answer; then the class (0 is weakest), the rounds and how many principals are
 // reached.
 #[repr(C)]
-#[derive(Drop)]
+#[derive(Clone, Copy)]
 pub struct Outcome {
     pub number: u8,
     pub place: usize,

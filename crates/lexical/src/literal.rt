@@ -217,7 +217,7 @@ pub fn decode_into(s: &[u8], start: usize, buf: &mut [u8], at: usize) -> bool
 }
 
 // What came of a literal: how many bytes it gave, that it gives more than are allowed, or that there is no room for them.
-#[derive(Drop)]
+#[derive(Clone, Copy)]
 pub enum Decoded {
     Put { count: usize },
     Long,

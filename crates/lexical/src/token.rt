@@ -13,7 +13,7 @@ use crate::operator::operator_kind;
 use crate::scan::{NUMERALS, byte_at, skip};
 
 // A token of the text: its kind, its first byte, and the place behind its last byte. At the end and at a fault the two places are one.
-#[derive(Drop)]
+#[derive(Clone, Copy)]
 pub struct Token {
     pub kind: usize,
     pub start: usize,

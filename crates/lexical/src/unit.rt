@@ -14,7 +14,7 @@ pub const CLOSES: u8 = 2;
 pub const SPOILS: u8 = 3;
 
 // What it does, how many bytes it takes, and the byte that it gives.
-#[derive(Drop)]
+#[derive(Clone, Copy)]
 pub struct Unit {
     pub kind: u8,
     pub width: usize,

@@ -144,7 +144,7 @@ fn escape_width(b: u8) -> usize
     2
 }
 
-#[derive(Drop)]
+#[derive(Clone, Copy)]
 struct Piece {
     byte: u8,
     next: usize,

@@ -28,14 +28,14 @@ use lexical::literal::{Decoded, bare_end, decode_within};
 use limits::MOST_STRING;
 
 // How many numbers and bytes the stacks hold; or that the machine can't go on, the code being none or a buffer too small.
-#[derive(Drop)]
+#[derive(Clone, Copy)]
 pub enum Tops {
     At { numbers: usize, bytes: usize },
     Stuck,
 }
 
 // How many bytes a string has that code gives; or that the machine can't go on.
-#[derive(Drop)]
+#[derive(Clone, Copy)]
 pub enum Given {
     Bytes { count: usize },
     Stuck,

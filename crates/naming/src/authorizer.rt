@@ -18,7 +18,7 @@ use syntax::fault::{Fault, UNIDENTIFIED, UNVERIFIED, misplaced};
 pub const VERIFIED: u8 = 2;
 
 // The authorizer's number, the index, what is against the identifier, and the token that ends the field; or the first fault of the text.
-#[derive(Drop)]
+#[derive(Clone, Copy)]
 pub enum Author {
     On {
         number: usize,

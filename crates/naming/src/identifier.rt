@@ -13,7 +13,7 @@ use limits::MOST_IDENTIFIER;
 use syntax::fault::{Fault, NO_ROOM};
 
 // The principal's number, the index, and the token behind the expression; that it identifies nobody; or the first fault.
-#[derive(Drop)]
+#[derive(Clone, Copy)]
 pub enum Named {
     At {
         number: usize,

@@ -22,7 +22,7 @@ use limits::{MOST_BRACKETS, MOST_LICENSEES};
 use syntax::fault::{Fault, NO_ROOM, OUT_OF_RANGE, OVER_LIMIT, UNIDENTIFIED, misplaced};
 
 // The index, the end of the code, how many licensees were read, and the first that is nobody.
-#[derive(Drop)]
+#[derive(Clone, Copy)]
 pub struct State {
     pub index: Index,
     pub size: usize,
@@ -31,7 +31,7 @@ pub struct State {
 }
 
 // The state and the token behind what was read, or the first fault.
-#[derive(Drop)]
+#[derive(Clone, Copy)]
 pub enum Licensed {
     On { state: State, next: Token },
     Aside { fault: Fault },
@@ -445,7 +445,7 @@ fn literals(
 }
 
 // A K-of's number, how many licensees stood before its list, and how many more brackets may be opened in it.
-#[derive(Drop)]
+#[derive(Clone, Copy)]
 struct Listing {
     k: u8,
     before: usize,

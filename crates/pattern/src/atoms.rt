@@ -6,7 +6,7 @@ ghost use Rattle.pattern.specs.Working.Scan as S;
 use crate::places::or;
 
 // An item of a set: none can stand here, the set is closed here, or the item ends before `next`, and holds the byte or not.
-#[derive(Drop)]
+#[derive(Clone, Copy)]
 pub enum Taken {
     Wrong,
     Closed,
@@ -14,7 +14,7 @@ pub enum Taken {
 }
 
 // Where an atom ends, and whether it accepts the byte.
-#[derive(Drop)]
+#[derive(Clone, Copy)]
 pub enum Scan {
     Unfit,
     End { at: usize, hit: bool },

@@ -20,7 +20,7 @@ const MOST_PATTERN: usize = 256;
 const DEPTH: usize = 2000;
 
 // What a test answers: Error where the bytes are no pattern.
-#[derive(Drop)]
+#[derive(Clone, Copy)]
 pub enum Answer {
     Yes,
     No,

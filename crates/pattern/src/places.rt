@@ -4,7 +4,7 @@ ghost use Rattle.pattern.specs.Working.Places as P;
 ghost use Rattle.pattern.specs.Working.Skip as K;
 
 // A set of places of a pattern: 256 bits.
-#[derive(Drop)]
+#[derive(Clone, Copy)]
 pub struct Places {
     pub a: u64,
     pub b: u64,
@@ -14,7 +14,7 @@ pub struct Places {
 
 // What is known of a part of a pattern. Whether it can be empty: at a boundary that is both ends of the string, its start, inside, its end.
 // The places at which it can begin, at the start and inside, and at which it can end, inside and at the end.
-#[derive(Drop)]
+#[derive(Clone, Copy)]
 pub struct Part {
     pub nb: bool,
     pub ns: bool,

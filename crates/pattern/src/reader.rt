@@ -7,7 +7,7 @@ use crate::places::{Part, byte_part, choice, end_part, or_empty, sequence, start
 use crate::rows::link;
 
 // What is known of the part that was parsed, and where it ends.
-#[derive(Drop)]
+#[derive(Clone, Copy)]
 pub enum Parsed {
     Bad,
     Got { part: Part, next: usize },

@@ -8,7 +8,7 @@ use crate::places::{Part, Places, join, same_places};
 use crate::rows::row;
 
 // The places that come next, and 1 where a match ends here. (A number and no bool, so that the struct has no padding: see the cookbook.)
-#[derive(Drop)]
+#[derive(Clone, Copy)]
 pub struct Swept {
     pub places: Places,
     pub hit: u64,

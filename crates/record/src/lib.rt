@@ -13,20 +13,20 @@ pub use limits::MOST_ITEMS;
 use limits::*;
 
 // A place in the record.
-#[derive(Drop)]
+#[derive(Clone, Copy)]
 pub struct Cursor {
     pub at: usize,
 }
 
 // What a step gives: a number and the moved cursor, or a refusal's number and place.
-#[derive(Drop)]
+#[derive(Clone, Copy)]
 pub enum Moved {
     To { value: usize, next: Cursor },
     Refused { number: u8, at: usize },
 }
 
 // Two groups read: where their entries end in the table, and the cursor behind them; or a refusal.
-#[derive(Drop)]
+#[derive(Clone, Copy)]
 pub enum Groups {
     Ends {
         first: usize,
@@ -40,7 +40,7 @@ pub enum Groups {
 }
 
 // What reading a record gives: where each group's entries end in the table, or a refusal's number and place.
-#[derive(Drop)]
+#[derive(Clone, Copy)]
 pub enum Reading {
     Accepted {
         values: usize,

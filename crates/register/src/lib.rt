@@ -36,7 +36,7 @@ pub const MOVES_LEFT: u8 = 19;
 pub const DAMAGED_REGISTER: u8 = 20;
 
 // A place: a principal and its moves, or free. Numbers left at a free place count for nothing.
-#[derive(Drop)]
+#[derive(Clone, Copy)]
 pub struct Place {
     pub held: bool,
     pub principal: u32,
@@ -44,27 +44,27 @@ pub struct Place {
 }
 
 // The places, and the number of all moves ever issued.
-#[derive(Drop)]
+#[derive(Clone, Copy)]
 pub struct Register {
     pub places: [Place; MOST_PRINCIPALS],
     pub issued: u64,
 }
 
 // A principal's place, and how many held entries were compared.
-#[derive(Drop)]
+#[derive(Clone, Copy)]
 pub enum Found {
     At { place: usize, work: usize },
     Missing { work: usize },
 }
 
-#[derive(Drop)]
+#[derive(Clone, Copy)]
 pub enum Answer {
     Granted,
     Refused { number: u8, place: usize },
 }
 
 // What a call gives: its answer, and the register after it, which is the one handed in where it was refused.
-#[derive(Drop)]
+#[derive(Clone, Copy)]
 pub struct After {
     pub answer: Answer,
     pub register: Register,
@@ -257,7 +257,7 @@ pub fn remove(register: Register, principal: u32) -> After
 
 // What a call on bytes answers. The number is 0 where it is granted.
 #[repr(C)]
-#[derive(Drop)]
+#[derive(Clone, Copy)]
 pub struct Reply {
     pub number: u8,
     pub place: usize,
@@ -265,7 +265,7 @@ pub struct Reply {
 
 // What finding on bytes answers: a refusal's number and place, or whether the principal is held, at which place, and the work.
 #[repr(C)]
-#[derive(Drop)]
+#[derive(Clone, Copy)]
 pub struct Search {
     pub number: u8,
     pub place: usize,

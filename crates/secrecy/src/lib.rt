@@ -8,7 +8,7 @@ ghost use Rattle.secrecy.specs.Paper.{MorePaper};
 use keynote::{Outcome, lampsickle_answer};
 
 // What the two calls return.
-#[derive(Drop)]
+#[derive(Clone, Copy)]
 pub struct Both {
     pub first: Outcome,
     pub second: Outcome,

@@ -7,7 +7,7 @@ use lexical::kind;
 use lexical::token::Token;
 
 // The reason is a whole word: a copy of a byte and what is beside it waits for the stores of both.
-#[derive(Drop)]
+#[derive(Clone, Copy)]
 pub struct Fault {
     pub reason: usize,
     pub place: usize,

@@ -109,7 +109,7 @@ fn is_full(
 }
 
 // How far the reading went, and the ends there.
-#[derive(Drop)]
+#[derive(Clone, Copy)]
 pub struct Stretch {
     pub next: usize,
     pub ends: Ends,

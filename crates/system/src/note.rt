@@ -8,7 +8,7 @@ use naming::fault::clear;
 use syntax::fault::Fault;
 
 // The ends of the index and of the licensees' programs, and how many assertions are kept.
-#[derive(Drop)]
+#[derive(Clone, Copy)]
 pub struct Ends {
     pub index: Index,
     pub size: usize,

@@ -22,7 +22,7 @@ ghost use Rattle.text.specs.Working.Joining.{comma};
 pub use long::{copy_long, same_long};
 
 // How one byte string stands to another.
-#[derive(Drop)]
+#[derive(Clone, Copy)]
 pub enum Order {
     Less,
     Equal,
@@ -30,7 +30,7 @@ pub enum Order {
 }
 
 // An integer: a sign and a size; 0 has no sign.
-#[derive(Drop)]
+#[derive(Clone, Copy)]
 pub struct Integer {
     pub negative: bool,
     pub size: u64,
