@@ -1,4 +1,6 @@
 // Principals: the one function that compares two identifiers, and a number that tells most of them apart.
+#![tactic(auto)]
+
 ghost use Rattle.std.specs.Prelude.{◌≡◌, ◌+◌, ◌*◌, ◌/◌, ◌%◌, ◌<◌, ◌≤◌, length, take, drop};
 ghost use Rattle.principal.specs.Canonical.{fold, folded, front, is_hex};
 ghost use Rattle.principal.specs.Principal.{policy, same};

@@ -1,4 +1,5 @@
 // The query record: a cursor goes over it from left to right and finds where each item lies.
+#![tactic(auto)]
 
 ghost use Rattle.std.specs.Prelude.{◌≡◌, ◌≤◌, length, take};
 ghost use Rattle.text.specs.Copy.{put};

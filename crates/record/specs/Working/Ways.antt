@@ -60,6 +60,7 @@ module _ (s t : List ℕ) (start upto i : ℕ) (r : Bool) (inv : among_rest s t 
       among-step =
           let n : upto - i ≡ suc (upto - (i + 1)) = omega arith in
           rw (n, drop-cons t i 0 l, ← add-one i, ← xe, ← ye, ← ee)
+          (ap (λ (v : List ℕ). pick e true (among v (map (counted s) (take (upto - (i + 1)) (drop (i + 1) t))))) (sym xe))
 
       pub among-hit : e ≡ true → true ≡ r
       among-hit q = let z : pick e true (among_rest s t start upto (i + 1)) ≡ r = sym among-step ∙ inv in rw q at z
