@@ -1,4 +1,6 @@
 // Pattern tests: extended expressions over bytes, decided with sets of places of the pattern.
+#![tactic(auto)]
+
 pub mod atoms;
 pub mod places;
 pub mod reader;

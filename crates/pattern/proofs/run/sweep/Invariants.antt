@@ -1,0 +1,11 @@
+use Rattle.pattern.specs.Working.Run.{ends}
+use Rattle.pattern.specs.Working.Sim.{sweep}
+use Prim.Native.Nat.{◌-◌}
+use mathlib.Core.Path.{◌≡◌}
+use Rattle.pattern.proofs.run.sweep.Given as goal
+
+abbrev pub invariant-loop-q : goal.invariant-loop-q
+invariant-loop-q l = sweep l.p l.t l.x l.l l.q l.end l.c l.a ≡ sweep l.p l.t l.word l.ends l.base l.end l.c l.initial.a
+
+abbrev pub decreases-loop-q : goal.decreases-loop-q
+decreases-loop-q l = l.end - l.q
