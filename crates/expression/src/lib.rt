@@ -1,4 +1,6 @@
 // The evaluation layer: integers, names and the machine that runs compiled Conditions.
+#![tactic(auto)]
+
 pub mod integer;
 pub mod name;
 pub mod operator;

@@ -1,5 +1,7 @@
 // The lexical layer: the class of each byte, lines, tokens, literals, numbers and keywords.
 // A reader steps `token_at(s, mode, t.end)` from `BEFORE` and 0 on, with `mode_after` for the next mode.
+#![tactic(auto)]
+
 pub mod class;
 mod fast;
 pub mod kind;

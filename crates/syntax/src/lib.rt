@@ -1,3 +1,5 @@
+#![tactic(auto)]
+
 pub mod fault;
 
 // The operations of a compiled Conditions field, by number. An entry of compiled code is an operation times 65,536 and a place of the text.

@@ -1,0 +1,12 @@
+use Prim.Native.Nat.{◌+◌, ◌≤◌}
+use Rattle.lexical.specs.Literal.{units_at, given, decoded_at}
+use lib.ListN.{length}
+use Prim.Native.Nat.{◌-◌}
+use mathlib.Core.Path.{◌≡◌}
+use Rattle.lexical.proofs.literal.literal_length.Given as goal
+
+abbrev pub invariant-loop-i : goal.invariant-loop-i
+invariant-loop-i l = (l.n + length (given (units_at l.s l.i)) ≡ length (decoded_at l.s l.start)) × (l.n ≤ l.i)
+
+abbrev pub decreases-loop-i : goal.decreases-loop-i
+decreases-loop-i l = length l.s - l.i
