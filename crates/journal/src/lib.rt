@@ -1,4 +1,6 @@
 // A journal of answers on a lent page, in an order of stores that survives a power cut.
+#![tactic(auto)]
+
 ghost use Rattle.std.specs.Prelude.{◌≡◌, ◌+◌, ◌-◌, ◌<◌, ◌≤◌, min, length, take, drop};
 ghost use Rattle.journal.specs.Page.{zeros, entry};
 ghost use Rattle.journal.specs.Stores.{stored, placed, cleared};

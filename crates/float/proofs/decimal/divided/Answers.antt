@@ -1,0 +1,19 @@
+use Rattle.float.specs.Working.Converting.{digits-fit, digit-fits, divide-step, divided-made, rest_below}
+use borrow.Author.Rules.{rules}
+use Rattle.float.proofs.decimal.divided.Goals as goal
+
+-- src/lib.rt:81:13
+pub overflow_mul-q : goal.overflow_mul-q
+overflow_mul-q c = search digits-fit
+
+-- src/lib.rt:81:13
+pub overflow_add-q : goal.overflow_add-q
+overflow_add-q c = search digit-fits
+
+-- src/lib.rt:79:5
+pub loop-i-preserved : goal.loop-i-preserved
+loop-i-preserved c = (search rules, search rest_below, search divide-step)
+
+-- src/lib.rt:72:1
+pub returns : goal.returns
+returns c = search divided-made
