@@ -1,4 +1,6 @@
 // A Conditions field read, compiled and run.
+#![tactic(auto)]
+
 pub mod string;
 
 ghost use Rattle.std.specs.Prelude.{◌≡◌, ◌%◌, replicate};
