@@ -39,7 +39,7 @@ at_some [] j h k = absurd (omega arith)
 at_some (x ∷ l) zero h k = k x refl
 at_some (x ∷ l) (suc j) h k = at_some l j (omega arith) k
 
-pub mem-at : {X : Type 0} {l : List Assertion} {a : Assertion} → Mem a l → ((j : ℕ) → get_elem? l j ≡ some a → j < length l → X) → X
+pub mem-at : {X : Type 0} {a : Assertion} {l : List Assertion} → Mem a l → ((j : ℕ) → get_elem? l j ≡ some a → j < length l → X) → X
 mem-at (here e) k = k 0 (ap some (sym e)) (omega arith)
 mem-at (there m) k = mem-at m (λ j e h. k (suc j) e (omega arith))
 

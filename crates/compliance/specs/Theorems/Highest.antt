@@ -61,7 +61,7 @@ module _ {A : Type 0} (v : ℕ) (r r' : A → ℕ) where
       (λ e. omega (arith, leb-false 1 v e))
 
 -- it is no more than a bound of them all
-pub highest-le : (k t : ℕ) {A : Type 0} (r : A → ℕ) (ps : List A) → ((p : A) → r p ≤ t) → highest k (map r ps) ≤ t
+pub highest-le : {A : Type 0} (k t : ℕ) (r : A → ℕ) (ps : List A) → ((p : A) → r p ≤ t) → highest k (map r ps) ≤ t
 unfolding highest
 highest-le zero t r ps h = zero-le
 highest-le (suc k) t r [] h = zero-le

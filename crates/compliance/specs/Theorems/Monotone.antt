@@ -81,7 +81,7 @@ module _ (top : ℕ) (r : Rank) (p : Principal) where
       (λ t. ih (let i' : v ≤ max (asserted top r a) (delegated top l r p) = rw e at i in omega (arith, leb-false v (asserted top r a) t))))
       (λ e. ih (let i' : v ≤ max 0 (delegated top l r p) = rw e at i in omega arith))
 
-  pub delegated-by : {l : List Assertion} (a : Assertion) → Mem a l → same a.authorizer p ≡ true → asserted top r a ≤ delegated top l r p
+  pub delegated-by : (a : Assertion) {l : List Assertion} → Mem a l → same a.authorizer p ≡ true → asserted top r a ≤ delegated top l r p
   unfolding delegated
   delegated-by a (here {x = b} {xs = l} e) i = rw (← e, i) (omega arith)
   delegated-by a (there {x = b} {xs = l} m) i = omega (arith, delegated-by a m i)

@@ -62,7 +62,7 @@ reach-keeps : (s : System) (P : List Principal → List Principal → Type 0)
 unfolding reach
 reach-keeps s P skip add h = turns-keep s.assertions P skip add _ _ _ (omega (arith, ahead_none s.assertions)) h
 
-pub licensees-in : {l : List Assertion} (p : Principal) (a : Assertion) → Mem a l → same a.authorizer p ≡ true
+pub licensees-in : (p : Principal) (a : Assertion) {l : List Assertion} → Mem a l → same a.authorizer p ≡ true
     → (q : Principal) → member q (licensees a.field) ≡ true → member q (licensees_of l p) ≡ true
 unfolding licensees_of
 licensees-in p a (here {x = b} {xs = l} e) h q n = rw (← e, h) (member-left q (licensees a.field) (licensees_of l p) n)

@@ -85,7 +85,7 @@ module _ (s : System) (ps : List Principal) (closed : Closed s (λ p. member p p
 
 -- ---- every principal
 
-mentioned-in : {l : List Assertion} (a : Assertion) → Mem a l → (q : Principal) → member q (a.authorizer ∷ licensees a.field) ≡ true → member q (mentioned l) ≡ true
+mentioned-in : (a : Assertion) {l : List Assertion} → Mem a l → (q : Principal) → member q (a.authorizer ∷ licensees a.field) ≡ true → member q (mentioned l) ≡ true
 unfolding mentioned
 mentioned-in a (here {x = b} {xs = l} e) q m = rw (← e) (member-left q (a.authorizer ∷ licensees a.field) (mentioned l) m)
 mentioned-in a (there {x = b} {xs = l} n) q m = member_right q (b.authorizer ∷ licensees b.field) (mentioned l) (mentioned-in a n q m)
