@@ -1,4 +1,6 @@
 // An assertion: its fields read from left to right, its principals entered into the index, its Conditions judged.
+#![tactic(auto)]
+
 pub mod field;
 mod label;
 

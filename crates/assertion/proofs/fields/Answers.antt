@@ -1,0 +1,16 @@
+use mathlib.Core.Path.{◌∙◌}
+use Rattle.assertion.specs.Working.ReadingWays.{fields-last, fields-aside, fields-more, fields-less}
+use Rattle.assertion.proofs.fields.Goals as goal
+
+pub returns-then-is_last : goal.returns-then-is_last
+returns-then-is_last c = search fields-last
+
+pub returns-in-Aside : goal.returns-in-Aside
+returns-in-Aside c = search fields-aside
+
+pub loop-free-smaller : goal.loop-free-smaller
+loop-free-smaller c = fields-less _ _ _ _ _ _ _ _ _ _ _ _ _ _ _ c.loop-free.invariant.6 _ c.is_last.ensures c.if-is_last.false _ c.next_field.ensures.1 _ _ c.next_field.ensures.0
+
+pub loop-free-preserved : goal.loop-free-preserved
+loop-free-preserved c = let more = fields-more _ _ _ _ _ _ _ _ _ _ _ _ _ _ _ c.loop-free.invariant.6 _ c.is_last.ensures c.if-is_last.false _ c.next_field.ensures.1 _ _ c.next_field.ensures.0 in
+    (c.next_field.auto.0 ∙ c.loop-free.invariant.0, c.next_field.auto.1.1.1.1.1.1.0 ∙ c.loop-free.invariant.1, c.next_field.auto.1.1.1.1.1.1.1.1.0 ∙ c.loop-free.invariant.2, c.next_field.auto.1.1.1.1.1.1.1.1.1.0 ∙ c.loop-free.invariant.3, c.next_field.auto.1.1.1.1.1.1.1.1.1.1.0 ∙ c.loop-free.invariant.4, c.next_field.auto.1.1.1.1.1.1.1.1.1.1.1.0 ∙ c.loop-free.invariant.5, search more)
