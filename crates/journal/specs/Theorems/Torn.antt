@@ -51,15 +51,15 @@ placed-behind at (b ∷ bs) (lost w) i h = placed-behind (at + 1) bs w i (omega 
 
 cleared-before : {p q : List ℕ} (n at : ℕ) → SomeOf p (cleared n at) q → (i : ℕ) → i < at → get_or q i 0 ≡ get_or p i 0
 unfolding cleared
-cleared-before zero at s[] i h = refl
-cleared-before {p} (suc n) at (made w) i h = cleared-before n at w i h ∙ get_or-set_other p (at + n) i 0 0 (below i (at + n) (omega arith))
-cleared-before (suc n) at (lost w) i h = cleared-before n at w i h
+cleared-before {p = p} zero at s[] i h = refl
+cleared-before {p = p} (suc n) at (made w) i h = cleared-before {p = set p (at + n) 0} n at w i h ∙ get_or-set_other p (at + n) i 0 0 (below i (at + n) (omega arith))
+cleared-before {p = p} (suc n) at (lost w) i h = cleared-before {p = p} n at w i h
 
 cleared-behind : {p q : List ℕ} (n at : ℕ) → SomeOf p (cleared n at) q → (i : ℕ) → at + n ≤ i → get_or q i 0 ≡ get_or p i 0
 unfolding cleared
-cleared-behind zero at s[] i h = refl
-cleared-behind {p} (suc n) at (made w) i h = cleared-behind n at w i (omega arith) ∙ get_or-set_other p (at + n) i 0 0 (above i (at + n) (omega arith))
-cleared-behind (suc n) at (lost w) i h = cleared-behind n at w i (omega arith)
+cleared-behind {p = p} zero at s[] i h = refl
+cleared-behind {p = p} (suc n) at (made w) i h = cleared-behind {p = set p (at + n) 0} n at w i (omega arith) ∙ get_or-set_other p (at + n) i 0 0 (above i (at + n) (omega arith))
+cleared-behind {p = p} (suc n) at (lost w) i h = cleared-behind {p = p} n at w i (omega arith)
 
 zero-stored : (p : List ℕ) (i : ℕ) → get_or (set p i 0) i 0 ≡ 0
 zero-stored [] i = refl
@@ -69,15 +69,15 @@ zero-stored (x ∷ p) (suc i) = zero-stored p i
 -- no closing byte comes to be
 cleared-closing : {p q : List ℕ} (n at : ℕ) → SomeOf p (cleared n at) q → (i : ℕ) → get_or q i 0 ≡ closing → get_or p i 0 ≡ closing
 unfolding cleared
-cleared-closing zero at s[] i h = h
-cleared-closing {p} (suc n) at (made w) i h =
-    let k : get_or (set p (at + n) 0) i 0 ≡ closing = cleared-closing n at w i h in
+cleared-closing {p = p} zero at s[] i h = h
+cleared-closing {p = p} (suc n) at (made w) i h =
+    let k : get_or (set p (at + n) 0) i 0 ≡ closing = cleared-closing {p = set p (at + n) 0} n at w i h in
     split (eqb i (at + n))
     (λ e. let s : i ≡ at + n = eqb-true i (at + n) e in
     let z : get_or (set p (at + n) 0) i 0 ≡ 0 = ap (λ (j : ℕ). get_or (set p (at + n) 0) j 0) s ∙ zero-stored p (at + n) in
     let no : ⊥ = omega (arith, k, z) in absurd no)
     (λ e. sym (get_or-set_other p (at + n) i 0 0 (eqb-false i (at + n) e)) ∙ k)
-cleared-closing (suc n) at (lost w) i h = cleared-closing n at w i h
+cleared-closing {p = p} (suc n) at (lost w) i h = cleared-closing {p = p} n at w i h
 
 -- ---- pages that recovery takes for the same
 
