@@ -47,6 +47,7 @@ module _ (r : Contents) (c : Call) where
       (λ t. further k ks n p t (refused-tested ks n p (rw t at h)))
 
   first-tested : (k : Reason) (ks : List Reason) → First r c k ks → tested ks r c ≡ refused (number k) 0
+  first-tested k [] x' = elim x' [ ]
   first-tested k (j ∷ ks) (here e t) = rw (e, t) refl
   first-tested k (j ∷ ks) (later t f) = rw t (first-tested k ks f)
 
