@@ -1,4 +1,6 @@
 // The compliance value of a query from tables of numbers. Principals are indices, POLICY is 0.
+#![tactic(auto)]
+
 mod fast;
 mod highest;
 pub mod machine;

@@ -1,0 +1,5 @@
+use Rattle.compliance.specs.Working.Reach.{found-is, spare-on}
+use Rattle.compliance.proofs.reach.find_reach.Goals as goal
+
+pub returns : goal.returns
+returns c = (search found-is, search spare-on)
