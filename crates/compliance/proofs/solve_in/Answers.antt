@@ -8,4 +8,4 @@ pub settle-rounds-requires : goal.settle-rounds-requires
 settle-rounds-requires c = search blank-ranks
 
 pub returns : goal.returns
-returns c = let r = c.before in let s = r.before.before.before.before.before.before in solved-is _ _ _ _ _ _ _ _ _ _ _ s.before.before.before.before.before.before.before.before.before.before.before.before.before.requires _ s.find_reach.ensures.0 s.find_reach.ensures.1 _ r.count-reached.ensures _ _ c.settle-rounds.ensures _ c.value_at-rank.ensures
+returns c = solved-is _ _ _ _ _ _ _ _ _ _ _ c.requires _ c.find_reach.ensures.reach_after c.find_reach.ensures.reach_unchanged _ c.count-reached.ensures _ _ c.settle-rounds.ensures _ c.value_at-rank.ensures

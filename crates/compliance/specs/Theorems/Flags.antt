@@ -40,8 +40,11 @@ at_some (x ∷ l) zero h k = k x refl
 at_some (x ∷ l) (suc j) h k = at_some l j (omega arith) k
 
 pub mem-at : {X : Type 0} {l : List Assertion} {a : Assertion} → Mem a l → ((j : ℕ) → get_elem? l j ≡ some a → j < length l → X) → X
-mem-at (here e) k = k 0 (ap some (sym e)) (omega arith)
-mem-at (there m) k = mem-at m (λ j e h. k (suc j) e (omega arith))
+mem-at {X = X} {l = l} {a = a} m k = go l m k
+  where
+    go : (l : List Assertion) → Mem a l → ((j : ℕ) → get_elem? l j ≡ some a → j < length l → X) → X
+    go l (here e) k = k 0 (ap some (sym e)) (omega arith)
+    go l (there {xs = n} m) k = go n m (λ j e h. k (suc j) e (omega arith))
 
 -- ---- flags
 

@@ -72,8 +72,11 @@ best-start k all (x ∷ xs) b = omega (arith, best-start k all xs (max b (candid
 
 best-mem : (k : ℕ) (all xs : List ℕ) (b x : ℕ) → Mem x xs → candidate_of k all x ≤ best_of k all xs b
 unfolding best_of
-best-mem k all xs b x (here {x = y} {xs = ys} e) = rw (← e) (omega (arith, best-start k all ys (max b (candidate_of k all x))))
-best-mem k all xs b x (there {x = y} {xs = ys} m) = best-mem k all ys (max b (candidate_of k all y)) x m
+best-mem k all xs b x m = go xs b m
+  where
+    go : (xs : List ℕ) (b : ℕ) → Mem x xs → candidate_of k all x ≤ best_of k all xs b
+    go xs b (here {x = y} {xs = ys} e) = rw (← e) (omega (arith, best-start k all ys (max b (candidate_of k all x))))
+    go xs b (there {x = y} {xs = ys} m) = go ys (max b (candidate_of k all y)) m
 
 highest-mem : (k : ℕ) (xs : List ℕ) → (highest k xs ≡ 0) ⊎ Mem (highest k xs) xs
 unfolding highest

@@ -2,4 +2,4 @@ use Rattle.compliance.specs.Working.Reach.{found-is, spare-on}
 use Rattle.compliance.proofs.reach.find_reach.Goals as goal
 
 pub returns : goal.returns
-returns c = (search found-is, search spare-on)
+returns c = record { reach_after = search found-is; reach_unchanged = search spare-on }
