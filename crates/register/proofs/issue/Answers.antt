@@ -1,4 +1,4 @@
-use Rattle.register.specs.Working.Operations.{issue-tells}
+use Rattle.register.proofs.Working.Operations.{issue-tells}
 use Rattle.register.specs.Working.Ways.{issued-fits, moves-fit, issue-over, issue-more, issue-new, issue-full, issue-amount, issue-unsound}
 use Rattle.register.proofs.issue.Goals as goal
 

@@ -1,4 +1,4 @@
-use Rattle.register.specs.Working.Operations.{pass-tells}
+use Rattle.register.proofs.Working.Operations.{pass-tells}
 use Rattle.register.specs.Working.Ways.{place-few, amount-few, pass-found, pass-unknown-2, pass-unknown, pass-amount, pass-unsound}
 use Rattle.register.proofs.pass.Goals as goal
 

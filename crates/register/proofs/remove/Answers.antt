@@ -1,4 +1,4 @@
-use Rattle.register.specs.Working.Operations.{remove-tells}
+use Rattle.register.proofs.Working.Operations.{remove-tells}
 use Rattle.register.specs.Working.Ways.{remove-holds, remove-done, remove-unknown, remove-unsound}
 use Rattle.register.proofs.remove.Goals as goal
 

@@ -1,4 +1,4 @@
-use Rattle.register.specs.Working.Operations.{spend-tells}
+use Rattle.register.proofs.Working.Operations.{spend-tells}
 use Rattle.register.specs.Working.Ways.{spend-over, spend-done, spend-unknown, spend-amount, spend-unsound}
 use Rattle.register.proofs.spend.Goals as goal
 

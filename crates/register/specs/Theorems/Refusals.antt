@@ -1,9 +1,9 @@
 -- Each refusal is given exactly where its reason is there and none tested before it is; else the call is granted. Assumes nothing.
-use Rattle.std.specs.Prelude.{◌≡◌, refl, Bool, true, false, List, [], ◌∷◌, ℕ, eqb}
+use Rattle.std.specs.Prelude.{◌≡◌, refl, true, false, List, [], ◌∷◌, ℕ, eqb}
 use Rattle.std.proofs.Common.{sym, ap, ◌∙◌, arith}
-use Rattle.text.specs.Choice.{pick, split, clash}
+use Rattle.text.specs.Choice.{pick, split}
 use Rattle.register.specs.Entries.{Contents}
-use Rattle.register.specs.Calls.{Call, Reason, damaged_register, amount_outside, unknown_principal, more_than_held, issue_limit, no_place, moves_left, number, applies, effect, Outcome, granted, refused, tested, order, called}
+use Rattle.register.specs.Calls.{Call, Reason, damaged_register, amount_outside, unknown_principal, more_than_held, issue_limit, no_place, moves_left, number, applies, effect, granted, refused, tested, order, called}
 
 -- a reason that is there, while none before it in a list of reasons is
 pub data First (r : Contents) (c : Call) (k : Reason) : List Reason → Type 0 where
