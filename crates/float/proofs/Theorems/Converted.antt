@@ -5,7 +5,7 @@ use Rattle.std.specs.Float.{binary32}
 use Rattle.std.specs.Float.Ieee.{to_bits}
 use Rattle.float.specs.Nearest.{Nearest}
 use Rattle.float.specs.Decimal.{decimal}
-use Rattle.float.specs.Theorems.Rounded.{nearest_bits, nearest-is, nearest-small, round-bits}
+use Rattle.float.proofs.Theorems.Rounded.{nearest_bits, nearest-is, nearest-small, round-bits}
 use Rattle.float.specs.Working.Converting.{ten-pos}
 
 -- "the nearest 32-bit float, ties to even": of the pattern of `decimal false digits scale`, with the sign's bit off and on
