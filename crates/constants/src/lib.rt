@@ -1,4 +1,6 @@
 // The buffer of decoded constants: it begins with the two joined texts, each behind its two-byte length.
+#![tactic(auto)]
+
 ghost use Rattle.std.specs.Prelude.{◌≡◌, map, min, eqb, length};
 ghost use Rattle.text.specs.Choice.{pick};
 ghost use Rattle.text.specs.Counted.{counted};

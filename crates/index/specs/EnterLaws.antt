@@ -48,6 +48,7 @@ enter-all-keeps names ps p m = rw (enter-all-is names ps) (member-left p names (
 -- each one that was entered is a member
 pub enter-all-member : (names ps : List Principal) (p : Principal) → Mem p ps → member p (enter_all names ps) ≡ true
 unfolding enter_all
+enter-all-member names [] p x = elim x [ ]
 enter-all-member names (q ∷ ps) p (here e) = rw e (enter-all-keeps (enter names q) ps q (enter-member names q))
 enter-all-member names (q ∷ ps) p (there m) = enter-all-member (enter names q) ps p m
 

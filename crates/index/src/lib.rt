@@ -1,5 +1,7 @@
 // The index of principals: each distinct identifier gets a number when it is first read. Identifiers lie in a lent pool, each behind its
 // two-byte length; a lent table holds an entry for each.
+#![tactic(auto)]
+
 ghost use Rattle.std.specs.Prelude.{◌≡◌, ◌&&◌, ◌<◌, ltb, set};
 ghost use Rattle.principal.specs.Tag.{tag};
 ghost use Rattle.index.specs.Entry.{identifier_at, is_at, child, linked};

@@ -1,4 +1,6 @@
 // The machine that runs compiled Conditions: a stack of operands, two numbers each, and the bytes of their strings one after the other.
+#![tactic(auto)]
+
 ghost use Rattle.std.specs.Prelude.{◌≡◌, [], map, ◌+◌, ◌-◌, ◌≤◌, ◌<◌, max, eqb, leb, length, take, drop};
 ghost use Rattle.text.specs.Choice.{pick};
 ghost use Rattle.text.specs.Class.{in_class, digit, word};

@@ -1,0 +1,8 @@
+use Rattle.expression.specs.Working.Operating.{oppose-test, oppose-none}
+use Rattle.expression.proofs.operator.oppose.Goals as goal
+
+pub returns-then-is_test : goal.returns-then-is_test
+returns-then-is_test c = search oppose-test
+
+pub returns : goal.returns
+returns c = search oppose-none

@@ -1,0 +1,23 @@
+use Rattle.machine.specs.Working.Running.{numbers-within, bytes-within, clause-begin, clause-plain, idle-two, clause-idle, clause-stuck, clause-raised}
+use Rattle.machine.proofs.clause_step.Goals as goal
+
+pub returns-then-op-eq-BEGIN : goal.returns-then-op-eq-BEGIN
+returns-then-op-eq-BEGIN c = search clause-begin
+
+pub returns-then-op-eq-PLAIN : goal.returns-then-op-eq-PLAIN
+returns-then-op-eq-PLAIN c = search clause-plain
+
+pub overflow_sub-result : goal.overflow_sub-result
+overflow_sub-result c = search idle-two
+
+pub returns-then-is_idle : goal.returns-then-is_idle
+returns-then-is_idle c = search clause-idle
+
+pub raise_step-requires : goal.raise_step-requires
+raise_step-requires c = (search numbers-within, search bytes-within)
+
+pub returns-in-Stuck : goal.returns-in-Stuck
+returns-in-Stuck c = search clause-stuck
+
+pub returns-in-At : goal.returns-in-At
+returns-in-At c = search clause-raised
