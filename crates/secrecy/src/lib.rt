@@ -1,5 +1,7 @@
 // Two queries asked one after the other. The contract is what each call gives and leaves, demand 3, and W-211: what is proved of the definition
 // of two queries holds of the code.
+#![tactic(auto)]
+
 ghost use Rattle.std.specs.Prelude.{◌≡◌, length};
 ghost use Rattle.keynote.specs.Outcome.{outcome, page_after};
 ghost use Rattle.secrecy.specs.Demand3.{Secret};
