@@ -1,4 +1,6 @@
 // What is printed for a record: the class, the rounds, the reach and what became of each assertion, or the refusal.
+#![tactic(auto)]
+
 ghost use Rattle.std.specs.Prelude.{◌≡◌, ◌++◌, ◌+◌, ◌*◌, ◌/◌, ◌%◌, get_or, take};
 ghost use Rattle.text.specs.Counted.{pair_at};
 ghost use Rattle.printed.specs.Numeral.{decimal};
