@@ -7,7 +7,8 @@ use Rattle.record.specs.Read.{accepted}
 use Rattle.record.specs.Record.{read_record}
 use Rattle.record.specs.Valid.{Each, each[], each∷, RequesterOk}
 use Rattle.record.specs.RoundTrip.{Bytes, read_back}
-use Rattle.principal.specs.Principal.{Principal, same, policy, policy-alone}
+use Rattle.principal.specs.Principal.{Principal, same, policy}
+use Rattle.principal.proofs.Laws.Principal.{policy-alone}
 use Rattle.principal.specs.Members.{member}
 use Rattle.compliance.specs.System.{direct}
 use Rattle.keynote.specs.Answer.{system}
