@@ -9,8 +9,8 @@ pub returns-in-Aside : goal.returns-in-Aside
 returns-in-Aside c = search fields-aside
 
 pub loop-free-smaller : goal.loop-free-smaller
-loop-free-smaller c = fields-less _ _ _ _ _ _ _ _ _ _ _ _ _ _ _ c.loop-free.invariant.6 _ c.is_last.ensures c.if-is_last.false _ c.next_field.ensures.1 _ _ c.next_field.ensures.0
+loop-free-smaller c = fields-less _ _ _ _ _ _ _ _ _ _ _ _ _ _ _ c.loop-free.invariant.6 _ c.is_last.ensures c.if-is_last.false _ c.next_field.ensures.free_after _ _ c.next_field.ensures.code_after
 
 pub loop-free-preserved : goal.loop-free-preserved
-loop-free-preserved c = let more = fields-more _ _ _ _ _ _ _ _ _ _ _ _ _ _ _ c.loop-free.invariant.6 _ c.is_last.ensures c.if-is_last.false _ c.next_field.ensures.1 _ _ c.next_field.ensures.0 in
-    (c.next_field.auto.0 ∙ c.loop-free.invariant.0, c.next_field.auto.1.1.1.1.1.1.0 ∙ c.loop-free.invariant.1, c.next_field.auto.1.1.1.1.1.1.1.1.0 ∙ c.loop-free.invariant.2, c.next_field.auto.1.1.1.1.1.1.1.1.1.0 ∙ c.loop-free.invariant.3, c.next_field.auto.1.1.1.1.1.1.1.1.1.1.0 ∙ c.loop-free.invariant.4, c.next_field.auto.1.1.1.1.1.1.1.1.1.1.1.0 ∙ c.loop-free.invariant.5, search more)
+loop-free-preserved c = let more = fields-more _ _ _ _ _ _ _ _ _ _ _ _ _ _ _ c.loop-free.invariant.6 _ c.is_last.ensures c.if-is_last.false _ c.next_field.ensures.free_after _ _ c.next_field.ensures.code_after in
+    (c.next_field.auto.free ∙ c.loop-free.invariant.0, c.next_field.auto.consts ∙ c.loop-free.invariant.1, c.next_field.auto.constants ∙ c.loop-free.invariant.2, c.next_field.auto.pool ∙ c.loop-free.invariant.3, c.next_field.auto.places ∙ c.loop-free.invariant.4, c.next_field.auto.code ∙ c.loop-free.invariant.5, search more)
