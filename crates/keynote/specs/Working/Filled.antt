@@ -18,11 +18,12 @@ use Rattle.record.specs.Query.{Query, Supplied}
 use Rattle.record.specs.Read.{accepted}
 use Rattle.record.specs.Record.{read_record}
 use Rattle.record.specs.Lies.{Lie, lie[], lie∷, StringAt, AttributeAt, AssertionAt, Lies}
-use Rattle.record.specs.Located.{read-lies}
+use Rattle.record.proofs.Laws.Located.{read-lies}
 use Rattle.record.specs.Places.{string_size, attribute_size, assertion_size, places_from, requesters_start, attributes_start, assertions_start}
 use Rattle.record.specs.Valid.{Valid, SuppliedOk}
 use Rattle.record.specs.Valid.{Each as All, each[], each∷}
-use Rattle.record.specs.RoundTrip.{Bytes, read_back}
+use Rattle.record.specs.RoundTrip.{Bytes}
+use Rattle.record.proofs.Laws.RoundTrip.{read_back}
 use Rattle.principal.specs.Principal.{policy}
 use Rattle.compliance.specs.System.{Assertion}
 use Rattle.compliance.specs.Rounds.{rank, rounds, reached}
