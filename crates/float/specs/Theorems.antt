@@ -1,6 +1,5 @@
 pub mod Only
 pub mod Rounded
-pub mod Converted
 pub mod Each
 pub mod Exponent
 pub mod Power

@@ -1,9 +1,9 @@
 -- Rulings J01 to J05 on the journal, computed from the definitions, and where the theorems' premises hold and where not. Assumes nothing.
-use Rattle.std.specs.Prelude.{◌≡◌, refl, List, [], ◌∷◌, ◌++◌, ℕ, length, take, replicate}
+use Rattle.std.specs.Prelude.{◌≡◌, refl, List, [], ◌∷◌, ◌++◌, ℕ, take, replicate}
 use Rattle.text.specs.All as TextAll
 use Rattle.text.specs.Counted as TextCounted
 use Rattle.journal.specs.Page.{zeros, entry, written, holding}
-use Rattle.journal.specs.Stores.{Store, stored, placed, cleared}
+use Rattle.journal.specs.Stores.{stored, placed, cleared}
 use Rattle.journal.specs.Journal.{Verdict, granted, refused, outcome, outcome_of, recover_verdict, append_verdict, allowed, entry_stores, appending, clearing, Appends, Recovers}
 use Rattle.journal.specs.Working.Walk.{behind, finished_at, entries_in, entries, end_in, end_at, rest_of}
 use Rattle.journal.specs.Working.Requests.{appends, recovers}

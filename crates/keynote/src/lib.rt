@@ -1,4 +1,6 @@
 // What the port asks: the class of a query, and what became of each assertion.
+#![tactic(auto)]
+
 ghost use Rattle.std.specs.Prelude.{◌≡◌, length, take, drop, ◌-◌};
 ghost use Rattle.keynote.specs.Outcome.{refused_with, outcome, page_after};
 ghost use Rattle.keynote.specs.Working.Answering.{given_by, answered_in};

@@ -1,5 +1,7 @@
 // Orders in which a name may be held against the record's names. Each has the contract of `find` in crate expression, which has the order that the answer uses;
 // the others stand here to be measured beside it and serve nothing else.
+#![tactic(auto)]
+
 ghost use Rattle.std.specs.Prelude.{◌≡◌, length, take};
 ghost use Rattle.text.specs.Equal.{equal};
 ghost use Rattle.expression.specs.Tables.{first_from};

@@ -1,8 +1,8 @@
 -- The calls that change a register, and the refusals in their order. Assumes nothing.
-use Rattle.std.specs.Prelude.{Bool, true, false, not, ◌&&◌, ◌||◌, List, [], ◌∷◌, ℕ, ◌+◌, ltb, leb}
+use Rattle.std.specs.Prelude.{Bool, false, not, ◌&&◌, ◌||◌, List, [], ◌∷◌, ℕ, ◌+◌, ltb, leb}
 use Rattle.text.specs.Choice.{pick}
 use Rattle.register.specs.Limits.{most_principals, most_moves}
-use Rattle.register.specs.Entries.{Entry, free, held, Contents, known, moves_of, total, principals, twice, added, replaced, gained, lost}
+use Rattle.register.specs.Entries.{Entry, free, Contents, known, moves_of, total, principals, twice, added, replaced, gained, lost}
 
 -- "issue, pass on, spend, remove": a payer or principal, passing's receiver, an amount
 pub data Call : Type 0 where

@@ -4,7 +4,7 @@ use Rattle.std.specs.Prelude.{◌≡◌, refl, true, false, List, [], ◌∷◌,
 use Rattle.register.specs.Entries.{Entry, free, held, Contents, empty, known, moves_of, total, principals, twice, added, replaced}
 use Rattle.register.specs.Calls.{Call, issues, passes, spends, removes, damaged, outside, bad_amount, unknown, exceeding, over_issue, crowded, holding, effect, Outcome, granted, refused, called, left, ran}
 use Rattle.register.specs.Find.{walk, find}
-use Rattle.register.specs.Layout.{four_at, eight_at, entry_at, entries_at, entries_bytes, encode, Decoded, register, unreadable, marked, decode}
+use Rattle.register.specs.Layout.{four_at, eight_at, entry_at, entries_at, entries_bytes, encode, register, unreadable, marked, decode}
 use Rattle.text.specs.Counted.{pair_at}
 use Rattle.register.specs.declared.Found.{Found}
 use Rattle.register.specs.declared.Found.TheVariants.{At, Missing}

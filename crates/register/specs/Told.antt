@@ -1,5 +1,5 @@
 -- What the structs of the code say. Assumes nothing.
-use Rattle.std.specs.Prelude.{◌≡◌, List, map, ℕ}
+use Rattle.std.specs.Prelude.{◌≡◌, map, ℕ}
 use Rattle.text.specs.Choice.{pick}
 use Rattle.register.specs.Entries.{Entry, free, held, Contents}
 use Rattle.register.specs.Calls.{Outcome, granted, refused}

@@ -1,4 +1,6 @@
 // A register of priority moves, held by at most 64 principals. It is a value that goes in and comes back.
+#![tactic(auto)]
+
 mod layout;
 mod places;
 

@@ -61,9 +61,12 @@ module _ {A : Type 0} (v : ℕ) (r r' : A → ℕ) where
       (λ e. omega (arith, leb-false 1 v e))
 
 -- it is no more than a bound of them all
-pub highest-le : {A : Type 0} (k t : ℕ) (r : A → ℕ) (ps : List A) → ((p : A) → r p ≤ t) → highest k (map r ps) ≤ t
+pub highest-le : (k t : ℕ) {A : Type 0} (r : A → ℕ) (ps : List A) → ((p : A) → r p ≤ t) → highest k (map r ps) ≤ t
 unfolding highest
-highest-le zero t r ps h = zero-le
-highest-le (suc k) t r [] h = zero-le
-highest-le (suc zero) t r (p ∷ ps) h = omega (arith, h p, highest-le 1 t r ps h)
-highest-le (suc (suc k)) t r (p ∷ ps) h = omega (arith, h p, highest-le (suc (suc k)) t r ps h)
+highest-le k t {A = A} r ps h = go k ps
+  where
+    go : (k : ℕ) (ps : List A) → highest k (map r ps) ≤ t
+    go zero ps = zero-le
+    go (suc k) [] = zero-le
+    go (suc zero) (p ∷ ps) = omega (arith, h p, go 1 ps)
+    go (suc (suc k)) (p ∷ ps) = omega (arith, h p, go (suc (suc k)) ps)

@@ -81,10 +81,13 @@ module _ (top : ℕ) (r : Rank) (p : Principal) where
       (λ t. ih (let i' : v ≤ max (asserted top r a) (delegated top l r p) = rw e at i in omega (arith, leb-false v (asserted top r a) t))))
       (λ e. ih (let i' : v ≤ max 0 (delegated top l r p) = rw e at i in omega arith))
 
-  pub delegated-by : (a : Assertion) {l : List Assertion} → Mem a l → same a.authorizer p ≡ true → asserted top r a ≤ delegated top l r p
+  pub delegated-by : {l : List Assertion} (a : Assertion) → Mem a l → same a.authorizer p ≡ true → asserted top r a ≤ delegated top l r p
   unfolding delegated
-  delegated-by a (here {x = b} {xs = l} e) i = rw (← e, i) (omega arith)
-  delegated-by a (there {x = b} {xs = l} m) i = omega (arith, delegated-by a m i)
+  delegated-by {l = l} a m i = go l m
+    where
+      go : (l : List Assertion) → Mem a l → asserted top r a ≤ delegated top l r p
+      go l (here {x = b} {xs = k} e) = rw (← e, i) (omega arith)
+      go l (there {x = b} {xs = k} m) = omega (arith, go k m)
 
 module _ (s : System) (R : Principal → Type 0) (closed : Closed s R) where
   pub equations-lift : (v : ℕ) (r r' : Rank) → Lift R v r r' → Lift R v (equations s r) (equations s r')

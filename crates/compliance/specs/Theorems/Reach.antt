@@ -62,12 +62,14 @@ reach-keeps : (s : System) (P : List Principal → List Principal → Type 0)
 unfolding reach
 reach-keeps s P skip add h = turns-keep s.assertions P skip add _ _ _ (omega (arith, ahead_none s.assertions)) h
 
-pub licensees-in : (p : Principal) (a : Assertion) {l : List Assertion} → Mem a l → same a.authorizer p ≡ true
+pub licensees-in : {l : List Assertion} (p : Principal) (a : Assertion) → Mem a l → same a.authorizer p ≡ true
     → (q : Principal) → member q (licensees a.field) ≡ true → member q (licensees_of l p) ≡ true
 unfolding licensees_of
-licensees-in p a (here {x = b} {xs = l} e) h q n = rw (← e, h) (member-left q (licensees a.field) (licensees_of l p) n)
-licensees-in p a (there {x = b} {xs = l} m) h q n =
-    member_right q (pick (same b.authorizer p) (licensees b.field) []) (licensees_of l p) (licensees-in p a m h q n)
+licensees-in {l = l} p a m h q n = go l m
+  where
+    go : (l : List Assertion) → Mem a l → member q (licensees_of l p) ≡ true
+    go l (here {x = b} {xs = k} e) = rw (← e, h) (member-left q (licensees a.field) (licensees_of k p) n)
+    go l (there {x = b} {xs = k} m) = member_right q (pick (same b.authorizer p) (licensees b.field) []) (licensees_of k p) (go k m)
 
 licensees-alike : (l : List Assertion) (p q : Principal) → same p q ≡ true → licensees_of l p ≡ licensees_of l q
 unfolding licensees_of

@@ -85,10 +85,13 @@ module _ (s : System) (ps : List Principal) (closed : Closed s (λ p. member p p
 
 -- ---- every principal
 
-mentioned-in : (a : Assertion) {l : List Assertion} → Mem a l → (q : Principal) → member q (a.authorizer ∷ licensees a.field) ≡ true → member q (mentioned l) ≡ true
+mentioned-in : {l : List Assertion} (a : Assertion) → Mem a l → (q : Principal) → member q (a.authorizer ∷ licensees a.field) ≡ true → member q (mentioned l) ≡ true
 unfolding mentioned
-mentioned-in a (here {x = b} {xs = l} e) q m = rw (← e) (member-left q (a.authorizer ∷ licensees a.field) (mentioned l) m)
-mentioned-in a (there {x = b} {xs = l} n) q m = member_right q (b.authorizer ∷ licensees b.field) (mentioned l) (mentioned-in a n q m)
+mentioned-in {l = l} a n q m = go l n
+  where
+    go : (l : List Assertion) → Mem a l → member q (mentioned l) ≡ true
+    go l (here {x = b} {xs = k} e) = rw (← e) (member-left q (a.authorizer ∷ licensees a.field) (mentioned k) m)
+    go l (there {x = b} {xs = k} n) = member_right q (b.authorizer ∷ licensees b.field) (mentioned k) (go k n)
 
 mentioned-closed : (s : System) → Closed s (λ p. member p (mentioned s.assertions) ≡ true)
 mentioned-closed s = record {

@@ -70,10 +70,13 @@ unfolding best_of
 best-start k all [] b = le_refl b
 best-start k all (x ∷ xs) b = omega (arith, best-start k all xs (max b (candidate_of k all x)))
 
-best-mem : (k : ℕ) (all : List ℕ) (x : ℕ) (xs : List ℕ) (b : ℕ) → Mem x xs → candidate_of k all x ≤ best_of k all xs b
+best-mem : (k : ℕ) (all xs : List ℕ) (b x : ℕ) → Mem x xs → candidate_of k all x ≤ best_of k all xs b
 unfolding best_of
-best-mem k all x xs b (here {x = y} {xs = ys} e) = rw (← e) (omega (arith, best-start k all ys (max b (candidate_of k all x))))
-best-mem k all x xs b (there {x = y} {xs = ys} m) = best-mem k all x ys (max b (candidate_of k all y)) m
+best-mem k all xs b x m = go xs b m
+  where
+    go : (xs : List ℕ) (b : ℕ) → Mem x xs → candidate_of k all x ≤ best_of k all xs b
+    go xs b (here {x = y} {xs = ys} e) = rw (← e) (omega (arith, best-start k all ys (max b (candidate_of k all x))))
+    go xs b (there {x = y} {xs = ys} m) = go ys (max b (candidate_of k all y)) m
 
 highest-mem : (k : ℕ) (xs : List ℕ) → (highest k xs ≡ 0) ⊎ Mem (highest k xs) xs
 unfolding highest
@@ -107,7 +110,7 @@ best-highest k all = le_antisymm
     (split (leb 1 (highest (suc k) all))
     (λ e. ⊎_elim
     (λ z. omega (arith, z))
-    (λ m. le_trans (omega (arith, highest-candidate k all (leb-true 1 _ e))) (best-mem (suc k) all (highest (suc k) all) all 0 m))
+    (λ m. le_trans (omega (arith, highest-candidate k all (leb-true 1 _ e))) (best-mem (suc k) all all 0 (highest (suc k) all) m))
     (highest-mem (suc k) all))
     (λ e. omega (arith, leb-false 1 (highest (suc k) all) e)))
 

@@ -1,17 +1,17 @@
 -- Ranks rise from round to round, so a round may go on from the one before. Assumes nothing.
 use Rattle.std.specs.Prelude.{◌≡◌, Bool, ltb, leb, length, get_or, set, take, drop, replicate}
 use Rattle.std.proofs.Math.Path.{refl, sym}
-use Rattle.std.proofs.Common.{ap, ◌∙◌, le_trans, le_refl, le_antisymm, length-set, get_or-set_same, ltb-true, ltb-false, leb-true, leb-false, le-leb, eq-eqb, ne_eqb}
+use Rattle.std.proofs.Common.{ap, ◌∙◌, le_trans, le_refl, le_antisymm, length-set, get_or-set_same, ltb-true, ltb-false, leb-true, leb-false, le-leb}
 use Rattle.std.proofs.Math.Bool.{true, false}
 use mathlib.Core.List.{List, [], ◌∷◌, ◌++◌}
-use Prim.Native.Nat.{ℕ, zero, suc, ◌+◌, ◌-◌, ◌/◌, ◌%◌, ◌≤◌, ◌<◌, min, max, zero-le}
+use Prim.Native.Nat.{ℕ, zero, suc, ◌+◌, ◌-◌, ◌/◌, ◌%◌, ◌≤◌, ◌<◌, max, zero-le}
 use Rattle.std.proofs.Math.Nat.{sub-zero}
 use native.Mathlib.Omega.{arith}
 use Rattle.std.proofs.Math.Numerals.{add-one}
 use Rattle.std.proofs.Math.Dec.{eqb}
 use Rattle.std.proofs.lemmas.List.{length-replicate, set-get_or}
 use Rattle.std.proofs.Math.Seq.{set_out}
-use Rattle.text.specs.Choice.{pick, split}
+use Rattle.text.specs.Choice.{split}
 use Rattle.compliance.specs.Highest.{highest, at_least}
 use Rattle.compliance.specs.Codes.{top_code, k_of_base, span}
 use Rattle.compliance.specs.Tables.{program_of}

@@ -1,7 +1,7 @@
 -- The examples that OPEN-POINTS-02 rules, F01 to F03 and F06 to F08, by computation; and where the theorems' premises hold and where they don't.
 -- Assumes nothing.
 use Rattle.std.specs.Prelude.{◌≡◌, refl, true, false, List, [], ◌∷◌, ℕ, ◌^◌, ◌*◌, ◌≤◌, pos, negsuc, Float}
-use Rattle.std.proofs.Common.{sym, ap, ◌∙◌, inl, arith, le_of_eq, mul-zero, lit<, lit≤}
+use Rattle.std.proofs.Common.{sym, ap, ◌∙◌, inl, arith, le_of_eq, mul-zero, lit≤}
 use Prim.Native.Char.{code}
 use Prim.Native.String.{String, [] as nothing, ◌∷◌ as ◌then◌}
 use Rattle.std.specs.Float.{fin, binary32}
@@ -13,7 +13,6 @@ use Rattle.float.specs.Bits.{float_at}
 use Rattle.float.specs.Decimal.{decimal}
 use Rattle.float.specs.Written.{amount_of, with_fraction, unsigned, float_of}
 use Rattle.float.specs.Operations.{is_finite, checked, times, over, one, raised_from, raised, power_from, power}
-use Rattle.float.specs.Theorems.Converted.{decimal-nearest}
 use Rattle.float.specs.Theorems.Exponent.{IsWhole}
 use Rattle.float.specs.Theorems.Power.{power-whole, power-other}
 use Rattle.float.specs.Theorems.Held.{float_back}
@@ -64,11 +63,6 @@ f03 =
 pub nearest-ruled : Ruled f03
 unfolding f03 Ruled bits bytes float_of unsigned with_fraction amount_of in_class is_digit value value_from decimal round to_bits of_bits
 nearest-ruled = (refl, (refl, (refl, (refl, (refl, (refl, (refl, (refl, (refl, (refl, tt))))))))))
-
--- digits below 10 ^ 18: 0.1; and as many as no finite float is near: 2 ^ 129 becomes the infinity, whose pattern is not the nearest
-pub tenth : Nearest (1 * 2 ^ 149) (10 ^ 1) 0x3dcc_cccd
-unfolding decimal round to_bits
-tenth = decimal-nearest 1 1 (lit< tt)
 
 pub beyond : to_bits binary32 (decimal false (2 ^ 129) 0) ≡ 0x7f80_0000
 unfolding decimal round to_bits

@@ -1,5 +1,5 @@
 -- What a text converts to, in the words of `Form`. Assumes nothing.
-use Rattle.std.specs.Prelude.{◌≡◌, refl, Bool, true, false, ℕ, suc, ◌+◌, ◌-◌, ◌≤◌, ◌<◌, eqb, ltb, leb, get_or, take, drop}
+use Rattle.std.specs.Prelude.{◌≡◌, refl, Bool, true, false, ℕ, suc, ◌+◌, ◌≤◌, ◌<◌, eqb, ltb, leb, get_or, take, drop}
 use Rattle.std.proofs.Common.{sym, ◌∙◌, add-zero, not-suc-le-zero, add-one, arith, length-append, take-append-drop, take_at, drop_at, drop-cons, get_or-append-add, length-take-le}
 use Rattle.std.proofs.Math.Path.{ap, subst}
 use mathlib.Core.List.{List, [], ◌∷◌, ◌++◌}

@@ -1,5 +1,5 @@
 -- One pattern at most is nearest. Assumes nothing.
-use Rattle.std.specs.Prelude.{◌≡◌, ℕ, ◌+◌, ◌-◌, ◌*◌, ◌≤◌, ◌<◌}
+use Rattle.std.specs.Prelude.{◌≡◌, ℕ, ◌+◌, ◌*◌, ◌≤◌, ◌<◌}
 use Rattle.std.proofs.Common.{sym, inl, inr, mul-lt-mul_of_pos_right, le_antisymm, arith}
 use Rattle.float.specs.Working.Patterns.{val-lt, val-up, split}
 use Rattle.float.specs.Nearest.{val, apart, Nearest}

@@ -1,5 +1,5 @@
 -- Working laws: the ways out of the functions between floats and bits. Assumes nothing.
-use Rattle.std.specs.Prelude.{◌≡◌, refl, Bool, true, false, not, ℕ, ◌-◌, ◌%◌, ◌≤◌, ◌<◌, T, ltb, Float}
+use Rattle.std.specs.Prelude.{◌≡◌, refl, Bool, true, false, not, ℕ, ◌%◌, ◌≤◌, ◌<◌, T, ltb, Float}
 use Rattle.std.proofs.Common.{sym, ap, ◌∙◌, subst, true≢false, arith, Fits, lt-ltb, le-ltb, ltb-true}
 use Rattle.std.specs.Float.{nan, inf, fin, binary32}
 use Rattle.std.specs.Float.Ieee.{div, eq, ne, fits, of_bits, to_bits, nan_bits, is_nan}

@@ -1,4 +1,5 @@
-use Rattle.journal.specs.Working.Ways.{store-start, clear-more, store-end}
+use Rattle.journal.specs.Working.Ways.{store-start, store-end}
+use Rattle.journal.proofs.Working.Ways.{clear-more}
 use borrow.Author.Rules.{rules}
 use Rattle.journal.proofs.clear_back.Goals as goal
 

@@ -1,4 +1,4 @@
-use Rattle.journal.specs.Working.Requests.{append-whole}
+use Rattle.journal.proofs.Working.Requests.{append-whole}
 use Rattle.journal.proofs.lampsickle_journal_append.Goals as goal
 
 pub returns : goal.returns

@@ -1,4 +1,4 @@
-use Rattle.journal.specs.Working.Requests.{append-within, append-few, append-short, append-not, append-done}
+use Rattle.journal.proofs.Working.Requests.{append-within, append-few, append-short, append-not, append-done}
 use Rattle.journal.proofs.lampsickle_journal_append_cut.Goals as goal
 
 pub write_entry-requires : goal.write_entry-requires

@@ -20,8 +20,7 @@ pub returns-then-count-n : goal.returns-then-count-n
 returns-then-count-n c = search write-part
 
 pub bounds-page-at-3 : goal.bounds-page-at-3
-bounds-page-at-3 c = let a = c.before.before.before.before.before.before.before.before.before.before.args in
-    search (closing-within a.page-1.now a.at a.count)
+bounds-page-at-3 c = search (closing-within c.args.page.now c.args.at c.args.count)
 
 pub shape_of-page : goal.shape_of-page
 shape_of-page c = search closing-long

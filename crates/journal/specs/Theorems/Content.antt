@@ -1,12 +1,11 @@
 -- Every page holds finished entries and a rest in one way, which the walk finds. Assumes nothing.
-use Rattle.std.specs.Prelude.{◌≡◌, refl, Bool, true, false, List, [], ◌∷◌, ◌++◌, ℕ, zero, suc, ◌+◌, ◌-◌, ◌*◌, ◌<◌, ◌≤◌, length, get_or, take, drop}
-use Rattle.std.proofs.Common.{sym, ap, ◌∙◌, append_assoc, arith, add-one, length-take, length-drop, length-append, take-append-drop, drop-cons, drop-drop, get_or-drop}
-use Rattle.std.proofs.Math.ListN.{get_or-append}
+use Rattle.std.specs.Prelude.{◌≡◌, refl, List, [], ◌∷◌, ◌++◌, ℕ, suc, ◌+◌, ◌-◌, ◌*◌, ◌<◌, ◌≤◌, length, get_or, take, drop}
+use Rattle.std.proofs.Common.{sym, ap, ◌∙◌, append_assoc, arith, length-take, length-drop, length-append, take-append-drop, drop-cons, drop-drop, get_or-drop}
 use Rattle.std.proofs.Math.Seq.{get_or-append_seam}
 use Rattle.text.specs.Choice.{clash}
 use Rattle.text.specs.Counted.{part, pair_at}
 use Rattle.journal.specs.Page.{closing, Entry, Entries, e[], e∷, Unfinished, Content}
-use Rattle.journal.specs.Working.Walk.{finished_at, entries, end_at, rest_of}
+use Rattle.journal.specs.Working.Walk.{entries, end_at, rest_of}
 use Rattle.journal.specs.Working.Walks.{Finished, facts-finished, Walk, w[], w∷, walk-in, stops-in}
 
 -- ---- a page holds what the walk finds

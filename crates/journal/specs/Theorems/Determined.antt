@@ -2,12 +2,11 @@
 use Rattle.std.specs.Prelude.{◌≡◌, refl, List, ℕ, ◌-◌, length}
 use Rattle.std.proofs.Common.{sym, ◌∙◌}
 use Rattle.std.proofs.Math.Path.{ap}
-use Rattle.journal.specs.Page.{Content, entry}
-use Rattle.journal.specs.Stores.{Store, stored, placed, cleared}
-use Rattle.journal.specs.Journal.{Refusal, Verdict, granted, refused, number, recover_verdict, append_verdict, outcome, outcome_of, allowed, appending, clearing, Appends, Recovers}
+use Rattle.journal.specs.Stores.{Store, stored, cleared}
+use Rattle.journal.specs.Journal.{Refusal, granted, refused, number, recover_verdict, append_verdict, outcome, outcome_of, allowed, appending, clearing, Appends, Recovers}
 use Rattle.journal.specs.Working.Walk.{end_at, rest_of}
-use Rattle.journal.specs.Working.Rooms.{Fine, Judged, is-fine, is-not, judged, Roomy, roomy-facts, done-granted}
-use Rattle.journal.specs.Working.Requests.{appends, recovers, appending-is, clearing-is}
+use Rattle.journal.specs.Working.Rooms.{Fine, Judged, is-fine, is-not, judged}
+use Rattle.journal.specs.Working.Requests.{appends, recovers, clearing-is}
 use Rattle.journal.specs.Theorems.Content.{content-only, content-is}
 use Rattle.journal.specs.declared.Outcome.{Outcome}
 
@@ -51,22 +50,6 @@ module _ (made : List Store → List Store) {p q x : List ℕ} {o r : Outcome} w
         c.result ∙ sym d.result,
         c.page ∙ ap (λ (s : List ℕ). allowed (recover_verdict p) (made (clearing p s)) p) e ∙ sym d.page,
       )
-
--- ---- which is, in places
-
-module _ (made : List Store → List Store) (p a q : List ℕ) where
-  appended-in : (rest : List ℕ) → rest ≡ rest_of p → outcome 0 ≡ outcome_of (append_verdict p rest a)
-      → q ≡ allowed (append_verdict p rest a) (made (appending p rest a)) p → Roomy p a × (q ≡ stored p (made (placed (end_at p 1) (entry a))))
-  appended-in rest e r s =
-      let t : outcome 0 ≡ outcome_of (append_verdict p (rest_of p) a) = rw e at r in
-      let v : append_verdict p (rest_of p) a ≡ granted = done-granted (append_verdict p (rest_of p) a) t in
-      let u : q ≡ allowed (append_verdict p (rest_of p) a) (made (appending p (rest_of p) a)) p = rw e at s in
-      let g : Roomy p a = roomy-facts p a v in
-      let w : q ≡ stored p (made (appending p (rest_of p) a)) = rw v at u in
-      (g, rw (appending-is p a g.fine.least) at w)
-
-  pub appended-page : Appends made p a (outcome 0) q → Roomy p a × (q ≡ stored p (made (placed (end_at p 1) (entry a))))
-  appended-page c = appended-in c.rest (content-is p c.content).1 c.result c.page
 
 -- recovery is granted, or it is refused and leaves the page
 pub data Went (made : List Store → List Store) (p : List ℕ) (o : Outcome) (q : List ℕ) : Type 0 where

@@ -1,12 +1,12 @@
 -- Pages that agree before a place have the same entries there. Assumes nothing.
-use Rattle.std.specs.Prelude.{◌≡◌, refl, Bool, true, false, List, [], ◌∷◌, ℕ, zero, suc, ◌+◌, ◌-◌, ◌*◌, ◌<◌, ◌≤◌, eqb, length, get_or, take, drop}
+use Rattle.std.specs.Prelude.{◌≡◌, refl, true, false, List, [], ◌∷◌, ℕ, zero, suc, ◌+◌, ◌-◌, ◌*◌, ◌<◌, ◌≤◌, eqb, length, get_or, take, drop}
 use Rattle.std.proofs.Common.{sym, ap, ◌∙◌, arith, length-take, length-drop, ext_get_or, get_or-take, get_or-drop, eqb-true}
 use Rattle.text.specs.Choice.{split, clash}
 use Rattle.text.specs.All.{all}
 use Rattle.text.specs.Counted.{part, pair_at}
-use Rattle.journal.specs.Page.{is_zero, zeros}
+use Rattle.journal.specs.Page.{zeros}
 use Rattle.journal.specs.Working.Walk.{finished_at, entries, end_at}
-use Rattle.journal.specs.Working.Walks.{Finished, unfinished, Walk, w[], w∷, walk-le, walk-in, stops-in, walk_is}
+use Rattle.journal.specs.Working.Walks.{unfinished, Walk, w[], w∷, walk-le, walk-in, stops-in, walk_is}
 
 -- two pages of one length that agree before a place
 pub record Agree (p q : List ℕ) (e : ℕ) : Type 0 where

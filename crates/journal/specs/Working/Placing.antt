@@ -1,7 +1,6 @@
 -- What stores do to a page, place by place. Assumes nothing.
-use Rattle.std.specs.Prelude.{◌≡◌, refl, List, [], ◌∷◌, ◌++◌, ℕ, zero, suc, ◌+◌, ◌-◌, ◌<◌, ◌≤◌, length, get_or, set, take, ltb}
-use Rattle.std.proofs.Common.{sym, ap, ◌∙◌, arith, not-suc-le-zero, le_of_suc-le-suc, add-one, length-set, take-suc, get_or-set_same, get_or-set_other, ltb-true, ltb-false}
-use Rattle.text.specs.Choice.{split}
+use Rattle.std.specs.Prelude.{◌≡◌, refl, List, [], ◌∷◌, ◌++◌, ℕ, zero, suc, ◌+◌, ◌-◌, ◌<◌, ◌≤◌, length, get_or, set, take}
+use Rattle.std.proofs.Common.{sym, ap, ◌∙◌, arith, not-suc-le-zero, le_of_suc-le-suc, add-one, length-set, take-suc, get_or-set_same, get_or-set_other}
 use Rattle.journal.specs.Stores.{Store, stored, placed, cleared}
 
 pub stored-append : (p : List ℕ) (ss ts : List Store) → stored p (ss ++ ts) ≡ stored (stored p ss) ts
@@ -106,15 +105,3 @@ cleared-low p zero n at i h = refl
 cleared-low p (suc k) zero at i h = refl
 cleared-low p (suc k) (suc n) at i h =
     cleared-low (set p (at + n) 0) k n at i (omega arith) ∙ get_or-set_other p (at + n) i 0 0 (apart i (at + n) (omega arith))
-
-pub cleared-in : (p : List ℕ) (k n at i : ℕ) → k ≤ n → at + n ≤ length p → at + n - k ≤ i → i < at + n
-    → get_or (stored p (take k (cleared n at))) i 0 ≡ 0
-unfolding stored cleared
-cleared-in p zero n at i h l a b = let no : ⊥ = omega arith in absurd no
-cleared-in p (suc k) zero at i h l a b = let no : ⊥ = omega arith in absurd no
-cleared-in p (suc k) (suc n) at i h l a b =
-    let m : at + n ≤ length (set p (at + n) 0) = rw (length-set p (at + n) 0) (omega arith) in
-    split (ltb i (at + n))
-    (λ e. cleared-in (set p (at + n) 0) k n at i (omega arith) m (omega arith) (ltb-true i (at + n) e))
-    (λ e. let g : i ≡ at + n = omega (arith, ltb-false i (at + n) e) in
-    cleared-high (set p (at + n) 0) k n at i (omega arith) ∙ (rw g (get_or-set_same p (at + n) 0 0 (omega arith))))

@@ -1,15 +1,15 @@
 -- The ways out of the functions that are called from outside. Assumes nothing.
-use Rattle.std.specs.Prelude.{◌≡◌, refl, List, [], ◌∷◌, ◌++◌, ℕ, ◌+◌, ◌-◌, ◌<◌, ◌≤◌, min, ltb, take}
+use Rattle.std.specs.Prelude.{◌≡◌, refl, List, ℕ, ◌-◌, ◌<◌, ◌≤◌, min, ltb, take}
 use Rattle.std.proofs.Math.Path.{sym}
 use Rattle.std.proofs.Common.{ap, ◌∙◌, arith, length-drop, take_all, ltb-true, ltb-false}
 use Rattle.std.proofs.Math.ListN.{length}
 use Rattle.text.specs.Choice.{split}
-use Rattle.journal.specs.Page.{least_page, closing, size_bytes, entry}
-use Rattle.journal.specs.Stores.{Store, stored, placed, cleared}
-use Rattle.journal.specs.Journal.{Verdict, granted, refused, number, recover_verdict, append_verdict, outcome, outcome_of, allowed, entry_stores, appending, clearing, Appends, Recovers, AppendCut, Appended, RecoverCut, Recovered}
+use Rattle.journal.specs.Page.{least_page}
+use Rattle.journal.specs.Stores.{Store, stored, cleared}
+use Rattle.journal.specs.Journal.{Verdict, granted, refused, recover_verdict, append_verdict, outcome, outcome_of, allowed, appending, clearing, Appends, Recovers, RecoverCut, Recovered}
 use Rattle.journal.specs.Working.Walk.{entries, end_at, rest_of}
-use Rattle.journal.specs.Working.Placing.{placed-length, placed-append, cleared-length}
-use Rattle.journal.specs.Working.Rooms.{room_of, opened, room, entry_length, Fine, fine-facts, Roomy, roomy-facts}
+use Rattle.journal.specs.Working.Placing.{cleared-length}
+use Rattle.journal.specs.Working.Rooms.{room_of, opened, fine-facts}
 use Rattle.journal.specs.Working.Ways.{at-not, at_same, end-within}
 use Rattle.journal.specs.Theorems.Content.{content-walk, content-is}
 use Rattle.journal.specs.declared.Outcome.{Outcome}
@@ -25,7 +25,7 @@ pub rest_at : (p : List ℕ) → least_page ≤ length p → length p - length (
 rest_at p h = omega (arith, rest-long p, end-within p 1 (omega arith))
 
 -- the first k of a list, k held at its length
-take_min : (k n : ℕ) (l : List Store) → length l ≡ n → take (min k n) l ≡ take k l
+pub take_min : (k n : ℕ) (l : List Store) → length l ≡ n → take (min k n) l ≡ take k l
 take_min k n l e =
     split (ltb n k)
     (λ t. let h : n < k = ltb-true _ _ t in
@@ -34,7 +34,7 @@ take_min k n l e =
     (λ t. let h : k ≤ n = ltb-false _ _ t in let m : min k n ≡ k = omega arith in rw m refl)
 
 -- a room that is found, and one that isn't, as verdicts
-verdict-at : (v : Verdict) (e d : ℕ) → room_of v d ≡ At e → (v ≡ granted) × (e ≡ d)
+pub verdict-at : (v : Verdict) (e d : ℕ) → room_of v d ≡ At e → (v ≡ granted) × (e ≡ d)
 verdict-at granted e d h = (refl, at_same h)
 verdict-at (refused r) e d h = at-not h
 
@@ -44,20 +44,9 @@ not_at h = at-not (sym h)
 not_same : {m n : ℕ} → Not m ≡ Not n → n ≡ m
 not_same h = cc
 
-verdict-not : (v : Verdict) (n d : ℕ) → room_of v d ≡ Not n → (outcome n ≡ outcome_of v) × ((ss : List Store) (p : List ℕ) → p ≡ allowed v ss p)
+pub verdict-not : (v : Verdict) (n d : ℕ) → room_of v d ≡ Not n → (outcome n ≡ outcome_of v) × ((ss : List Store) (p : List ℕ) → p ≡ allowed v ss p)
 verdict-not granted n d h = not_at h
 verdict-not (refused r) n d h = (ap outcome (not_same h), λ ss p. refl)
-
--- the stores of an entry are its bytes from the first to the last
-stores-are : (at : ℕ) (a : List ℕ) → entry_stores at a ≡ placed at (entry a)
-unfolding entry_stores entry
-stores-are at a =
-    sym (placed-append at (size_bytes a) (a ++ (closing ∷ []))
-    ∙ ap (λ (ss : List Store). placed at (size_bytes a) ++ ss) (placed-append (at + 2) a (closing ∷ [])))
-
-pub appending-is : (p a : List ℕ) → least_page ≤ length p → appending p (rest_of p) a ≡ placed (end_at p 1) (entry a)
-unfolding appending
-appending-is p a h = rw (rest_at p h) (stores-are (end_at p 1) a)
 
 pub clearing-is : (p : List ℕ) → least_page ≤ length p → clearing p (rest_of p) ≡ cleared (length p - end_at p 1) (end_at p 1)
 unfolding clearing
@@ -73,66 +62,10 @@ module _ (made : List Store → List Store) (p : List ℕ) (o : Outcome) (q : Li
   pub recovers : o ≡ outcome_of (recover_verdict p) → q ≡ allowed (recover_verdict p) (made (clearing p (rest_of p))) p → Recovers made p o q
   recovers r s = record { answers = entries p; rest = rest_of p; content = content-walk p; result = r; page = s }
 
--- ---- appending
-module _ (budget : ℕ) (p a : List ℕ) (r : Room) (re : r ≡ room p a) where
-  pub append-not : (n : ℕ) → r ≡ Not n → (o : Outcome) → o ≡ outcome n → AppendCut budget p a o p
-  unfolding room
-  append-not n rv o oe =
-      let v = verdict-not (append_verdict p (rest_of p) a) n (end_at p 1) (sym re ∙ rv) in
-      appends (take budget) p a o p (oe ∙ v.0) (v.1 _ p)
-
-  module _ (e : ℕ) (rv : r ≡ At e) where
-    found : (append_verdict p (rest_of p) a ≡ granted) × (e ≡ end_at p 1)
-    unfolding room
-    found = verdict-at (append_verdict p (rest_of p) a) e (end_at p 1) (sym re ∙ rv)
-
-    spacious : Roomy p a
-    spacious = roomy-facts p a found.0
-
-    room_fits : e + (length a + 3) ≤ length p
-    room_fits = omega (arith, found.1, spacious.fits, rest-long p)
-
-    pub append-short : length a < 65536
-    append-short = omega (arith, room_fits, spacious.fine.most)
-
-    module _ (count : ℕ) (ce : count ≡ min budget (length a + 3)) where
-      pub append-within : e + count ≤ length p
-      append-within = omega (arith, room_fits)
-
-      pub append-few : count ≤ length a + 3
-      append-few = omega arith
-
-      pub append-done : (m : List ℕ) → m ≡ stored p (take count (placed e (entry a))) → (o : Outcome) → o ≡ outcome 0 → AppendCut budget p a o m
-      append-done m me o oe =
-          let n : length (placed e (entry a)) ≡ length a + 3 = placed-length e (entry a) ∙ entry_length a in
-          let s : m ≡ stored p (take budget (appending p (rest_of p) a))
-          = me ∙ (rw (ce, take_min budget (length a + 3) (placed e (entry a)) n, found.1, sym (appending-is p a spacious.fine.least)) refl) in
-          appends (take budget) p a o m (rw found.0 oe) (rw found.0 s)
-
 -- the whole budget makes every store
-allowed_all : (v : Verdict) (n : ℕ) (ss : List Store) (p : List ℕ) → (v ≡ granted → length ss ≤ n) → allowed v (take n ss) p ≡ allowed v ss p
+pub allowed_all : (v : Verdict) (n : ℕ) (ss : List Store) (p : List ℕ) → (v ≡ granted → length ss ≤ n) → allowed v (take n ss) p ≡ allowed v ss p
 allowed_all granted n ss p h = ap (λ (l : List Store). stored p l) (take_all n ss (h refl))
 allowed_all (refused r) n ss p h = refl
-
-appending-few : (p a rest : List ℕ) → rest ≡ rest_of p → append_verdict p rest a ≡ granted → length (appending p rest a) ≤ length p
-unfolding appending
-appending-few p a rest e h =
-    let g : Roomy p a = roomy-facts p a (rw e at h) in
-    let n : length rest ≡ length (rest_of p) = ap length e in
-    let m : length (entry_stores (length p - length rest) a) ≡ length (entry a)
-    = ap length (stores-are (length p - length rest) a) ∙ placed-length (length p - length rest) (entry a) in
-    omega (arith, m, entry_length a, g.fits, n, rest-long p)
-
-pub append-whole : (p a : List ℕ) (o : Outcome) (q : List ℕ) → AppendCut (length p) p a o q → Appended p a o q
-append-whole p a o q c =
-    let e : c.rest ≡ rest_of p = (content-is p c.content).1 in
-    record {
-      answers = c.answers;
-      rest = c.rest;
-      content = c.content;
-      result = c.result;
-      page = c.page ∙ allowed_all (append_verdict p c.rest a) (length p) (appending p c.rest a) p (appending-few p a c.rest e);
-    }
 
 -- ---- recovery
 module _ (budget : ℕ) (p : List ℕ) (r : Room) (re : r ≡ opened p) where

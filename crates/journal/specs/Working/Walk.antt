@@ -1,5 +1,5 @@
 -- The walk over a page's entries, as the code makes it. Theorems/Content has that it finds what the page holds. Assumes nothing.
-use Rattle.std.specs.Prelude.{Bool, true, false, List, [], ◌∷◌, ℕ, zero, suc, ◌+◌, ◌-◌, eqb, ltb, leb, length, get_or, drop}
+use Rattle.std.specs.Prelude.{Bool, false, List, [], ◌∷◌, ℕ, zero, suc, ◌+◌, ◌-◌, eqb, ltb, leb, length, get_or, drop}
 use Rattle.text.specs.Choice.{pick}
 use Rattle.text.specs.Counted.{part, pair_at}
 use Rattle.journal.specs.Page.{closing}

@@ -1,10 +1,9 @@
 -- The walk over a page's entries as a relation, and that there is one only. Assumes nothing.
-use Rattle.std.specs.Prelude.{◌≡◌, refl, Bool, true, false, List, [], ◌∷◌, ◌++◌, ℕ, zero, suc, ◌+◌, ◌-◌, ◌*◌, ◌<◌, ◌≤◌, eqb, ltb, leb, length, get_or, take, drop}
-use Rattle.std.proofs.Common.{sym, ap, ◌∙◌, arith, length-take, length-drop, ext_get_or, get_or-take, get_or-drop, ltb-true, ltb-false, leb-true, leb-false, eqb-true, lt-ltb, le-ltb, le-leb, eq-eqb, ne_eqb}
-use Rattle.std.proofs.lemmas.Bool.{eqb-false, lt-leb}
-use Rattle.text.specs.Choice.{pick, split, clash}
+use Rattle.std.specs.Prelude.{◌≡◌, refl, true, false, List, [], ◌∷◌, ◌++◌, ℕ, zero, suc, ◌+◌, ◌-◌, ◌<◌, ◌≤◌, eqb, ltb, leb, length, get_or}
+use Rattle.std.proofs.Common.{arith, ltb-true, leb-true, eqb-true, lt-ltb, le-leb, eq-eqb}
+use Rattle.text.specs.Choice.{split, clash}
 use Rattle.text.specs.Counted.{part, pair_at}
-use Rattle.journal.specs.Working.Walk.{behind, finished_at, entries_in, entries, end_in, end_at}
+use Rattle.journal.specs.Working.Walk.{behind, finished_at, entries_in, end_in}
 
 -- what a finished entry is, in three facts
 pub record Finished (p : List ℕ) (at : ℕ) : Type 0 where

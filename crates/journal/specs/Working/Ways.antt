@@ -1,5 +1,5 @@
 -- The ways out of the journal's functions, and the turns of their loops. Assumes nothing.
-use Rattle.std.specs.Prelude.{◌≡◌, Bool, true, false, ◌&&◌, ℕ, zero, suc, ◌+◌, ◌-◌, ◌*◌, ◌/◌, ◌%◌, ◌<◌, ◌≤◌, min, eqb, ltb, leb, set, take}
+use Rattle.std.specs.Prelude.{◌≡◌, Bool, true, false, ◌&&◌, ℕ, suc, ◌+◌, ◌-◌, ◌/◌, ◌%◌, ◌<◌, ◌≤◌, min, eqb, set, take}
 use Rattle.std.proofs.Math.Path.{refl, sym, ap}
 use Rattle.std.proofs.Common.{◌∙◌, le_refl, add-one, length-append, length-set, drop_of_length-le}
 use mathlib.Core.List.{List, [], ◌∷◌, ◌++◌}
@@ -7,16 +7,16 @@ use native.Mathlib.Omega.{arith}
 use Rattle.std.proofs.Math.ListN.{length, get_or, drop, length-drop}
 use Rattle.std.proofs.lemmas.List.{take-append-le}
 use Rattle.std.proofs.Math.Seq.{get_or-append_seam, drop-cons}
-use borrow.Author.Tests.{ltb-true, ltb-false, eqb-true, eqb-false, lt-ltb, le-ltb, le-leb, lt-leb, eq-eqb, ne_eqb}
-use Rattle.text.specs.Choice.{pick, split, clash}
+use borrow.Author.Tests.{lt-ltb, le-ltb, eq-eqb, ne_eqb}
+use Rattle.text.specs.Choice.{pick, split}
 use Rattle.text.specs.All.{all}
-use Rattle.text.specs.Counted.{part, pair_at}
+use Rattle.text.specs.Counted.{pair_at}
 use Rattle.journal.specs.Page.{least_page, most_page, version, closing, is_zero, zeros, entry}
-use Rattle.journal.specs.Stores.{Store, stored, placed, cleared}
-use Rattle.journal.specs.Journal.{wrong_size, wrong_version, unclean, no_room, granted, refused, page_verdict, recover_verdict, append_verdict}
-use Rattle.journal.specs.Working.Walk.{behind, finished_at, next_at, entries_in, end_in, end_at, rest_of}
+use Rattle.journal.specs.Stores.{Store, stored, placed}
+use Rattle.journal.specs.Journal.{granted, page_verdict, recover_verdict, append_verdict}
+use Rattle.journal.specs.Working.Walk.{behind, finished_at, next_at, end_at, rest_of}
 use Rattle.journal.specs.Working.Walks.{Finished, finished-facts, facts-finished, unfinished, Walk, w[], w∷, walk-within, walk-in, stops-in, walk_is}
-use Rattle.journal.specs.Working.Placing.{stored-none, stored_next, placed-length, placed-take, placed_at, cleared-length, cleared_at}
+use Rattle.journal.specs.Working.Placing.{stored-none, stored_next, placed-length, placed-take, placed_at}
 use Rattle.journal.specs.Working.Rooms.{room_of, opened, room, further, room_at, entry_length, Fine, Judged, is-fine, is-not, judged, fine-further}
 use Rattle.journal.specs.declared.Room.{Room}
 use Rattle.journal.specs.declared.Room.TheVariants.{At, Not}
@@ -218,16 +218,6 @@ module _ (m₀ : List ℕ) (at : ℕ) (a : List ℕ) (count j : ℕ) (m : List �
       let l : j < length a = omega arith in
       let k : j < length (placed at a) = rw (placed-length at a) l in
       rw inv (stored_next m₀ (placed at a) j (at + j) (get_or a j 0) k (placed_at at a j l))
-
-module _ (m₀ : List ℕ) (at : ℕ) (count j : ℕ) (m : List ℕ) (inv : m ≡ stored m₀ (take j (cleared (length m₀ - at) at))) where
-  pub clear-more : at ≤ length m₀ → count ≤ length m₀ - at → length m ≡ length m₀ → j < count
-      → set m (length m - 1 - j) 0 ≡ stored m₀ (take (j + 1) (cleared (length m₀ - at) at))
-  clear-more w c l h =
-      let q : j < length m₀ - at = omega arith in
-      let k : j < length (cleared (length m₀ - at) at) = rw (cleared-length (length m₀ - at) at) q in
-      let i : at + (length m₀ - at) - 1 - j ≡ length m₀ - 1 - j = omega arith in
-      rw (l, inv) (stored_next m₀ (cleared (length m₀ - at) at) j (length m₀ - 1 - j) 0 k
-      (cleared_at (length m₀ - at) at j q ∙ ap (λ (x : ℕ). (x, 0)) i))
 
 -- the stores of an entry
 closing-next : (q : List ℕ) (at : ℕ) (a : List ℕ) → set (stored q (take (length a) (placed at a))) (at + length a) closing

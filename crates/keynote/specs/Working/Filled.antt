@@ -29,7 +29,7 @@ use Rattle.compliance.specs.System.{Assertion}
 use Rattle.compliance.specs.Rounds.{rank, rounds, reached}
 use Rattle.compliance.specs.Theorems.Filling.{asking}
 use Rattle.compliance.specs.Theorems.Filling.{reading as system_of}
-use Rattle.compliance.specs.Theorems.Represent.{represented}
+use Rattle.compliance.proofs.Theorems.Represent.{represented}
 use Rattle.compliance.specs.declared.Solution.{Solution}
 use Rattle.expression.specs.Conditions.{top}
 use Rattle.assertion.specs.Read.{Read}

@@ -1,6 +1,6 @@
 -- The ways out of the functions that compare two names in other orders. Assumes nothing.
-use Rattle.std.specs.Prelude.{◌≡◌, refl, Bool, true, false, List, [], ◌∷◌, ℕ, zero, suc, ◌-◌, ◌*◌, ◌/◌, ◌<◌, ◌≤◌, eqb, length, get_or, take}
-use Rattle.std.proofs.Common.{sym, ap, ◌∙◌, arith, length-take-le, eq-eqb, ne_eqb}
+use Rattle.std.specs.Prelude.{◌≡◌, refl, Bool, true, false, List, [], ◌∷◌, ℕ, suc, ◌-◌, ◌<◌, ◌≤◌, eqb, length, get_or, take}
+use Rattle.std.proofs.Common.{sym, ap, ◌∙◌, arith, length-take-le, ne_eqb}
 use Rattle.text.specs.Choice.{split, clash}
 use Rattle.text.specs.Equal.{equal, equal-refl, equal-true}
 use Rattle.text.specs.Order.{order}

@@ -1,5 +1,5 @@
 -- Derivations go forward, their trees' places are their own, and how they begin. Assumes nothing.
-use Rattle.std.specs.Prelude.{◌≡◌, Bool, true, List, ℕ, ◌+◌, ◌<◌, ◌≤◌, length, get_or}
+use Rattle.std.specs.Prelude.{◌≡◌, Bool, true, List, ℕ, ◌<◌, ◌≤◌, length, get_or}
 use Rattle.std.proofs.Common.{sym, ◌∙◌, arith}
 use Rattle.pattern.specs.Class.{Item, Class}
 use Rattle.pattern.specs.Tree.{Re}

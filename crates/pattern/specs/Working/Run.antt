@@ -4,7 +4,7 @@ use Rattle.std.proofs.Math.Path.{refl, subst}
 use Rattle.std.proofs.Common.{sym, ◌∙◌, arith, eq-eqb, ne_eqb}
 use Rattle.std.proofs.Math.Bool.{true}
 use Rattle.pattern.specs.Working.Logic.{or_left, or_right, and_both}
-use Rattle.pattern.specs.Tree.{Re, one, cat, alt, star, plus, opt}
+use Rattle.pattern.specs.Tree.{Re, cat, alt, star, plus, opt}
 use Rattle.pattern.specs.Match.{Matches, m-bol, m-eol, m-one, m-cat, m-left, m-right, m-none, m-more, m-plus, m-skip, m-take}
 use Rattle.pattern.specs.Working.Sets.{nul, first, last, follow, Fits, f-one, f-cat, f-alt, f-star, f-plus, f-opt}
 

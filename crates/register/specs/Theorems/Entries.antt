@@ -4,7 +4,7 @@ use Rattle.std.proofs.Common.{sym, ◌∙◌}
 use Rattle.std.specs.Prelude.{Bool, false, eqb, length}
 use Rattle.std.proofs.Math.Bool.{true}
 use mathlib.Core.List.{List, [], ◌∷◌}
-use Prim.Native.Nat.{ℕ, zero, suc, ◌+◌, ◌-◌, ◌<◌, ◌≤◌}
+use Prim.Native.Nat.{ℕ, suc, ◌+◌, ◌<◌, ◌≤◌}
 use native.Mathlib.Omega.{arith}
 use borrow.Author.Tests.{eqb-true, eqb-false, eq-eqb, ne_eqb}
 use Rattle.text.specs.Choice.{pick, split, clash}
@@ -75,11 +75,14 @@ module _ (x k : ℕ) where
 -- the same moves again
 pub replaced-same : (x : ℕ) (es : List Entry) → replaced x (held x (moves_of x es)) es ≡ es
 unfolding moves_of replaced
-replaced-same x [] = refl
-replaced-same x (free ∷ es) = ap (λ (l : List Entry). free ∷ l) (replaced-same x es)
-replaced-same x (held y m ∷ es) =
-    split (eqb y x) (λ t. let s : y ≡ x = eqb-true y x t in rw t (rw s refl))
-    (λ t. rw t (ap (λ (l : List Entry). held y m ∷ l) (replaced-same x es)))
+replaced-same x es = go (moves_of x es) es refl
+  where
+    go : (n : ℕ) (es : List Entry) → moves_of x es ≡ n → replaced x (held x n) es ≡ es
+    go n [] h = refl
+    go n (free ∷ es) h = ap (λ (l : List Entry). free ∷ l) (go n es h)
+    go n (held y m ∷ es) h =
+        split (eqb y x) (λ t. let s : y ≡ x = eqb-true y x t in let k : m ≡ n = rw t at h in rw t (rw (s, k) refl))
+        (λ t. rw t (ap (λ (l : List Entry). held y m ∷ l) (go n es (rw t at h))))
 
 pub length-replaced : (x : ℕ) (e : Entry) (es : List Entry) → length (replaced x e es) ≡ length es
 unfolding replaced

@@ -1,8 +1,7 @@
 -- What is found, and the work of finding it: the held entries up to it, at most 64. Assumes nothing.
-use Rattle.std.specs.Prelude.{◌≡◌, refl, Bool, true, false, List, [], ◌∷◌, ℕ, zero, suc, ◌+◌, ◌<◌, ◌≤◌, eqb, length, get_or, take}
-use Rattle.std.proofs.Common.{sym, ap, ◌∙◌, subst, arith, eqb-true}
-use Rattle.std.proofs.lemmas.Bool.{eqb-false}
-use Rattle.text.specs.Choice.{pick, split, clash}
+use Rattle.std.specs.Prelude.{◌≡◌, refl, true, false, List, [], ◌∷◌, ℕ, suc, ◌+◌, ◌≤◌, eqb, length, get_or, take}
+use Rattle.std.proofs.Common.{ap, subst, arith, eqb-true}
+use Rattle.text.specs.Choice.{pick, split}
 use Rattle.register.specs.Limits.{most_principals}
 use Rattle.register.specs.Entries.{Entry, free, held, known, moves_of, principals, replaced}
 use Rattle.register.specs.Find.{walk, find}

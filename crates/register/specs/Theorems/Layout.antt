@@ -1,11 +1,10 @@
 -- The bytes of a register are read back as that register. Assumes nothing.
-use Rattle.std.specs.Prelude.{◌≡◌, refl, Bool, true, false, List, [], ◌∷◌, ◌++◌, ℕ, zero, suc, ◌+◌, ◌-◌, ◌*◌, ◌/◌, ◌%◌, ◌<◌, ◌≤◌, eqb, ltb, length, get_or}
+use Rattle.std.specs.Prelude.{◌≡◌, refl, false, List, [], ◌∷◌, ◌++◌, ℕ, ◌+◌, ◌*◌, ◌/◌, ◌%◌, ◌<◌, ◌≤◌, ltb, length, get_or}
 use Rattle.std.proofs.Common.{sym, ap, ◌∙◌, subst, append_assoc, arith, length-append, get_or-append-add, eq-eqb, le-ltb}
-use Rattle.text.specs.Choice.{pick, split, clash}
 use Rattle.text.specs.Counted.{pair_at}
 use Rattle.register.specs.Limits.{most_principals, register_bytes}
 use Rattle.register.specs.Entries.{Entry, free, held, Contents}
-use Rattle.register.specs.Layout.{four_bytes, eight_bytes, entry_bytes, entries_bytes, head, encode, four_at, eight_at, entry_at, entries_at, Decoded, register, unreadable, marked, decode}
+use Rattle.register.specs.Layout.{four_bytes, eight_bytes, entry_bytes, entries_bytes, head, encode, four_at, eight_at, entry_at, entries_at, Decoded, register, marked, decode}
 use Rattle.register.specs.Working.Bytes.{entry_length, entries-length}
 
 -- a principal of four bytes and moves of eight

@@ -1,13 +1,13 @@
 -- Calls on bytes: from the bytes of the empty register every call is one on the register that they say. Assumes nothing.
-use Rattle.std.specs.Prelude.{◌≡◌, refl, Bool, true, false, List, [], ◌∷◌, ℕ, zero, suc, ◌+◌, ◌-◌, ◌<◌, ◌≤◌, eqb, ltb, length, replicate}
-use Rattle.std.proofs.Common.{sym, ap, ◌∙◌, subst, arith, eqb-true}
-use Rattle.text.specs.Choice.{pick, split}
+use Rattle.std.specs.Prelude.{◌≡◌, refl, List, [], ◌∷◌, ℕ, zero, suc, ◌<◌, ◌≤◌, eqb, replicate}
+use Rattle.std.proofs.Common.{sym, subst, arith}
+use Rattle.text.specs.Choice.{split}
 use Rattle.register.specs.Limits.{most_moves}
-use Rattle.register.specs.Entries.{Entry, free, held, Contents, empty, known, moves_of, total, added, replaced, gained, lost}
-use Rattle.register.specs.Calls.{Call, issues, passes, spends, removes, effect, Outcome, granted, refused, called, left, ran}
-use Rattle.register.specs.Layout.{encode, decode, Decoded, register}
-use Rattle.register.specs.OnBytes.{Written, written, settled, on_decoded, on_bytes}
-use Rattle.register.specs.Theorems.Conservation.{Sound, Kept, empty-sound, call_kept, reached-sound}
+use Rattle.register.specs.Entries.{Entry, free, held, Contents, empty, known, total, added, replaced, lost}
+use Rattle.register.specs.Calls.{Call, issues, passes, spends, removes, effect, Outcome, granted, refused, called, left}
+use Rattle.register.specs.Layout.{encode}
+use Rattle.register.specs.OnBytes.{Written, written, settled, on_bytes}
+use Rattle.register.specs.Theorems.Conservation.{Sound}
 use Rattle.register.specs.Theorems.Refusals.{granted-none}
 use Rattle.register.specs.Theorems.Layout.{Fitting, no_more, free-fits, held_fits, Fits, decode-encode}
 
@@ -23,7 +23,7 @@ pub data AllFour : List Call → Type 0 where
   some : {c : Call} {cs : List Call} → FourBytes c → AllFour cs → AllFour (c ∷ cs)
 
 -- entries whose principals are four-byte numbers
-data Named : List Entry → Type 0 where
+pub data Named : List Entry → Type 0 where
   named_none : Named []
   named-free : {es : List Entry} → Named es → Named (free ∷ es)
   named-held : {x m : ℕ} {es : List Entry} → x < 4294967296 → Named es → Named (held x m ∷ es)
@@ -56,7 +56,7 @@ named-effect r (passes x y n) (pass-four h k) t = named-moved y _ (lost x n r.en
 named-effect r (spends x n) (spend-four h) t = named-moved x _ r.entries h t
 named-effect r (removes x) (remove-four h) t = named-freed x r.entries t
 
-named-left : (r : Contents) (c : Call) (o : Outcome) → called r c ≡ o → FourBytes c → Named r.entries → Named (left r o).entries
+pub named-left : (r : Contents) (c : Call) (o : Outcome) → called r c ≡ o → FourBytes c → Named r.entries → Named (left r o).entries
 named-left r c (granted q) e f t =
     subst (λ (s : Contents). Named s.entries) (sym (granted-none r c q e).1) (named-effect r c f t)
 named-left r c (refused n p) e f t = t
@@ -67,7 +67,7 @@ fitting [] named_none h = no_more
 fitting (free ∷ es) (named-free t) h = free-fits (fitting es t h)
 fitting (held x m ∷ es) (named-held k t) h = held_fits {m = m} k (omega arith) (fitting es t (omega arith))
 
-fits : (r : Contents) → Sound r → Named r.entries → Fits r
+pub fits : (r : Contents) → Sound r → Named r.entries → Fits r
 fits r s t =
     let i : r.issued < 18446744073709551616 = omega (arith, s.few) in
     let m : total r.entries ≤ most_moves = omega (arith, s.few, s.covered) in
@@ -81,7 +81,7 @@ unfoldable pub ran_on : List ℕ → List Call → List ℕ
 ran_on s [] = s
 ran_on s (c ∷ cs) = ran_on (bytes_of (on_bytes s c)) cs
 
-settled-left : (r : Contents) (o : Outcome) → bytes_of (settled (encode r) o) ≡ encode (left r o)
+pub settled-left : (r : Contents) (o : Outcome) → bytes_of (settled (encode r) o) ≡ encode (left r o)
 settled-left r (granted q) = refl
 settled-left r (refused n p) = refl
 
@@ -90,34 +90,10 @@ pub call-on : (r : Contents) → Fits r → (c : Call) → on_bytes (encode r) c
 unfolding on_bytes
 call-on r f c = rw (decode-encode r f) refl
 
-ran_on_lem : (r : Contents) → Sound r → Named r.entries → (cs : List Call) → AllFour cs → ran_on (encode r) cs ≡ encode (ran r cs)
-unfolding ran_on ran
-ran_on_lem r s t [] none = refl
-ran_on_lem r s t (c ∷ cs) (some f fs) =
-    let q : Contents = left r (called r c) in
-    let e : bytes_of (on_bytes (encode r) c) ≡ encode (left r (called r c))
-    = ap bytes_of (call-on r (fits r s t) c) ∙ settled-left r (called r c) in
-    rw e (ran_on_lem (left r (called r c)) (call_kept r s c).sound (named-left r c (called r c) refl f t) cs fs)
-
-named-ran : (r : Contents) → Sound r → Named r.entries → (cs : List Call) → AllFour cs → Named (ran r cs).entries
-unfolding ran
-named-ran r s t [] none = t
-named-ran r s t (c ∷ cs) (some f fs) =
-    named-ran (left r (called r c)) (call_kept r s c).sound (named-left r c (called r c) refl f t) cs fs
-
-named-empty : Named empty.entries
+pub named-empty : Named empty.entries
 unfolding empty
 named-empty = frees 64
   where
     frees : (n : ℕ) → Named (replicate n free)
     frees zero = named_none
     frees (suc n) = named-free (frees n)
-
--- so all that holds of registers reached from the empty one holds of their bytes
-pub reached-on : (cs : List Call) → AllFour cs → ran_on (encode empty) cs ≡ encode (ran empty cs)
-reached-on cs f = ran_on_lem empty empty-sound named-empty cs f
-
-pub reached-decoded : (cs : List Call) → AllFour cs → decode (ran_on (encode empty) cs) ≡ register (ran empty cs)
-reached-decoded cs f =
-    ap decode (reached-on cs f)
-    ∙ decode-encode (ran empty cs) (fits (ran empty cs) (reached-sound cs) (named-ran empty empty-sound named-empty cs f))

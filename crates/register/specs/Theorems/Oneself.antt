@@ -1,8 +1,8 @@
 -- Passing to oneself within what is held changes nothing. Assumes nothing.
-use Rattle.std.specs.Prelude.{◌≡◌, refl, Bool, true, false, List, ℕ, ◌+◌, ◌-◌, ◌≤◌}
-use Rattle.std.proofs.Common.{sym, ap, ◌∙◌, arith}
+use Rattle.std.specs.Prelude.{◌≡◌, true, List, ℕ, ◌+◌, ◌-◌, ◌≤◌}
+use Rattle.std.proofs.Common.{ap, ◌∙◌, arith}
 use Rattle.register.specs.Entries.{Entry, held, Contents, known, moves_of, replaced, gained, lost}
-use Rattle.register.specs.Calls.{Call, passes, effect}
+use Rattle.register.specs.Calls.{passes, effect}
 use Rattle.register.specs.Theorems.Entries.{moves-replaced, replaced-again, replaced-same}
 
 pub gained-lost : (x n : ℕ) (es : List Entry) → known x es ≡ true → n ≤ moves_of x es → gained x n (lost x n es) ≡ es

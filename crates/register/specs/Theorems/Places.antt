@@ -1,11 +1,8 @@
 -- A principal stands once, and one that is added stands at the first free place. Assumes nothing.
-use Rattle.std.specs.Prelude.{◌≡◌, refl, Bool, true, false, List, [], ◌∷◌, ◌++◌, ℕ, zero, suc, ◌+◌, ◌<◌, eqb, length, get_or}
-use Rattle.std.proofs.Common.{sym, ap, ◌∙◌, subst, arith, eqb-true, eq-eqb, ne_eqb}
-use Rattle.std.proofs.lemmas.Bool.{eqb-false}
-use Rattle.text.specs.Choice.{pick, split, clash}
-use Rattle.register.specs.Entries.{Entry, free, held, Contents, empty, known, principals, twice, added}
-use Rattle.register.specs.Calls.{Call, ran}
-use Rattle.register.specs.Theorems.Conservation.{reached-sound}
+use Rattle.std.specs.Prelude.{◌≡◌, refl, true, false, List, [], ◌∷◌, ◌++◌, ℕ, zero, suc, ◌+◌, ◌<◌, eqb, length, get_or}
+use Rattle.std.proofs.Common.{sym, ap, subst, arith, eq-eqb}
+use Rattle.text.specs.Choice.{split, clash}
+use Rattle.register.specs.Entries.{Entry, free, held, known, principals, twice, added}
 
 none-held : {P : Type 0} {x m : ℕ} → free ≡ held x m → P
 none-held h = let z : ◌≡◌ {A = ℕ} 0 1 = cc in let no : ⊥ = omega arith in absurd no
@@ -42,10 +39,6 @@ stands-once (held y k ∷ es) h x zero (suc j) m n a b = first-again es x y j m 
 stands-once (free ∷ es) h x (suc i) zero m n a b = none-held b
 stands-once (held y k ∷ es) h x (suc i) zero m n a b = first-again es x y i n m k h b a
 stands-once (e ∷ es) h x (suc i) (suc j) m n a b = ap suc (stands-once es (rest-once e es h) x i j m n a b)
-
-pub reached-once : (cs : List Call) (x i j m n : ℕ)
-    → get_or (ran empty cs).entries i free ≡ held x m → get_or (ran empty cs).entries j free ≡ held x n → i ≡ j
-reached-once cs = stands-once (ran empty cs).entries (reached-sound cs).once
 
 -- "at the first place free or freed": the places before it are all taken, and no other entry changes
 pub record AtFirst (x n : ℕ) (es : List Entry) : Type 0 where

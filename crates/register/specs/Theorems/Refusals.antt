@@ -1,9 +1,9 @@
 -- Each refusal is given exactly where its reason is there and none tested before it is; else the call is granted. Assumes nothing.
-use Rattle.std.specs.Prelude.{◌≡◌, refl, Bool, true, false, List, [], ◌∷◌, ℕ, eqb}
+use Rattle.std.specs.Prelude.{◌≡◌, refl, true, false, List, [], ◌∷◌, ℕ, eqb}
 use Rattle.std.proofs.Common.{sym, ap, ◌∙◌, arith}
-use Rattle.text.specs.Choice.{pick, split, clash}
+use Rattle.text.specs.Choice.{pick, split}
 use Rattle.register.specs.Entries.{Contents}
-use Rattle.register.specs.Calls.{Call, Reason, damaged_register, amount_outside, unknown_principal, more_than_held, issue_limit, no_place, moves_left, number, applies, effect, Outcome, granted, refused, tested, order, called}
+use Rattle.register.specs.Calls.{Call, Reason, damaged_register, amount_outside, unknown_principal, more_than_held, issue_limit, no_place, moves_left, number, applies, effect, granted, refused, tested, order, called}
 
 -- a reason that is there, while none before it in a list of reasons is
 pub data First (r : Contents) (c : Call) (k : Reason) : List Reason → Type 0 where
@@ -47,6 +47,7 @@ module _ (r : Contents) (c : Call) where
       (λ t. further k ks n p t (refused-tested ks n p (rw t at h)))
 
   first-tested : (k : Reason) (ks : List Reason) → First r c k ks → tested ks r c ≡ refused (number k) 0
+  first-tested k [] x' = elim x' [ ]
   first-tested k (j ∷ ks) (here e t) = rw (e, t) refl
   first-tested k (j ∷ ks) (later t f) = rw t (first-tested k ks f)
 

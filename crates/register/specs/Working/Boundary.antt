@@ -1,15 +1,13 @@
 -- Working laws of calls on bytes. Assumes nothing.
-use Rattle.std.specs.Prelude.{◌≡◌, Bool, true, false, List, [], ◌∷◌, ℕ, zero, suc, ◌+◌, ◌-◌, ◌*◌, ◌<◌, ◌≤◌, eqb, ltb, length, get_or}
+use Rattle.std.specs.Prelude.{◌≡◌, true, false, List, ℕ, zero, suc, ◌+◌, ◌*◌, eqb, ltb, length, get_or}
 use Rattle.std.proofs.Math.Path.{refl, sym, ap}
-use Rattle.std.proofs.Common.{◌∙◌, subst, arith, eqb-true, eq-eqb, ne_eqb}
-use Rattle.std.proofs.lemmas.Bool.{eqb-false}
-use Rattle.text.specs.Choice.{pick, split, clash}
-use Rattle.register.specs.Entries.{Entry, Contents, empty}
-use Rattle.register.specs.Calls as calls
+use Rattle.std.proofs.Common.{◌∙◌, arith, eqb-true, eq-eqb, ne_eqb}
+use Rattle.text.specs.Choice.{split}
+use Rattle.register.specs.Entries.{Contents, empty}
 use Rattle.register.specs.Calls.{Call, Outcome, called}
 use Rattle.register.specs.Find.{find}
 use Rattle.register.specs.Layout.{encode, eight_at, entries_at, Decoded, register, unreadable, marked, decode}
-use Rattle.register.specs.OnBytes.{Written, written, settled, on_bytes, emptied, searched, find_on}
+use Rattle.register.specs.OnBytes.{written, settled, on_bytes, emptied, searched, find_on}
 use Rattle.register.specs.Told.{contents, told, Tells}
 use Rattle.register.specs.Working.Bytes.{marks_in, readable_at, readable}
 use Rattle.register.specs.declared.Register.{Register}

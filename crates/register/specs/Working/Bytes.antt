@@ -1,23 +1,22 @@
 -- Working definitions and laws of the register's bytes. Assumes nothing.
-use Rattle.std.specs.Prelude.{◌≡◌, Bool, true, false, eqb, ltb, leb, get_or, set, take, drop, replicate}
+use Rattle.std.specs.Prelude.{◌≡◌, Bool, true, false, eqb, ltb, get_or, set, take, drop, replicate}
 use Rattle.std.proofs.Math.Path.{refl, sym, ap, subst}
-use Rattle.std.proofs.Common.{◌∙◌, length-append, length-set, take_at, drop_at, length-take-le, take-take}
+use Rattle.std.proofs.Common.{◌∙◌, length-append, drop_at, length-take-le, take-take}
 use mathlib.Core.List.{List, [], ◌∷◌, ◌++◌, map, append_assoc, append-nil}
 use Prim.Native.Nat.{ℕ, zero, suc, ◌+◌, ◌-◌, ◌*◌, ◌/◌, ◌%◌, ◌<◌, ◌≤◌}
 use native.Mathlib.Omega.{arith}
 use Rattle.std.proofs.Math.ListN.{length}
-use Rattle.std.proofs.lemmas.List.{length-replicate, take-append-le}
-use Rattle.std.proofs.Math.Seq.{drop-append-add, drop-length}
-use borrow.Author.Tests.{ltb-true, ltb-false, leb-true, leb-false, eqb-true, eqb-false, lt-ltb, le-ltb, le-leb, lt-leb, eq-eqb, ne_eqb}
-use Rattle.text.specs.Choice.{pick, split, clash}
-use Rattle.text.specs.Copy.{Copied, copied, put, copy_at}
+use Rattle.std.proofs.lemmas.List.{take-append-le}
+use Rattle.std.proofs.Math.Seq.{drop-length}
+use borrow.Author.Tests.{lt-ltb, le-ltb, le-leb, eq-eqb, ne_eqb}
+use Rattle.text.specs.Choice.{pick}
+use Rattle.text.specs.Copy.{copied, put, copy_at}
 use Rattle.text.specs.CopyLaws.{put-length, put-nil}
 use Rattle.text.specs.Counted.{pair_at}
-use Rattle.register.specs.Entries.{Entry, free, held, Contents}
-use Rattle.register.specs.Calls.{Call, Outcome, called}
-use Rattle.register.specs.Layout.{four_bytes, eight_bytes, entry_bytes, entries_bytes, head, encode, four_at, eight_at, entry_at, entries_at, Decoded, register, unreadable, marked, decode}
+use Rattle.register.specs.Entries.{Entry, free, held}
+use Rattle.register.specs.Layout.{four_bytes, entry_bytes, entries_bytes, head, encode, four_at, eight_at, entry_at, entries_at}
 use Rattle.register.specs.Told.{entry_of, contents}
-use Rattle.register.specs.Working.Places.{nobody, at}
+use Rattle.register.specs.Working.Places.{at}
 use Rattle.register.specs.Working.Ties.{entries_in, entries-map, stored_here}
 use Rattle.register.specs.declared.Place.{Place}
 use Rattle.register.specs.declared.Register.{Register}

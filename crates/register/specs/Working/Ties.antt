@@ -1,21 +1,20 @@
 -- The places by number say what the entries say. Assumes nothing.
-use Rattle.std.specs.Prelude.{◌≡◌, Bool, true, false, ◌&&◌, ◌||◌, ℕ, zero, suc, ◌+◌, ◌-◌, ◌<◌, ◌≤◌, eqb, ltb, leb, get_or, set}
+use Rattle.std.specs.Prelude.{◌≡◌, Bool, true, false, ◌||◌, ℕ, zero, suc, ◌+◌, ◌-◌, ◌<◌, ◌≤◌, eqb, ltb, leb, get_or, set}
 use Rattle.std.proofs.Math.Path.{refl, sym, ap, subst}
-use Rattle.std.proofs.Common.{◌∙◌, add-one, get_or-set_same, get_or-set_other}
+use Rattle.std.proofs.Common.{◌∙◌, get_or-set_same, get_or-set_other}
 use Rattle.std.proofs.Math.Bool.{not}
 use mathlib.Core.List.{List, [], ◌∷◌, map}
 use native.Mathlib.Omega.{arith}
 use Rattle.std.proofs.Math.ListN.{length, length-set}
-use borrow.Author.Tests.{ltb-true, ltb-false, leb-true, leb-false, eqb-true, eqb-false, lt-ltb, le-ltb, le-leb, lt-leb, eq-eqb, ne_eqb}
-use Rattle.text.specs.Choice.{pick, split, clash, bool_iff}
-use Rattle.register.specs.Entries.{Entry, free, held, Contents, known, moves_of, total, principals, twice, added, replaced}
+use borrow.Author.Tests.{ltb-true, ltb-false, leb-true, leb-false, lt-ltb, le-ltb, le-leb, lt-leb}
+use Rattle.text.specs.Choice.{pick, split}
+use Rattle.register.specs.Entries.{Entry, held, known, total, principals, twice, added, replaced}
 use Rattle.register.specs.Calls.{damaged, outside}
 use Rattle.register.specs.Find.{walk, find}
 use Rattle.register.specs.Told.{entry_of, contents}
-use Rattle.register.specs.Working.Places.{nobody, at, find_in, find_from, found, free_in, free_from, worth, sum_in, sum_from, sum, is_missing, distinct_in, distinct_from, sound, amount}
+use Rattle.register.specs.Working.Places.{nobody, at, find_in, find_from, found, free_in, free_from, sum_in, sum_from, sum, is_missing, distinct_in, distinct_from, sound, amount}
 use Rattle.register.specs.declared.Place.{Place}
 use Rattle.register.specs.declared.Register.{Register}
-use Rattle.register.specs.declared.Found.{Found}
 use Rattle.register.specs.declared.Found.TheVariants.{At, Missing}
 
 -- a place as its fields

@@ -1,12 +1,12 @@
 -- Working laws: the turns of the register's loops. Assumes nothing.
-use Rattle.std.specs.Prelude.{◌≡◌, Bool, true, false, List, [], ◌∷◌, ℕ, zero, suc, ◌+◌, ◌-◌, ◌<◌, ◌≤◌, eqb, ltb, leb, get_or, set}
+use Rattle.std.specs.Prelude.{◌≡◌, Bool, true, false, List, ℕ, zero, suc, ◌+◌, ◌-◌, ◌<◌, ◌≤◌, eqb, ltb, leb, get_or, set}
 use Rattle.std.proofs.Math.Path.{refl, sym}
-use Rattle.std.proofs.Common.{ap, ◌∙◌, add-one, lit<, Fits, lt_of_le_of_lt}
+use Rattle.std.proofs.Common.{ap, ◌∙◌, lit<, Fits, lt_of_le_of_lt}
 use native.Mathlib.Omega.{arith}
 use Rattle.std.specs.Int.{w64}
-use borrow.Author.Tests.{ltb-true, ltb-false, leb-true, leb-false, eqb-true, eqb-false, lt-ltb, le-ltb, le-leb, lt-leb, eq-eqb, ne_eqb}
-use Rattle.text.specs.Choice.{pick, split, clash}
-use Rattle.register.specs.Working.Places.{nobody, find_in, find_from, found, free_in, free_from, worth, sum_in, sum_from, sum, is_missing, distinct_in, distinct_from, at, sound, amount, moves_at, with_moves, with_new, with_issued, granted, refused, issue_of, spend_of, pass_at, pass_of, remove_of}
+use borrow.Author.Tests.{leb-true, eqb-true, eqb-false, lt-ltb, le-ltb, le-leb, lt-leb, eq-eqb, ne_eqb}
+use Rattle.text.specs.Choice.{split, clash}
+use Rattle.register.specs.Working.Places.{nobody, find_in, find_from, found, free_from, worth, sum_in, sum_from, sum, distinct_from, at, sound, amount, moves_at, with_moves, with_new, with_issued, granted, refused, issue_of, spend_of, pass_at, pass_of, remove_of}
 use Rattle.register.specs.declared.Place.{Place}
 use Rattle.register.specs.declared.Register.{Register}
 use Rattle.register.specs.declared.After.{After}

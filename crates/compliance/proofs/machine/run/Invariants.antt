@@ -1,5 +1,5 @@
-use mathlib.Core.List.{[]}
 use mathlib.Core.Path.{◌≡◌}
+use mathlib.Core.List.{[]}
 use Prim.Native.Nat.{◌-◌, ◌≤◌}
 use lib.ListN.{length, take}
 use Rattle.compliance.specs.Working.Machine.{exec, exec_from}

@@ -1,4 +1,5 @@
-use Rattle.float.specs.Working.Converting.{digits-fit, digit-fits, divide-step, divided-made, rest_below}
+use Rattle.float.specs.Working.Converting.{digits-fit, digit-fits, divide-step, rest_below}
+use Rattle.float.proofs.Working.Converting.{divided-made}
 use borrow.Author.Rules.{rules}
 use Rattle.float.proofs.decimal.divided.Goals as goal
 

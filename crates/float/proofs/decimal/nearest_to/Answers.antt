@@ -1,4 +1,5 @@
-use Rattle.float.specs.Working.Converting.{ten-small, ten-some, found_number, gives, gives-negative}
+use Rattle.float.specs.Working.Converting.{ten-small, ten-some, found_number}
+use Rattle.float.proofs.Working.Converting.{gives, gives-negative}
 use borrow.Author.Rules.{rules}
 use Rattle.float.proofs.decimal.nearest_to.Goals as goal
 

@@ -1,4 +1,5 @@
-use Rattle.float.specs.Working.Converting.{found-zero, few-of, pattern-fits, pattern-narrow, found}
+use Rattle.float.specs.Working.Converting.{few-of}
+use Rattle.float.proofs.Working.Converting.{found-zero, pattern-fits, pattern-narrow, found}
 use borrow.Author.Rules.{rules}
 use Rattle.float.proofs.decimal.pattern.Goals as goal
 

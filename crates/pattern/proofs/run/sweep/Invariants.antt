@@ -1,4 +1,3 @@
-use Rattle.pattern.specs.Working.Run.{ends}
 use Rattle.pattern.specs.Working.Sim.{sweep}
 use Prim.Native.Nat.{◌-◌}
 use mathlib.Core.Path.{◌≡◌}

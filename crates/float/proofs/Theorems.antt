@@ -1,0 +1,4 @@
+pub mod Examples
+pub mod Rounded
+pub mod Each
+pub mod Converted

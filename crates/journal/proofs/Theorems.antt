@@ -1,0 +1,4 @@
+pub mod RoundTrip
+pub mod Torn
+pub mod PowerCut
+pub mod Determined
