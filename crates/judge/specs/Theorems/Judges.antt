@@ -19,7 +19,8 @@ use Rattle.expression.specs.Theorems.Topmost.{conditions-most}
 use Rattle.machine.specs.Theorems.Runs.{run-conditions}
 use Rattle.conditions.specs.Word.{next_at}
 use Rattle.conditions.specs.Program.{read_program}
-use Rattle.conditions.specs.Working.Compiled.{Compiled, refused, compiled, conditions-compiled}
+use Rattle.conditions.specs.Working.Compiled.{Compiled, refused, compiled}
+use Rattle.conditions.proofs.Working.Compiled.{conditions-compiled}
 use Rattle.conditions.specs.Working.Behind.{read_behind}
 use Rattle.conditions.specs.Working.Emit.{Ran}
 use Rattle.conditions.specs.Working.Program.{conditions_at}
