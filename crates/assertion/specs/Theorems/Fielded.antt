@@ -22,7 +22,8 @@ use Rattle.expression.specs.Tables.{Shows}
 use Rattle.constants.specs.Theorems.Begun.{begun-shows}
 use Rattle.conditions.specs.Word.{next_at}
 use Rattle.conditions.specs.Program.{read_program}
-use Rattle.judge.specs.Theorems.Judges.{Judging, judged-aside, judged-on, judge-field-read}
+use Rattle.judge.specs.Theorems.Judges.{Judging, judged-aside, judged-on}
+use Rattle.judge.proofs.Theorems.Judges.{judge-field-read}
 use Rattle.judge.specs.declared.Judged.{Judged}
 use Rattle.fields.specs.Parsed.{ended}
 use Rattle.fields.specs.Constants.{constants_from}
