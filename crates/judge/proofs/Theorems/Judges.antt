@@ -25,10 +25,10 @@ use Rattle.conditions.specs.Working.Emit.{Ran}
 use Rattle.conditions.specs.Working.Program.{conditions_at}
 use Rattle.judge.specs.Working.Judging.{left_by, rank_at, judged_of, judged_in, code_size, code_room, judged_here}
 use Rattle.judge.specs.Theorems.Rooms.{read-need, read-room}
-use Rattle.judge.specs.Theorems.Judges.{Judging, judged-aside, judged-on, rank-byte}
+use Rattle.judge.specs.Theorems.Judges.{Wide, Judging, judged-aside, judged-on, rank-byte}
 
 module _ {rec consts values names constants : List ℕ} {env : Environment} (shows : Shows rec consts values names constants env) (few : length env.values ≤ 256)
-    (s : List ℕ) (short : length s < 65536) (depth space : ℕ) (deep : 208 ≤ depth) (wide : 77824 ≤ space) where
+    (s : List ℕ) (short : length s < 65536) (depth space : ℕ) (deep : 208 ≤ depth) (wide : Wide space) where
   -- the code of what was read gives its rank
   rank-read : (t : Token) (q : Program) (n : Token) → read_program s t ≡ ok q n → (b : List ℕ) (u : ℕ) (c : List ℕ) → u ≤ length b → take u b ≡ c → ProgramCodes s q c
       → rank_at b u s rec consts values names constants depth space ≡ conditions env q

@@ -30,6 +30,10 @@ use Rattle.judge.specs.declared.Judged.{Judged}
 use Rattle.judge.specs.declared.Judged.TheVariants.{On, Aside}
 use Rattle.syntax.specs.Working.Faults.{against}
 
+-- room for the strings of every program that a text of this length has
+abbrev pub Wide : ℕ → Type 0
+Wide space = 77824 ≤ space
+
 -- the same reason of document 01 at the same place; or the rank of the program, before a token of the text
 pub data Judging (s : List ℕ) (env : Environment) : Parsed Program → Judged → Type 0 where
   judged-aside : (r p : ℕ) → (r ≡ 0 → ⊥) → Judging s env (aside r p) (Aside (against r p))
