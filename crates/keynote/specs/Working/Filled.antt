@@ -39,7 +39,7 @@ use Rattle.assertion.specs.Working.Field.{Given, given}
 use Rattle.assertion.specs.Working.Reading.{read_in}
 use Rattle.assertion.specs.Theorems.Left.{first_alone, first_more}
 use Rattle.assertion.specs.Theorems.Ready.{Ready, ReadAs}
-use Rattle.assertion.specs.Theorems.Reads.{read_as}
+use Rattle.assertion.proofs.Theorems.Reads.{read_as}
 use Rattle.system.specs.Working.Noting.{ends_at, header_into}
 use Rattle.system.specs.Working.Each.{Fixed, fixed, Store, store, one_in, Each, on_one, full, full_at, each_from}
 use Rattle.system.specs.Working.Sizes.{Size, small, middle, large, middle_most, some_rows, some_code}
