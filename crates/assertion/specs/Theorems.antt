@@ -4,7 +4,6 @@ pub mod Held
 pub mod Fielded
 pub mod Reads
 pub mod Exits
-pub mod OnePass
 pub mod StandIn
 pub mod Evaluated
 pub mod Earliest

@@ -3,3 +3,4 @@ pub mod EmitWays
 pub mod LeafWays
 pub mod ExpressionWays
 pub mod ProgramWays
+pub mod Working

@@ -9,8 +9,6 @@ pub mod Same
 pub mod Cases
 pub mod TieTable
 pub mod TieOperand
-pub mod TieExpression
-pub mod TieProgram
 pub mod Pace
 pub mod Reach
 pub mod PaceExpression

@@ -6,7 +6,8 @@ use Rattle.text.specs.Choice.{pick, split, clash}
 use Rattle.text.specs.Counted.{counted}
 use Rattle.record.specs.Places.{string_size}
 use Rattle.principal.specs.Principal.{Principal, same}
-use Rattle.principal.specs.Tag.{tag, tag-low, same_tag}
+use Rattle.principal.specs.Tag.{tag, tag-low}
+use Rattle.principal.proofs.Laws.Tag.{same_tag}
 
 unfoldable pub packed : ℕ → ℕ → ℕ
 packed place t = place * 1048576 + t

@@ -11,7 +11,7 @@ use Rattle.compliance.specs.Theorems.Reach.{reach-sound}
 use Rattle.syntax.specs.Expr.{Expr, none, also, plain}
 use Rattle.expression.specs.Reads.{reads, program_reads, clause_reads, is_set}
 use Rattle.expression.specs.Standing.{names, computes, program_names, clause_names, program_computes, clause_computes}
-use Rattle.expression.specs.Theorems.Standing.{program-unread}
+use Rattle.expression.proofs.Theorems.Standing.{program-unread}
 use Rattle.naming.specs.Source.{Source, Licensees, missing, empty, given, Author, sources}
 use Rattle.assertion.specs.Assertion.{Assertion, Conditions, absent, stated}
 use Rattle.assertion.specs.Said.{Said}

@@ -5,7 +5,7 @@ use Rattle.std.proofs.Common.{sym, ap, ◌∙◌, arith}
 use Rattle.text.specs.Choice.{bool_iff}
 use Rattle.text.specs.Equal.{equal, equal-refl, equal-true}
 use Rattle.principal.specs.Canonical.{front, behind, canonical_with, canonical}
-use Rattle.principal.specs.Theorems.Canonical.{behind-cases, canonical-plain, canonical-front, canonical-long, parts-long}
+use Rattle.principal.specs.Theorems.Canonical.{behind-cases, canonical-plain, parts-long}
 
 -- an identifier's bytes
 abbrev pub Principal : Type 0
@@ -38,27 +38,17 @@ pub same-trans : (p q r : Principal) → same p q ≡ true → same q r ≡ true
 same-trans p q r e f = canonical-same p r (same-canonical p q e ∙ same-canonical q r f)
 
 -- POLICY equals only itself
-policy-plain : canonical policy ≡ policy
+pub policy-plain : canonical policy ≡ policy
 unfolding policy canonical canonical_with front behind
 policy-plain = refl
 
-policy-front : length (front policy) ≡ 6
+pub policy-front : length (front policy) ≡ 6
 unfolding policy front
 policy-front = refl
 
-policy-long : length policy ≡ 6
+pub policy-long : length policy ≡ 6
 unfolding policy
 policy-long = refl
-
-pub policy-alone : (p : Principal) → same policy p ≡ true → p ≡ policy
-policy-alone p e =
-    let c : policy ≡ canonical p = sym policy-plain ∙ same-canonical policy p e in
-    behind-cases p
-    (λ h. sym (c ∙ canonical-plain p h))
-    (λ r h.
-    let f : length (front policy) ≡ length (front p) = ap (λ (x : List ℕ). length (front x)) c ∙ canonical-front p in
-    let l : length policy ≡ length p = ap length c ∙ canonical-long p in
-    let no : ⊥ = omega (arith, f, l, policy-front, policy-long, parts-long p, ap length h) in absurd no)
 
 -- one side of a comparison may be replaced by a principal equal to it
 pub same_left : (p q r : Principal) → same p q ≡ true → same p r ≡ same q r

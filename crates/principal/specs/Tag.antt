@@ -7,7 +7,7 @@ use Prim.Native.Nat.{ℕ, zero, suc, ◌+◌, ◌-◌, ◌*◌, ◌/◌, ◌%◌
 use Rattle.std.proofs.Math.ListN.{get_or}
 use Rattle.text.specs.Choice.{pick, split}
 use Rattle.principal.specs.Canonical.{fold, folded, canonical}
-use Rattle.principal.specs.Theorems.Canonical.{folded-long, folded-canonical}
+use Rattle.principal.specs.Theorems.Canonical.{folded-long}
 use Rattle.principal.specs.Principal.{Principal, same, same-canonical}
 
 -- a byte without the bit in which a capital letter differs from its small one
@@ -41,13 +41,13 @@ bulk p =
 unfoldable pub tag : Principal → ℕ
 tag p = mixed (bulk p) (group p (length p - 4)) * 2654435761 / 16777216 % 1048576
 
-folded-at : (p : Principal) (i : ℕ) → get_or (folded p) i 0 ≡ fold (get_or p i 0)
+pub folded-at : (p : Principal) (i : ℕ) → get_or (folded p) i 0 ≡ fold (get_or p i 0)
 unfolding folded fold
 folded-at [] i = refl
 folded-at (b ∷ p) zero = refl
 folded-at (b ∷ p) (suc i) = folded-at p i
 
-fold-plain : (b : ℕ) → plain (fold b) ≡ plain b
+pub fold-plain : (b : ℕ) → plain (fold b) ≡ plain b
 unfolding fold plain
 fold-plain b =
     split (leb 65 b)
@@ -55,47 +55,6 @@ fold-plain b =
     (λ k. let low : 65 ≤ b = leb-true 65 b h in let high : b ≤ 90 = leb-true b 90 k in rw (h, k) (omega (arith, low, high)))
     (λ k. rw (h, k)))
     (λ h. rw h)
-
--- what the folded bytes have in common
-module _ (p q : Principal) (e : folded p ≡ folded q) where
-  same_length : length p ≡ length q
-  same_length = sym (folded-long p) ∙ ap length e ∙ folded-long q
-
-  caseless-folded : (i : ℕ) → caseless p i ≡ caseless q i
-  unfolding caseless
-  caseless-folded i =
-      sym (fold-plain (get_or p i 0)) ∙ ap plain (sym (folded-at p i) ∙ ap (λ (x : List ℕ). get_or x i 0) e ∙ folded-at q i) ∙ fold-plain (get_or q i 0)
-
-  group-folded : (i : ℕ) → group p i ≡ group q i
-  unfolding group
-  group-folded i = rw (caseless-folded i, caseless-folded (i + 1), caseless-folded (i + 2), caseless-folded (i + 3))
-
-  mixed-folded : (k i h : ℕ) → mixed_with p k i h ≡ mixed_with q k i h
-  unfolding mixed_with
-  mixed-folded zero i h = refl
-  mixed-folded (suc k) i h = rw (group-folded i) (mixed-folded k (i + 4) (mixed h (group q i)))
-
-  bulk-folded : bulk p ≡ bulk q
-  unfolding bulk
-  bulk-folded =
-      rw (
-        same_length,
-        mixed-folded (length q / 4) 0 (length q % 4294967296),
-        mixed-folded 8 0 (length q % 4294967296),
-        mixed-folded 8 (length q - 32) (mixed_with q 8 0 (length q % 4294967296)),
-      )
-
-  tag-folded : tag p ≡ tag q
-  unfolding tag
-  tag-folded = rw (bulk-folded, same_length, group-folded (length q - 4))
-
--- and so it is a tag of the canonical form
-pub tag-canonical : (p : Principal) → tag (canonical p) ≡ tag p
-tag-canonical p = tag-folded (canonical p) p (folded-canonical p)
-
--- equal principals share the tag
-pub same_tag : (p q : Principal) → same p q ≡ true → tag p ≡ tag q
-same_tag p q e = sym (tag-canonical p) ∙ ap tag (same-canonical p q e) ∙ tag-canonical q
 
 pub tag-low : (p : Principal) → tag p < 1048576
 unfolding tag

@@ -10,5 +10,4 @@ pub mod Encode
 pub mod Valid
 pub mod Stands
 pub mod RoundTrip
-pub mod Located
 pub mod Working

@@ -20,7 +20,7 @@ abbrev SortIs : ℕ → PartSort → Type 0
 SortIs n x = n ≡ sort_number x
 
 -- what a token writes
-abbrev Is : ℕ → Infix → Type 0
+abbrev pub Is : ℕ → Infix → Type 0
 Is n i = n ≡ infix_number i
 
 text-compared : (k : ℕ) → Is (Numbered.comparison k) (Table.comparison strings k)
@@ -47,7 +47,7 @@ number-compared k =
     (λ h. alike Seven (eqb k Kind.AT_MOST) _ _ _ _ (λ h. refl)
     (λ h. alike Seven (eqb k Kind.AT_LEAST) _ _ _ _ (λ h. refl) (λ h. refl))))))
 
-number-number : (k : ℕ) → Is (Numbered.number_operator k) (Table.number_operator k)
+pub number-number : (k : ℕ) → Is (Numbered.number_operator k) (Table.number_operator k)
 unfolding Numbered.number_operator Table.number_operator
 number-number k =
     alike Is (eqb k Kind.POWER) _ _ _ _ (λ h. refl)
@@ -57,7 +57,7 @@ number-number k =
     (λ h. alike Is (eqb k Kind.PLUS) _ _ _ _ (λ h. refl)
     (λ h. alike Is (eqb k Kind.MINUS) _ _ _ _ (λ h. refl) (λ h. number-compared k))))))
 
-float-number : (k : ℕ) → Is (Numbered.float_operator k) (Table.float_operator k)
+pub float-number : (k : ℕ) → Is (Numbered.float_operator k) (Table.float_operator k)
 unfolding Numbered.float_operator Table.float_operator Table.ordering
 float-number k =
     alike Is (eqb k Kind.POWER) _ _ _ _ (λ h. refl)
@@ -70,22 +70,13 @@ float-number k =
     (λ h. alike Is (eqb k Kind.AT_MOST) _ _ _ _ (λ h. refl)
     (λ h. alike Is (eqb k Kind.AT_LEAST) _ _ _ _ (λ h. refl) (λ h. refl)))))))))
 
-text-number : (k : ℕ) → Is (Numbered.text_operator k) (Table.text_operator k)
+pub text-number : (k : ℕ) → Is (Numbered.text_operator k) (Table.text_operator k)
 unfolding Numbered.text_operator Table.text_operator
 text-number k = alike Is (eqb k Kind.DOT) _ _ _ _ (λ h. refl) (λ h. alike Is (eqb k Kind.MATCHES) _ _ _ _ (λ h. refl) (λ h. text-compared k))
 
-test-number : (k n : ℕ) (i : Infix) → Is n i → Is (pick (eqb (Numbered.test_operator k) Numbered.NONE) n (Numbered.test_operator k)) (Table.test_operator k i)
+pub test-number : (k n : ℕ) (i : Infix) → Is n i → Is (pick (eqb (Numbered.test_operator k) Numbered.NONE) n (Numbered.test_operator k)) (Table.test_operator k i)
 unfolding Numbered.test_operator Table.test_operator
 test-number k n i h = split (eqb k Kind.AND) (λ e. rw e) (λ e. split (eqb k Kind.OR) (λ f. rw (e, f)) (λ f. rw (e, f) h))
-
-pub operator-number : (sort : PartSort) (k : ℕ) → Is (Numbered.operator (sort_number sort) k) (Table.operator sort k)
-unfolding Numbered.operator Table.operator
-operator-number (sorted a-string) k = text-number k
-operator-number (sorted an-integer) k = number-number k
-operator-number (sorted a-float) k = float-number k
-operator-number (sorted a_test) k = test-number k _ _ refl
-operator-number (word true) k = test-number k _ _ (text-number k)
-operator-number (word false) k = test-number k _ _ (text-number k)
 
 -- what may stand where, and what fits
 pick_same : (b : Bool) → pick b true false ≡ b
@@ -239,31 +230,14 @@ binary-row (float-order float-at-least) = (refl, refl, refl)
 binary-row both = (refl, refl, refl)
 binary-row either = (refl, refl, refl)
 
-wanted-number : (x : Sort) → sort_number (sorted x) ≡ want_number (Table.want_of x)
+pub wanted-number : (x : Sort) → sort_number (sorted x) ≡ want_number (Table.want_of x)
 wanted-number a-string = refl
 wanted-number an-integer = refl
 wanted-number a-float = refl
 wanted-number a_test = refl
 
-pub right-want : (op : Binary) → Numbered.right_want (binary_number op) ≡ want_number (Table.right_want op)
-unfolding Numbered.right_want Table.right_want
-right-want op = (binary-row op).1 ∙ wanted-number (binary_takes op)
-
-pub right-level : (op : Binary) → Numbered.right_level (binary_number op) ≡ Table.right_level op
-unfolding Numbered.right_level Table.right_level
-right-level op = rw (binary-row op).0
-
-at-least-level : (a b : ℕ) → pick (ltb a b) false true ≡ leb b a
+pub at-least-level : (a b : ℕ) → pick (ltb a b) false true ≡ leb b a
 at-least-level a b = split (ltb a b) (λ e. rw (e, lt-leb b a (ltb-true a b e))) (λ e. rw (e, le-leb b a (ltb-false a b e)))
-
-pub binds-number : (level : ℕ) (i : Infix) → Numbered.binds level (infix_number i) ≡ Table.binds level i
-unfolding Numbered.binds Table.binds Numbered.level_of
-binds-number level no-infix = refl
-binds-number level (between op) =
-    rw (ne_eqb (binary_number op) 0 (λ z. omega (arith, z, (binary-between op).0)), level-is op) (at-least-level (Table.level_of op) level)
-  where
-    level-is : (op : Binary) → Numbered.level_of (binary_number op) ≡ Table.level_of op
-    level-is op = (binary-row op).0
 
 -- sorts and wants differ in their numbers
 abbrev sorts : List PartSort

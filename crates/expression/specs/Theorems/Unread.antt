@@ -14,14 +14,14 @@ use Rattle.expression.specs.Operations.{held, unary_of}
 use Rattle.expression.specs.Conditions.{evaluate, conditions, clause}
 use Rattle.expression.specs.Reads.{reads, program_reads, clause_reads, is_set, Alike, alike[], alike∷, with_attributes}
 
-or_left : (a b : Bool) → a ≡ true → a || b ≡ true
+pub or_left : (a b : Bool) → a ≡ true → a || b ≡ true
 or_left a b h = rw h
 
-or_right : (a b : Bool) → b ≡ true → a || b ≡ true
+pub or_right : (a b : Bool) → b ≡ true → a || b ≡ true
 or_right true b h = refl
 or_right false b h = h
 
-setting-alike : (R : List ℕ → Type 0) (n : List ℕ) → R n → {l m : List Attribute} → Alike R l m → setting_or l n [] ≡ setting_or m n []
+pub setting-alike : (R : List ℕ → Type 0) (n : List ℕ) → R n → {l m : List Attribute} → Alike R l m → setting_or l n [] ≡ setting_or m n []
 unfolding setting_or
 setting-alike R n r alike[] = refl
 setting-alike R n r (alike∷ {a = a} {b = b} {l = l} {m = m} ne ve t) =
@@ -31,16 +31,16 @@ setting-alike R n r (alike∷ {a = a} {b = b} {l = l} {m = m} ne ve t) =
     (λ h. let is : a.name ≡ n = equal-true _ _ (en ∙ h) in rw (en, h) (ve (subst R (sym is) r)))
     (λ h. rw (en, h) ih)
 
-setting-other : (c : List Attribute) (n x y : List ℕ) → (is_set c n ≡ false → x ≡ y) → setting_or c n x ≡ setting_or c n y
+pub setting-other : (c : List Attribute) (n x y : List ℕ) → (is_set c n ≡ false → x ≡ y) → setting_or c n x ≡ setting_or c n y
 unfolding setting_or is_set
 setting-other [] n x y h = h refl
 setting-other (a ∷ c) n x y h =
     split (equal a.name n) (λ e. rw e) (λ e. rw e (setting-other c n x y (λ s. h (rw e s))))
 
-max-same : {a b c d : ℕ} → a ≡ b → c ≡ d → max a c ≡ max b d
+pub max-same : {a b c d : ℕ} → a ≡ b → c ≡ d → max a c ≡ max b d
 max-same e f = cc
 
-look-nothing : (op : Unary) (f g : List ℕ → List ℕ) (v : Value) → is_lookup op ≡ false → unary_of f op v ≡ unary_of g op v
+pub look-nothing : (op : Unary) (f g : List ℕ → List ℕ) (v : Value) → is_lookup op ≡ false → unary_of f op v ≡ unary_of g op v
 unfolding unary_of
 look-nothing Operator.lookup f g v h = clash refl h
 look-nothing Operator.convert f g v h = refl
@@ -57,7 +57,7 @@ look-text f g (rank n) h = refl
 look-text f g (float x) h = refl
 look-text f g fault h = refl
 
-look-all : (op : Unary) (f g : List ℕ → List ℕ) (v : Value) → ((n : List ℕ) → f n ≡ g n) → unary_of f op v ≡ unary_of g op v
+pub look-all : (op : Unary) (f g : List ℕ → List ℕ) (v : Value) → ((n : List ℕ) → f n ≡ g n) → unary_of f op v ≡ unary_of g op v
 unfolding unary_of
 look-all Operator.lookup f g v k = look-text f g v k
 look-all Operator.convert f g v k = refl
@@ -65,51 +65,3 @@ look-all Operator.negate f g v k = refl
 look-all Operator.opposite f g v k = refl
 look-all Operator.to-float f g v k = refl
 look-all Operator.float-negate f g v k = refl
-
-module _ (env : Environment) (R : List ℕ → Type 0) {l m : List Attribute} (same : Alike R l m) where
-  abbrev Free : (List ℕ → Bool) → Type 0
-  Free rs = (n : List ℕ) → rs n ≡ true → is_set env.constants n ≡ false → R n
-
-  query-same : (n : List ℕ) → R n → from_query (with_attributes env l) n ≡ from_query (with_attributes env m) n
-  unfolding from_query with_attributes
-  query-same n r = rw (setting-alike R n r same)
-
-  -- a name that is set, or of which R holds, stands for the same
-  pub lookup-same : (n : List ℕ) → (is_set env.constants n ≡ false → R n) → lookup (with_attributes env l) n ≡ lookup (with_attributes env m) n
-  unfolding lookup with_attributes
-  lookup-same n h = setting-other env.constants n _ _ (λ s. query-same n (h s))
-
-  pub evaluate-same : (e : Expr) → Free (reads e) → evaluate (with_attributes env l) e ≡ evaluate (with_attributes env m) e
-  unfolding evaluate reads
-  evaluate-same (literal b) h = refl
-  evaluate-same (name n) h = ap held (lookup-same n (h n (equal-refl n)))
-  evaluate-same (number k) h = refl
-  evaluate-same (truth t) h = refl
-  evaluate-same (decimal b) h = refl
-  evaluate-same (unary op e) h =
-      ap (unary_of (lookup (with_attributes env l)) op) (evaluate-same e (λ n r. h n (or_right (is_lookup op) _ r)))
-      ∙ split (is_lookup op)
-      (λ o. look-all op _ _ (evaluate (with_attributes env m) e) (λ n. lookup-same n (h n (or_left _ _ o))))
-      (λ o. look-nothing op _ _ (evaluate (with_attributes env m) e) o)
-  evaluate-same (binary op e f) h =
-      cc (evaluate-same e (λ n r. h n (or_left _ _ r)), evaluate-same f (λ n r. h n (or_right (reads e n) _ r)))
-
-  same-values : (with_attributes env l).values ≡ (with_attributes env m).values
-  unfolding with_attributes
-  same-values = refl
-
-  mutual
-    unfolding conditions clause program_reads clause_reads
-
-    -- Conditions that read no name from the query but where R holds are worth the same
-    pub conditions-same : (p : Program) → Free (program_reads p) → conditions (with_attributes env l) p ≡ conditions (with_attributes env m) p
-    conditions-same none h = refl
-    conditions-same (also p q) h =
-        max-same (conditions-same p (λ n r. h n (or_left _ _ r))) (clause-same q (λ n r. h n (or_right (program_reads p n) _ r)))
-
-    clause-same : (q : Clause) → Free (clause_reads q) → clause (with_attributes env l) q ≡ clause (with_attributes env m) q
-    clause-same (plain e) h = cc (evaluate-same e h, same-values)
-    clause-same (valued e f) h =
-        cc (evaluate-same e (λ n r. h n (or_left _ _ r)), evaluate-same f (λ n r. h n (or_right (reads e n) _ r)), same-values)
-    clause-same (nested e p) h =
-        cc (evaluate-same e (λ n r. h n (or_left _ _ r)), conditions-same p (λ n r. h n (or_right (reads e n) _ r)))

@@ -121,7 +121,7 @@ no-float f (Rank n) a h = refl
 no-float f (Float g) a h = cc
 no-float f Fault a h = refl
 
-test-is : (x : Operand) (a : List ℕ) → is_test x ≡ true → value_of x a ≡ test (holds_in x)
+pub test-is : (x : Operand) (a : List ℕ) → is_test x ≡ true → value_of x a ≡ test (holds_in x)
 unfolding is_test value_of holds_in
 test-is (Text n) a h = cc
 test-is (Number b n) a h = cc
@@ -130,7 +130,7 @@ test-is (Rank n) a h = cc
 test-is (Float f) a h = cc
 test-is Fault a h = cc
 
-no_test : (f : Bool → Value) (x : Operand) (a : List ℕ) → is_test x ≡ false → on_test f (value_of x a) ≡ fault
+pub no_test : (f : Bool → Value) (x : Operand) (a : List ℕ) → is_test x ≡ false → on_test f (value_of x a) ≡ fault
 unfolding is_test value_of
 no_test f (Text n) a h = refl
 no_test f (Number b n) a h = refl
@@ -139,7 +139,7 @@ no_test f (Rank n) a h = refl
 no_test f (Float g) a h = refl
 no_test f Fault a h = refl
 
-test_in_lem : (x : Operand) (a : List ℕ) → test_in x ≡ operand (on_test test (value_of x a))
+pub test_in_lem : (x : Operand) (a : List ℕ) → test_in x ≡ operand (on_test test (value_of x a))
 unfolding test_in is_test value_of operand
 test_in_lem (Text n) a = refl
 test_in_lem (Number b n) a = refl
@@ -422,34 +422,6 @@ module _ (op : ℕ) (x y : Operand) (a b : List ℕ) (t : Bool) where
       unfolding of_floats
       floats-both h i j ie je r e = rw (float_is x a (sym te ∙ yes), float_is y b (sym ue ∙ h)) (e ∙ cc)
 
-  module _ (te : t ≡ is_test x) where
-    pub tests-none : t ≡ false → Fault ≡ operand (of_tests op (value_of x a) (value_of y b))
-    unfolding of_tests operand
-    tests-none h = rw (no_test (λ s. logical op s (value_of y b)) x a (sym te ∙ h))
-
-    module _ (yes : t ≡ true) (h : Bool) (he : h ≡ holds_in x) where
-      tests-are : of_tests op (value_of x a) (value_of y b) ≡ logical op h (value_of y b)
-      unfolding of_tests
-      tests-are = rw (test-is x a (sym te ∙ yes), he)
-
-      module _ (both : op ≡ 41) where
-        pub both-more : h ≡ true → (r : Operand) → r ≡ test_in y → r ≡ operand (of_tests op (value_of x a) (value_of y b))
-        unfolding logical
-        both-more ht r e = rw tests-are (e ∙ test_in_lem y b ∙ simp (eq-eqb _ _ both, ht))
-
-        pub both-done : h ≡ false → Test false ≡ operand (of_tests op (value_of x a) (value_of y b))
-        unfolding logical operand
-        both-done hf = rw tests-are (simp (eq-eqb _ _ both, hf))
-
-      module _ (either : op ≡ 41 → ⊥) where
-        pub either-done : h ≡ true → Test true ≡ operand (of_tests op (value_of x a) (value_of y b))
-        unfolding logical operand
-        either-done ht = rw tests-are (simp (ne_eqb _ _ either, ht))
-
-        pub either-more : h ≡ false → (r : Operand) → r ≡ test_in y → r ≡ operand (of_tests op (value_of x a) (value_of y b))
-        unfolding logical
-        either-more hf r e = rw tests-are (e ∙ test_in_lem y b ∙ simp (ne_eqb _ _ either, hf))
-
 -- the ways out of `binary`
 module _ (op : ℕ) (v w : Value) (r : Operand) (t : Bool) (te : t ≡ is_textual op) where
   pub binary-texts : t ≡ true → r ≡ operand (of_texts op v w) → r ≡ operand (binary_by op v w)
@@ -528,10 +500,6 @@ module _ (x : Operand) (a : List ℕ) (t : Bool) where
   pub oppose-test : t ≡ is_test x → t ≡ true → (h r : Bool) → h ≡ holds_in x → r ≡ not h → Test r ≡ operand (opposite (value_of x a))
   unfolding opposite operand
   oppose-test te y h r he e = rw (test-is x a (sym te ∙ y)) (ap Test (e ∙ ap not he))
-
-  pub oppose-none : t ≡ is_test x → t ≡ false → Fault ≡ operand (opposite (value_of x a))
-  unfolding opposite operand
-  oppose-none te h = rw (no_test (λ t. test (not t)) x a (sym te ∙ h))
 
 -- the ways out of `convert_to_float` and `negate_float`
 module _ (x : Operand) (a : List ℕ) (t : Bool) where

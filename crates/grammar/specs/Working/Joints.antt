@@ -13,7 +13,8 @@ use Rattle.syntax.specs.Operator.{Binary, Side, Relation, Ordering, Sort, a-stri
 use Rattle.syntax.specs.Operator as Operator
 use Rattle.conditions.specs.Table.{PartSort, sorted, word, Infix, no-infix, between}
 use Rattle.conditions.specs.Table
-use Rattle.conditions.specs.Working.Reach.{level-most, operator-token}
+use Rattle.conditions.specs.Working.Reach.{level-most}
+use Rattle.conditions.proofs.Working.Reach.{operator-token}
 use Rattle.grammar.specs.Conditions.{TRUTH}
 use Rattle.grammar.specs.Spelled.{spelled, kind_in}
 use Rattle.grammar.specs.Trees.{ProductOp, times-op, divide-op, remainder-op, SumOp, plus-op, minus-op, FloatProductOp, float-times-op, float-divide-op, FloatSumOp, float-plus-op, float-minus-op, OrderOp, float-less-op, float-greater-op, float-at-most-op, float-at-least-op, CompareOp, equal-op, unequal-op, less-op, greater-op, at-most-op, at-least-op}

@@ -19,7 +19,8 @@ use Rattle.expression.specs.Theorems.Topmost.{conditions-most}
 use Rattle.machine.specs.Theorems.Runs.{run-conditions}
 use Rattle.conditions.specs.Word.{next_at}
 use Rattle.conditions.specs.Program.{read_program}
-use Rattle.conditions.specs.Working.Compiled.{Compiled, refused, compiled, conditions-compiled}
+use Rattle.conditions.specs.Working.Compiled.{Compiled, refused, compiled}
+use Rattle.conditions.proofs.Working.Compiled.{conditions-compiled}
 use Rattle.conditions.specs.Working.Behind.{read_behind}
 use Rattle.conditions.specs.Working.Emit.{Ran}
 use Rattle.conditions.specs.Working.Program.{conditions_at}
@@ -28,6 +29,10 @@ use Rattle.judge.specs.Theorems.Rooms.{read-need, read-room}
 use Rattle.judge.specs.declared.Judged.{Judged}
 use Rattle.judge.specs.declared.Judged.TheVariants.{On, Aside}
 use Rattle.syntax.specs.Working.Faults.{against}
+
+-- room for the strings of every program that a text of this length has
+abbrev pub Wide : ℕ → Type 0
+Wide space = 77824 ≤ space
 
 -- the same reason of document 01 at the same place; or the rank of the program, before a token of the text
 pub data Judging (s : List ℕ) (env : Environment) : Parsed Program → Judged → Type 0 where
@@ -38,48 +43,6 @@ pub data Judging (s : List ℕ) (env : Environment) : Parsed Program → Judged 
 small : (k n : ℕ) → k ≤ n - 1 → n ≤ 256 → k % 256 ≡ k
 small k n h i = omega (arith, h, i)
 
-rank-byte : (env : Environment) (q : Program) → length env.values ≤ 256 → conditions env q % 256 ≡ conditions env q
+pub rank-byte : (env : Environment) (q : Program) → length env.values ≤ 256 → conditions env q % 256 ≡ conditions env q
 unfolding top
 rank-byte env q h = small (conditions env q) (length env.values) (conditions-most env q) h
-
-module _ {rec consts values names constants : List ℕ} {env : Environment} (shows : Shows rec consts values names constants env) (few : length env.values ≤ 256)
-    (s : List ℕ) (short : length s < 65536) (depth space : ℕ) (deep : 208 ≤ depth) (wide : 77824 ≤ space) where
-  -- the code of what was read gives its rank
-  rank-read : (t : Token) (q : Program) (n : Token) → read_program s t ≡ ok q n → (b : List ℕ) (u : ℕ) (c : List ℕ) → u ≤ length b → take u b ≡ c → ProgramCodes s q c
-      → rank_at b u s rec consts values names constants depth space ≡ conditions env q
-  unfolding rank_at left_by rank_in
-  rank-read t q n e b u c fit k codes =
-      rw (le-ltb _ _ fit, k, run-conditions shows depth space s q c codes (omega (arith, deep, read-need s t q n e)) (omega (arith, wide, read-room s t q n e)))
-      (rank-byte env q few)
-
-  module _ (at : ℕ) (m : List ℕ) (room : length s - (next_at s at).start + 2 ≤ length m) where
-    abbrev ranks : List ℕ → ℕ → ℕ
-    ranks b u = rank_at b u s rec consts values names constants depth space
-
-    both-judge : (p : Parsed Program) (r : Ran) → read_program s (next_at s at) ≡ p → Compiled s m 0 p r → Judging s env p (judged_of ranks r)
-    both-judge _ _ e (refused r p b k i) = judged-aside r p k
-    both-judge _ _ e (compiled q x p u n b c stop l h k codes) =
-        rw (rank-read (next_at s at) q n e b u c (omega (arith, l, h)) k codes) (judged-on q n (read_behind s (next_at s at) q n e (stood-at s IN_FIELD at)))
-
-    -- With at most 256 values, a text below 65,536 bytes and buffers of these sizes, `judge` gives the field's rank or its first fault.
-    pub judge-read : Judging s env (read_program s (next_at s at)) (judged_in s (next_at s at) rec consts values names constants m depth space)
-    unfolding judged_in
-    judge-read = both-judge (read_program s (next_at s at)) (conditions_at s m 0 (next_at s at)) refl (conditions-compiled s m 0 at short (omega arith) (omega (arith, room)))
-
--- With at most 256 values and a text of at most 8,192 bytes, `judge_field` gives the field's rank or its first fault.
-module _ {rec consts values names constants : List ℕ} {env : Environment} (shows : Shows rec consts values names constants env) (few : length env.values ≤ 256)
-    (s : List ℕ) (short : length s ≤ 8192) (at : ℕ) where
-  size_fits : (n : ℕ) → n ≤ 8192 → n + 2 ≤ code_size n
-  unfolding code_size
-  size_fits n h =
-      split (leb n 126) (λ f. rw f (omega (arith, leb-true n 126 f)))
-      (λ f. split (leb n 254) (λ d. rw (f, d) (omega (arith, leb-true n 254 d)))
-      (λ d. split (leb n 510) (λ g. rw (f, d, g) (omega (arith, leb-true n 510 g)))
-      (λ g. split (leb n 2046) (λ e. rw (f, d, g, e) (omega (arith, leb-true n 2046 e))) (λ e. rw (f, d, g, e) (omega (arith, h))))))
-
-  code_fits : length s - (next_at s at).start + 2 ≤ length (code_room s (next_at s at))
-  code_fits = rw (length-replicate {A = ℕ} (code_size (length s - (next_at s at).start)) 0) (size_fits (length s - (next_at s at).start) (omega (arith, short)))
-
-  pub judge-field-read : Judging s env (read_program s (next_at s at)) (judged_here s (next_at s at) rec consts values names constants)
-  unfolding judged_here
-  judge-field-read = judge-read shows few s (omega (arith, short)) 208 77824 (omega arith) (omega arith) at (code_room s (next_at s at)) code_fits

@@ -6,8 +6,10 @@ use Rattle.record.specs.Query.{Query}
 use Rattle.record.specs.Read.{accepted}
 use Rattle.record.specs.Record.{read_record}
 use Rattle.record.specs.Valid.{Each, each[], each∷, RequesterOk}
-use Rattle.record.specs.RoundTrip.{Bytes, read_back}
-use Rattle.principal.specs.Principal.{Principal, same, policy, policy-alone}
+use Rattle.record.specs.RoundTrip.{Bytes}
+use Rattle.record.proofs.Laws.RoundTrip.{read_back}
+use Rattle.principal.specs.Principal.{Principal, same, policy}
+use Rattle.principal.proofs.Laws.Principal.{policy-alone}
 use Rattle.principal.specs.Members.{member}
 use Rattle.compliance.specs.System.{direct}
 use Rattle.keynote.specs.Answer.{system}

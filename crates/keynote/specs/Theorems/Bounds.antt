@@ -11,7 +11,8 @@ use Rattle.record.specs.Query.{Query, Supplied}
 use Rattle.record.specs.Read.{accepted}
 use Rattle.record.specs.Record.{read_record}
 use Rattle.record.specs.Valid.{Valid}
-use Rattle.record.specs.RoundTrip.{Bytes, read_back}
+use Rattle.record.specs.RoundTrip.{Bytes}
+use Rattle.record.proofs.Laws.RoundTrip.{read_back}
 use Rattle.limits.specs.Limits.{most_licensees, most_values, most_assertions, most_report, most_reached}
 use Rattle.principal.specs.Principal.{Principal, policy}
 use Rattle.principal.specs.Members.{member, member-here, member-there, member-left, member_right, distinct-le}

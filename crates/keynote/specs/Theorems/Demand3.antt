@@ -19,7 +19,7 @@ use Rattle.expression.specs.Names.{Environment, environment}
 use Rattle.expression.specs.Value.{bytes_of}
 use Rattle.expression.specs.Conditions.{top, evaluate, conditions}
 use Rattle.expression.specs.Reads.{reads, program_reads, is_set, Alike as AlikeAttributes, alike[], alike∷, with_attributes}
-use Rattle.expression.specs.Theorems.Unread.{evaluate-same, conditions-same}
+use Rattle.expression.proofs.Theorems.Unread.{evaluate-same, conditions-same}
 use Rattle.naming.specs.Source.{Source, Licensees, given, sources}
 use Rattle.naming.specs.Naming.{identified}
 use Rattle.assertion.specs.Assertion.{Assertion, Conditions, absent, stated}

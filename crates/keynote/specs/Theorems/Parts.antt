@@ -10,7 +10,8 @@ use Rattle.record.specs.Record.{read_record}
 use Rattle.record.specs.Places.{string_size, attribute_size, assertion_size, places_from, requesters_start, attributes_start, assertions_start, places}
 use Rattle.record.specs.Reading.{told, group_ends, leaves, read_into}
 use Rattle.record.specs.Valid.{Valid}
-use Rattle.record.specs.RoundTrip.{Bytes, read_back}
+use Rattle.record.specs.RoundTrip.{Bytes}
+use Rattle.record.proofs.Laws.RoundTrip.{read_back}
 use Rattle.record.specs.declared.Reading.{Reading}
 use Rattle.record.specs.declared.Reading.TheVariants.{Accepted, Refused}
 use Rattle.keynote.specs.Working.Filled.{values_at, requesters_at, attributes_at, assertions_at}

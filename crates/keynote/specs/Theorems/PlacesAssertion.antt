@@ -12,7 +12,8 @@ use Rattle.record.specs.Query.{Query, Supplied}
 use Rattle.record.specs.Read.{accepted}
 use Rattle.record.specs.Record.{read_record}
 use Rattle.record.specs.Valid.{Each, each∷, SuppliedOk}
-use Rattle.record.specs.RoundTrip.{Bytes, read_back}
+use Rattle.record.specs.RoundTrip.{Bytes}
+use Rattle.record.proofs.Laws.RoundTrip.{read_back}
 use Rattle.lexical.specs.Kind
 use Rattle.lexical.specs.Kind.{ending}
 use Rattle.lexical.specs.declared.token.Token.{Token}

@@ -28,11 +28,12 @@ use Rattle.text.specs.Choice.{clash}
 use Rattle.conditions.specs.Working.Emit.{Ran, ran}
 use Rattle.conditions.specs.declared.emit.Out.TheVariants.{Aside as Refused}
 use Rattle.conditions.specs.Working.Same.{Same, same-aside, same-part, SameAs, as-aside, as-ok, start-within}
-use Rattle.conditions.specs.Working.TieExpression.{expression-same}
-use Rattle.conditions.specs.Working.TieProgram.{conditions-same}
+use Rattle.conditions.proofs.Working.TieExpression.{expression-same}
+use Rattle.conditions.proofs.Working.TieProgram.{conditions-same}
 use Rattle.conditions.specs.Working.Pace.{within, next-sound, Paced, paced-aside, paced-found}
-use Rattle.conditions.specs.Working.PaceExpression.{expression-paced}
-use Rattle.conditions.specs.Working.PaceProgram.{Blocked, blocked-aside, blocked-found, block-paced}
+use Rattle.conditions.proofs.Working.PaceExpression.{expression-paced}
+use Rattle.conditions.specs.Working.PaceProgram.{Blocked, blocked-aside, blocked-found}
+use Rattle.conditions.proofs.Working.PaceProgram.{block-paced}
 use Rattle.conditions.specs.Working.Program.{conditions_at}
 use Rattle.naming.specs.Theorems.Says.{stood-sound}
 use Rattle.keynote.specs.Theorems.Keeping.{Keeps, k-next, k-done, keeps-pick, loop-keeps}

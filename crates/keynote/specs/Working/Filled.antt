@@ -18,11 +18,12 @@ use Rattle.record.specs.Query.{Query, Supplied}
 use Rattle.record.specs.Read.{accepted}
 use Rattle.record.specs.Record.{read_record}
 use Rattle.record.specs.Lies.{Lie, lie[], lie∷, StringAt, AttributeAt, AssertionAt, Lies}
-use Rattle.record.specs.Located.{read-lies}
+use Rattle.record.proofs.Laws.Located.{read-lies}
 use Rattle.record.specs.Places.{string_size, attribute_size, assertion_size, places_from, requesters_start, attributes_start, assertions_start}
 use Rattle.record.specs.Valid.{Valid, SuppliedOk}
 use Rattle.record.specs.Valid.{Each as All, each[], each∷}
-use Rattle.record.specs.RoundTrip.{Bytes, read_back}
+use Rattle.record.specs.RoundTrip.{Bytes}
+use Rattle.record.proofs.Laws.RoundTrip.{read_back}
 use Rattle.principal.specs.Principal.{policy}
 use Rattle.compliance.specs.System.{Assertion}
 use Rattle.compliance.specs.Rounds.{rank, rounds, reached}
@@ -38,7 +39,7 @@ use Rattle.assertion.specs.Working.Field.{Given, given}
 use Rattle.assertion.specs.Working.Reading.{read_in}
 use Rattle.assertion.specs.Theorems.Left.{first_alone, first_more}
 use Rattle.assertion.specs.Theorems.Ready.{Ready, ReadAs}
-use Rattle.assertion.specs.Theorems.Reads.{read_as}
+use Rattle.assertion.proofs.Theorems.Reads.{read_as}
 use Rattle.system.specs.Working.Noting.{ends_at, header_into}
 use Rattle.system.specs.Working.Each.{Fixed, fixed, Store, store, one_in, Each, on_one, full, full_at, each_from}
 use Rattle.system.specs.Working.Sizes.{Size, small, middle, large, middle_most, some_rows, some_code}

@@ -13,9 +13,10 @@ use Rattle.record.specs.Read.{accepted}
 use Rattle.record.specs.Record.{read_record}
 use Rattle.record.specs.Lies.{Lies}
 use Rattle.record.specs.Places.{assertion_size, assertions_start}
-use Rattle.record.specs.Located.{read-lies}
+use Rattle.record.proofs.Laws.Located.{read-lies}
 use Rattle.record.specs.Valid.{Valid}
-use Rattle.record.specs.RoundTrip.{Bytes, read_back}
+use Rattle.record.specs.RoundTrip.{Bytes}
+use Rattle.record.proofs.Laws.RoundTrip.{read_back}
 use Rattle.constants.specs.Constants.{Written, written, begun_into}
 use Rattle.constants.specs.Theorems.Begun.{begun-is}
 use Rattle.expression.specs.Conditions.{top}

@@ -30,9 +30,9 @@ use Rattle.conditions.specs.Working.Emit.{Ran, ran}
 use Rattle.conditions.specs.Working.Expression.{expr_at}
 use Rattle.conditions.specs.Working.Written.{Keeps, keeps, Grown, grown, Wrote, wrote}
 use Rattle.conditions.specs.Working.Same.{PartCodes, whole, Same, same-aside, same-part}
-use Rattle.conditions.specs.Working.TieExpression.{expression-same}
+use Rattle.conditions.proofs.Working.TieExpression.{expression-same}
 use Rattle.conditions.specs.Working.Pace.{Sound, sound, within, Paced, paced-aside, paced-found}
-use Rattle.conditions.specs.Working.PaceExpression.{expression-paced}
+use Rattle.conditions.proofs.Working.PaceExpression.{expression-paced}
 use Rattle.conditions.specs.declared.emit.Out.TheVariants.{Found, Aside as Refused}
 use Rattle.machine.specs.Working.Machine.{State, on, exec_behind, exec}
 use Rattle.machine.specs.Working.Given.{Gave, gave, buffer_of, string_of, string_in}

@@ -1,4 +1,5 @@
-use Rattle.principal.specs.Working.Comparing.{folded-apart, folded-end, folded-unlike, folded-like}
+use Rattle.principal.specs.Working.Comparing.{folded-apart, folded-end}
+use Rattle.principal.proofs.Working.Comparing.{folded-unlike, folded-like}
 use borrow.Author.Rules.{rules}
 use Rattle.principal.proofs.same_folded.Goals as goal
 

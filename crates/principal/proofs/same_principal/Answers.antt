@@ -1,4 +1,5 @@
-use Rattle.principal.specs.Working.Comparing.{same-short, same_bytes, same-apart, same-plain, same-hex, same_rest, same-other}
+use Rattle.principal.specs.Working.Comparing.{same_bytes}
+use Rattle.principal.proofs.Working.Comparing.{same-short, same-apart, same-plain, same-hex, same_rest, same-other}
 use Rattle.principal.proofs.same_principal.Goals as goal
 
 pub returns-then-a-b : goal.returns-then-a-b

@@ -32,12 +32,12 @@ unfolding folded
 folded-long [] = refl
 folded-long (b ∷ l) = ap suc (folded-long l)
 
-folded-append : (l m : List ℕ) → folded (l ++ m) ≡ folded l ++ folded m
+pub folded-append : (l m : List ℕ) → folded (l ++ m) ≡ folded l ++ folded m
 unfolding folded
 folded-append [] m = refl
 folded-append (b ∷ l) m = ap (λ (x : List ℕ). fold b ∷ x) (folded-append l m)
 
-folded-folded : (l : List ℕ) → folded (folded l) ≡ folded l
+pub folded-folded : (l : List ℕ) → folded (folded l) ≡ folded l
 unfolding folded
 folded-folded [] = refl
 folded-folded (b ∷ l) = rw (fold-fold b, folded-folded l)
@@ -55,7 +55,7 @@ behind-cases (b ∷ p) f g = split (eqb b 58)
     (λ e. behind-cases p (λ h. f (rw e h)) (λ r h. g r (rw e h)))
 
 -- the front has no ":", folded or not, so what stands before a ":" behind it is the front
-front-join : (p : List ℕ) (r : List ℕ) → front (folded (front p) ++ (58 ∷ r)) ≡ folded (front p)
+pub front-join : (p : List ℕ) (r : List ℕ) → front (folded (front p) ++ (58 ∷ r)) ≡ folded (front p)
 unfolding front folded
 front-join [] r = refl
 front-join (b ∷ p) r = split (eqb b 58)
@@ -74,36 +74,17 @@ pub canonical-key : (p : List ℕ) (r : List ℕ) → behind p ≡ 58 ∷ r → 
 unfolding canonical canonical_with tail
 canonical-key p r e = rw e
 
-tail-starts : (p : List ℕ) (r : List ℕ) → behind p ≡ 58 ∷ r → tail p ≡ 58 ∷ pick (is_hex (folded (front p))) (folded r) r
+pub tail-starts : (p : List ℕ) (r : List ℕ) → behind p ≡ 58 ∷ r → tail p ≡ 58 ∷ pick (is_hex (folded (front p))) (folded r) r
 unfolding tail folded fold
 tail-starts p r e = rw e (split (is_hex (folded (front p))) (λ h. rw h) (λ h. rw h))
 
-tail-long : (p : List ℕ) → length (tail p) ≡ length (behind p)
+pub tail-long : (p : List ℕ) → length (tail p) ≡ length (behind p)
 unfolding tail
 tail-long p = split (is_hex (folded (front p))) (λ h. rw h (folded-long (behind p))) (λ h. rw h)
 
-tail-folded : (p : List ℕ) → folded (tail p) ≡ folded (behind p)
+pub tail-folded : (p : List ℕ) → folded (tail p) ≡ folded (behind p)
 unfolding tail
 tail-folded p = split (is_hex (folded (front p))) (λ h. rw h (folded-folded (behind p))) (λ h. rw h)
 
-pub canonical-front : (p : List ℕ) → length (front (canonical p)) ≡ length (front p)
-canonical-front p = behind-cases p
-    (λ e. ap (λ (x : List ℕ). length (front x)) (canonical-plain p e))
-    (λ r e. ap (λ (x : List ℕ). length (front x)) (canonical-key p r e ∙ ap (λ (x : List ℕ). folded (front p) ++ x) (tail-starts p r e))
-    ∙ ap length (front-join p (pick (is_hex (folded (front p))) (folded r) r)) ∙ folded-long (front p))
-
 pub parts-long : (p : List ℕ) → length (front p) + length (behind p) ≡ length p
 parts-long p = sym (length-append (front p) (behind p)) ∙ ap length (front-behind p)
-
-pub canonical-long : (p : List ℕ) → length (canonical p) ≡ length p
-canonical-long p = behind-cases p
-    (λ e. ap length (canonical-plain p e))
-    (λ r e. ap length (canonical-key p r e) ∙ length-append (folded (front p)) (tail p) ∙ (let z : length (folded (front p)) + length (tail p) ≡ length p = omega (arith, folded-long (front p), tail-long p, parts-long p) in z))
-
--- folding forgets all that the canonical form does
-pub folded-canonical : (p : List ℕ) → folded (canonical p) ≡ folded p
-folded-canonical p = behind-cases p
-    (λ e. ap folded (canonical-plain p e))
-    (λ r e. ap folded (canonical-key p r e) ∙ folded-append (folded (front p)) (tail p)
-    ∙ ap (λ (x : List ℕ). x ++ folded (tail p)) (folded-folded (front p)) ∙ ap (λ (x : List ℕ). folded (front p) ++ x) (tail-folded p)
-    ∙ sym (folded-append (front p) (behind p)) ∙ ap folded (front-behind p))

@@ -1,4 +1,4 @@
-use Rattle.record.specs.Working.Entry.{read-refused, read_table, read_found, read-accepted, tabled-refused, tabled-accepted}
+use Rattle.record.proofs.Working.Entry.{read-refused, read_table, read_found, read-accepted, tabled-refused, tabled-accepted}
 use Rattle.record.proofs.read.Goals as goal
 
 pub copy_entries-requires : goal.copy_entries-requires

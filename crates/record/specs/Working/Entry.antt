@@ -17,7 +17,7 @@ use Rattle.record.specs.Record.{read_record}
 use Rattle.record.specs.Places.{places_from, string_size, attribute_size, assertion_size, requesters_start, attributes_start, assertions_start, places}
 use Rattle.record.specs.Reading.{Told, told, group_ends, leaves, read_into, tabled, tabled_verdict}
 use Rattle.record.specs.Working.Groups.{table_into}
-use Rattle.record.specs.Working.Tables.{Whole, whole_to, whole-no, places-length, table-tie}
+use Rattle.record.specs.Working.Tables.{Whole, whole_to, whole-no, places-length}
 use Rattle.record.specs.declared.Reading.{Reading}
 use Rattle.record.specs.declared.Reading.TheVariants.{Accepted, Refused}
 
@@ -46,7 +46,7 @@ module _ (dst src : List ℕ) where
   enter-done v i n h k e = let z : i ≡ n = omega arith in rw (← z) e
 
 -- a query has as many places as its groups' entries end at
-all-places : (q : Query) → length (places q) ≡ length q.values + length q.requesters + length q.attributes + length q.assertions
+pub all-places : (q : Query) → length (places q) ≡ length q.values + length q.requesters + length q.attributes + length q.assertions
 unfolding places
 all-places q =
     let v : List ℕ = places_from string_size 2 2 q.values in
@@ -64,76 +64,30 @@ all-places q =
       places-length assertion_size 3 (assertions_start q) q.assertions,
     )
 
-record Took (t : List ℕ) (w : Verdict) (u : List ℕ) (v r a c : ℕ) : Type 0 where
-  query : Query
-  is : w ≡ accepted query
-  ends : Accepted v r a c ≡ group_ends query
-  holds : u ≡ put t 0 (places query)
-  few : length (places query) ≤ most_items
+pub record Took (t : List ℕ) (w : Verdict) (u : List ℕ) (v r a c : ℕ) : Type 0 where
+  pub query : Query
+  pub is : w ≡ accepted query
+  pub ends : Accepted v r a c ≡ group_ends query
+  pub holds : u ≡ put t 0 (places query)
+  pub few : length (places query) ≤ most_items
 
-refused-of : {s t : List ℕ} {w : Verdict} {x : Told} → Whole s t w x → (m : Reading) (u : List ℕ) → told m u ≡ x → (k p : ℕ) → m ≡ Refused k p → w ≡ refused k p
+pub refused-of : {s t : List ℕ} {w : Verdict} {x : Told} → Whole s t w x → (m : Reading) (u : List ℕ) → told m u ≡ x → (k p : ℕ) → m ≡ Refused k p → w ≡ refused k p
 unfolding group_ends
 refused-of (whole_to q l lies) m u e k p f = cc
 refused-of whole-no m u e k p f = cc
 
-accepted-of : {s t : List ℕ} {w : Verdict} {x : Told} → Whole s t w x → (m : Reading) (u : List ℕ) → told m u ≡ x → (v r a c : ℕ) → m ≡ Accepted v r a c → Took t w u v r a c
+pub accepted-of : {s t : List ℕ} {w : Verdict} {x : Told} → Whole s t w x → (m : Reading) (u : List ℕ) → told m u ≡ x → (v r a c : ℕ) → m ≡ Accepted v r a c → Took t w u v r a c
 accepted-of (whole_to q l lies) m u e v r a c f = record { query = q; is = refl; ends = cc; holds = cc; few = l }
 accepted-of whole-no m u e v r a c f = let z : ◌≡◌ {A = ℕ} 0 1 = cc in absurd (omega arith)
 
-front_of : (t u p : List ℕ) (c : ℕ) → u ≡ put t 0 p → c ≡ length p → take c u ≡ p
+pub front_of : (t u p : List ℕ) (c : ℕ) → u ≡ put t 0 p → c ≡ length p → take c u ≡ p
 unfolding put
 front_of t u p c e f = rw (e, f) (take-append_seam p (drop (0 + length p) t))
 
 -- `read`
-empty : List ℕ
+unfoldable pub empty : List ℕ
 empty = replicate most_items 0
 
-room : most_items ≤ length empty
+pub room : most_items ≤ length empty
 unfolding empty
 room = omega (arith, length-replicate {A = ℕ} most_items 0)
-
-module _ (s table : List ℕ) (m : Reading) (u : List ℕ) (me : told m u ≡ table_into s (replicate most_items 0)) where
-  from_empty : told m u ≡ table_into s empty
-  unfolding empty
-  from_empty = me
-
-  pub read-refused : (k p : ℕ) → m ≡ Refused k p → told m table ≡ read_into s table
-  unfolding read_into leaves
-  read-refused k p e = rw (e, refused-of (table-tie s empty room) m u from_empty k p e)
-
-  pub tabled-refused : (k p : ℕ) → m ≡ Refused k p → tabled m ≡ tabled_verdict (read_record s)
-  unfolding tabled tabled_verdict
-  tabled-refused k p e = rw (e, refused-of (table-tie s empty room) m u from_empty k p e)
-
-  module _ (v r a c : ℕ) (e : m ≡ Accepted v r a c) where
-    took : Took empty (read_record s) u v r a c
-    took = accepted-of (table-tie s empty room) m u from_empty v r a c e
-
-    count-is : c ≡ length (places took.query)
-    unfolding group_ends
-    count-is =
-        let f : Accepted v r a c ≡ group_ends took.query = took.ends in
-        let g : c ≡ length took.query.values + length took.query.requesters + length took.query.attributes + length took.query.assertions = cc in
-        g ∙ sym (all-places took.query)
-
-    pub read-few : c ≤ most_items
-    read-few = omega (arith, count-is, took.few)
-
-    pub read_table : (x : List ℕ) → length x ≡ most_items → c ≤ length x
-    read_table x h = omega (arith, read-few)
-
-    pub read_found : c ≤ length u
-    read_found =
-        let l : length u ≡ length empty = ap length took.holds ∙ put-length empty 0 (places took.query) (omega (arith, took.few, room)) in
-        omega (arith, read-few, room)
-
-    front-is : take c u ≡ places took.query
-    front-is = front_of empty u (places took.query) c took.holds count-is
-
-    pub read-accepted : (x : List ℕ) → x ≡ put table 0 (take c u) → told (Accepted v r a c) x ≡ read_into s table
-    unfolding read_into leaves
-    read-accepted x xe = rw (took.is, ← took.ends, xe, front-is)
-
-    pub tabled-accepted : tabled (Accepted v r a c) ≡ tabled_verdict (read_record s)
-    unfolding tabled tabled_verdict
-    tabled-accepted = rw took.is

@@ -6,7 +6,7 @@ use Rattle.syntax.specs.Operator.{Unary, Binary, Side, Relation, Ordering, looku
 use Rattle.syntax.specs.Operation.{Operation, literal, name, number, truth, decimal, unary, binary, begin, plain, valued, nested, raise, unary_number, comparison_number, order_number, binary_number, number_of}
 
 -- the operations in the order of their numbers
-operations : List Operation
+pub operations : List Operation
 operations =
     literal ∷ name ∷ number ∷ truth true ∷ truth false ∷ decimal
     ∷ unary lookup ∷ unary convert ∷ unary negate ∷ unary opposite ∷ unary to-float ∷ unary float-negate
@@ -20,7 +20,7 @@ operations =
     ∷ binary both ∷ binary either
     ∷ begin ∷ plain ∷ valued ∷ nested ∷ raise ∷ []
 
-listed : (o : Operation) → get_or operations (number_of o) literal ≡ o
+pub listed : (o : Operation) → get_or operations (number_of o) literal ≡ o
 unfolding operations
 listed literal = refl
 listed name = refl
@@ -70,10 +70,6 @@ listed plain = refl
 listed valued = refl
 listed nested = refl
 listed raise = refl
-
--- operations with one number are one operation
-pub numbers-differ : (o p : Operation) → number_of o ≡ number_of p → o ≡ p
-numbers-differ o p e = sym (listed o) ∙ ap (λ (n : ℕ). get_or operations n literal) e ∙ listed p
 
 -- where the operators' numbers lie: the machine tells an operator by its number
 pub unary-between : (op : Unary) → (Op.LOOKUP ≤ unary_number op) × (unary_number op ≤ Op.FLOAT_NEGATE)

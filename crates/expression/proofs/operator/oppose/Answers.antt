@@ -1,4 +1,5 @@
-use Rattle.expression.specs.Working.Operating.{oppose-test, oppose-none}
+use Rattle.expression.specs.Working.Operating.{oppose-test}
+use Rattle.expression.proofs.Working.Operating.{oppose-none}
 use Rattle.expression.proofs.operator.oppose.Goals as goal
 
 pub returns-then-is_test : goal.returns-then-is_test

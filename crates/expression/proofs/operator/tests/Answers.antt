@@ -1,4 +1,4 @@
-use Rattle.expression.specs.Working.Operating.{both-more, both-done, either-done, either-more, tests-none}
+use Rattle.expression.proofs.Working.Operating.{both-more, both-done, either-done, either-more, tests-none}
 use Rattle.expression.proofs.operator.tests.Goals as goal
 
 pub returns-then-holds_in : goal.returns-then-holds_in

@@ -4,7 +4,7 @@ use Rattle.record.specs.Query.{Query}
 use Rattle.record.specs.Read.{accepted}
 use Rattle.record.specs.Record.{read_record}
 use Rattle.record.specs.Lies.{Lies}
-use Rattle.record.specs.Working.Tables.{tables-lie}
+use Rattle.record.proofs.Working.Tables.{tables-lie}
 
 pub read-lies : (s : List ℕ) (q : Query) → read_record s ≡ accepted q → Lies s q
 read-lies s q e = tables-lie s q e

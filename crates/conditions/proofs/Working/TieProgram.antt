@@ -1,10 +1,10 @@
 -- Programs belong to their code. Assumes nothing.
-use Rattle.std.specs.Prelude.{◌≡◌, refl, Bool, List, [], ◌∷◌, ◌++◌, ℕ, zero, suc, ◌+◌, ◌-◌, ◌<◌, ◌≤◌, eqb, leb, ltb, length}
+use Rattle.std.specs.Prelude.{◌≡◌, refl, Bool, List, [], ◌∷◌, ◌++◌, ℕ, zero, suc, ◌+◌, ◌-◌, ◌<◌, ◌≤◌, eqb, leb, length}
 use Rattle.std.proofs.Common.{sym, arith}
 use Rattle.std.proofs.Math.Bool.{true, false}
 use borrow.Author.Tests.{le-ltb}
 use Rattle.text.specs.Choice.{pick}
-use Rattle.text.specs.Loop.{Step, next, done, loop}
+use Rattle.text.specs.Loop.{Step}
 use Rattle.lexical.specs.Kind
 use Rattle.lexical.specs.declared.token.Token.{Token}
 use Rattle.syntax.specs.Op
@@ -23,10 +23,9 @@ use Rattle.conditions.specs.Working.Emit.{Ran, ran, refused, above, put, word_to
 use Rattle.conditions.specs.Working.Expression.{expr_at}
 use Rattle.conditions.specs.Working.Program as Write
 use Rattle.conditions.specs.Working.Written.{Grown, Then, then, grown-as, grown-then, grown-none, grown-put, append_assoc, keeps_self, kept, under}
-use Rattle.conditions.specs.Working.Same.{PartCodes, Same, SameAs, as-aside, as-ok, as-refused, same-on, as-on, both, start-within, Steps, both-next, both-done, loop-same}
+use Rattle.conditions.specs.Working.Same.{PartCodes, SameAs, as-aside, as-ok, as-refused, same-on, as-on, both, start-within, Steps, both-next, both-done, loop-same}
 use Rattle.conditions.specs.Working.TieOperand.{write-word-grown}
-use Rattle.conditions.specs.Working.TieExpression.{expression-same}
-use Rattle.conditions.specs.declared.emit.Out.{Out}
+use Rattle.conditions.proofs.Working.TieExpression.{expression-same}
 use Rattle.conditions.specs.declared.emit.Out.TheVariants.{Found, Aside}
 use Rattle.syntax.specs.Working.Faults.{against}
 use Rattle.limits.specs.Limits.{most_brackets}

@@ -7,7 +7,7 @@ use Rattle.lexical.specs.Kind
 use Rattle.lexical.specs.declared.token.Token.{Token}
 use Rattle.syntax.specs.Operator.{Unary, Binary, Sort, unary_takes, unary_gives, binary_takes, binary_gives}
 use Rattle.syntax.specs.Operation.{unary_number, binary_number}
-use Rattle.syntax.specs.Operation as Operation
+use Rattle.syntax.specs.Operation
 use Rattle.syntax.specs.Theorems.Numbers.{number_fits}
 use Rattle.syntax.specs.Expr.{Expr, unary, binary}
 use Rattle.conditions.specs.Table.{PartSort, sorted, Want}
@@ -23,7 +23,8 @@ use Rattle.conditions.specs.Working.Emit.{Ran, ran, refused, word_top, word_writ
 use Rattle.conditions.specs.Working.Expression as Write
 use Rattle.conditions.specs.Working.Written.{Grown, keeps_self, kept, under}
 use Rattle.conditions.specs.Working.Same.{PartCodes, Same, same-aside, same-part, same-refused, same-on, both, start-within, Steps, both-next, both-done, loop-same}
-use Rattle.conditions.specs.Working.TieTable.{prefix-of, allows-number, inside-number, alike-prefix, alike-infix, operator-number, prefix-number, unary-row, unary-want, binary-row, right-want, right-level, binds-number}
+use Rattle.conditions.specs.Working.TieTable.{prefix-of, allows-number, inside-number, alike-prefix, alike-infix, prefix-number, unary-row, unary-want, binary-row}
+use Rattle.conditions.proofs.Working.TieTable.{operator-number, right-want, right-level, binds-number}
 use Rattle.conditions.specs.Working.TieOperand.{leaf-same, write-word-grown, unary-same, binary-same}
 use Rattle.conditions.specs.declared.emit.Out.TheVariants.{Found, Aside}
 use Rattle.syntax.specs.Working.Faults.{against}

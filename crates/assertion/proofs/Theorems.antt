@@ -1,0 +1,3 @@
+pub mod Fielded
+pub mod OnePass
+pub mod Reads
