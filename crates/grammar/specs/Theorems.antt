@@ -5,12 +5,10 @@ pub mod OneToken
 pub mod Assigning
 pub mod Conditioning
 pub mod Exactly
-pub mod Readers
 pub mod Convert
 pub mod Floats
 pub mod Decimals
 pub mod Authoring
 pub mod Naming
 pub mod Mixtures
-pub mod Spoken
 pub mod Examples

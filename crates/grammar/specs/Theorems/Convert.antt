@@ -6,13 +6,6 @@ use Rattle.grammar.specs.Fields.{end-of-text, field}
 use Rattle.grammar.specs.Conditions.{operand, whole, TRUTH, Name, any_name, truth-name, str-name, str-bracket, str-one, str-join, Int, int-literal, int-convert, int-one, int_up, int-term, equal, of-integers, test-comparison, test-one, test-ands, no-clause, clause, tested, Conditions}
 use Rattle.grammar.specs.Viable.{Viable}
 use Rattle.grammar.specs.Working.States.{step}
-use Rattle.grammar.specs.Working.Accepts.{conditions-dead}
-
--- "@x ." begins no sentence: the "." has no continuation
-pub convert-dot : (k : ℕ) → Name k → Viable Conditions (Kind.AT ∷ k ∷ Kind.DOT ∷ []) → ⊥
-unfolding step Table.allows Table.begins_string Table.begins_number Table.begins_float Table.operator Table.number_operator Table.float_operator Table.comparison Table.binds
-convert-dot _ any_name = conditions-dead (Kind.AT ∷ Kind.NAME ∷ Kind.DOT ∷ []) refl
-convert-dot _ truth-name = conditions-dead (Kind.AT ∷ TRUTH ∷ Kind.DOT ∷ []) refl
 
 -- "@(x . y) == 0;" is a sentence
 pub convert-bracket : Conditions (Kind.AT ∷ Kind.OPEN ∷ Kind.NAME ∷ Kind.DOT ∷ Kind.NAME ∷ Kind.CLOSE ∷ Kind.EQUAL ∷ Kind.DIGITS ∷ Kind.SEMICOLON ∷ Kind.END ∷ [])

@@ -17,21 +17,19 @@ use Rattle.grammar.specs.Conditions.{any_name, str-name, str-one}
 use Rattle.grammar.specs.Naming.{Licensees, somebody, either, principal}
 use Rattle.grammar.specs.Spelled.{kind_in, kinds_in}
 use Rattle.grammar.specs.Viable.{viable, TokensIn, at_once, and-on}
-use Rattle.grammar.specs.Theorems.Spoken.{Spoken, names-spoken, Given, names-given}
-use Rattle.grammar.specs.Working.Principals.{names-dead}
 use Rattle.grammar.specs.Working.States.{step}
 
 -- `a||b` behind a blank, and the tokens behind that blank
-abbrev joined : List ℕ
+abbrev pub joined : List ℕ
 joined = 32 ∷ 97 ∷ 124 ∷ 124 ∷ 98 ∷ []
 
-abbrev joined_tokens : List Token
+abbrev pub joined_tokens : List Token
 joined_tokens = token Kind.NAME 1 2 ∷ token Kind.OR 2 4 ∷ token Kind.NAME 4 5 ∷ []
 
-abbrev end : Token
+abbrev pub end : Token
 end = token Kind.END 5 5
 
-joined-path : TokensIn joined Kind.IN_LICENSEES (token_at joined Kind.IN_LICENSEES 1) joined_tokens end
+pub joined-path : TokensIn joined Kind.IN_LICENSEES (token_at joined Kind.IN_LICENSEES 1) joined_tokens end
 unfolding token_at in_line visible token_from operator_token operator_at width_of operator_kind pair_of equal_pair mark_kind is_of class_of in_run has_class past
 joined-path = and-on (token Kind.NAME 1 2) end _ (and-on (token Kind.OR 2 4) end _ (and-on (token Kind.NAME 4 5) end [] (at_once end)))
 
@@ -39,21 +37,9 @@ joined-kinds : kinds_in joined joined_tokens ≡ Kind.NAME ∷ Kind.OR ∷ Kind.
 unfolding kind_in spells lower stands
 joined-kinds = refl
 
-joined-sentence : Licensees (kinds_in joined joined_tokens)
+pub joined-sentence : Licensees (kinds_in joined joined_tokens)
 joined-sentence = rw joined-kinds (somebody _ (either (Kind.NAME ∷ []) (Kind.NAME ∷ []) (principal _ (str-one _ (str-name Kind.NAME any_name))) (principal _ (str-one _ (str-name Kind.NAME any_name)))))
 
-joined_end : Ends (kind_in joined end)
+pub joined_end : Ends (kind_in joined end)
 unfolding kind_in
 joined_end = end-of-text
-
--- so these tokens say a tree, and the reader gives it
-pub joined-spoken : Spoken joined [] joined_tokens
-joined-spoken = names-spoken joined [] 1 joined_tokens end joined-path joined-sentence
-
-pub joined-given : Given joined [] 1 joined_tokens end (licensees joined [] (token_at joined Kind.IN_LICENSEES 1))
-joined-given = names-given joined [] 1 joined_tokens end joined-path joined-sentence joined_end
-
--- the first two tokens alone are no sentence
-pub half-none : Licensees (Kind.NAME ∷ Kind.OR ∷ []) → ⊥
-unfolding step Table.allows Table.begins_string Table.operator Table.text_operator Table.comparison Table.binds Table.level_of ending
-half-none g = names-dead (Kind.NAME ∷ Kind.OR ∷ Kind.END ∷ []) refl (viable [] (field (Kind.NAME ∷ Kind.OR ∷ []) Kind.END g end-of-text))

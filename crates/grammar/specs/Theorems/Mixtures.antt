@@ -8,18 +8,12 @@ use Rattle.grammar.specs.Fields.{end-of-text, Field, field}
 use Rattle.grammar.specs.Conditions.{any_name, str-literal, str-name, str-lookup, str-bracket, str-one, str-join}
 use Rattle.grammar.specs.Naming.{Author, one, comma, bracket, both, either, threshold, principal, Licensees, somebody}
 use Rattle.grammar.specs.Viable.{Viable, Open, opens}
-use Rattle.grammar.specs.Theorems.Authoring.{author-dead}
 use Rattle.grammar.specs.Working.States.{step}
-use Rattle.grammar.specs.Working.Principals.{names-dead}
 
 -- `("a" || "b") . "c"`: what stands before the "." begins a sentence, with the "." it begins none
 pub mixed-open : Open (Field Licensees) (Kind.OPEN ∷ Kind.LITERAL ∷ Kind.OR ∷ Kind.LITERAL ∷ Kind.CLOSE ∷ [])
 mixed-open =
     opens Kind.END [] (field _ Kind.END (somebody _ (bracket _ (either _ _ (principal (Kind.LITERAL ∷ []) (str-one _ str-literal)) (principal (Kind.LITERAL ∷ []) (str-one _ str-literal))))) end-of-text)
-
-pub mixed-dot : Viable (Field Licensees) (Kind.OPEN ∷ Kind.LITERAL ∷ Kind.OR ∷ Kind.LITERAL ∷ Kind.CLOSE ∷ Kind.DOT ∷ []) → ⊥
-unfolding step Table.allows Table.begins_string Table.operator Table.text_operator Table.comparison Table.binds Table.level_of ending
-mixed-dot = names-dead (Kind.OPEN ∷ Kind.LITERAL ∷ Kind.OR ∷ Kind.LITERAL ∷ Kind.CLOSE ∷ Kind.DOT ∷ []) refl
 
 -- `(("" . "a")) . "" || "b"` is a sentence
 pub string-brackets : Field Licensees (Kind.OPEN ∷ Kind.OPEN ∷ Kind.LITERAL ∷ Kind.DOT ∷ Kind.LITERAL ∷ Kind.CLOSE ∷ Kind.CLOSE ∷ Kind.DOT ∷ Kind.LITERAL ∷ Kind.OR ∷ Kind.LITERAL ∷ Kind.END ∷ [])
@@ -38,42 +32,9 @@ pub list-strings : Field Licensees (Kind.DIGITS ∷ Kind.OF ∷ Kind.OPEN ∷ Ki
 list-strings =
     field _ Kind.END (somebody _ (threshold _ (comma _ _ (one _ (str-one _ (str-bracket (Kind.LITERAL ∷ []) (str-one _ str-literal)))) (one _ (str-join (Kind.LITERAL ∷ []) _ (str-one _ str-literal) str-literal))))) end-of-text
 
-pub list-and : Viable (Field Licensees) (Kind.DIGITS ∷ Kind.OF ∷ Kind.OPEN ∷ Kind.OPEN ∷ Kind.LITERAL ∷ Kind.AND ∷ []) → ⊥
-unfolding step Table.allows Table.begins_string Table.operator Table.text_operator Table.comparison Table.binds Table.level_of ending
-list-and = names-dead (Kind.DIGITS ∷ Kind.OF ∷ Kind.OPEN ∷ Kind.OPEN ∷ Kind.LITERAL ∷ Kind.AND ∷ []) refl
-
-pub list-list : Viable (Field Licensees) (Kind.DIGITS ∷ Kind.OF ∷ Kind.OPEN ∷ Kind.DIGITS ∷ []) → ⊥
-unfolding step Table.allows Table.begins_string Table.operator Table.text_operator Table.comparison Table.binds Table.level_of ending
-list-list = names-dead (Kind.DIGITS ∷ Kind.OF ∷ Kind.OPEN ∷ Kind.DIGITS ∷ []) refl
-
--- `"a" . ("b" || "c")` goes wrong at "||", and so does `$("a" || "b")`; `"a" . 1-of("b")` at the number; `("a") ("b")` at the second bracket
-pub dot-or : Viable (Field Licensees) (Kind.LITERAL ∷ Kind.DOT ∷ Kind.OPEN ∷ Kind.LITERAL ∷ Kind.OR ∷ []) → ⊥
-unfolding step Table.allows Table.begins_string Table.operator Table.text_operator Table.comparison Table.binds Table.level_of ending
-dot-or = names-dead (Kind.LITERAL ∷ Kind.DOT ∷ Kind.OPEN ∷ Kind.LITERAL ∷ Kind.OR ∷ []) refl
-
-pub lookup-or : Viable (Field Licensees) (Kind.DOLLAR ∷ Kind.OPEN ∷ Kind.LITERAL ∷ Kind.OR ∷ []) → ⊥
-unfolding step Table.allows Table.begins_string Table.operator Table.text_operator Table.comparison Table.binds Table.level_of ending
-lookup-or = names-dead (Kind.DOLLAR ∷ Kind.OPEN ∷ Kind.LITERAL ∷ Kind.OR ∷ []) refl
-
-pub dot-list : Viable (Field Licensees) (Kind.LITERAL ∷ Kind.DOT ∷ Kind.DIGITS ∷ []) → ⊥
-unfolding step Table.allows Table.begins_string Table.operator Table.text_operator Table.comparison Table.binds Table.level_of ending
-dot-list = names-dead (Kind.LITERAL ∷ Kind.DOT ∷ Kind.DIGITS ∷ []) refl
-
-pub two-brackets : Viable (Field Licensees) (Kind.OPEN ∷ Kind.LITERAL ∷ Kind.CLOSE ∷ Kind.OPEN ∷ []) → ⊥
-unfolding step Table.allows Table.begins_string Table.operator Table.text_operator Table.comparison Table.binds Table.level_of ending
-two-brackets = names-dead (Kind.OPEN ∷ Kind.LITERAL ∷ Kind.CLOSE ∷ Kind.OPEN ∷ []) refl
-
 -- Authorizer: `"POL" . ("IC" . "Y")` and `$(x)` are sentences; `"a" "b"` and `x . 5` go wrong at the second word
 pub author-joined : Field Author (Kind.LITERAL ∷ Kind.DOT ∷ Kind.OPEN ∷ Kind.LITERAL ∷ Kind.DOT ∷ Kind.LITERAL ∷ Kind.CLOSE ∷ Kind.END ∷ [])
 author-joined = field _ Kind.END (str-join (Kind.LITERAL ∷ []) _ (str-one _ str-literal) (str-bracket _ (str-join (Kind.LITERAL ∷ []) _ (str-one _ str-literal) str-literal))) end-of-text
 
 pub author-lookup : Field Author (Kind.DOLLAR ∷ Kind.OPEN ∷ Kind.NAME ∷ Kind.CLOSE ∷ Kind.END ∷ [])
 author-lookup = field _ Kind.END (str-one _ (str-lookup _ (str-bracket (Kind.NAME ∷ []) (str-one _ (str-name Kind.NAME any_name))))) end-of-text
-
-pub author-two : Viable (Field Author) (Kind.LITERAL ∷ Kind.LITERAL ∷ []) → ⊥
-unfolding step Table.allows Table.begins_string Table.operator Table.text_operator Table.comparison Table.binds Table.level_of ending
-author-two = author-dead (Kind.LITERAL ∷ Kind.LITERAL ∷ []) refl
-
-pub author-number : Viable (Field Author) (Kind.NAME ∷ Kind.DOT ∷ Kind.DIGITS ∷ []) → ⊥
-unfolding step Table.allows Table.begins_string Table.operator Table.text_operator Table.comparison Table.binds Table.level_of ending
-author-number = author-dead (Kind.NAME ∷ Kind.DOT ∷ Kind.DIGITS ∷ []) refl

@@ -83,7 +83,7 @@ pub data Again (sort : PartSort) (q : State) (F : Frame) (k : ℕ) : Type 0 wher
 pub data Inside (sort : PartSort) (q : State) (F : Frame) : Type 0 where
   inside : (r : State) (G : Frame) → step q Kind.OPEN ≡ r → Wants sort r G → step (p-have sort G) Kind.CLOSE ≡ p-have sort F → Inside sort q F
 
-minus-again : (sort : PartSort) (q : State) (F : Frame) → Wants sort q F → Again sort q F Kind.MINUS
+pub minus-again : (sort : PartSort) (q : State) (F : Frame) → Wants sort q F → Again sort q F Kind.MINUS
 unfolding step Table.allows Table.begins_number Table.begins_string Table.begins_float
 minus-again _ _ F (integer-wanted _) = again (p-number want-integer F) refl (integer-wanted F)
 minus-again _ _ F (float-wanted _) = again (p-number want-float F) refl (float-wanted F)
@@ -92,7 +92,7 @@ minus-again _ _ F (first-float _) = again (p-number want-number F) refl (first-f
 minus-again _ _ _ (any-integer S) = again (p-number want-number (tests S)) refl (first-integer (tests S))
 minus-again _ _ _ (any-float S) = again (p-number want-number (tests S)) refl (first-float (tests S))
 
-open-inside : (sort : PartSort) (q : State) (F : Frame) → Wants sort q F → Inside sort q F
+pub open-inside : (sort : PartSort) (q : State) (F : Frame) → Wants sort q F → Inside sort q F
 unfolding step Table.allows Table.operator Table.number_operator Table.float_operator Table.ordering Table.comparison Table.binds
 open-inside _ _ F (integer-wanted _) = inside (p-number want-integer (numbers F)) (numbers F) refl (integer-wanted (numbers F)) refl
 open-inside _ _ F (float-wanted _) = inside (p-number want-float (numbers F)) (numbers F) refl (float-wanted (numbers F)) refl
@@ -102,15 +102,15 @@ open-inside _ _ _ (any-integer S) = inside (p-any (in-bracket true S)) (tests (i
 open-inside _ _ _ (any-float S) = inside (p-any (in-bracket true S)) (tests (in-bracket true S)) refl (any-float (in-bracket true S)) refl
 
 -- a number in brackets, one behind "-", one behind a conversion, and two with an operator between them
-in-brackets : (sort : PartSort) (q : State) (F : Frame) (ks : List ℕ) → Inside sort q F → ((r : State) (G : Frame) → Wants sort r G → run step r ks ≡ p-have sort G)
+pub in-brackets : (sort : PartSort) (q : State) (F : Frame) (ks : List ℕ) → Inside sort q F → ((r : State) (G : Frame) → Wants sort r G → run step r ks ≡ p-have sort G)
     → run step q (Kind.OPEN ∷ ks ++ Kind.CLOSE ∷ []) ≡ p-have sort F
 in-brackets sort q F ks (inside r G e w c) h =
     first_part q r (ks ++ Kind.CLOSE ∷ []) Kind.OPEN e ∙ through-part r (p-have sort G) (p-have sort F) ks [] Kind.CLOSE (h r G w) c
 
-behind-mark : (sort : PartSort) (q : State) (F : Frame) (ks : List ℕ) (k : ℕ) → Again sort q F k → ((r : State) → Wants sort r F → run step r ks ≡ p-have sort F) → run step q (k ∷ ks) ≡ p-have sort F
+pub behind-mark : (sort : PartSort) (q : State) (F : Frame) (ks : List ℕ) (k : ℕ) → Again sort q F k → ((r : State) → Wants sort r F → run step r ks ≡ p-have sort F) → run step q (k ∷ ks) ≡ p-have sort F
 behind-mark sort q F ks k (again r e w) h = first_part q r ks k e ∙ h r w
 
-two : (q p r : State) (ks ls : List ℕ) (k : ℕ) → run step q ks ≡ p → step p k ≡ r → run step r ls ≡ p → run step q (ks ++ k ∷ ls) ≡ p
+pub two : (q p r : State) (ks ls : List ℕ) (k : ℕ) → run step q ks ≡ p → step p k ≡ r → run step r ls ≡ p → run step q (ks ++ k ∷ ls) ≡ p
 two q p r ks ls k e f g = through-part q p r ks ls k e f ∙ g
 
 pub digits-have : (q : State) (F : Frame) → Wants NUMBER q F → step q Kind.DIGITS ≡ p-have NUMBER F
@@ -125,13 +125,13 @@ at-text _ F (integer-wanted _) = refl
 at-text _ F (first-integer _) = refl
 at-text _ _ (any-integer S) = refl
 
-float-have : (q : State) (F : Frame) → Wants FLOATING q F → step q Kind.FLOAT ≡ p-have FLOATING F
+pub float-have : (q : State) (F : Frame) → Wants FLOATING q F → step q Kind.FLOAT ≡ p-have FLOATING F
 unfolding step Table.allows Table.begins_number Table.begins_string Table.begins_float
 float-have _ F (float-wanted _) = refl
 float-have _ F (first-float _) = refl
 float-have _ _ (any-float S) = refl
 
-ampersand-text : (q : State) (F : Frame) → Wants FLOATING q F → step q Kind.AMPERSAND ≡ p-text FLOATING F
+pub ampersand-text : (q : State) (F : Frame) → Wants FLOATING q F → step q Kind.AMPERSAND ≡ p-text FLOATING F
 unfolding step Table.allows Table.begins_number Table.begins_string Table.begins_float
 ampersand-text _ F (float-wanted _) = refl
 ampersand-text _ F (first-float _) = refl
@@ -167,36 +167,6 @@ unfolding step Table.operator Table.number_operator Table.float_operator Table.o
 sum-float F _ plus = refl
 sum-float F _ minus = refl
 
-pub int-run : (c : Class) (ks : List ℕ) → Int c ks → (q : State) (F : Frame) → Wants NUMBER q F → run step q ks ≡ p-have NUMBER F
-int-run _ _ int-literal q F w = digits-have q F w
-int-run _ _ (int-minus ks i) q F w = behind-mark NUMBER q F ks Kind.MINUS (minus-again NUMBER q F w) (λ r v. int-run operand ks i r F v)
-int-run _ _ (int-convert ks s) q F w = first_part q (p-text NUMBER F) ks Kind.AT (at-text q F w) ∙ text-run operand ks s NUMBER F any-sort
-int-run _ _ (int-bracket ks i) q F w = in-brackets NUMBER q F ks (open-inside NUMBER q F w) (λ r G v. int-run whole ks i r G v)
-int-run _ _ (int-one ks i) q F w = int-run operand ks i q F w
-int-run _ _ (int-power ks ls i j) q F w =
-    two q (p-have NUMBER F) (p-number want-integer F) ks ls Kind.POWER (int-run power ks i q F w) (power-number F) (int-run operand ls j (p-number want-integer F) F (integer-wanted F))
-int-run _ _ (int_up ks i) q F w = int-run power ks i q F w
-int-run _ _ (int-product o ks ls p i j) q F w =
-    two q (p-have NUMBER F) (p-number want-integer F) ks ls o (int-run product ks i q F w) (product-number F o p) (int-run power ls j (p-number want-integer F) F (integer-wanted F))
-int-run _ _ (int-term ks i) q F w = int-run product ks i q F w
-int-run _ _ (int-sum o ks ls p i j) q F w =
-    two q (p-have NUMBER F) (p-number want-integer F) ks ls o (int-run whole ks i q F w) (sum_number F o p) (int-run product ls j (p-number want-integer F) F (integer-wanted F))
-
-pub float-run : (c : Class) (ks : List ℕ) → Float c ks → (q : State) (F : Frame) → Wants FLOATING q F → run step q ks ≡ p-have FLOATING F
-float-run _ _ float-literal q F w = float-have q F w
-float-run _ _ (float-minus ks i) q F w = behind-mark FLOATING q F ks Kind.MINUS (minus-again FLOATING q F w) (λ r v. float-run operand ks i r F v)
-float-run _ _ (float_convert ks s) q F w = first_part q (p-text FLOATING F) ks Kind.AMPERSAND (ampersand-text q F w) ∙ text-run operand ks s FLOATING F any-sort
-float-run _ _ (float-bracket ks i) q F w = in-brackets FLOATING q F ks (open-inside FLOATING q F w) (λ r G v. float-run whole ks i r G v)
-float-run _ _ (float_one ks i) q F w = float-run operand ks i q F w
-float-run _ _ (float-power ks ls i j) q F w =
-    two q (p-have FLOATING F) (p-number want-float F) ks ls Kind.POWER (float-run power ks i q F w) (power-float F) (float-run operand ls j (p-number want-float F) F (float-wanted F))
-float-run _ _ (float_up ks i) q F w = float-run power ks i q F w
-float-run _ _ (float-product o ks ls p i j) q F w =
-    two q (p-have FLOATING F) (p-number want-float F) ks ls o (float-run product ks i q F w) (times-float F o p) (float-run power ls j (p-number want-float F) F (float-wanted F))
-float-run _ _ (float-term ks i) q F w = float-run product ks i q F w
-float-run _ _ (float-sum o ks ls p i j) q F w =
-    two q (p-have FLOATING F) (p-number want-float F) ks ls o (float-run whole ks i q F w) (sum-float F o p) (float-run product ls j (p-number want-float F) F (float-wanted F))
-
 -- what was gone through, and of which sort in which frame it is
 pub data Gone (P : PartSort → Frame → Type 0) (q : State) (ks : List ℕ) : Type 0 where
   gone : (sort : PartSort) (F : Frame) → P sort F → run step q ks ≡ p-have sort F → Gone P q ks
@@ -206,7 +176,7 @@ pub data Words (S : Spot) : PartSort → Frame → Type 0 where
   w-text : Words S TEXT (tests S)
   w-word : Words S TRUE (tests S)
 
-name-any : (S : Spot) (k : ℕ) → Name k → Gone (Words S) (p-any S) (k ∷ [])
+pub name-any : (S : Spot) (k : ℕ) → Name k → Gone (Words S) (p-any S) (k ∷ [])
 unfolding step Table.allows Table.begins_string Table.begins_number Table.begins_float
 name-any S _ any_name = gone TEXT (tests S) w-text refl
 name-any S _ truth-name = gone TRUE (tests S) w-word refl
@@ -227,7 +197,7 @@ pub not-any : (S : Spot) → step (p-any S) Kind.NOT ≡ p-any (strict S)
 unfolding step Table.allows Table.begins_string Table.begins_number Table.begins_float
 not-any S = refl
 
-words-close : (S : Spot) (q : State) (ks : List ℕ) → Gone (Words (in-bracket true S)) q ks → Gone (Words S) q (ks ++ Kind.CLOSE ∷ [])
+pub words-close : (S : Spot) (q : State) (ks : List ℕ) → Gone (Words (in-bracket true S)) q ks → Gone (Words S) q (ks ++ Kind.CLOSE ∷ [])
 unfolding step Table.operator Table.text_operator Table.test_operator Table.comparison Table.binds
 words-close S q ks (gone _ _ w-text e) = gone TEXT (tests S) w-text (through-part q _ _ ks [] Kind.CLOSE e refl)
 words-close S q ks (gone _ _ w-word e) = gone TRUE (tests S) w-word (through-part q _ _ ks [] Kind.CLOSE e refl)
@@ -237,25 +207,12 @@ unfolding step Table.operator Table.text_operator Table.test_operator Table.comp
 words-dot S _ _ w-text = refl
 words-dot S _ _ w-word = refl
 
-words-on : (S : Spot) (q r : State) (ks ls : List ℕ) (k : ℕ) → ((sort : PartSort) (F : Frame) → Words S sort F → step (p-have sort F) k ≡ r) → Gone (Words S) q ks
+pub words-on : (S : Spot) (q r : State) (ks ls : List ℕ) (k : ℕ) → ((sort : PartSort) (F : Frame) → Words S sort F → step (p-have sort F) k ≡ r) → Gone (Words S) q ks
     → run step q (ks ++ k ∷ ls) ≡ run step r ls
 words-on S q r ks ls k h (gone sort F w e) = through-part q (p-have sort F) r ks ls k e (h sort F w)
 
-in-front : (P : PartSort → Frame → Type 0) (q r : State) (ks : List ℕ) (k : ℕ) → step q k ≡ r → Gone P r ks → Gone P q (k ∷ ks)
+pub in-front : (P : PartSort → Frame → Type 0) (q r : State) (ks : List ℕ) (k : ℕ) → step q k ≡ r → Gone P r ks → Gone P q (k ∷ ks)
 in-front P q r ks k f (gone sort F w e) = gone sort F w (first_part q r ks k f ∙ e)
-
-string-any : (c : Class) (ks : List ℕ) → Str c ks → (S : Spot) → Gone (Words S) (p-any S) ks
-string-any _ _ str-literal S = gone TEXT (tests S) w-text (literal-any S)
-string-any _ _ (str-name k n) S = name-any S k n
-string-any _ _ (str-lookup ks s) S =
-    gone TEXT (tests S) w-text (first_part (p-any S) (p-text TEXT (tests S)) ks Kind.DOLLAR (lookup-any S) ∙ text-run operand ks s TEXT (tests S) any-sort)
-string-any _ _ (str-bracket ks s) S =
-    in-front (Words S) (p-any S) (p-any (in-bracket true S)) (ks ++ Kind.CLOSE ∷ []) Kind.OPEN (open_any S)
-    (words-close S (p-any (in-bracket true S)) ks (string-any whole ks s (in-bracket true S)))
-string-any _ _ (str-one ks s) S = string-any operand ks s S
-string-any _ _ (str-join ks ls s u) S =
-    gone TEXT (tests S) w-text
-    (words-on S (p-any S) (p-text TEXT (tests S)) ks ls Kind.DOT (words-dot S) (string-any whole ks s S) ∙ text-run operand ls u TEXT (tests S) any-sort)
 
 -- tests: a test, the right side of a comparison, or a bare word
 pub data Held (S : Spot) : PartSort → Frame → Type 0 where
@@ -302,22 +259,6 @@ float-compare S _ greater = refl
 float-compare S _ at_most = refl
 float-compare S _ at_least = refl
 
-comparison-run : (ks : List ℕ) → Comparison ks → (S : Spot) → Gone (Held S) (p-any S) ks
-comparison-run _ (of-integers o ks ls c i j) S =
-    gone NUMBER (right (strict S)) h-number
-    (through-part (p-any S) (p-have NUMBER (tests S)) (p-number want-integer (right (strict S))) ks ls o (int-run whole ks i (p-any S) (tests S) (any-integer S)) (number-compare S o c)
-    ∙ int-run whole ls j (p-number want-integer (right (strict S))) (right (strict S)) (integer-wanted (right (strict S))))
-comparison-run _ (of-floats o ks ls c i j) S =
-    gone FLOATING (right (strict S)) h-float
-    (through-part (p-any S) (p-have FLOATING (tests S)) (p-number want-float (right (strict S))) ks ls o (float-run whole ks i (p-any S) (tests S) (any-float S)) (float-compare S o c)
-    ∙ float-run whole ls j (p-number want-float (right (strict S))) (right (strict S)) (float-wanted (right (strict S))))
-comparison-run _ (of-strings o ks ls c i j) S =
-    gone TEXT (right (strict S)) h-text
-    (words-on S (p-any S) (p-text TEXT (right (strict S))) ks ls o (words-compare S o c) (string-any whole ks i S) ∙ text-run whole ls j TEXT (right (strict S)) (as-text refl))
-comparison-run _ (matching ks ls i j) S =
-    gone TEXT (right (strict S)) h-text
-    (words-on S (p-any S) (p-text TEXT (right (strict S))) ks ls Kind.MATCHES (words-match S) (string-any whole ks i S) ∙ text-run whole ls j TEXT (right (strict S)) (as-text refl))
-
 pub truth-any : (S : Spot) → step (p-any S) TRUTH ≡ p-have TRUE (tests S)
 unfolding step Table.allows Table.begins_string Table.begins_number Table.begins_float
 truth-any S = refl
@@ -336,7 +277,7 @@ loosen (in-bracket b S) _ _ h-float = h-float
 loosen (in-bracket b S) _ _ h-word = h-strict
 loosen (in-bracket b S) _ _ h-strict = h-strict
 
-loosened : (S : Spot) (q : State) (ks : List ℕ) → Gone (Held (strict S)) q ks → Gone (Held S) q ks
+pub loosened : (S : Spot) (q : State) (ks : List ℕ) → Gone (Held (strict S)) q ks → Gone (Held S) q ks
 loosened S q ks (gone sort F h e) = gone sort F (loosen S sort F h) e
 
 -- "&&" and "||"
@@ -360,7 +301,7 @@ held-junction S _ junction-or _ _ h-word = refl
 held-junction S _ junction-or _ _ h-strict = ap p-any (strict-strict S)
 
 -- a closing bracket
-held-close : (S : Spot) (q : State) (ks : List ℕ) → Gone (Held (in-bracket true S)) q ks → Gone (Held S) q (ks ++ Kind.CLOSE ∷ [])
+pub held-close : (S : Spot) (q : State) (ks : List ℕ) → Gone (Held (in-bracket true S)) q ks → Gone (Held S) q (ks ++ Kind.CLOSE ∷ [])
 unfolding step Table.operator Table.number_operator Table.float_operator Table.ordering Table.text_operator Table.test_operator Table.comparison Table.binds Table.level_of
 held-close S q ks (gone _ _ h-test e) = gone TEST (tests (strict S)) h-test (through-part q _ _ ks [] Kind.CLOSE e refl)
 held-close S q ks (gone _ _ h-text e) = gone TEST (tests (strict S)) h-test (through-part q _ _ ks [] Kind.CLOSE e refl)
@@ -370,20 +311,9 @@ held-close S q ks (gone _ _ h-word e) = gone TRUE (tests S) h-word (through-part
 held-close S q ks (gone _ _ h-strict e) = gone TEST (tests (strict S)) h-test (through-part q _ _ ks [] Kind.CLOSE e refl)
 
 -- two tests with "&&" or "||" between them
-two-tests : (S : Spot) (q : State) (ks ls : List ℕ) (k : ℕ) → Junction k → Gone (Held S) q ks → Gone (Held (strict S)) (p-any (strict S)) ls → Gone (Held S) q (ks ++ k ∷ ls)
+pub two-tests : (S : Spot) (q : State) (ks ls : List ℕ) (k : ℕ) → Junction k → Gone (Held S) q ks → Gone (Held (strict S)) (p-any (strict S)) ls → Gone (Held S) q (ks ++ k ∷ ls)
 two-tests S q ks ls k j (gone sort F h e) (gone sort' G g f) =
     gone sort' G (loosen S sort' G g) (through-part q (p-have sort F) (p-any (strict S)) ks ls k e (held-junction S k j sort F h) ∙ f)
-
-test-run : (c : Class) (ks : List ℕ) → Tests c ks → (S : Spot) → Gone (Held S) (p-any S) ks
-test-run _ _ test-truth S = gone TRUE (tests S) h-word (truth-any S)
-test-run _ _ (test-comparison ks c) S = comparison-run ks c S
-test-run _ _ (test-not ks u) S = loosened S (p-any S) (Kind.NOT ∷ ks) (in-front (Held (strict S)) (p-any S) (p-any (strict S)) ks Kind.NOT (not-any S) (test-run operand ks u (strict S)))
-test-run _ _ (test-bracket ks u) S =
-    in-front (Held S) (p-any S) (p-any (in-bracket true S)) (ks ++ Kind.CLOSE ∷ []) Kind.OPEN (open_any S) (held-close S (p-any (in-bracket true S)) ks (test-run whole ks u (in-bracket true S)))
-test-run _ _ (test-one ks u) S = test-run operand ks u S
-test-run _ _ (test-and ks ls u v) S = two-tests S (p-any S) ks ls Kind.AND junction-and (test-run conjunction ks u S) (test-run operand ls v (strict S))
-test-run _ _ (test-ands ks u) S = test-run conjunction ks u S
-test-run _ _ (test-or ks ls u v) S = two-tests S (p-any S) ks ls Kind.OR junction-or (test-run whole ks u S) (test-run conjunction ls v (strict S))
 
 -- the mark behind a clause's test
 pub data Behind (d : ℕ) : ℕ → State → Type 0 where
@@ -430,11 +360,11 @@ arrow-agrees d k = split (Table.allows want-string (flat k)) (λ e. inl (rw e re
 pub begin-run : (d : ℕ) (ks : List ℕ) (sort : PartSort) (F : Frame) → run step (p-any (in-clause d)) ks ≡ p-have sort F → run step (p-begin d) ks ≡ p-have sort F
 begin-run d = resume (p-any (in-clause d)) (p-begin d) (begin-agrees d) (λ sort F z. let v : ◌≡◌ {A = ℕ} 0 1 = cc in omega (arith, v))
 
-arrow-run : (d : ℕ) (ks : List ℕ) (sort : PartSort) (F : Frame) → run step (p-text TEXT (value d)) ks ≡ p-have sort F → run step (p-arrow d) ks ≡ p-have sort F
+pub arrow-run : (d : ℕ) (ks : List ℕ) (sort : PartSort) (F : Frame) → run step (p-text TEXT (value d)) ks ≡ p-have sort F → run step (p-arrow d) ks ≡ p-have sort F
 arrow-run d = resume (p-text TEXT (value d)) (p-arrow d) (arrow-agrees d) (λ sort F z. let v : ◌≡◌ {A = ℕ} 0 1 = cc in omega (arith, v))
 
 -- a test of a clause and the mark behind it
-clause-test : (d k : ℕ) (p : State) (ks ls : List ℕ) → Behind d k p → Gone (Held (in-clause d)) (p-any (in-clause d)) ks → run step (p-begin d) (ks ++ k ∷ ls) ≡ run step p ls
+pub clause-test : (d k : ℕ) (p : State) (ks ls : List ℕ) → Behind d k p → Gone (Held (in-clause d)) (p-any (in-clause d)) ks → run step (p-begin d) (ks ++ k ∷ ls) ≡ run step p ls
 clause-test d k p ks ls b (gone sort F h e) = through-part (p-begin d) (p-have sort F) p ks ls k (begin-run d ks sort F e) (held-end d k p b sort F h)
 
 pub value-ends : (d : ℕ) → step (p-have TEXT (value d)) Kind.SEMICOLON ≡ p-begin d
@@ -454,27 +384,12 @@ unfolding step
 block-ends d = refl
 
 -- a clause leads from where it may begin to where its ";" leads there again, a program leads there itself
-abbrev Leads : Class → ℕ → List ℕ → Type 0
+abbrev pub Leads : Class → ℕ → List ℕ → Type 0
 Leads operand d ks = (ls : List ℕ) → run step (p-begin d) (ks ++ Kind.SEMICOLON ∷ ls) ≡ run step (p-begin d) ls
 Leads power d ks = run step (p-begin d) ks ≡ p-begin d
 Leads product d ks = run step (p-begin d) ks ≡ p-begin d
 Leads conjunction d ks = run step (p-begin d) ks ≡ p-begin d
 Leads whole d ks = run step (p-begin d) ks ≡ p-begin d
-
-clauses-run : (c : Class) (ks : List ℕ) → Clauses c ks → (d : ℕ) → Leads c d ks
-clauses-run _ _ no-clause d = refl
-clauses-run _ _ (clause ks ls c p) d = clauses-run operand ks c d ls ∙ clauses-run whole ls p d
-clauses-run _ _ (tested ks u) d = λ ls. clause-test d Kind.SEMICOLON (p-begin d) ks ls behind-semicolon (test-run whole ks u (in-clause d))
-clauses-run _ _ (valued ks ms u v) d =
-    λ ls. ap (run step (p-begin d)) (append_assoc ks (Kind.ARROW ∷ ms) (Kind.SEMICOLON ∷ ls))
-    ∙ clause-test d Kind.ARROW (p-arrow d) ks (ms ++ Kind.SEMICOLON ∷ ls) behind-arrow (test-run whole ks u (in-clause d))
-    ∙ through-part (p-arrow d) (p-have TEXT (value d)) (p-begin d) ms ls Kind.SEMICOLON (arrow-run d ms TEXT (value d) (text-run whole ms v TEXT (value d) (as-text refl))) (value-ends d)
-clauses-run _ _ (nested ks ms u p) d =
-    λ ls. ap (run step (p-begin d)) (append_assoc ks (Kind.ARROW ∷ Kind.OPEN_BRACE ∷ (ms ++ Kind.CLOSE_BRACE ∷ [])) (Kind.SEMICOLON ∷ ls))
-    ∙ clause-test d Kind.ARROW (p-arrow d) ks (Kind.OPEN_BRACE ∷ ((ms ++ Kind.CLOSE_BRACE ∷ []) ++ Kind.SEMICOLON ∷ ls)) behind-arrow (test-run whole ks u (in-clause d))
-    ∙ first_part (p-arrow d) (p-begin (suc d)) ((ms ++ Kind.CLOSE_BRACE ∷ []) ++ Kind.SEMICOLON ∷ ls) Kind.OPEN_BRACE (brace-opens d)
-    ∙ through-part (p-begin (suc d)) (p-block d) (p-begin d) (ms ++ Kind.CLOSE_BRACE ∷ []) ls Kind.SEMICOLON
-    (through-part (p-begin (suc d)) (p-begin (suc d)) (p-block d) ms [] Kind.CLOSE_BRACE (clauses-run whole ms p (suc d)) (brace-closes d)) (block-ends d)
 
 pub ends-over : (k : ℕ) → Ends k → step (p-begin 0) k ≡ p-over
 unfolding step Table.allows Table.begins_string Table.begins_number Table.begins_float Table.stops Kind.ending
@@ -487,19 +402,9 @@ ends-over _ next-conditions = refl
 ends-over _ next-comment = refl
 ends-over _ next-signature = refl
 
-field-over : (ks : List ℕ) → Conditions ks → run step (p-begin 0) ks ≡ p-over
-field-over _ (field ks e g en) = through-part (p-begin 0) (p-begin 0) p-over ks [] e (clauses-run whole ks g 0) (ends-over e en)
-
-over-dead : p-over ≡ p-dead → ⊥
+pub over-dead : p-over ≡ p-dead → ⊥
 over-dead z = let v : ◌≡◌ {A = ℕ} 0 1 = cc in omega (arith, v)
 
--- what the automaton rejects begins no sentence
-pub conditions-dead : (ks : List ℕ) → run step (p-begin 0) ks ≡ p-dead → Viable Conditions ks → ⊥
-conditions-dead = not-viable step p-dead step-dead Conditions (p-begin 0) (λ ks g z. over-dead (sym (field-over ks g) ∙ z))
-
-step-over : (k : ℕ) → step p-over k ≡ p-dead
+pub step-over : (k : ℕ) → step p-over k ≡ p-dead
 unfolding step
 step-over k = refl
-
-pub conditions-over : (ks : List ℕ) (k : ℕ) (more : List ℕ) → Conditions ks → Conditions (ks ++ k ∷ more) → ⊥
-conditions-over = not-longer step p-dead step-dead Conditions (p-begin 0) p-over field-over step-over over-dead

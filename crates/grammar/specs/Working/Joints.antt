@@ -144,10 +144,10 @@ number-compared : (k : ℕ) (i : Infix) → Compared Operator.integers k i → O
 number-compared k _ not-compared = no-operator
 number-compared k _ (compared x c) = joins _ 2 an-integer a_test (j-numbers k x c) fit-number
 
-abbrev N : ℕ → Infix → Type 0
+abbrev pub N : ℕ → Infix → Type 0
 N = Operated (sorted an-integer)
 
-number-operated : (k : ℕ) → Operated (sorted an-integer) k (Table.number_operator k)
+pub number-operated : (k : ℕ) → Operated (sorted an-integer) k (Table.number_operator k)
 unfolding Table.number_operator
 number-operated k =
     chosen (N k) (eqb k Kind.POWER) _ _ (λ e. rw (eqb-true k _ e) (joins _ 5 an-integer an-integer j-power fit-number))
@@ -158,10 +158,10 @@ number-operated k =
     (λ e. chosen (N k) (eqb k Kind.MINUS) _ _ (λ e. rw (eqb-true k _ e) (joins _ 3 an-integer an-integer (j-sum _ _ minus-op) fit-number))
     (λ e. number-compared k (Table.comparison Operator.integers k) (compares Operator.integers k)))))))
 
-abbrev F : ℕ → Infix → Type 0
+abbrev pub F : ℕ → Infix → Type 0
 F = Operated (sorted a-float)
 
-float-operated : (k : ℕ) → Operated (sorted a-float) k (Table.float_operator k)
+pub float-operated : (k : ℕ) → Operated (sorted a-float) k (Table.float_operator k)
 unfolding Table.float_operator Table.ordering
 float-operated k =
     chosen (F k) (eqb k Kind.POWER) _ _ (λ e. rw (eqb-true k _ e) (joins _ 5 a-float a-float j-float-power fit-float))
@@ -178,25 +178,17 @@ text-compared : (sort : PartSort) (k : ℕ) (i : Infix) → Fits a-string sort �
 text-compared sort k _ f not-compared = no-operator
 text-compared sort k _ f (compared x c) = joins _ 2 a-string a_test (j-texts k x c) f
 
-text-operated : (sort : PartSort) (k : ℕ) → Fits a-string sort → Operated sort k (Table.text_operator k)
+pub text-operated : (sort : PartSort) (k : ℕ) → Fits a-string sort → Operated sort k (Table.text_operator k)
 unfolding Table.text_operator
 text-operated sort k f =
     chosen (Operated sort k) (eqb k Kind.DOT) _ _ (λ e. rw (eqb-true k _ e) (joins _ 3 a-string a-string j-join f))
     (λ e. chosen (Operated sort k) (eqb k Kind.MATCHES) _ _ (λ e. rw (eqb-true k _ e) (joins _ 2 a-string a_test j-match f)) (λ e. text-compared sort k (Table.comparison Operator.strings k) f (compares Operator.strings k)))
 
-test-operated : (sort : PartSort) (k : ℕ) (other : Infix) → Fits a_test sort → Operated sort k other → Operated sort k (Table.test_operator k other)
+pub test-operated : (sort : PartSort) (k : ℕ) (other : Infix) → Fits a_test sort → Operated sort k other → Operated sort k (Table.test_operator k other)
 unfolding Table.test_operator
 test-operated sort k other f h =
     split (eqb k Kind.AND) (λ e. rw (eqb-true k _ e) (joins _ 1 a_test a_test j-and f))
     (λ e. split (eqb k Kind.OR) (λ g. rw (eqb-true k _ g) (joins _ 0 a_test a_test j-or f)) (λ g. rw (e, g) h))
-
-pub operated : (sort : PartSort) (k : ℕ) → Operated sort k (Table.operator sort k)
-unfolding Table.operator
-operated (sorted a_test) k = test-operated (sorted a_test) k no-infix fit-test no-operator
-operated (sorted a-string) k = text-operated (sorted a-string) k fit-text
-operated (sorted an-integer) k = number-operated k
-operated (sorted a-float) k = float-operated k
-operated (word b) k = test-operated (word b) k (Table.text_operator k) (fit_word b) (text-operated (word b) k (fit-name b))
 
 -- an operator that a level does not take no tighter level takes
 pub binds-less : (level m : ℕ) (i : Infix) → Table.binds level i ≡ false → level ≤ m → Table.binds m i ≡ false

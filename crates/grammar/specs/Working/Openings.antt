@@ -21,7 +21,7 @@ use Rattle.grammar.specs.Working.States.{TEXT, NUMBER, FLOATING, TEST, TRUE, Spo
 use Rattle.grammar.specs.Working.Accepts.{open-text, close-text, name-text, truth-any, open_any}
 use Rattle.grammar.specs.Working.Joints.{Fits, binds-less, kind-same}
 use Rattle.grammar.specs.Working.Told.{aim, Goal, goal-test, goal-text, goal-number, goal-decimal, goal-integer, goal-float, Told, told_text, told-number, told-float, told-test, Suits, suits-any, suits-text, suits-number, suits-decimal, suits-integer, suits-float}
-use Rattle.grammar.specs.Working.Onward.{word_same, Starts, start-any, start-text, start_operand, start-number, start-integer, start-float, after, Asked, asked-any, asked-text, asked-number, asked-integer, asked-float, Onward, onward, typed, number-after, float-after, number-test, float_test, text-test, strict-test, strict-dead}
+use Rattle.grammar.specs.Working.Onward.{word_same, Starts, start-any, start-text, start_operand, start-number, start-integer, start-float, after, Asked, asked-any, asked-text, asked-number, asked-integer, asked-float, Onward, onward, typed, number-after, float-after, number-test, float_test, text-test}
 
 -- where `want` is wanted, the mark k writes the prefix operator op, behind which `wanted` is read at `level`; of one of sort o it makes one of sort r
 pub data Before : ℕ → Unary → Want → ℕ → Want → Sort → Sort → Type 0 where
@@ -99,38 +99,11 @@ before-told s _ _ _ _ _ _ _ t _ _ dollar-text z (told_text _ us f d) = told_text
 before-told s _ _ _ _ _ _ _ t _ _ not_test z (told-test _ us f d) = told-test 7 _ _ (not-tree t us f z d)
 
 -- where the mark leads
-number-led : (F G : Frame) (x : PartSort) (j : ℕ) → F ≡ G → Fits an-integer x → step (after (p-number want-number F) x) j ≡ step (p-have NUMBER G) j
+pub number-led : (F G : Frame) (x : PartSort) (j : ℕ) → F ≡ G → Fits an-integer x → step (after (p-number want-number F) x) j ≡ step (p-have NUMBER G) j
 number-led F G x j e g = ap (λ (p : State). step p j) (number-after F x g ∙ ap (p-have NUMBER) e)
 
-float-led : (F G : Frame) (x : PartSort) (j : ℕ) → F ≡ G → Fits a-float x → step (after (p-number want-number F) x) j ≡ step (p-have FLOATING G) j
+pub float-led : (F G : Frame) (x : PartSort) (j : ℕ) → F ≡ G → Fits a-float x → step (after (p-number want-number F) x) j ≡ step (p-have FLOATING G) j
 float-led F G x j e g = ap (λ (p : State). step p j) (float-after F x g ∙ ap (p-have FLOATING) e)
-
-pub before-onward : (k : ℕ) (op : Unary) (want : Want) (level : ℕ) (wanted : Want) (o r : Sort) (q : State) → Before k op want level wanted o r → Starts 7 want q → Onward q level wanted o r (step q k)
-unfolding step Table.allows Table.begins_number Table.begins_string Table.begins_float
-before-onward _ _ _ _ _ _ _ _ minus-any (start-any S) = typed (p-any S) 6 _ an-integer _ _ (p-number want-number (tests S)) refl (start-number (tests S)) number-test (λ x j g b. number-led (tests S) (tests S) x j refl g)
-before-onward _ _ _ _ _ _ _ _ minus-any-float (start-any S) = typed (p-any S) 6 _ a-float _ _ (p-number want-number (tests S)) refl (start-number (tests S)) float_test (λ x j g b. float-led (tests S) (tests S) x j refl g)
-before-onward _ _ _ _ _ _ _ _ minus_number (start-number F) = typed (p-number want-number F) 6 _ an-integer _ _ (p-number want-number F) refl (start-number F) number-test (λ x j g b. number-led F F x j refl g)
-before-onward _ _ _ _ _ _ _ _ minus-number-float (start-number F) = typed (p-number want-number F) 6 _ a-float _ _ (p-number want-number F) refl (start-number F) float_test (λ x j g b. float-led F F x j refl g)
-before-onward _ _ _ _ _ _ _ _ minus-integer (start-integer F) = typed (p-number want-integer F) 6 _ an-integer _ _ (p-number want-integer F) refl (start-integer F) number-test (λ x j g b. number-led F F x j refl g)
-before-onward _ _ _ _ _ _ _ _ minus-float (start-float F) = typed (p-number want-float F) 6 _ a-float _ _ (p-number want-float F) refl (start-float F) float_test (λ x j g b. float-led F F x j refl g)
-before-onward _ _ _ _ _ _ _ _ at-any (start-any S) =
-    typed (p-any S) 6 _ a-string _ _ (p-text NUMBER (tests S)) refl (start_operand NUMBER (tests S) (omega arith)) text-test (λ x j g b. refl)
-before-onward _ _ _ _ _ _ _ _ at-number (start-number F) =
-    typed (p-number want-number F) 6 _ a-string _ _ (p-text NUMBER F) refl (start_operand NUMBER F (omega arith)) text-test (λ x j g b. refl)
-before-onward _ _ _ _ _ _ _ _ at-integer (start-integer F) =
-    typed (p-number want-integer F) 6 _ a-string _ _ (p-text NUMBER F) refl (start_operand NUMBER F (omega arith)) text-test (λ x j g b. refl)
-before-onward _ _ _ _ _ _ _ _ ampersand-any (start-any S) =
-    typed (p-any S) 6 _ a-string _ _ (p-text FLOATING (tests S)) refl (start_operand FLOATING (tests S) (omega arith)) text-test (λ x j g b. refl)
-before-onward _ _ _ _ _ _ _ _ ampersand-number (start-number F) =
-    typed (p-number want-number F) 6 _ a-string _ _ (p-text FLOATING F) refl (start_operand FLOATING F (omega arith)) text-test (λ x j g b. refl)
-before-onward _ _ _ _ _ _ _ _ ampersand-float (start-float F) =
-    typed (p-number want-float F) 6 _ a-string _ _ (p-text FLOATING F) refl (start_operand FLOATING F (omega arith)) text-test (λ x j g b. refl)
-before-onward _ _ _ _ _ _ _ _ dollar-any (start-any S) = typed (p-any S) 6 _ a-string _ _ (p-text TEXT (tests S)) refl (start-text (tests S)) text-test (λ x j g b. refl)
-before-onward _ _ _ _ _ _ _ _ dollar-text (start-text F) = typed (p-text TEXT F) 6 _ a-string _ _ (p-text TEXT F) refl (start-text F) text-test (λ x j g b. refl)
-before-onward _ _ _ _ _ _ _ _ dollar-text (start_operand r F i) =
-    typed (p-text r F) 6 _ a-string _ _ (p-text r F) refl (start_operand r F (omega arith)) text-test (λ x j g b. refl)
-before-onward _ _ _ _ _ _ _ _ not_test (start-any S) =
-    onward (p-any (strict S)) refl (start-any (strict S)) (strict-test S 2 (omega arith)) (λ sort k z u b. strict-dead S 2 (omega arith) sort k u b)
 
 -- what a prefix operator makes of an operand goes by what must come of the operand
 pub as-aimed : (op : Unary) (want : Want) (sort : PartSort) → Suits (Table.operand_want op want) sort → Table.prefix_of op sort ≡ as_taken op (aim (Table.operand_want op want) sort)

@@ -9,16 +9,16 @@ use Rattle.lexical.specs.Line.{token_at}
 use Rattle.conditions.specs.Program.{read_program}
 use Rattle.grammar.specs.Fields.{Field, Version, Assignments}
 use Rattle.grammar.specs.Viable.{Viable, Open, Kinds, KindsBy, plainly}
-use Rattle.grammar.specs.Theorems.OneToken.{version-judged, version-whole}
-use Rattle.grammar.specs.Theorems.Assigning.{constants-judged, constants-whole}
-use Rattle.grammar.specs.Theorems.Conditioning.{conditions-judged, conditions-whole}
+use Rattle.grammar.proofs.Theorems.OneToken.{version-judged, version-whole}
+use Rattle.grammar.proofs.Theorems.Assigning.{constants-judged, constants-whole}
+use Rattle.grammar.proofs.Theorems.Conditioning.{conditions-judged, conditions-whole}
 use Rattle.grammar.specs.Conditions.{Conditions}
 use Rattle.naming.specs.Authorizer.{authorizer}
 use Rattle.naming.specs.Licensees.{licensees}
 use Rattle.grammar.specs.Naming.{Author, Licensees}
-use Rattle.grammar.specs.Theorems.Authoring.{author-judged, author-whole}
-use Rattle.grammar.specs.Theorems.Naming.{names-judged}
-use Rattle.grammar.specs.Working.Principals.{names-whole}
+use Rattle.grammar.proofs.Theorems.Authoring.{author-judged, author-whole}
+use Rattle.grammar.proofs.Theorems.Naming.{names-judged}
+use Rattle.grammar.proofs.Working.Principals.{names-whole}
 use Rattle.grammar.specs.Spelled.{kind_in}
 use Rattle.grammar.specs.Theorems.Exactly.{Refused, exactly, Passed, complete}
 

@@ -20,13 +20,13 @@ use Rattle.grammar.specs.Spelled.{kind_in, kinds_in}
 use Rattle.grammar.specs.Trees.{StrTree, literal-tree, name-tree, lookup-tree, text-bracket, text-one, join-tree}
 use Rattle.grammar.specs.Viable.{TokensIn, at_once, and-on}
 use Rattle.grammar.specs.Theorems.Exactly.{Passed, passed, passed-else}
-use Rattle.grammar.specs.Theorems.Naming.{Listed, listed, not_listed, names-tree, names-shadow}
-use Rattle.grammar.specs.Theorems.Readers.{names-complete}
-use Rattle.grammar.specs.Working.Begun.{str_plain}
+use Rattle.grammar.proofs.Theorems.Naming.{Listed, listed, not_listed, names-tree, names-shadow}
+use Rattle.grammar.proofs.Theorems.Readers.{names-complete}
+use Rattle.grammar.proofs.Working.Begun.{str_plain}
 use Rattle.grammar.specs.Working.Cuts.{Lexed, lexed-none, lexed-more, tokens-lexed, of-mark, of-name, Led, led, led-by, Cut, cut, cut_by, Last, last, last-by, Single, single, single-by}
 use Rattle.grammar.specs.Working.Known.{token-real}
 use Rattle.grammar.specs.Working.Marks.{kinds-append}
-use Rattle.grammar.specs.Working.Principals.{names-whole}
+use Rattle.grammar.proofs.Working.Principals.{names-whole}
 use Rattle.grammar.specs.Working.Strings.{tokens-kinds}
 
 module _ (s : List ℕ) where

@@ -1,0 +1,14 @@
+pub mod Assigning
+pub mod Authoring
+pub mod Conditioning
+pub mod Convert
+pub mod Decoding
+pub mod Examples
+pub mod Floats
+pub mod Mixtures
+pub mod Naming
+pub mod OneToken
+pub mod Readers
+pub mod Shadow
+pub mod Spoken
+pub mod Unique

@@ -1,0 +1,11 @@
+pub mod Accepts
+pub mod Begun
+pub mod Joints
+pub mod LicenseesStack
+pub mod Onward
+pub mod Openings
+pub mod Principals
+pub mod ProgramStack
+pub mod Reading
+pub mod Strings
+pub mod Told
