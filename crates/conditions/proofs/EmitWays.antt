@@ -1,17 +1,15 @@
 -- The ways out of the functions of `emit`. Assumes nothing.
-use mathlib.Core.Path.{◌≡◌, refl, sym, ◌∙◌, ap}
+use mathlib.Core.Path.{◌≡◌, sym, ◌∙◌, ap}
 use mathlib.Core.Bool.{Bool, true, false}
 use mathlib.Core.List.{List}
 use Prim.Native.Nat.{ℕ, ◌+◌, ◌*◌, ◌<◌, ◌≤◌}
 use lib.ListN.{length, set}
 use borrow.Author.Tests.{lt-ltb, le-ltb, le-leb, lt-leb, eq-eqb, ne_eqb}
 use Rattle.lexical.specs.Kind
-use Rattle.lexical.specs.Line.{token_at}
 use Rattle.lexical.specs.Token.{token}
 use Rattle.lexical.specs.declared.token.Token.{Token}
 use Rattle.syntax.specs.Op
 use Rattle.syntax.specs.Code.{entry}
-use Rattle.syntax.specs.Parsed.{refusal}
 use Rattle.conditions.specs.Working.Numbered.{TEST, TEXT, TRUE, fits}
 use Rattle.conditions.specs.Working.Numbered.{operand_of, result_of, prefix_of}
 use Rattle.conditions.specs.Word.{next_at}

@@ -1,13 +1,11 @@
 -- The ways out of the functions of `table` that go by a called function. Assumes nothing.
-use mathlib.Core.Path.{◌≡◌, sym, ◌∙◌, ap}
+use mathlib.Core.Path.{◌≡◌, sym}
 use mathlib.Core.Bool.{Bool, true, false}
-use Prim.Native.Nat.{ℕ, ◌+◌, ◌≤◌, ◌<◌}
-use native.Mathlib.Omega.{arith}
-use lib.Dec.{eqb, ltb}
-use borrow.Author.Tests.{lt-ltb, le-ltb, eq-eqb, ne_eqb}
+use Prim.Native.Nat.{ℕ, ◌+◌}
+use lib.Dec.{ltb}
+use borrow.Author.Tests.{eq-eqb, ne_eqb}
 use Rattle.text.specs.Choice.{pick, split}
 use Rattle.lexical.specs.Kind
-use Rattle.syntax.specs.Op
 use Rattle.conditions.specs.Table
 use Rattle.conditions.specs.Working.Numbered
 

@@ -13,12 +13,12 @@ use Rattle.lexical.specs.Word.{lower, stands, spells}
 use Rattle.lexical.specs.Token.{token, width_of, operator_at, operator_token, float_end, number_token, token_from}
 use Rattle.lexical.specs.Line.{visible, in_line, token_at}
 use Rattle.syntax.specs.Operator as Operator
-use Rattle.syntax.specs.Expr.{Expr, name, number, truth, decimal, unary, binary}
+use Rattle.syntax.specs.Expr.{name, number, truth, decimal, unary, binary}
 use Rattle.syntax.specs.Code.{name_at, number_from, decimal_at}
 use Rattle.conditions.specs.Table
 use Rattle.conditions.specs.Word.{next_at, word_sort}
-use Rattle.syntax.specs.Parsed.{Parsed, ok, aside}
-use Rattle.conditions.specs.Parsed.{Part, part}
+use Rattle.syntax.specs.Parsed.{ok, aside}
+use Rattle.conditions.specs.Parsed.{part}
 use Rattle.conditions.specs.Operand.{read_leaf, read_name, read_digits, read_float, settled_tree, applied}
 use Rattle.conditions.specs.Expression.{read_expression}
 

@@ -1,5 +1,5 @@
 -- What an expression gives, and what the machine's operand for it is. Assumes nothing.
-use Rattle.std.specs.Prelude.{Bool, false, List, [], ℕ, length, Float as Single}
+use Rattle.std.specs.Prelude.{Bool, List, [], ℕ, length, Float as Single}
 use Rattle.text.specs.declared.Integer.{Integer}
 use Rattle.expression.specs.declared.value.Operand.{Operand}
 use Rattle.expression.specs.declared.value.Operand.TheVariants.{Text, Number, Test, Rank, Float, Fault}

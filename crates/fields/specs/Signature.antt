@@ -1,5 +1,5 @@
 -- Signature. Assumes nothing.
-use Rattle.std.specs.Prelude.{Bool, List, ℕ, eqb, ltb, length}
+use Rattle.std.specs.Prelude.{List, ℕ, eqb, ltb, length}
 use Rattle.text.specs.Choice.{pick}
 use Rattle.lexical.specs.Kind
 use Rattle.lexical.specs.Literal.{decoded_at}

@@ -1,5 +1,5 @@
 -- KeyNote-Version. Assumes nothing.
-use Rattle.std.specs.Prelude.{Bool, false, List, [], ◌∷◌, ℕ, eqb, leb}
+use Rattle.std.specs.Prelude.{List, [], ◌∷◌, ℕ, eqb, leb}
 use Rattle.text.specs.Choice.{pick}
 use Rattle.text.specs.Equal.{equal}
 use Rattle.lexical.specs.Kind

@@ -1,7 +1,7 @@
 -- An entry of the table: an identifier's tag (20 bits), where it lies in the pool (20 bits), and the numbers of two further entries (12 bits each).
 -- Assumes nothing.
 use Rattle.std.specs.Prelude.{◌≡◌, refl, Bool, true, false, List, [], ◌∷◌, ℕ, ◌+◌, ◌*◌, ◌/◌, ◌%◌, ◌<◌, eqb}
-use Rattle.std.proofs.Common.{sym, ap, ◌∙◌, arith, eq-eqb, eqb-true}
+use Rattle.std.proofs.Common.{sym, arith, eq-eqb, eqb-true}
 use Rattle.text.specs.Choice.{pick, split, clash}
 use Rattle.text.specs.Counted.{counted}
 use Rattle.record.specs.Places.{string_size}

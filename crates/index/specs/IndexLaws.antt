@@ -3,7 +3,7 @@ use Rattle.std.specs.Prelude.{◌≡◌, true, false, eqb, take, drop, set}
 use Rattle.std.proofs.Math.Path.{refl, ap}
 use Rattle.std.proofs.Common.{sym, ◌∙◌, arith, add-one, take-append-drop, take-suc-set, take_at, take-take, length-take-le, get_or-take}
 use mathlib.Core.List.{List, [], ◌∷◌, ◌++◌, map, append_assoc, append-nil, map-append}
-use Prim.Native.Nat.{ℕ, zero, suc, ◌+◌, ◌-◌, ◌%◌, ◌<◌, ◌≤◌}
+use Prim.Native.Nat.{ℕ, zero, suc, ◌+◌, ◌%◌, ◌<◌, ◌≤◌}
 use Rattle.std.proofs.Math.ListN.{length, get_or, length-append, length-set, get_or-map}
 use Rattle.std.proofs.Math.Seq.{set-set, take-append_seam, map-set_same, get_or-set_same, get_or-set_other}
 use borrow.Author.Tests.{le-ltb, le-leb, lt-leb, eqb-true, eqb-false}
@@ -24,7 +24,7 @@ use Rattle.index.specs.Tree.{Reaches, Tree, Ends, ends_low, tree-first, tree-few
 use Rattle.index.specs.Entry.{packed, plain, identifier_at, is_at, linked, entries_from, plain_at_lem, plain-name, plain-none, at_tag, linked-plain, packed-place, packed-tag, packed-plain, packed-is}
 use Rattle.index.specs.EnterLaws.{place_same, place-below}
 use Rattle.index.specs.Working.Walking.{walked, walk-found, Stops, walk-stops}
-use Rattle.index.specs.Working.Adding.{entered, counted_into, append_into, principal_into}
+use Rattle.index.specs.Working.Adding.{counted_into, append_into, principal_into}
 use Rattle.index.specs.Working.Entering.{numbered, link_into, enter_new, on_walked, enter_in}
 use Rattle.index.specs.declared.Walk.TheVariants.{Found}
 use Rattle.index.specs.declared.Numbered.TheVariants.{At}

@@ -1,10 +1,10 @@
 -- The table as a tree: from the first entry on, each bit of an identifier's tag says which of two further entries comes next. Every further entry has a
 -- larger number, so that any front of the table is such a tree too. Assumes nothing.
-use Rattle.std.specs.Prelude.{◌≡◌, refl, true, false, List, ℕ, zero, suc, ◌+◌, ◌/◌, ◌%◌, ◌<◌, ◌≤◌, eqb, length, get_or, take, set}
+use Rattle.std.specs.Prelude.{◌≡◌, refl, List, ℕ, ◌+◌, ◌/◌, ◌%◌, ◌<◌, ◌≤◌, eqb, get_or, take}
 use Rattle.std.proofs.Common.{sym, ap, ◌∙◌, arith, get_or-take, eqb-true}
 use Rattle.std.proofs.lemmas.Bool.{eqb-false}
 use Rattle.text.specs.Choice.{split}
-use Rattle.index.specs.Entry.{plain, child, linked, plain-tag, linked-plain, linked-here, linked-other, linked-another, child-alike}
+use Rattle.index.specs.Entry.{child, linked, plain-tag, linked-plain, linked-here, linked-other, linked-another, child-alike}
 
 -- entry j is reached from entry i by the bits of t
 pub data Reaches (places : List ℕ) : ℕ → ℕ → ℕ → Type 0 where

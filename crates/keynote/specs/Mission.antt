@@ -18,7 +18,7 @@ use Rattle.assertion.specs.Said.{Said}
 use Rattle.keynote.specs.Answer.{readings, kept_of, system}
 use Rattle.keynote.specs.Outcome.{needed, outcome}
 use Rattle.keynote.specs.Secrets.{dereferences, any_reads, author_reads, licensees_read, naming_reads, Supplies, Dereferenced, in-conditions, in-naming, AlikeBut}
-use Rattle.keynote.specs.Theorems.Demand3.{SameAnswer, demand-3-accepted}
+use Rattle.keynote.specs.Theorems.Demand3.{SameAnswer}
 
 -- "the name stands there as a string and no Local-Constants field earlier in the text sets it"
 unfoldable pub standing : Conditions → List ℕ → Bool
@@ -67,12 +67,12 @@ pub record Heard (q : Query) (a : Assertion) : Type 0 where
   pub reached : Reachable (system q) a.authorizer
 
 -- where neither supposition fails nothing is dereferenced
-conditions-unread : (c : Conditions) (n : List ℕ) → computed c ≡ false → standing c n ≡ false → dereferences c n ≡ false
+pub conditions-unread : (c : Conditions) (n : List ℕ) → computed c ≡ false → standing c n ≡ false → dereferences c n ≡ false
 unfolding computed standing dereferences
 conditions-unread absent n h k = k
 conditions-unread (stated cs p) n h k = split (is_set cs n) (λ e. rw e) (λ e. rw e (program-unread p n h (rw e at k)))
 
-neither : (a b : Bool) → a || b ≡ false → (a ≡ false) × (b ≡ false)
+pub neither : (a b : Bool) → a || b ≡ false → (a ≡ false) × (b ≡ false)
 neither true b h = clash refl h
 neither false b h = (refl, h)
 
@@ -88,22 +88,15 @@ any-unread (x ∷ l) n h k =
     let v : _ = neither (names x.says n) (any_names l n) k in
     rw (expression-unread x.says n u.0 v.0) (any-unread l n u.1 v.1)
 
-author-unread : (a : Author) (n : List ℕ) → computes a.by.says ≡ false → author_names a n ≡ false → author_reads a n ≡ false
+pub author-unread : (a : Author) (n : List ℕ) → computes a.by.says ≡ false → author_names a n ≡ false → author_reads a n ≡ false
 unfolding author_names author_reads
 author-unread a n h k = split (is_set a.constants n) (λ e. rw e) (λ e. rw e (expression-unread a.by.says n h (rw e at k)))
 
-licensees-unread : (l : Licensees) (n : List ℕ) → licensees_compute l ≡ false → licensees_name l n ≡ false → licensees_read l n ≡ false
+pub licensees-unread : (l : Licensees) (n : List ℕ) → licensees_compute l ≡ false → licensees_name l n ≡ false → licensees_read l n ≡ false
 unfolding licensees_compute licensees_name licensees_read
 licensees-unread missing n h k = k
 licensees-unread empty n h k = k
 licensees-unread (given cs e) n h k = split (is_set cs n) (λ f. rw f) (λ f. rw f (any-unread (sources e) n h (rw f at k)))
-
-naming-unread : (a : Said) (n : List ℕ) → naming_computed a ≡ false → naming a n ≡ false → naming_reads a n ≡ false
-unfolding naming naming_computed naming_reads
-naming-unread a n h k =
-    let u : _ = neither (computes a.author.by.says) (licensees_compute a.licensees) h in
-    let v : _ = neither (author_names a.author n) (licensees_name a.licensees n) k in
-    rw (author-unread a.author n u.0 v.0) (licensees-unread a.licensees n u.1 v.1)
 
 -- the four suppositions, of the names that may differ
 pub record Unread (S : List ℕ → Type 0) (q : Query) : Type 0 where
@@ -111,20 +104,3 @@ pub record Unread (S : List ℕ → Type 0) (q : Query) : Type 0 where
   pub uncomputed : (a : Assertion) → Heard q a → computed a.conditions ≡ false
   pub naming-none : (a : Said) → Supplies q a → (n : List ℕ) → S n → naming a n ≡ false
   pub naming-plain : (a : Said) → Supplies q a → naming_computed a ≡ false
-
--- so none of them is dereferenced
-pub unread-free : {S : List ℕ → Type 0} {q : Query} → Unread S q → (n : List ℕ) → S n → Dereferenced q n → ⊥
-unread-free {q = q} u n z (in-conditions a m i d) =
-    let heard : Heard q a = record { kept = m; reached = reach-sound (system q) a.authorizer i } in
-    clash d (conditions-unread a.conditions n (u.uncomputed a heard) (u.unnamed a heard n z))
-unread-free u n z (in-naming a s d) = clash d (naming-unread a n (u.naming-plain a s) (u.naming-none a s n z))
-
--- Demand 3. Two records are accepted, as queries "alike but for the values of some attributes" (S holds of their names). None of these names
--- stands in the Conditions of an assertion heard, and no assertion heard uses "$" there; none is dereferenced in Authorizer or Licensees of any text
--- otherwise well formed, reached or not, and none has a "$" in either. Then, on any two pages where both are answered, rank, rounds, reached and all
--- 3 + 3n bytes of the report are equal.
-pub demand-3-heard : (S : List ℕ → Type 0) (s s' : List ℕ) (q q' : Query) → read_record s ≡ accepted q → read_record s' ≡ accepted q'
-    → AlikeBut S q q' → Unread S q
-    → (page page' : List ℕ) → (outcome s (length page)).number ≡ 0 → (outcome s' (length page')).number ≡ 0
-    → SameAnswer s s' page page' (needed q)
-demand-3-heard S s s' q q' e e' k u = demand-3-accepted S s s' q q' e e' k (unread-free u)

@@ -16,7 +16,7 @@ use Rattle.text.specs.Choice.{split}
 use Rattle.lexical.specs.declared.unit.Unit.{Unit}
 use Rattle.lexical.specs.Unit.{GIVES, CLOSES, barred, unit_at}
 use Rattle.lexical.specs.Theorems.UnitLaws.{unit-moves}
-use Rattle.lexical.specs.Literal.{units, units_at, given, literal_end, decoded_at}
+use Rattle.lexical.specs.Literal.{units_at, given, literal_end, decoded_at}
 use Rattle.lexical.specs.Theorems.LiteralLaws.{units-more, units-last, units-end}
 use Rattle.lexical.specs.Decode.{ran, decode_into, within, decode_within}
 use Rattle.lexical.specs.declared.literal.Decoded.TheVariants.{Put, Long, Full}

@@ -1,8 +1,8 @@
 -- Which principals an assertion names in a query. Assumes nothing.
-use Rattle.std.specs.Prelude.{List, map, ℕ}
+use Rattle.std.specs.Prelude.{map}
 use Rattle.principal.specs.Principal.{Principal}
 use Rattle.compliance.specs.Licensees as Compliance
-use Rattle.record.specs.Query.{Query, Attribute}
+use Rattle.record.specs.Query.{Query}
 use Rattle.expression.specs.Value.{bytes_of}
 use Rattle.expression.specs.Names.{Environment, environment}
 use Rattle.expression.specs.Conditions.{evaluate}

@@ -1,11 +1,10 @@
 -- Principals and their one equality: that of their canonical forms. What is said of principals elsewhere goes by `same` and its laws, never by
 -- equality of bytes. Assumes nothing.
 use Rattle.std.specs.Prelude.{◌≡◌, refl, Bool, true, List, [], ◌∷◌, ℕ, length}
-use Rattle.std.proofs.Common.{sym, ap, ◌∙◌, arith}
+use Rattle.std.proofs.Common.{sym, ◌∙◌}
 use Rattle.text.specs.Choice.{bool_iff}
 use Rattle.text.specs.Equal.{equal, equal-refl, equal-true}
 use Rattle.principal.specs.Canonical.{front, behind, canonical_with, canonical}
-use Rattle.principal.specs.Theorems.Canonical.{behind-cases, canonical-plain, parts-long}
 
 -- an identifier's bytes
 abbrev pub Principal : Type 0

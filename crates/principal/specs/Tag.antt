@@ -1,14 +1,13 @@
 -- A number that a principal has however it is written, and few others have, so that a search can pass those by. Assumes nothing.
-use Rattle.std.specs.Prelude.{◌≡◌, true, leb, length}
-use Rattle.std.proofs.Math.Path.{refl, sym, ap}
-use Rattle.std.proofs.Common.{◌∙◌, arith, leb-true}
-use mathlib.Core.List.{List, [], ◌∷◌}
+use Rattle.std.specs.Prelude.{◌≡◌, leb, length}
+use Rattle.std.proofs.Math.Path.{refl}
+use Rattle.std.proofs.Common.{arith, leb-true}
+use mathlib.Core.List.{[], ◌∷◌}
 use Prim.Native.Nat.{ℕ, zero, suc, ◌+◌, ◌-◌, ◌*◌, ◌/◌, ◌%◌, ◌<◌, ◌≤◌}
 use Rattle.std.proofs.Math.ListN.{get_or}
 use Rattle.text.specs.Choice.{pick, split}
-use Rattle.principal.specs.Canonical.{fold, folded, canonical}
-use Rattle.principal.specs.Theorems.Canonical.{folded-long}
-use Rattle.principal.specs.Principal.{Principal, same, same-canonical}
+use Rattle.principal.specs.Canonical.{fold, folded}
+use Rattle.principal.specs.Principal.{Principal}
 
 -- a byte without the bit in which a capital letter differs from its small one
 unfoldable pub plain : ℕ → ℕ

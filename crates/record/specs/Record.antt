@@ -1,5 +1,5 @@
 -- The query record: for every list of bytes the query that it says, or a refusal's number and place. Assumes nothing.
-use Rattle.std.specs.Prelude.{Bool, true, false, List, ℕ, eqb, ltb, length, get_or}
+use Rattle.std.specs.Prelude.{List, ℕ, eqb, ltb, length, get_or}
 use Rattle.text.specs.Choice.{pick}
 use Rattle.limits.specs.Limits.{most_record, least_values, most_values, least_requesters, most_requesters, least_attributes, most_attributes, least_assertions, most_assertions}
 use Rattle.record.specs.Query.{Query}

@@ -1,26 +1,22 @@
 -- The round trips: an encoded valid query is read back, and what is read is valid and re-encodes to the same bytes. Assumes nothing.
-use Rattle.std.specs.Prelude.{◌≡◌, Bool, true, false, eqb, ltb, leb, drop}
-use Rattle.std.proofs.Math.Path.{refl, sym, ap, subst}
-use Rattle.std.proofs.Common.{◌∙◌, arith, add-one, length-append, length-drop, length-take-le}
-use mathlib.Core.List.{List, [], ◌∷◌, ◌++◌, map, append_assoc, append-nil}
-use Prim.Native.Nat.{ℕ, zero, suc, ◌+◌, ◌-◌, ◌*◌, ◌/◌, ◌%◌, ◌<◌, ◌≤◌}
+use Rattle.std.specs.Prelude.{◌≡◌, Bool, true, false, eqb, ltb, drop}
+use Rattle.std.proofs.Math.Path.{refl, sym, subst}
+use Rattle.std.proofs.Common.{◌∙◌, arith, length-drop, length-take-le}
+use mathlib.Core.List.{List, [], ◌∷◌}
+use Prim.Native.Nat.{ℕ, ◌+◌, ◌<◌, ◌≤◌}
 use Rattle.std.proofs.Math.ListN.{length, get_or, take}
-use borrow.Author.Tests.{lt-ltb, le-ltb, le-leb, lt-leb, eq-eqb, ne_eqb, ltb-true, ltb-false, leb-true, leb-false, eqb-true, eqb-false}
+use borrow.Author.Tests.{le-ltb, ltb-false, eqb-true, eqb-false}
 use Rattle.text.specs.Choice.{pick, split}
-use Rattle.text.specs.Scan.{run}
-use Rattle.text.specs.Class.{in_class, plain}
 use Rattle.text.specs.Counted.{part, pair_at}
-use Rattle.limits.specs.Limits.{most_record, least_values, most_values, least_value, most_value, least_requesters, most_requesters, least_requester, most_requester, least_attributes, most_attributes, least_name, most_name, least_setting, most_setting, least_assertions, most_assertions, least_text, most_text, most_standing}
-use Rattle.record.specs.Query.{Query, Attribute, Supplied}
+use Rattle.limits.specs.Limits.{most_record}
+use Rattle.record.specs.Query.{Query}
 use Rattle.record.specs.Read.{Read, got, bad, and_then, Verdict, accepted, refused}
 use Rattle.text.specs.Equal.{equal}
 use Rattle.principal.specs.Principal.{policy}
-use Rattle.record.specs.Field.{within, count_at, length_at, content_at, field_at, name_front, permitted, askable, among, distinct}
-use Rattle.record.specs.Item.{plain_at, value_at, requester_at, attribute_name_at, attribute_at, assertion_at, items_at, group_at}
+use Rattle.record.specs.Field.{within, length_at, content_at, permitted, askable, among, distinct}
 use Rattle.record.specs.Record.{query_at, ended, read_record}
-use Rattle.record.specs.Encode.{string_bytes, attribute_bytes, assertion_bytes, items_bytes, group_bytes, encode}
-use Rattle.record.specs.Valid.{Between, PlainOk, ValueOk, RequesterOk, NameOk, AttributeOk, SuppliedOk, Each, each[], each∷, GroupOk, Valid}
-use Rattle.record.specs.Stands.{Stands, stands-nothing, stands-join, stands-left, stands-right, stands-byte, byte_at, pair-at, stands-part, part_at, stands-all, all_of}
+use Rattle.record.specs.Valid.{Between}
+use Rattle.record.specs.Stands.{Stands, stands-byte}
 
 -- ---- taking a reading apart
 

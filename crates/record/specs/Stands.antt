@@ -1,10 +1,9 @@
 -- That bytes stand in a record at a place. Assumes nothing.
-use Rattle.std.specs.Prelude.{◌≡◌, refl, List, [], ◌∷◌, ◌++◌, ℕ, zero, suc, ◌+◌, ◌-◌, ◌/◌, ◌%◌, ◌<◌, ◌≤◌, ltb, length, get_or, take, drop}
-use Rattle.std.proofs.Common.{sym, ap, ◌∙◌, append_assoc, append-nil, arith, add-one, add-zero, le-ltb, length-append, length-drop, take-append-drop, drop-drop, length-take-le, get_or-drop, drop-cons, take_all}
-use Rattle.text.specs.Choice.{pick}
+use Rattle.std.specs.Prelude.{◌≡◌, refl, List, [], ◌∷◌, ◌++◌, ℕ, ◌+◌, ◌-◌, ◌/◌, ◌%◌, ◌<◌, ◌≤◌, length, get_or, take, drop}
+use Rattle.std.proofs.Common.{sym, ap, ◌∙◌, append_assoc, append-nil, arith, add-one, add-zero, le-ltb, length-append, length-drop, take-append-drop, drop-drop, length-take-le, get_or-drop, drop-cons}
 use Rattle.text.specs.Counted.{part, pair_at, counted}
 use Rattle.record.specs.Encode.{string_bytes}
-use Rattle.std.proofs.Math.Seq.{drop-append_seam, take-append_seam, drop-length, drop-append-add}
+use Rattle.std.proofs.Math.Seq.{drop-append_seam, take-append_seam, drop-length}
 
 -- the bytes e stand at the place, and p is the place behind them
 pub record Stands (s : List ℕ) (at : ℕ) (e : List ℕ) (p : ℕ) : Type 0 where

@@ -1,5 +1,5 @@
 -- The queries that a record can say. Assumes nothing.
-use Rattle.std.specs.Prelude.{◌≡◌, Bool, false, List, [], ◌∷◌, ◌++◌, map, ℕ, ◌≤◌, length}
+use Rattle.std.specs.Prelude.{◌≡◌, false, List, [], ◌∷◌, ◌++◌, map, ℕ, ◌≤◌, length}
 use Rattle.text.specs.Scan.{run}
 use Rattle.text.specs.Equal.{equal}
 use Rattle.text.specs.Class.{in_class, plain}

@@ -7,7 +7,8 @@ use Rattle.record.specs.Record.{read_record}
 use Rattle.keynote.specs.Outcome.{outcome, page_after}
 use Rattle.keynote.specs.declared.Outcome.{Outcome}
 use Rattle.keynote.specs.Paper.{EqualBut}
-use Rattle.keynote.specs.Theorems.More.{rank-added, outcome-reordered, page-reordered, outcome-replaced, page-replaced}
+use Rattle.keynote.specs.Theorems.More.{page-reordered, page-replaced}
+use Rattle.keynote.proofs.Theorems.More.{rank-added, outcome-reordered, outcome-replaced}
 use Rattle.secrecy.specs.Paper.{Paper, MorePaper}
 use Rattle.secrecy.specs.declared.Both.{Both}
 

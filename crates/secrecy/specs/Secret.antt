@@ -7,7 +7,8 @@ use Rattle.record.specs.Record.{read_record}
 use Rattle.keynote.specs.Outcome.{needed, outcome, page_after}
 use Rattle.keynote.specs.Secrets.{Dereferenced, AlikeWhere}
 use Rattle.keynote.specs.Theorems.Numbers.{answered-fits}
-use Rattle.keynote.specs.Theorems.Demand3.{SameAnswer, demand-3, needed-same}
+use Rattle.keynote.specs.Theorems.Demand3.{SameAnswer, needed-same}
+use Rattle.keynote.proofs.Theorems.Demand3.{demand-3}
 use Rattle.keynote.specs.declared.Outcome.{Outcome}
 use Rattle.secrecy.specs.Demand3.{Secret}
 use Rattle.secrecy.specs.declared.Both.{Both}

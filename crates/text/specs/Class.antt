@@ -1,5 +1,5 @@
 -- Classes of bytes that a front of a string is made of. Assumes nothing.
-use Rattle.std.specs.Prelude.{Bool, true, false, not, ◌&&◌, ◌||◌, ℕ, eqb, leb}
+use Rattle.std.specs.Prelude.{Bool, true, false, not, ℕ, eqb, leb}
 use Rattle.text.specs.Choice.{pick}
 
 -- the decimal digits

@@ -1,5 +1,5 @@
 -- A copy into a buffer. Assumes nothing.
-use Rattle.std.specs.Prelude.{Bool, true, false, List, ◌++◌, ℕ, ◌+◌, ◌-◌, ltb, leb, length, take, drop}
+use Rattle.std.specs.Prelude.{Bool, true, false, List, ◌++◌, ℕ, ◌+◌, leb, length, take, drop}
 use Rattle.text.specs.Choice.{pick}
 
 -- what a copy tells, and the buffer after it

@@ -1,5 +1,5 @@
 -- What putting a string into a buffer does: piece by piece it is the same, and the length stays. Assumes nothing.
-use Rattle.std.specs.Prelude.{◌≡◌, refl, List, [], ◌∷◌, ◌++◌, ℕ, suc, ◌+◌, ◌<◌, ◌≤◌, length, get_or, take, drop, set}
+use Rattle.std.specs.Prelude.{◌≡◌, List, [], ◌∷◌, ◌++◌, ℕ, suc, ◌+◌, ◌<◌, ◌≤◌, length, get_or, take, drop, set}
 use Rattle.std.proofs.Common.{sym, ap, ◌∙◌, append_assoc, append-nil, arith, add-zero, add-one, length-append, length-take, length-drop, take-append-drop, take_at, take-suc, drop-drop, length-take-le}
 use Rattle.std.proofs.Math.Seq.{drop-append-add, append_snoc}
 use Rattle.std.proofs.lemmas.List.{set_at}

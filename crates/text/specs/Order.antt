@@ -1,5 +1,5 @@
 -- The order of byte strings: "by byte; a proper prefix is less". Assumes nothing.
-use Rattle.std.specs.Prelude.{◌≡◌, refl, List, [], ◌∷◌, ℕ, ltb}
+use Rattle.std.specs.Prelude.{List, [], ◌∷◌, ℕ, ltb}
 use Rattle.text.specs.Choice.{pick}
 use Rattle.text.specs.declared.Order.{Order}
 use Rattle.text.specs.declared.Order.TheVariants.{Less, Equal, Greater}

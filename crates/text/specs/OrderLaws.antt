@@ -1,7 +1,7 @@
 -- What the order of byte strings is. Assumes nothing.
-use Rattle.std.specs.Prelude.{◌≡◌, refl, Bool, true, false, List, [], ◌∷◌, ◌++◌, ℕ, ◌<◌, ◌≤◌, ltb}
-use Rattle.std.proofs.Common.{sym, arith, lt-ltb, le-ltb, ltb-true, ltb-false}
-use Rattle.text.specs.Choice.{pick, split}
+use Rattle.std.specs.Prelude.{◌≡◌, refl, false, List, [], ◌∷◌, ◌++◌, ℕ, ◌<◌, ◌≤◌, ltb}
+use Rattle.std.proofs.Common.{arith, lt-ltb, le-ltb, ltb-true, ltb-false}
+use Rattle.text.specs.Choice.{split}
 use Rattle.text.specs.Order.{order}
 use Rattle.text.specs.declared.Order.{Order}
 use Rattle.text.specs.declared.Order.TheVariants.{Less, Equal, Greater}

@@ -48,7 +48,6 @@ use Rattle.assertion.specs.declared.field.Partial.{Partial}
 use Rattle.assertion.specs.Theorems.Left.{without-most, without-none, enter-all-length, First, first_more}
 use Rattle.assertion.specs.Theorems.Ready.{Ready, After, worth}
 use Rattle.assertion.specs.Theorems.Held.{authored, Listed, listed, Indexed, author-more, listed_more, listed-less, listed-none, index-less, names-before, Front, Held, held-front, held-used, held-count}
-use Rattle.syntax.specs.Working.Faults.{against}
 use Rattle.index.specs.Working.Adding.{index_of}
 use Rattle.assertion.specs.Theorems.Fielded.{FieldRead, all-behind, entered-one, field-aside, field-on, one-behind, opened-conditions}
 

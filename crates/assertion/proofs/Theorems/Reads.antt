@@ -18,7 +18,7 @@ use Rattle.lexical.specs.declared.token.Token.{Token}
 use Rattle.principal.specs.Principal.{Principal}
 use Rattle.principal.specs.Members.{member}
 use Rattle.compliance.specs.Codes.{top_code}
-use Rattle.compliance.specs.Licensees.{Licensees, licensees}
+use Rattle.compliance.specs.Licensees.{Licensees}
 use Rattle.principal.specs.Places.{place}
 use Rattle.index.specs.Index.{enter_all}
 use Rattle.syntax.specs.Parsed.{Parsed, refusal}

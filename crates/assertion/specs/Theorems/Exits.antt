@@ -1,6 +1,6 @@
 -- The loop over labels never ends because its measure fails to fall: each label that is read is one less that may stand. Assumes nothing.
 use Rattle.std.specs.Prelude.{◌≡◌, refl, Bool, true, false, List, [], ◌∷◌, eqb, get_or, set}
-use Rattle.std.proofs.Common.{sym, ap, ◌∙◌, arith, eqb-true, lt-ltb}
+use Rattle.std.proofs.Common.{ap, ◌∙◌, arith, eqb-true, lt-ltb}
 use Prim.Native.Nat.{ℕ, zero, suc, ◌+◌, ◌<◌}
 use Rattle.std.proofs.lemmas.Bool.{eqb-false}
 use Rattle.text.specs.Choice.{pick, split}
@@ -17,7 +17,6 @@ use Rattle.naming.specs.Licensees.{licensees}
 use Rattle.assertion.specs.Labels.{total, without}
 use Rattle.assertion.specs.Sketch.{Sketch, labelled, with_constants, with_author, with_licensees, with_program}
 use Rattle.assertion.specs.Form.{Form, field, State, on_field, turn, fields_from}
-use Rattle.assertion.specs.Theorems.Left.{clear_none}
 
 -- ---- a label that is used up is one less
 

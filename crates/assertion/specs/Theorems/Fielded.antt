@@ -1,56 +1,20 @@
 -- A field read into the tables is what the meaning reads. Assumes nothing.
-use Rattle.std.specs.Prelude.{◌≡◌, refl, true, List, [], ◌∷◌, ◌++◌, ℕ, ◌+◌, ◌*◌, ◌<◌, ◌≤◌, eqb, length, get_or, take}
-use Rattle.std.proofs.Common.{ap, ◌∙◌, arith, length-append, eqb-true}
-use Rattle.limits.specs.Limits.{most_counted}
-use Rattle.text.specs.Choice.{split}
-use Rattle.record.specs.Query.{Query, Attribute}
+use Rattle.std.specs.Prelude.{◌≡◌, refl, List, [], ◌∷◌, ◌++◌, ℕ}
+use Rattle.std.proofs.Common.{◌∙◌}
+use Rattle.record.specs.Query.{Query}
 use Rattle.lexical.specs.Kind
 use Rattle.lexical.specs.Kind.{ending}
-use Rattle.lexical.specs.Line.{token_at}
 use Rattle.lexical.specs.declared.token.Token.{Token}
 use Rattle.principal.specs.Principal.{Principal}
-use Rattle.compliance.specs.Licensees as Compliance
-use Rattle.compliance.specs.Licensees.{licensees as licensees_of}
-use Rattle.index.specs.Index.{enter, enter_all, Holds}
-use Rattle.index.specs.EnterLaws.{fresh, fresh_all, enter-is, enter-all-is, enter-all-append, enter-member, enter-all-member}
-use Rattle.syntax.specs.Expr.{Program}
-use Rattle.syntax.specs.Parsed.{Parsed, ok, aside, and_then, refusal}
-use Rattle.syntax.specs.Stood.{Stood, stood-at}
-use Rattle.expression.specs.Names.{environment}
-use Rattle.expression.specs.Conditions.{conditions}
-use Rattle.expression.specs.Tables.{Shows}
-use Rattle.constants.specs.Theorems.Begun.{begun-shows}
-use Rattle.conditions.specs.Word.{next_at}
-use Rattle.conditions.specs.Program.{read_program}
-use Rattle.judge.specs.Theorems.Judges.{Judging, judged-aside, judged-on}
-use Rattle.judge.proofs.Theorems.Judges.{judge-field-read}
-use Rattle.judge.specs.declared.Judged.{Judged}
-use Rattle.fields.specs.Parsed.{ended}
-use Rattle.fields.specs.Constants.{constants_from}
-use Rattle.naming.specs.Source.{Author, Licensees}
-use Rattle.naming.specs.Authorizer.{authorizer}
-use Rattle.naming.specs.Licensees.{licensees}
-use Rattle.fields.specs.Working.Outs.{out_of, ended_out}
-use Rattle.fields.specs.Working.Setting.{Stored}
-use Rattle.naming.specs.Working.Authorizing.{Made}
-use Rattle.naming.specs.Working.List.{Ran as Listing}
-use Rattle.fields.specs.Theorems.Together.{both, refusal-some}
-use Rattle.fields.specs.Theorems.Versioned.{VersionRead, version-aside, version-on, version-read}
-use Rattle.fields.specs.Theorems.Constanted.{ConstantsRead, constants-aside, constants-on, constants-read}
-use Rattle.naming.specs.Theorems.Authorized.{author_now, AuthorRead, author-aside, author-on, author-read}
-use Rattle.naming.specs.Theorems.Licensed.{LicenseesRead, licensees-aside, licensees-on, licensees-read}
-use Rattle.assertion.specs.Labels.{without}
-use Rattle.assertion.specs.Sketch.{Sketch, labelled, with_constants, with_author, with_licensees, with_program}
-use Rattle.assertion.specs.Form.{field}
-use Rattle.naming.specs.Theorems.StandIn.{licensed_now}
-use Rattle.assertion.specs.Working.Field.{Given, Tables, tabled, Moved, moved, knowing, authored_by, licensed_to, ranked_at, passed_on, settled_as, made_as, listed_as, on_judged, into_constants, into_index, into_code, known, seen, constants_at, authorizer_at, licensees_at, conditions_at, field_at}
+use Rattle.index.specs.Index.{enter, enter_all}
+use Rattle.index.specs.EnterLaws.{fresh, fresh_all, enter-is, enter-all-is, enter-all-append}
+use Rattle.syntax.specs.Parsed.{Parsed, ok, aside}
+use Rattle.assertion.specs.Sketch.{Sketch}
+use Rattle.assertion.specs.Working.Field.{Given, Tables, Moved, moved}
 use Rattle.assertion.specs.declared.field.Partial.{Partial}
 use Rattle.assertion.specs.declared.field.Went.TheVariants.{On, Aside}
-use Rattle.assertion.specs.Theorems.Left.{without-most, without-none, enter-all-length, First, first_more}
-use Rattle.assertion.specs.Theorems.Ready.{Ready, After, worth}
-use Rattle.assertion.specs.Theorems.Held.{authored, Listed, listed, Indexed, author-more, listed_more, listed-less, listed-none, index-less, names-before, Front, Held, held-front, held-used, held-count}
+use Rattle.assertion.specs.Theorems.Held.{Front, Held}
 use Rattle.syntax.specs.Working.Faults.{against}
-use Rattle.index.specs.Working.Adding.{index_of}
 
 -- the same fault; or the same draft and token behind, as the tables hold it
 pub data FieldRead (q : Query) (g : Given) (top : ℕ) (x : Tables) (names : List Principal) (count end size : ℕ) (free : List ℕ) : Parsed Sketch → Moved → Type 0 where

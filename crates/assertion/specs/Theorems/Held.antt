@@ -18,7 +18,6 @@ use Rattle.index.specs.Index.{enter_all, Holds}
 use Rattle.index.specs.EnterLaws.{fresh_all, enter-all-is}
 use Rattle.syntax.specs.Stood.{Stood}
 use Rattle.naming.specs.Theorems.Entry.{holds-before}
-use Rattle.naming.specs.Source.{Author}
 use Rattle.naming.specs.Fault.{licensees_fault}
 use Rattle.naming.specs.Working.Faults.{meant}
 use Rattle.assertion.specs.Labels.{without}

@@ -23,7 +23,6 @@ use Rattle.assertion.specs.Theorems.Evaluated.{evaluates-clear, clear-evaluates}
 use Rattle.assertion.specs.Theorems.Earliest.{Against, fault-against}
 use Rattle.naming.specs.Theorems.StandIn.{entered, people_now, licensed_now}
 use Rattle.assertion.specs.Working.StandIn.{entered_as}
-use Rattle.naming.specs.Theorems.Authorized.{author_now}
 
 -- a query in which no name is set
 abbrev pub bare : Query

@@ -1,15 +1,14 @@
 -- Where nothing is at fault POLICY stands in nowhere: what the tables take is what the text means. Assumes nothing.
-use Rattle.std.specs.Prelude.{◌≡◌, refl, List, [], ◌∷◌, ◌++◌, map, ℕ, leb}
+use Rattle.std.specs.Prelude.{◌≡◌, refl, ℕ, leb}
 use Rattle.std.proofs.Common.{sym, ◌∙◌, arith}
 use Rattle.std.proofs.Math.Path.{ap}
 use Rattle.std.proofs.Math.Option.{none, some}
 use Rattle.text.specs.Choice.{split}
 use Rattle.record.specs.Query.{Query}
-use Rattle.compliance.specs.Licensees as Compliance
-use Rattle.expression.specs.Names.{Environment, environment}
-use Rattle.naming.specs.Source.{Source, Sources, one, and, or, k_of, Licensees, missing, empty, given, Author, sources}
-use Rattle.naming.specs.Naming.{identified, people, author, licensed}
-use Rattle.naming.specs.Fault.{Fault, clear, faulty, earlier, source_fault, policy_fault, author_fault, first_fault, licensees_fault}
+use Rattle.expression.specs.Names.{environment}
+use Rattle.naming.specs.Source.{Author}
+use Rattle.naming.specs.Naming.{identified, author}
+use Rattle.naming.specs.Fault.{Fault, clear, faulty, earlier, source_fault, policy_fault, author_fault, licensees_fault}
 use Rattle.assertion.specs.Read.{kept, dropped}
 use Rattle.assertion.specs.Said.{Said}
 use Rattle.assertion.specs.Sketch.{Sketch}

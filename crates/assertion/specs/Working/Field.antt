@@ -1,5 +1,5 @@
 -- Working definitions: a field read into the tables. Assumes nothing.
-use Rattle.std.specs.Prelude.{Bool, true, false, List, ℕ, eqb, take}
+use Rattle.std.specs.Prelude.{true, List, ℕ, eqb, take}
 use Rattle.text.specs.Choice.{pick}
 use Rattle.lexical.specs.Kind
 use Rattle.lexical.specs.declared.token.Token.{Token}

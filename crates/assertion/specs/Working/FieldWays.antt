@@ -1,10 +1,9 @@
 -- The ways out of the functions that read a field. Assumes nothing.
-use Rattle.std.specs.Prelude.{◌≡◌, refl, Bool, true, false, List, [], ◌∷◌, ℕ, zero, suc, ◌≤◌, ◌<◌, eqb, length, take, get_or, set}
-use Rattle.std.proofs.Common.{sym, ap, ◌∙◌, arith, take_all, length-take-le}
+use Rattle.std.specs.Prelude.{◌≡◌, false, List, ℕ, ◌≤◌, ◌<◌, eqb, length, take, get_or, set}
+use Rattle.std.proofs.Common.{sym, ◌∙◌, arith, take_all, length-take-le}
 use Rattle.std.proofs.Math.ListN.{get_or-eq_default}
 use Rattle.std.proofs.Math.Seq.{set_out}
-use borrow.Author.Tests.{eq-eqb, ne_eqb}
-use Rattle.text.specs.Choice.{pick}
+use borrow.Author.Tests.{ne_eqb}
 use Rattle.lexical.specs.Kind
 use Rattle.lexical.specs.declared.token.Token.{Token}
 use Rattle.judge.specs.Working.Judging.{judged_here}
@@ -13,9 +12,9 @@ use Rattle.judge.specs.declared.Judged.TheVariants.{On as Ranked, Aside as Unran
 use Rattle.fields.specs.Version.{version}
 use Rattle.fields.specs.Working.Outs.{out_of, ended_out}
 use Rattle.fields.specs.Working.Setting.{Stored, stored, constants_in}
-use Rattle.naming.specs.Working.Identifying.{Sight, sight}
-use Rattle.naming.specs.Working.Authorizing.{Made, made, authorizer_in}
-use Rattle.naming.specs.Working.List.{Ran, ran}
+use Rattle.naming.specs.Working.Identifying.{sight}
+use Rattle.naming.specs.Working.Authorizing.{made, authorizer_in}
+use Rattle.naming.specs.Working.List.{ran}
 use Rattle.naming.specs.Working.Chain.{field_in}
 use Rattle.syntax.specs.declared.fault.Fault.{Fault}
 use Rattle.fields.specs.declared.out.Out.{Out}
@@ -28,7 +27,7 @@ use Rattle.naming.specs.declared.list.State.{State}
 use Rattle.naming.specs.declared.list.Licensed.{Licensed}
 use Rattle.naming.specs.declared.list.Licensed.TheVariants.{On as Listed, Aside as Unlisted}
 use Rattle.assertion.specs.Labels.{without}
-use Rattle.assertion.specs.Working.Field.{Given, given, Tables, tabled, Moved, moved, knowing, authored_by, licensed_to, ranked_at, passed_on, Settled, settled, settled_as, made_as, Listing, listed, listed_as, on_judged, constants_at, authorizer_at, licensees_at, conditions_at, field_at}
+use Rattle.assertion.specs.Working.Field.{Given, given, Tables, tabled, moved, knowing, authored_by, licensed_to, ranked_at, passed_on, Settled, settled, settled_as, made_as, Listing, listed, listed_as, on_judged, constants_at, authorizer_at, licensees_at, conditions_at, field_at}
 use Rattle.assertion.specs.declared.field.Partial.{Partial}
 use Rattle.assertion.specs.declared.field.Went.{Went}
 use Rattle.assertion.specs.declared.field.Went.TheVariants.{On, Aside}

@@ -1,5 +1,5 @@
 -- Working definitions: an assertion read into the tables. Assumes nothing.
-use Rattle.std.specs.Prelude.{Bool, true, false, List, [], ◌∷◌, ℕ, eqb, get_or}
+use Rattle.std.specs.Prelude.{Bool, true, false, List, ℕ, eqb, get_or}
 use Rattle.text.specs.Choice.{pick}
 use Rattle.text.specs.Loop.{Step, next, done, loop}
 use Rattle.lexical.specs.Kind
@@ -7,7 +7,6 @@ use Rattle.lexical.specs.Kind.{ending}
 use Rattle.lexical.specs.Line.{token_at}
 use Rattle.lexical.specs.declared.token.Token.{Token}
 use Rattle.compliance.specs.Codes.{top_code}
-use Rattle.syntax.specs.Parsed.{refusal}
 use Rattle.fields.specs.Signature.{signature}
 use Rattle.fields.specs.Working.Outs.{out_of}
 use Rattle.naming.specs.Working.Code.{above, pushed}

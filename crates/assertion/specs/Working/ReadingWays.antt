@@ -1,16 +1,15 @@
 -- The ways out of the functions that read an assertion. Assumes nothing.
-use Rattle.std.specs.Prelude.{◌≡◌, refl, Bool, true, false, List, [], ◌∷◌, ℕ, zero, suc, ◌+◌, ◌<◌, ◌≤◌, eqb, length, get_or, set}
+use Rattle.std.specs.Prelude.{◌≡◌, refl, Bool, true, false, List, [], ◌∷◌, ℕ, zero, suc, ◌<◌, ◌≤◌, eqb, get_or, set}
 use Rattle.std.proofs.Math.Path.{sym}
-use Rattle.std.proofs.Common.{ap, ◌∙◌, arith, get_or-set_other}
+use Rattle.std.proofs.Common.{◌∙◌, arith, get_or-set_other}
 use borrow.Author.Tests.{eq-eqb, ne_eqb, eqb-true, eqb-false}
-use Rattle.text.specs.Choice.{pick, split, clash}
-use Rattle.text.specs.Loop.{Step, next, done, loop, loop-next, loop-done}
+use Rattle.text.specs.Choice.{split, clash}
+use Rattle.text.specs.Loop.{loop-next, loop-done}
 use Rattle.lexical.specs.Kind
 use Rattle.lexical.specs.Kind.{ending}
 use Rattle.lexical.specs.Line.{token_at}
 use Rattle.lexical.specs.declared.token.Token.{Token}
 use Rattle.compliance.specs.Codes.{top_code}
-use Rattle.syntax.specs.Parsed.{refusal}
 use Rattle.fields.specs.Signature.{signature}
 use Rattle.fields.specs.Working.Outs.{out_of}
 use Rattle.naming.specs.Working.Code.{above, pushed}
@@ -25,7 +24,7 @@ use Rattle.syntax.specs.declared.fault.Fault.{Fault}
 use Rattle.index.specs.declared.Index.{Index}
 use Rattle.assertion.specs.Working.Reading.{Finished, finished_by, Result, read_by, kept_at, kept_in, finished_in, signed_in, last_at, last_in, fields_in, begun, read_in}
 use Rattle.assertion.specs.declared.Assessment.{Assessment}
-use Rattle.assertion.specs.declared.Assessment.TheVariants.{Kept, Dropped}
+use Rattle.assertion.specs.declared.Assessment.TheVariants.{Dropped}
 use Rattle.assertion.specs.declared.field.Partial.{Partial}
 use Rattle.assertion.specs.declared.field.Went.{Went}
 use Rattle.assertion.specs.declared.field.Went.TheVariants.{On, Aside}

@@ -6,7 +6,7 @@ use borrow.Author.Tests.{eqb-true}
 use Rattle.text.specs.Choice.{clash}
 use Rattle.lexical.specs.Kind
 use Rattle.lexical.specs.Theorems.Bounds.{chosen}
-use Rattle.syntax.specs.Operator.{Side, a-string, an-integer, a-float, a_test, comparison, strings, integers}
+use Rattle.syntax.specs.Operator.{Side, a-string, an-integer, a-float, a_test, strings, integers}
 use Rattle.conditions.specs.Table.{PartSort, sorted, word, Infix, no-infix}
 use Rattle.conditions.specs.Table
 

@@ -1,21 +1,13 @@
 -- The code that `conditions` writes says what the Conditions field says. Assumes nothing.
-use Rattle.std.specs.Prelude.{◌≡◌, true, List, ◌++◌, ℕ, ◌+◌, ◌-◌, ◌<◌, ◌≤◌, length, take}
+use Rattle.std.specs.Prelude.{◌≡◌, true, List, ◌++◌, ℕ, ◌+◌, ◌<◌, ◌≤◌, length, take}
 use Rattle.std.proofs.Common.{sym, ap, ◌∙◌, arith, length-append, length-take-le}
-use borrow.Author.Tests.{le-ltb}
 use Rattle.lexical.specs.declared.token.Token.{Token}
 use Rattle.syntax.specs.Expr.{Program}
 use Rattle.syntax.specs.Code.{ProgramCodes}
 use Rattle.conditions.specs.Table.{stops}
-use Rattle.conditions.specs.Word.{next_at}
 use Rattle.syntax.specs.Parsed.{Parsed, ok, aside}
-use Rattle.conditions.specs.Program.{DEPTH, read_program}
 use Rattle.conditions.specs.Working.Emit.{Ran, ran}
-use Rattle.conditions.specs.Working.Program.{program_at, conditions_at}
-use Rattle.conditions.specs.Working.Written.{Keeps, keeps, Grown, grown, Wrote, wrote}
-use Rattle.conditions.specs.Working.Same.{SameAs, as-aside, as-ok, start-within}
-use Rattle.conditions.specs.Working.Pace.{next-sound}
-use Rattle.conditions.specs.Working.PaceProgram.{Blocked, blocked-aside, blocked-found}
-use Rattle.conditions.specs.declared.emit.Out.{Out}
+use Rattle.conditions.specs.Working.Written.{Keeps}
 use Rattle.conditions.specs.declared.emit.Out.TheVariants.{Found, Aside}
 use Rattle.syntax.specs.Working.Faults.{against}
 

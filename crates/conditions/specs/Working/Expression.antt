@@ -8,7 +8,6 @@ use Rattle.conditions.specs.Working.Numbered
 use Rattle.conditions.specs.Word.{next_at}
 use Rattle.conditions.specs.Working.Emit.{Ran, ran, on_found, word_top, word_written, refused, finish_at, closed_at}
 use Rattle.conditions.specs.Working.Leaf.{leaf_read}
-use Rattle.conditions.specs.declared.emit.Out.{Out}
 use Rattle.conditions.specs.declared.emit.Out.TheVariants.{Found, Aside}
 use Rattle.syntax.specs.Working.Faults.{against}
 use Rattle.limits.specs.Limits.{most_brackets, most_prefixes}

@@ -9,7 +9,6 @@ use Rattle.syntax.specs.Op
 use Rattle.conditions.specs.Word.{next_at}
 use Rattle.conditions.specs.Working.Numbered.{TEXT, INTEGER, FLOAT, word_sort}
 use Rattle.conditions.specs.Working.Emit.{Ran, ran, above, put}
-use Rattle.conditions.specs.declared.emit.Out.{Out}
 use Rattle.conditions.specs.declared.emit.Out.TheVariants.{Found, Aside}
 use Rattle.syntax.specs.Working.Faults.{against}
 use Rattle.limits.specs.Limits.{most_float, most_literal}

@@ -1,16 +1,15 @@
 -- How far a reader comes: it writes at most an entry a byte that it reads, and always reads on. Assumes nothing.
-use Rattle.std.specs.Prelude.{◌≡◌, refl, Bool, true, false, eqb, ltb, leb, length}
-use Rattle.std.proofs.Common.{sym, ap, ◌∙◌, arith, not-suc-le-zero, ltb-true, ltb-false, leb-true, leb-false, eqb-true, lt-ltb}
+use Rattle.std.specs.Prelude.{◌≡◌, Bool, true, false, eqb, ltb, leb, length}
+use Rattle.std.proofs.Common.{ap, arith, not-suc-le-zero, ltb-true, ltb-false, eqb-true, lt-ltb}
 use mathlib.Core.List.{List}
-use Prim.Native.Nat.{ℕ, zero, suc, ◌+◌, ◌-◌, ◌*◌, ◌<◌, ◌≤◌}
+use Prim.Native.Nat.{ℕ, zero, suc, ◌+◌, ◌-◌, ◌<◌, ◌≤◌}
 use Rattle.std.proofs.lemmas.Bool.{eqb-false}
-use Rattle.text.specs.Choice.{pick, split, clash}
+use Rattle.text.specs.Choice.{split}
 use Rattle.text.specs.Loop.{Step, next, done, loop, turns, after}
 use Rattle.lexical.specs.Kind
 use Rattle.lexical.specs.Theorems.Bounds.{chosen}
 use Rattle.lexical.specs.Literal.{decoded_at}
 use Rattle.lexical.specs.Number as Number
-use Rattle.lexical.specs.Line.{token_at}
 use Rattle.lexical.specs.Theorems.LineLaws.{token-real, token-fault, token_end}
 use Rattle.lexical.specs.declared.token.Token.{Token}
 use Rattle.syntax.specs.Op
@@ -25,7 +24,6 @@ use Rattle.conditions.specs.Working.Leaf.{literal_read, name_read, digits_read, 
 use Rattle.conditions.specs.Working.Same.{start-within}
 use Rattle.conditions.specs.Working.TieOperand.{Named, named-string, named-word, name-cases}
 use Rattle.conditions.specs.Working.TieTable.{word_number}
-use Rattle.conditions.specs.declared.emit.Out.{Out}
 use Rattle.conditions.specs.declared.emit.Out.TheVariants.{Found, Aside}
 use Rattle.syntax.specs.Working.Faults.{against}
 use Rattle.limits.specs.Limits.{most_float, most_literal}

@@ -1,14 +1,11 @@
 -- What is read and what is written belong together: the same fault, or the same token behind and the code of what was read. Assumes nothing.
-use Rattle.std.specs.Prelude.{◌≡◌, refl, Bool, true, false, List, [], ◌∷◌, ◌++◌, eqb, ltb, leb, length}
-use Rattle.std.proofs.Common.{sym, ap, ◌∙◌, arith, ltb-true, ltb-false, eqb-true, lt-ltb, le-ltb}
-use Prim.Native.Nat.{ℕ, zero, suc, ◌+◌, ◌-◌, ◌<◌, ◌≤◌}
+use Rattle.std.specs.Prelude.{◌≡◌, refl, Bool, true, false, List, [], eqb, ltb, length}
+use Rattle.std.proofs.Common.{ap, arith, ltb-true, ltb-false, eqb-true}
+use Prim.Native.Nat.{ℕ, zero, suc, ◌<◌, ◌≤◌}
 use Rattle.std.proofs.lemmas.Bool.{eqb-false}
 use Rattle.text.specs.Choice.{pick, split}
 use Rattle.text.specs.Loop.{Step, next, done, loop, turns, after}
 use Rattle.lexical.specs.Kind
-use Rattle.lexical.specs.Theorems.Bounds.{chosen}
-use Rattle.lexical.specs.Token.{end_of}
-use Rattle.lexical.specs.Line.{token_at}
 use Rattle.lexical.specs.Theorems.LineLaws.{token-real, token-fault, token_end}
 use Rattle.lexical.specs.declared.token.Token.{Token}
 use Rattle.syntax.specs.Expr.{Expr, name}
@@ -21,7 +18,6 @@ use Rattle.syntax.specs.Parsed.{Parsed, ok, aside, unexpected, and_then}
 use Rattle.conditions.specs.Parsed.{Part, part, on_part}
 use Rattle.conditions.specs.Working.Emit.{Ran, ran, refused, on_found}
 use Rattle.conditions.specs.Working.Written.{Grown, Keeps}
-use Rattle.conditions.specs.declared.emit.Out.{Out}
 use Rattle.conditions.specs.declared.emit.Out.TheVariants.{Found, Aside}
 use Rattle.syntax.specs.Working.Faults.{against}
 

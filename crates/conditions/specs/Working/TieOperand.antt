@@ -1,8 +1,7 @@
 -- Operands of one token and operators belong to their code. Assumes nothing.
-use Rattle.std.specs.Prelude.{◌≡◌, refl, Bool, List, [], ◌∷◌, ◌++◌, ℕ, ◌+◌, ◌-◌, ◌<◌, ◌≤◌, eqb, ltb, leb, length}
-use Rattle.std.proofs.Common.{sym, arith, eqb-true}
+use Rattle.std.specs.Prelude.{◌≡◌, refl, Bool, List, [], ◌∷◌, ◌++◌, ℕ, ◌-◌, ◌<◌, ◌≤◌, eqb, ltb, leb, length}
+use Rattle.std.proofs.Common.{sym, arith}
 use Rattle.std.proofs.Math.Bool.{true, false}
-use Rattle.text.specs.Choice.{pick, split}
 use Rattle.lexical.specs.Kind
 use Rattle.lexical.specs.Theorems.Bounds.{chosen}
 use Rattle.lexical.specs.Literal.{decoded_at}
@@ -23,7 +22,7 @@ use Rattle.conditions.specs.Word.{next_at, word_sort}
 use Rattle.syntax.specs.Parsed.{ok}
 use Rattle.conditions.specs.Parsed.{part}
 use Rattle.conditions.specs.Operand.{read_literal, read_name, read_digits, read_float, read_leaf, settled_tree, applied}
-use Rattle.conditions.specs.Working.Emit.{Ran, ran, above, put, word_top, word_written, finish_at}
+use Rattle.conditions.specs.Working.Emit.{ran, above, put, word_top, word_written, finish_at}
 use Rattle.conditions.specs.Working.Leaf.{literal_read, name_read, digits_read, float_read, leaf_read, leaf_found, name_as}
 use Rattle.conditions.specs.Working.Written.{Grown, Then, then, grown-as, grown-then, grown-none, grown-put, append_assoc, keeps_self, kept, under}
 use Rattle.conditions.specs.Working.Same.{PartCodes, whole, bare, Same, same-aside, same-part, same-refused, both, start-within}

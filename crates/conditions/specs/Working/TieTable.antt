@@ -1,13 +1,13 @@
 -- The tables by number say what the tables of the operators say. Assumes nothing.
 use Rattle.std.specs.Prelude.{◌≡◌, Bool, true, false, List, [], ◌∷◌, ℕ, ◌+◌, eqb, ltb, leb, get_or}
 use Rattle.std.proofs.Math.Path.{refl}
-use Rattle.std.proofs.Common.{sym, ap, ◌∙◌, arith, eqb-true, ltb-true, ltb-false, le-leb, ne_eqb}
+use Rattle.std.proofs.Common.{sym, ap, ◌∙◌, arith, ltb-true, ltb-false, le-leb, ne_eqb}
 use Rattle.std.proofs.lemmas.Bool.{lt-leb}
 use Rattle.text.specs.Choice.{pick, split, clash}
 use Rattle.lexical.specs.Kind
 use Rattle.syntax.specs.Operator.{Unary, Binary, Sort, a-string, an-integer, a-float, a_test, unary_takes, unary_gives, binary_takes, binary_gives, lookup, convert, negate, opposite, to-float, float-negate, join, power, times, over, remainder, plus, minus, comparison, matches, float-power, float-times, float-over, float-plus, float-minus, float-order, float-less, float-greater, float_at_most, float-at-least, both, either, strings, integers, equal, unequal, less, greater, at_most, at_least}
 use Rattle.syntax.specs.Operation.{unary_number, binary_number}
-use Rattle.syntax.specs.Theorems.Numbers.{unary-between, binary-between}
+use Rattle.syntax.specs.Theorems.Numbers.{unary-between}
 use Rattle.conditions.specs.Table.{PartSort, sorted, word, Want, want-any, want-string, want-number, want-integer, want-float, Infix, no-infix, between, Prefix, no-prefix, before}
 use Rattle.lexical.specs.Word.{spells, word_true, word_false}
 use Rattle.conditions.specs.Table

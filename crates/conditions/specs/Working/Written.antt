@@ -1,9 +1,9 @@
 -- What a reader has written: the code below is as it was, and while room is left what stands above it is the code of what was read. Assumes nothing.
-use Rattle.std.specs.Prelude.{◌≡◌, refl, Bool, true, false, List, [], ◌∷◌, ◌++◌, ℕ, zero, suc, ◌+◌, ◌<◌, ◌≤◌, leb, length, set}
+use Rattle.std.specs.Prelude.{◌≡◌, refl, List, [], ◌∷◌, ◌++◌, ℕ, zero, suc, ◌<◌, ◌≤◌, leb, length, set}
 use Rattle.std.proofs.Common.{sym, ap, ◌∙◌, arith, not-suc-le-zero, add-one, length-set, take-take}
 use Rattle.std.proofs.Math.ListN.{take}
-use borrow.Author.Tests.{leb-true, leb-false, lt-leb, le-leb}
-use Rattle.text.specs.Choice.{pick, split}
+use borrow.Author.Tests.{leb-true, leb-false, lt-leb}
+use Rattle.text.specs.Choice.{split}
 use Rattle.syntax.specs.Code.{entry}
 use Rattle.conditions.specs.Working.Emit.{slot_of, above, put}
 

@@ -2,9 +2,9 @@
 use Rattle.std.specs.Prelude.{◌≡◌, Bool, false, ◌||◌, List, ℕ}
 use Rattle.text.specs.Choice.{split, clash}
 use Rattle.syntax.specs.Operator.{is_lookup}
-use Rattle.syntax.specs.Expr.{Expr, literal, name, number, truth, decimal, unary, binary, Program, none, also, Clause, plain, valued, nested}
-use Rattle.expression.specs.Reads.{reads, program_reads, clause_reads}
-use Rattle.expression.specs.Standing.{names, program_names, clause_names, computes, program_computes, clause_computes}
+use Rattle.syntax.specs.Expr.{Expr, literal, name, number, truth, decimal, unary, binary}
+use Rattle.expression.specs.Reads.{reads}
+use Rattle.expression.specs.Standing.{names, computes}
 
 -- what holds of neither of two parts holds of neither test of them
 pub either : (a b c d x y : Bool) → (a ≡ false → c ≡ false → x ≡ false) → (b ≡ false → d ≡ false → y ≡ false) → (a || b) ≡ false → (c || d) ≡ false → (x || y) ≡ false

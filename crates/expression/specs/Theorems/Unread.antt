@@ -3,16 +3,14 @@ use Rattle.std.specs.Prelude.{◌≡◌, Bool, true, false, ◌||◌, List, [], 
 use Rattle.std.proofs.Math.Path.{refl, ap}
 use Rattle.std.proofs.Common.{sym, ◌∙◌, subst}
 use Rattle.text.specs.Choice.{split, clash}
-use Rattle.text.specs.Equal.{equal, equal-true, equal-refl}
+use Rattle.text.specs.Equal.{equal, equal-true}
 use Rattle.record.specs.Query.{Attribute}
 use Rattle.syntax.specs.Operator.{Unary, is_lookup}
 use Rattle.syntax.specs.Operator as Operator
-use Rattle.syntax.specs.Expr.{Expr, literal, name, number, truth, decimal, unary, binary, Program, none, also, Clause, plain, valued, nested}
 use Rattle.expression.specs.Value.{Value, text, integer, test, rank, float, fault, on_text}
-use Rattle.expression.specs.Names.{Environment, setting_or, from_query, lookup}
+use Rattle.expression.specs.Names.{setting_or}
 use Rattle.expression.specs.Operations.{held, unary_of}
-use Rattle.expression.specs.Conditions.{evaluate, conditions, clause}
-use Rattle.expression.specs.Reads.{reads, program_reads, clause_reads, is_set, Alike, alike[], alike∷, with_attributes}
+use Rattle.expression.specs.Reads.{is_set, Alike, alike[], alike∷}
 
 pub or_left : (a b : Bool) → a ≡ true → a || b ≡ true
 or_left a b h = rw h

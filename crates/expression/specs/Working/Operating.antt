@@ -28,7 +28,7 @@ use Rattle.expression.specs.Value.{Value, text, integer, test, float, fault, ope
 use Rattle.expression.specs.Operands.{size_of, value_of, is_text, is_number, integer_in, is_float, float_in, is_test, holds_in, rank_in, test_in}
 use Rattle.expression.specs.Integers.{plus, minus, times, over, remainder, power, negated, compared}
 use Rattle.expression.specs.Operations.{is_less, is_equal, is_greater, answered, matched, valued, held, converted, negative, opposite, to_float, float_negative}
-use Rattle.expression.specs.Working.Numbered.{relates_by, arithmetic, textual, logical, ordered_by, floating, of_texts, of_integers, of_floats, of_tests, is_textual, binary_by}
+use Rattle.expression.specs.Working.Numbered.{relates_by, arithmetic, textual, ordered_by, floating, of_texts, of_integers, of_floats, of_tests, is_textual, binary_by}
 use Rattle.expression.specs.Conditions.{index_from, rank_of, gate, top}
 use Rattle.expression.specs.Working.Clauses.{applied, combined}
 use Rattle.expression.specs.declared.value.Operand.{Operand}

@@ -1,17 +1,17 @@
 -- Working laws: the ways out of the functions that give packed operands. Assumes nothing.
-use Rattle.std.specs.Prelude.{◌≡◌, refl, Bool, true, false, ℕ, ◌+◌, ◌-◌, ◌<◌, ◌≤◌, eqb}
-use Rattle.std.proofs.Common.{sym, ap, ◌∙◌, arith}
-use borrow.Author.Tests.{lt-ltb, le-ltb, le-leb, lt-leb, eq-eqb, ne_eqb, eqb-true, eqb-false}
+use Rattle.std.specs.Prelude.{◌≡◌, Bool, true, false, ℕ, ◌+◌, ◌-◌, ◌<◌, ◌≤◌, eqb}
+use Rattle.std.proofs.Common.{ap, ◌∙◌, arith}
+use borrow.Author.Tests.{lt-ltb, le-ltb, le-leb, lt-leb, ne_eqb, eqb-true}
 use Rattle.text.specs.Choice.{split}
 use Rattle.text.specs.Decimal.{integer as signed}
 use Rattle.text.specs.declared.Order.{Order}
-use Rattle.expression.specs.Value.{integer, test, fault, operand}
+use Rattle.expression.specs.Value.{operand}
 use Rattle.expression.specs.Operands.{kind_of, size_of, pack}
 use Rattle.expression.specs.Integers.{ranged, apart, plus, minus, compared}
 use Rattle.expression.specs.Working.Numbered.{relates_by, arithmetic}
 use Rattle.expression.specs.Working.Operating.{does-compare}
 use Rattle.expression.specs.declared.value.Operand.{Operand}
-use Rattle.expression.specs.declared.value.Operand.TheVariants.{Number, Test, Fault}
+use Rattle.expression.specs.declared.value.Operand.TheVariants.{Test}
 use Rattle.expression.specs.declared.value.Packed.{Packed}
 
 -- `pack_operand` and `told`

@@ -1,7 +1,7 @@
 -- Working definitions and laws: the answer to a reading, and the ways out of the readers of KeyNote-Version and Signature. Assumes nothing.
-use Rattle.std.specs.Prelude.{◌≡◌, Bool, true, false, not, List, [], ◌∷◌, ℕ, zero, suc, ◌+◌, ◌-◌, ◌<◌, ◌≤◌, min, eqb, leb, ltb, get_or, take, drop}
+use Rattle.std.specs.Prelude.{◌≡◌, Bool, true, false, not, List, [], ◌∷◌, ℕ, zero, suc, ◌-◌, ◌<◌, ◌≤◌, min, eqb, leb, get_or, take, drop}
 use Rattle.std.proofs.Math.Path.{refl, sym}
-use Rattle.std.proofs.Common.{ap, ◌∙◌, append-nil, drop_of_length-le}
+use Rattle.std.proofs.Common.{ap, ◌∙◌, drop_of_length-le}
 use native.Mathlib.Omega.{arith}
 use Rattle.std.proofs.Math.ListN.{length, length-drop}
 use Rattle.std.proofs.lemmas.List.Edits.{sets}
@@ -14,13 +14,13 @@ use Rattle.lexical.specs.Working.Short.{sized, sized-length}
 use Rattle.lexical.specs.Kind
 use Rattle.lexical.specs.Kind.{ending}
 use Rattle.lexical.specs.Literal.{decoded_at}
-use Rattle.lexical.specs.Decode.{Ran, ran, decode_into}
+use Rattle.lexical.specs.Decode.{ran, decode_into}
 use Rattle.lexical.specs.Number.{LIMIT, number_at}
 use Rattle.lexical.specs.Line.{token_at}
 use Rattle.lexical.specs.declared.token.Token.{Token}
 use Rattle.limits.specs.Limits.{most_literal}
-use Rattle.syntax.specs.Parsed.{Parsed, ok, aside, refusal}
-use Rattle.fields.specs.Parsed.{behind, ended}
+use Rattle.syntax.specs.Parsed.{Parsed, ok, aside}
+use Rattle.fields.specs.Parsed.{ended}
 use Rattle.fields.specs.Working.Word.{word_of}
 use Rattle.fields.specs.Version.{two, version_number, version_literal, version}
 use Rattle.fields.specs.Signature.{signature}

@@ -1,5 +1,5 @@
 -- Working definitions: Local-Constants put into the buffer and the table, and the ways out of the functions that do it. Assumes nothing.
-use Rattle.std.specs.Prelude.{◌≡◌, refl, Bool, true, false, not, List, [], ◌∷◌, ◌++◌, ℕ, zero, suc, ◌+◌, ◌-◌, ◌/◌, ◌%◌, ◌<◌, ◌≤◌, eqb, leb, ltb, length, get_or, take, drop, set}
+use Rattle.std.specs.Prelude.{◌≡◌, refl, Bool, true, false, not, List, [], ◌∷◌, ◌++◌, ℕ, ◌+◌, ◌-◌, ◌<◌, ◌≤◌, eqb, leb, ltb, length, get_or, take, drop}
 use Rattle.std.proofs.Math.Path.{sym}
 use Rattle.std.proofs.Common.{ap, ◌∙◌, arith, length-take-le}
 use borrow.Author.Tests.{lt-ltb, le-ltb, le-leb, lt-leb, eq-eqb, ne_eqb, leb-true, leb-false, not-true, not-false}
@@ -10,7 +10,7 @@ use Rattle.lexical.specs.Kind
 use Rattle.lexical.specs.Kind.{ending}
 use Rattle.lexical.specs.Line.{token_at}
 use Rattle.lexical.specs.Literal.{decoded_at}
-use Rattle.lexical.specs.Decode.{Ran, ran, decode_into}
+use Rattle.lexical.specs.Decode.{ran, decode_into}
 use Rattle.lexical.specs.Theorems.DecodeLaws.{decode-fits, decode-full}
 use Rattle.lexical.specs.declared.token.Token.{Token}
 use Rattle.text.specs.Put.{put_pair}

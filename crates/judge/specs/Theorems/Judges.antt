@@ -1,31 +1,13 @@
 -- What `judge` gives is what the Conditions field says. Assumes nothing.
-use Rattle.std.specs.Prelude.{◌≡◌, List, ℕ, ◌+◌, ◌-◌, ◌%◌, ◌<◌, ◌≤◌, leb, length, take, replicate}
-use Rattle.std.proofs.Math.Path.{refl}
+use Rattle.std.specs.Prelude.{◌≡◌, List, ℕ, ◌-◌, ◌%◌, ◌≤◌, length}
 use Rattle.std.proofs.Common.{arith}
-use Rattle.std.proofs.lemmas.List.{length-replicate}
-use borrow.Author.Tests.{le-ltb, leb-true}
-use Rattle.text.specs.Choice.{split}
-use Rattle.lexical.specs.Kind.{IN_FIELD}
 use Rattle.lexical.specs.declared.token.Token.{Token}
 use Rattle.syntax.specs.Expr.{Program}
-use Rattle.syntax.specs.Code.{ProgramCodes}
 use Rattle.syntax.specs.Parsed.{Parsed, ok, aside}
-use Rattle.syntax.specs.Stood.{Stood, stood-at}
+use Rattle.syntax.specs.Stood.{Stood}
 use Rattle.expression.specs.Names.{Environment}
-use Rattle.expression.specs.Operands.{rank_in}
 use Rattle.expression.specs.Conditions.{conditions, top}
-use Rattle.expression.specs.Tables.{Shows}
 use Rattle.expression.specs.Theorems.Topmost.{conditions-most}
-use Rattle.machine.specs.Theorems.Runs.{run-conditions}
-use Rattle.conditions.specs.Word.{next_at}
-use Rattle.conditions.specs.Program.{read_program}
-use Rattle.conditions.specs.Working.Compiled.{Compiled, refused, compiled}
-use Rattle.conditions.proofs.Working.Compiled.{conditions-compiled}
-use Rattle.conditions.specs.Working.Behind.{read_behind}
-use Rattle.conditions.specs.Working.Emit.{Ran}
-use Rattle.conditions.specs.Working.Program.{conditions_at}
-use Rattle.judge.specs.Working.Judging.{left_by, rank_at, judged_of, judged_in, code_size, code_room, judged_here}
-use Rattle.judge.specs.Theorems.Rooms.{read-need, read-room}
 use Rattle.judge.specs.declared.Judged.{Judged}
 use Rattle.judge.specs.declared.Judged.TheVariants.{On, Aside}
 use Rattle.syntax.specs.Working.Faults.{against}

@@ -2,7 +2,7 @@
 use Rattle.std.specs.Prelude.{◌≡◌, refl, true, List, ℕ, zero, suc, ◌+◌, ◌-◌, ◌*◌, ◌<◌, ◌≤◌, eqb, ltb, leb}
 use Rattle.std.proofs.Common.{arith}
 use Rattle.std.proofs.Math.ListN.{length}
-use borrow.Author.Tests.{eqb-true, leb-false}
+use borrow.Author.Tests.{leb-false}
 use Rattle.text.specs.Choice.{pick, split}
 use Rattle.text.specs.Loop.{Step}
 use Rattle.lexical.specs.Kind
@@ -11,7 +11,7 @@ use Rattle.lexical.specs.Literal.{decoded_at}
 use Rattle.lexical.specs.Number as Number
 use Rattle.lexical.specs.declared.token.Token.{Token}
 use Rattle.syntax.specs.Operator.{Unary, Binary, Sort, a-string, an-integer, a-float, a_test, unary_takes, unary_gives, binary_takes, binary_gives}
-use Rattle.syntax.specs.Expr.{Expr, name, truth, unary, binary}
+use Rattle.syntax.specs.Expr.{Expr, name, unary, binary}
 use Rattle.syntax.specs.Code.{name_at}
 use Rattle.syntax.specs.Parsed.{Parsed, ok, aside, and_then}
 use Rattle.machine.specs.Working.Need.{need, span, room}

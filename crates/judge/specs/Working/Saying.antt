@@ -1,6 +1,5 @@
 -- A string expression read into code that is run, as the program does it; and the ways out of its functions. Assumes nothing.
-use Rattle.std.specs.Prelude.{◌≡◌, List, [], map, ℕ, ◌-◌, ◌<◌, ◌≤◌, ltb, leb, length, take, replicate}
-use Rattle.std.proofs.Common.{sym}
+use Rattle.std.specs.Prelude.{◌≡◌, List, ℕ, ◌-◌, ◌<◌, ◌≤◌, ltb, leb, length, take, replicate}
 use borrow.Author.Tests.{lt-ltb, le-ltb, le-leb, lt-leb}
 use Rattle.text.specs.Choice.{pick}
 use Rattle.lexical.specs.declared.token.Token.{Token}

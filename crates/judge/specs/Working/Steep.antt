@@ -1,5 +1,5 @@
 -- How much room an operator asks for besides its right operand's, by the tables of Conditions. Assumes nothing.
-use Rattle.std.specs.Prelude.{◌≡◌, refl, Bool, true, false, ℕ, ◌+◌, ◌-◌, ◌*◌, ◌<◌, ◌≤◌, min, eqb}
+use Rattle.std.specs.Prelude.{◌≡◌, refl, Bool, true, ℕ, ◌+◌, ◌-◌, ◌*◌, ◌≤◌, min, eqb}
 use Rattle.std.proofs.Common.{arith}
 use Rattle.text.specs.Choice.{clash}
 use Rattle.lexical.specs.Kind

@@ -33,27 +33,27 @@ use Rattle.keynote.specs.Secrets.{dereferences, any_reads, author_reads, license
 use Rattle.keynote.specs.Theorems.Answered.{outcome-answered, report-written}
 use Rattle.keynote.specs.Theorems.Numbers.{answered-fits}
 
-environment-own : (q : Query) (cs : List Attribute) → with_attributes (environment q cs) q.attributes ≡ environment q cs
+pub environment-own : (q : Query) (cs : List Attribute) → with_attributes (environment q cs) q.attributes ≡ environment q cs
 unfolding with_attributes environment
 environment-own q cs = refl
 
-environment-other : (q q' : Query) (cs : List Attribute) → q.values ≡ q'.values → q.requesters ≡ q'.requesters
+pub environment-other : (q q' : Query) (cs : List Attribute) → q.values ≡ q'.values → q.requesters ≡ q'.requesters
     → with_attributes (environment q cs) q'.attributes ≡ environment q' cs
 unfolding with_attributes environment
 environment-other q q' cs e f = cc
 
-constants-of : (q : Query) (cs : List Attribute) → (environment q cs).constants ≡ cs
+pub constants-of : (q : Query) (cs : List Attribute) → (environment q cs).constants ≡ cs
 unfolding environment
 constants-of q cs = refl
 
-or_left : (a b : Bool) → a ≡ true → a || b ≡ true
+pub or_left : (a b : Bool) → a ≡ true → a || b ≡ true
 or_left a b h = rw h
 
-or_right : (a b : Bool) → b ≡ true → a || b ≡ true
+pub or_right : (a b : Bool) → b ≡ true → a || b ≡ true
 or_right true b h = refl
 or_right false b h = h
 
-any-reads : (l : List Source) (x : Source) (n : List ℕ) → Mem x l → reads x.says n ≡ true → any_reads l n ≡ true
+pub any-reads : (l : List Source) (x : Source) (n : List ℕ) → Mem x l → reads x.says n ≡ true → any_reads l n ≡ true
 unfolding any_reads
 any-reads [] x n m r = elim m [ ]
 any-reads (y ∷ l) x n m r = ⊎_elim
@@ -63,7 +63,7 @@ any-reads (y ∷ l) x n m r = ⊎_elim
 
 module _ {R : List ℕ → Type 0} {q q' : Query} (k : AlikeWhere R q q') where
   -- Conditions that dereference only where R holds are worth the same
-  worth-same : (c : Conditions) → ((n : List ℕ) → dereferences c n ≡ true → R n) → worth q c ≡ worth q' c
+  pub worth-same : (c : Conditions) → ((n : List ℕ) → dereferences c n ≡ true → R n) → worth q c ≡ worth q' c
   unfolding worth dereferences
   worth-same absent h = ap top k.values
   worth-same (stated cs p) h =
@@ -73,31 +73,7 @@ module _ {R : List ℕ → Type 0} {q q' : Query} (k : AlikeWhere R q q') where
       ∙ conditions-same (environment q cs) R k.attributes p free
       ∙ ap (λ (e : Environment). conditions e p) (environment-other q q' cs k.values k.requesters)
 
-  -- an expression that reads only where R holds identifies the same
-  identified-same : (cs : List Attribute) (x : Source) → ((n : List ℕ) → is_set cs n ≡ false → reads x.says n ≡ true → R n) → Agree q q' cs x
-  unfolding identified
-  identified-same cs x h =
-      let value : evaluate (environment q cs) x.says ≡ evaluate (environment q' cs) x.says =
-      ap (λ (e : Environment). evaluate e x.says) (sym (environment-own q cs))
-      ∙ evaluate-same (environment q cs) R k.attributes x.says (λ n r s. h n (ap (λ (l : List Attribute). is_set l n) (sym (constants-of q cs)) ∙ s) r)
-      ∙ ap (λ (e : Environment). evaluate e x.says) (environment-other q q' cs k.values k.requesters) in
-      ap bytes_of value
-
-  licensees-same : (l : Licensees) → ((n : List ℕ) → licensees_read l n ≡ true → R n) → LicenseesAgree q q' l
-  unfolding licensees_read
-  licensees-same l h cs e x is m = identified-same cs x (λ n s r.
-      let z : licensees_read (given cs e) n ≡ true = rw s (any-reads (sources e) x n m r) in h n (ap (λ (f : Licensees). licensees_read f n) is ∙ z))
-
-  -- a text that names only where R holds is read the same
-  said_same : (a : Said) → ((n : List ℕ) → naming_reads a n ≡ true → R n) → SaidAgree q q' a
-  unfolding naming_reads author_reads
-  said_same a h = (
-    identified-same a.author.constants a.author.by (λ n s r.
-        let z : author_reads a.author n ≡ true = rw s r in h n (or_left (author_reads a.author n) (licensees_read a.licensees n) z)),
-    licensees-same a.licensees (λ n r. h n (or_right (author_reads a.author n) (licensees_read a.licensees n) r)),
-  )
-
-ranked-alike : (P : Principal → Type 0) (q q' : Query) (l : List Assertion)
+pub ranked-alike : (P : Principal → Type 0) (q q' : Query) (l : List Assertion)
     → ((a : Assertion) → Mem a l → P a.authorizer → worth q a.conditions ≡ worth q' a.conditions)
     → Alike P (map (ranked q) l) (map (ranked q') l)
 unfolding ranked
@@ -105,60 +81,9 @@ ranked-alike P q q' [] h = a[]
 ranked-alike P q q' (a ∷ l) h = a∷ refl refl (λ i. h a (here refl) i) (ranked-alike P q q' l (λ b m. h b (there m)))
 
 module _ (q q' : Query) (k : AlikeWhere (Dereferenced q) q q') where
-  -- each text is read the same: what it names is dereferenced, reached or not
-  pub readings-same : readings q ≡ readings q'
-  unfolding readings reading
-  readings-same =
-      map_same (reading q) (reading q') q.assertions (λ x m.
-      resolved-agree q q' x.standing (read_assertion x.standing x.text)
-      (λ a e. said_same k a (λ n d. in-naming a (record { by = x; among = m; says = e }) d)))
-      ∙ ap (map (reading q')) k.assertions
-
-  -- the two systems are alike on the reach
-  pub systems-alike : AlikeIn (InReach (system q)) (system q) (system q')
-  unfolding system
-  systems-alike = record {
-    listed = subst (λ (l : List Assertion). Alike (InReach (system q)) (map (ranked q) (kept_of (readings q))) (map (ranked q') l)) (ap kept_of readings-same)
-        (ranked-alike (InReach (system q)) q q' (kept_of (readings q)) (λ a m i. worth-same k a.conditions (λ n d. in-conditions a m i d)));
-    asked = k.requesters;
-    topped = ap top k.values;
-  }
-
-  pub class_same : class_given q ≡ class_given q'
-  unfolding class_given
-  class_same = policy-same systems-alike
-
-  pub rounds-alike : rounds_of q ≡ rounds_of q'
-  unfolding rounds_of
-  rounds-alike = rounds-same systems-alike
-
-  pub reached-alike : reached_of q ≡ reached_of q'
-  unfolding reached_of
-  reached-alike = reached-same systems-alike
-
-  pub report-same : report (readings q) ≡ report (readings q')
-  report-same = ap report readings-same
-
-  pub answer-same : answer q ≡ answer q'
-  unfolding answer
-  answer-same = cc (class_same, rounds-alike, reached-alike)
-
   pub needed-same : needed q ≡ needed q'
   unfolding needed
   needed-same = ap (λ l. report_size (length l)) k.assertions
-
-  -- in the second query the same names are dereferenced
-  pub dereferenced-same : (n : List ℕ) → Dereferenced q n → Dereferenced q' n
-  dereferenced-same n (in-conditions a m i d) =
-      in-conditions a (subst (λ (l : List Assertion). Mem a l) (ap kept_of readings-same) m) (sym (ap (member a.authorizer) (reach-same systems-alike)) ∙ i) d
-  dereferenced-same n (in-naming a s d) =
-      in-naming a (record { by = s.by; among = subst (λ (l : List Supplied). Mem s.by l) k.assertions s.among; says = s.says }) d
-
-  pub dereferenced-back : (n : List ℕ) → Dereferenced q' n → Dereferenced q n
-  dereferenced-back n (in-conditions a m i d) =
-      in-conditions a (subst (λ (l : List Assertion). Mem a l) (sym (ap kept_of readings-same)) m) (ap (member a.authorizer) (reach-same systems-alike) ∙ i) d
-  dereferenced-back n (in-naming a s d) =
-      in-naming a (record { by = s.by; among = subst (λ (l : List Supplied). Mem s.by l) (sym k.assertions) s.among; says = s.says }) d
 
 -- what is equal of two records on two pages
 pub record SameAnswer (s s' page page' : List ℕ) (size : ℕ) : Type 0 where
@@ -166,38 +91,6 @@ pub record SameAnswer (s s' page page' : List ℕ) (size : ℕ) : Type 0 where
   pub answered : (outcome s (length page)).number ≡ 0
   pub reports : take size (page_after s page) ≡ take size (page_after s' page')
 
--- Demand 3: "Equal are rank, rounds, reached and all 3 + 3n bytes of the report", on pages that "may differ in size and in what they held"
-pub demand-3 : (s s' : List ℕ) (q q' : Query) → read_record s ≡ accepted q → read_record s' ≡ accepted q'
-    → AlikeWhere (Dereferenced q) q q'
-    → (page page' : List ℕ) → needed q ≤ length page → needed q ≤ length page'
-    → SameAnswer s s' page page' (needed q)
-unfolding answer
-demand-3 s s' q q' e e' k page page' h h' =
-    let h'' : needed q' ≤ length page' = rw (← needed-same q q' k) h' in
-    record {
-      outcomes = outcome-answered s q e (length page) h ∙ answer-same q q' k ∙ sym (outcome-answered s' q' e' (length page') h'');
-      answered = ap (λ o. o.number) (outcome-answered s q e (length page) h);
-      reports = report-written s q e page h ∙ report-same q q' k ∙ sym (ap (λ n. take n (page_after s' page')) (needed-same q q' k) ∙ report-written s' q' e' page' h'');
-    }
-
-weaker : {R P : List ℕ → Type 0} {l m : List Attribute} → ((n : List ℕ) → P n → R n) → AlikeAttributes R l m → AlikeAttributes P l m
+pub weaker : {R P : List ℕ → Type 0} {l m : List Attribute} → ((n : List ℕ) → P n → R n) → AlikeAttributes R l m → AlikeAttributes P l m
 weaker f alike[] = alike[]
 weaker f (alike∷ {a = a} e g t) = alike∷ e (λ p. g (f a.name p)) (weaker f t)
-
--- the same in other words: alike but for attributes of which none is dereferenced
-pub demand-3-secrets : (S : List ℕ → Type 0) (s s' : List ℕ) (q q' : Query) → read_record s ≡ accepted q → read_record s' ≡ accepted q'
-    → AlikeBut S q q' → ((n : List ℕ) → S n → Dereferenced q n → ⊥)
-    → (page page' : List ℕ) → needed q ≤ length page → needed q ≤ length page'
-    → SameAnswer s s' page page' (needed q)
-demand-3-secrets S s s' q q' e e' k free =
-    demand-3 s s' q q' e e' (record { values = k.values; requesters = k.requesters; attributes = weaker (λ n d z. free n z d) k.attributes; assertions = k.assertions })
-
--- and for any two pages on which both are answered: "accepted is number 0"
-pub demand-3-accepted : (S : List ℕ → Type 0) (s s' : List ℕ) (q q' : Query) → read_record s ≡ accepted q → read_record s' ≡ accepted q'
-    → AlikeBut S q q' → ((n : List ℕ) → S n → Dereferenced q n → ⊥)
-    → (page page' : List ℕ) → (outcome s (length page)).number ≡ 0 → (outcome s' (length page')).number ≡ 0
-    → SameAnswer s s' page page' (needed q)
-unfolding needed
-demand-3-accepted S s s' q q' e e' k free page page' h h' =
-    let same : needed q' ≡ needed q = ap (λ l. report_size (length l)) (sym k.assertions) in
-    demand-3-secrets S s s' q q' e e' k free page page' (answered-fits s q e (length page) h) (rw (← same) (answered-fits s' q' e' (length page') h'))

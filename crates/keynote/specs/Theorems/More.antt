@@ -44,7 +44,7 @@ use Rattle.keynote.specs.Theorems.Numbers.{answered-fits}
 use Rattle.keynote.specs.Theorems.Demand2.{kept_in_lem, kept_from, map_at}
 use Rattle.compliance.specs.Theorems.Outside.{SameWithin, policy-within, rounds-within, reached-within}
 
-equal-back : {q q' : Query} → EqualBut q q' → EqualBut q' q
+pub equal-back : {q q' : Query} → EqualBut q q' → EqualBut q' q
 equal-back k = record { values = sym k.values; requesters = sym k.requesters; attributes = sym k.attributes }
 
 -- an assertion is then worth the same
@@ -95,7 +95,7 @@ unfolding system readings
 system-in q x a m e = Memᴰ.map (ranked q) (kept_here q q.assertions x a m e)
 
 -- an assertion of q's system is one of q''s, if q' has the text
-system-moves : {q q' : Query} → EqualBut q q' → (b : Assertion) → Mem b (system q).assertions
+pub system-moves : {q q' : Query} → EqualBut q q' → (b : Assertion) → Mem b (system q).assertions
     → ((x : Supplied) (a : Claim) → Mem x q.assertions → reading q x ≡ kept a → b.authorizer ≡ a.authorizer → Mem x q'.assertions) → Mem b (system q').assertions
 unfolding ranked
 system-moves {q} {q'} k b m h = system-from q b m (λ x a n e f.
@@ -141,7 +141,7 @@ module _ (q q' : Query) (k : EqualBut q q') (d : Perm q.assertions q'.assertions
   forth : Within (system q) (system q')
   forth = within_of k (λ x m. mem-perm d m)
 
-  back : Within (system q') (system q)
+  pub back : Within (system q') (system q)
   back = within_of (equal-back k) (λ x m. mem-perm (Permᴰ.symm d) m)
 
   -- "reordering assertions changes no rank, rounds or reached"
@@ -172,11 +172,11 @@ entry-moves q q' k x i j e e' =
 -- ---- one replaced outside the reach
 
 -- one outside isn't read as an assertion made within the reach
-outside-not : (q : Query) (r : Read) → ReadOutside q r → (a : Claim) → r ≡ kept a → InReach (system q) a.authorizer → ⊥
+pub outside-not : (q : Query) (r : Read) → ReadOutside q r → (a : Claim) → r ≡ kept a → InReach (system q) a.authorizer → ⊥
 outside-not q (dropped r p) (set-aside s o) a e i = let z : ◌≡◌ {A = ℕ} 0 1 = cc in omega arith
 outside-not q (kept b) (unreached c n) a e i = let z : b ≡ a = cc in n (reach-sound (system q) b.authorizer (rw z i))
 
-other : (front back : List Supplied) (x y : Supplied) {z : Supplied} → (z ≡ x → ⊥) → Mem z (front ++ (x ∷ back)) → Mem z (front ++ (y ∷ back))
+pub other : (front back : List Supplied) (x y : Supplied) {z : Supplied} → (z ≡ x → ⊥) → Mem z (front ++ (x ∷ back)) → Mem z (front ++ (y ∷ back))
 other front back x y n m = ⊎_elim
     (λ k. Memᴰ.append_left (y ∷ back) k)
     (λ k. Memᴰ.append_right front (⊎_elim (λ e. absurd (n e)) (λ j. there j) (mem-∷ k)))
@@ -190,24 +190,6 @@ entries-split (r ∷ l) m = ap (λ (c : List ℕ). entry_bytes r ++ c) (entries-
 map-split : {A B : Type 0} (f : A → B) (l m : List A) → map f (l ++ m) ≡ map f l ++ map f m
 map-split f [] m = refl
 map-split f (a ∷ l) m = ap (λ c. f a ∷ c) (map-split f l m)
-
-module _ (q q' : Query) (k : EqualBut q q') (x y : Supplied) (front back : List Supplied)
-    (e : q.assertions ≡ front ++ (x ∷ back)) (e' : q'.assertions ≡ front ++ (y ∷ back)) (old : Outside q x) (new : Outside q y) where
-  systems-within : SameWithin (system q) (system q')
-  unfolding system
-  systems-within = record {
-    there-too = λ b m i. system-moves k b m (λ z a n f g. subst (λ (l : List Supplied). Mem z l) (sym e')
-        (other front back x y (λ w. outside-not q (reading q x) old a (sym (ap (reading q) w) ∙ f) (subst (InReach (system q)) g i)) (subst (λ (l : List Supplied). Mem z l) e n)));
-    here-too = λ b m i. system-moves (equal-back k) b m (λ z a n f g. subst (λ (l : List Supplied). Mem z l) (sym e)
-        (other front back y x (λ w. outside-not q (reading q y) new a (sym (ap (reading q) w) ∙ reading-equal k z ∙ f) (subst (InReach (system q)) g i)) (subst (λ (l : List Supplied). Mem z l) e' n)));
-    asked = k.requesters;
-    topped = ap top k.values;
-  }
-
-  -- "replacing an assertion outside the reach .. changes only its own report entry"
-  pub answer-replaced : answer q ≡ answer q'
-  unfolding answer class_given rounds_of reached_of
-  answer-replaced = cc (policy-within (system q) (system q') systems-within, rounds-within (system q) (system q') systems-within, reached-within (system q) (system q') systems-within)
 
 -- a report up to the entry behind those of `front`, in all of n
 unfoldable pub report_front : Query → ℕ → List Supplied → List ℕ
@@ -241,24 +223,6 @@ report-with k front x back = rw (readings-equal k front, reading-equal k x, read
 
 module _ (s s' : List ℕ) (q q' : Query) (is : read_record s ≡ accepted q) (is' : read_record s' ≡ accepted q') (k : EqualBut q q')
     (page page' : List ℕ) (ok : (outcome s (length page)).number ≡ 0) (ok' : (outcome s' (length page')).number ≡ 0) where
-  told : outcome s (length page) ≡ answer q
-  told = outcome-answered s q is (length page) (answered-fits s q is (length page) ok)
-
-  told' : outcome s' (length page') ≡ answer q'
-  told' = outcome-answered s' q' is' (length page') (answered-fits s' q' is' (length page') ok')
-
-  -- "adding an assertion never lowers the rank"
-  pub rank-added : ((x : Supplied) → Mem x q.assertions → Mem x q'.assertions) → (outcome s (length page)).rank ≤ (outcome s' (length page')).rank
-  unfolding answer
-  rank-added h =
-      let a : (outcome s (length page)).rank ≡ class_given q = ap (λ (o : Outcome). o.rank) told in
-      let b : (outcome s' (length page')).rank ≡ class_given q' = ap (λ (o : Outcome). o.rank) told' in
-      omega (arith, a, b, class-grows q q' k h)
-
-  -- "reordering assertions changes no rank, rounds or reached, and permutes the report's entries"
-  pub outcome-reordered : Perm q.assertions q'.assertions → outcome s (length page) ≡ outcome s' (length page')
-  outcome-reordered d = told ∙ answer-reordered q q' k d ∙ sym told'
-
   pub page-reordered : (x : Supplied) (i j : ℕ) → get_elem? q.assertions i ≡ some x → get_elem? q'.assertions j ≡ some x
       → (get_or (take (needed q) (page_after s page)) (3 + 3 * i) 0 ≡ get_or (take (needed q') (page_after s' page')) (3 + 3 * j) 0)
       × (pair_at (take (needed q) (page_after s page)) (3 + 3 * i + 1) ≡ pair_at (take (needed q') (page_after s' page')) (3 + 3 * j + 1))
@@ -269,9 +233,6 @@ module _ (s s' : List ℕ) (q q' : Query) (is : read_record s ≡ accepted q) (i
 
   -- "replacing an assertion outside the reach by any text that is set aside, or whose authorizer stays outside that reach, changes only its own report entry"
   module _ (x y : Supplied) (front back : List Supplied) (e : q.assertions ≡ front ++ (x ∷ back)) (e' : q'.assertions ≡ front ++ (y ∷ back)) (old : Outside q x) (new : Outside q y) where
-    pub outcome-replaced : outcome s (length page) ≡ outcome s' (length page')
-    outcome-replaced = told ∙ answer-replaced q q' k x y front back e e' old new ∙ sym told'
-
     pub page-replaced : (take (needed q) (page_after s page) ≡ report_with q front x back) × (take (needed q') (page_after s' page') ≡ report_with q front y back)
     page-replaced = (
       report-written s q is page (answered-fits s q is (length page) ok) ∙ report-split q x front back e,

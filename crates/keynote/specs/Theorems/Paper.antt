@@ -7,7 +7,7 @@ use Rattle.keynote.specs.Answer.{readings, class_given}
 use Rattle.keynote.specs.Report.{entry_bytes, report}
 use Rattle.keynote.specs.Outcome.{answer}
 use Rattle.keynote.specs.Paper.{EqualBut, Outside}
-use Rattle.keynote.specs.Theorems.More.{class-added, answer-reordered, entries-reordered, answer-replaced, report_with, report-split, report-with}
+use Rattle.keynote.specs.Theorems.More.{class-added, answer-reordered, entries-reordered, report_with, report-split, report-with}
 
 -- "adding an assertion never lowers the rank"
 pub added : (q q' : Query) → EqualBut q q' → (x : Supplied) (front back : List Supplied) → q.assertions ≡ front ++ back → q'.assertions ≡ front ++ (x ∷ back)
@@ -18,11 +18,3 @@ added = class-added
 pub reordered : (q q' : Query) → EqualBut q q' → Perm q.assertions q'.assertions
     → (answer q ≡ answer q') × Perm (map entry_bytes (readings q)) (map entry_bytes (readings q'))
 reordered q q' k d = (answer-reordered q q' k d, entries-reordered q q' k d)
-
--- "replacing an assertion outside the reach by any text that is set aside, or whose authorizer stays outside that reach, changes only its own report
--- entry": the answers are equal, and the reports but for the entry of x, which gives way to that of y
-pub replaced : (q q' : Query) → EqualBut q q' → (x y : Supplied) (front back : List Supplied)
-    → q.assertions ≡ front ++ (x ∷ back) → q'.assertions ≡ front ++ (y ∷ back) → Outside q x → Outside q y
-    → (answer q ≡ answer q') × ((report (readings q) ≡ report_with q front x back) × (report (readings q') ≡ report_with q front y back))
-replaced q q' k x y front back e e' old new =
-    (answer-replaced q q' k x y front back e e' old new, (report-split q x front back e, report-split q' y front back e' ∙ sym (report-with k front y back)))

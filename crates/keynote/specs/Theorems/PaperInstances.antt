@@ -12,25 +12,14 @@ use Rattle.keynote.specs.Rulings.{supplied, bytes, paper_web, by_a, by_b, broken
 use Rattle.keynote.specs.Working.Outsiders.{is_outside}
 
 -- what the test tells
-outside-yes : (q : Query) (r : Read) → is_outside q r ≡ true → ReadOutside q r
+pub outside-yes : (q : Query) (r : Read) → is_outside q r ≡ true → ReadOutside q r
 unfolding is_outside
 outside-yes q (kept a) h = unreached a (λ k. let m : member a.authorizer (reach (system q)) ≡ true = reach-complete (system q) k in let z : not true ≡ true = rw m at h in clash z refl)
 outside-yes q (dropped r p) h = set-aside r p
 
-outside-no : (q : Query) (r : Read) → is_outside q r ≡ false → ReadOutside q r → ⊥
+pub outside-no : (q : Query) (r : Read) → is_outside q r ≡ false → ReadOutside q r → ⊥
 unfolding is_outside
 outside-no q (kept a) h (unreached b n) = split (member a.authorizer (reach (system q)))
     (λ e. n (reach-sound (system q) a.authorizer e))
     (λ e. let z : not false ≡ false = rw e at h in clash refl z)
 outside-no q (dropped r p) h (set-aside s o) = clash refl h
-
--- POLICY licenses a, a licenses r, b licenses r: b's is outside, and so is a text that is set aside
-pub b-outside : Outside paper_web (supplied (bytes by_b))
-b-outside = outside-yes paper_web (reading paper_web (supplied (bytes by_b))) rulings.outside_b
-
-pub broken-outside : Outside paper_web (supplied (bytes broken))
-broken-outside = outside-yes paper_web (reading paper_web (supplied (bytes broken))) rulings.outside-broken
-
--- a's isn't
-pub a-inside : Outside paper_web (supplied (bytes by_a)) → ⊥
-a-inside = outside-no paper_web (reading paper_web (supplied (bytes by_a))) rulings.inside-a

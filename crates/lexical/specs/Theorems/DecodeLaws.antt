@@ -1,11 +1,11 @@
 -- What decoding leaves in the buffer: the decoded bytes from the place on where they fit, and else nothing; every other byte as it was. Assumes nothing.
 use Rattle.std.specs.Prelude.{◌≡◌, true, false, List, ◌++◌, ℕ, ◌+◌, ◌-◌, ◌≤◌, ◌<◌, ltb, length, take, drop}
 use Rattle.std.proofs.Common.{ap, arith}
-use Rattle.std.proofs.lemmas.List.Edits.{sets, sets-eq}
+use Rattle.std.proofs.lemmas.List.Edits.{sets-eq}
 use borrow.Author.Tests.{lt-ltb, le-ltb, ltb-false}
 use Rattle.text.specs.Choice.{split}
 use Rattle.lexical.specs.Literal.{decoded_at}
-use Rattle.lexical.specs.Decode.{Ran, ran, decode_into}
+use Rattle.lexical.specs.Decode.{ran, decode_into}
 
 module _ (s : List ℕ) (start : ℕ) (m : List ℕ) (at : ℕ) where
   pub decode-fits : at + length (decoded_at s start) ≤ length m

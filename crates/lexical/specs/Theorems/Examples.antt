@@ -1,5 +1,5 @@
 -- Worked examples of literals. Assumes nothing.
-use Rattle.std.specs.Prelude.{◌≡◌, refl, List, [], ◌∷◌, ℕ}
+use Rattle.std.specs.Prelude.{◌≡◌, refl, [], ◌∷◌}
 use Rattle.text.specs.Scan.{past}
 use Rattle.lexical.specs.Class.{class_of}
 use Rattle.lexical.specs.Run.{has_class, in_run}

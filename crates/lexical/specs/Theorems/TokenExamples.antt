@@ -1,5 +1,5 @@
 -- Worked examples of lines and tokens. Assumes nothing.
-use Rattle.std.specs.Prelude.{◌≡◌, refl, List, [], ◌∷◌, ℕ}
+use Rattle.std.specs.Prelude.{◌≡◌, refl, [], ◌∷◌}
 use Rattle.text.specs.Loop.{turns, loop}
 use Rattle.text.specs.Scan.{past}
 use Rattle.lexical.specs.Kind.{opened, mode_after}

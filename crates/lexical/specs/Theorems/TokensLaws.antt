@@ -4,7 +4,7 @@ use Rattle.std.proofs.Common.{ap, sym, ◌∙◌, arith, not-suc-le-zero, ltb-tr
 use mathlib.Core.List.{List, [], ◌∷◌}
 use Rattle.std.proofs.Math.ListN.{length}
 use Rattle.std.proofs.Math.Seq.{slice}
-use Rattle.text.specs.Choice.{pick, pick-if}
+use Rattle.text.specs.Choice.{pick-if}
 use Rattle.lexical.specs.Kind.{BAD_LINE, LITERAL, mode_after}
 use Rattle.lexical.specs.Literal.{literal_end, decoded_at, decode}
 use Rattle.lexical.specs.Theorems.Decoded.{decoded-shorter}

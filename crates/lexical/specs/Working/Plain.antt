@@ -1,17 +1,16 @@
 -- The bytes that a literal holds as they stand, and a literal's front of such bytes. Assumes nothing.
 use Rattle.std.specs.Prelude.{◌≡◌, Bool, true, not, List, [], ◌∷◌, ℕ, zero, suc, ◌+◌, ◌-◌, ◌≤◌, ◌<◌, ◌^◌, ltb, length, get_or, take, drop}
 use Rattle.std.proofs.Math.Path.{refl}
-use Rattle.std.proofs.Common.{sym, ap, ◌∙◌, arith, lt_of_le_of_lt, add-one, Fits, drop-cons}
+use Rattle.std.proofs.Common.{ap, ◌∙◌, arith, lt_of_le_of_lt, add-one, Fits, drop-cons}
 use Rattle.std.proofs.Math.Bool.{false}
 use Rattle.std.specs.Int.{w64}
 use Rattle.std.proofs.Math.Dec.{eqb}
-use borrow.Author.Tests.{lt-leb, le-leb, eq-eqb, eqb-true, ltb-true, ltb-false}
+use borrow.Author.Tests.{lt-leb, eq-eqb, eqb-true, ltb-true, ltb-false}
 use Rattle.text.specs.Choice.{pick, split, clash}
 use Rattle.text.specs.Scan.{past, past_more, past_stop, past_end, past-from}
 use Rattle.lexical.specs.Theorems.Bounds.{chosen, byte-within}
-use Rattle.lexical.specs.declared.unit.Unit.{Unit}
-use Rattle.lexical.specs.Unit.{GIVES, CLOSES, gives, closes, barred, unit_at}
-use Rattle.lexical.specs.Literal.{units_at, closing, given, literal_end, decoded_at}
+use Rattle.lexical.specs.Unit.{GIVES, gives, closes, barred, unit_at}
+use Rattle.lexical.specs.Literal.{units_at, given, literal_end, decoded_at}
 use Rattle.lexical.specs.Theorems.LiteralLaws.{units-more, units-last}
 
 -- neither quote nor backslash, and not barred

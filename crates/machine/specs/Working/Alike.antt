@@ -1,25 +1,24 @@
 -- "==" and "!=" of two strings on top, by their numbers and bytes: the ways out of the functions that take them. Assumes nothing.
-use Rattle.std.specs.Prelude.{◌≡◌, Bool, true, false, not, List, ℕ, ◌+◌, ◌-◌, ◌<◌, ◌≤◌, eqb, leb, ltb, length, get_or, take, drop}
+use Rattle.std.specs.Prelude.{◌≡◌, Bool, true, false, not, List, ℕ, ◌+◌, ◌-◌, ◌<◌, ◌≤◌, eqb, ltb, length, get_or, take, drop}
 use Rattle.std.proofs.Math.Path.{refl, ap}
 use Rattle.std.proofs.Common.{sym, ◌∙◌, arith, add-zero}
 use Rattle.std.proofs.Math.Seq.{length-take-le, take-take}
-use borrow.Author.Tests.{lt-ltb, le-ltb, le-leb, lt-leb, eq-eqb, ne_eqb, eqb-true, eqb-false}
-use Rattle.text.specs.Choice.{pick, split, clash}
+use borrow.Author.Tests.{lt-ltb, le-ltb, eq-eqb, ne_eqb, eqb-true}
+use Rattle.text.specs.Choice.{pick, split}
 use Rattle.text.specs.Equal.{equal}
 use Rattle.expression.specs.Value.{text, operand}
-use Rattle.expression.specs.Operands.{kind_of, size_of, pack, unpacked, width, value_of}
-use Rattle.expression.specs.Working.Numbered.{textual, of_texts, is_textual, binary_by}
+use Rattle.expression.specs.Operands.{pack, unpacked, width, value_of}
+use Rattle.expression.specs.Working.Numbered.{of_texts, is_textual, binary_by}
 use Rattle.expression.specs.Working.Clauses.{combined}
 use Rattle.expression.specs.Working.Operating.{does-equal, does-differ}
-use Rattle.expression.specs.declared.value.Operand.{Operand}
 use Rattle.expression.specs.declared.value.Operand.TheVariants.{Text, Test}
 use Rattle.expression.specs.declared.value.Packed.{Packed}
-use Rattle.machine.specs.Working.Machine.{State, on, stuck, placed, put_below_on, binary_on, binary_step}
-use Rattle.machine.specs.Working.Live.{Live, Landed, landed, put_at}
+use Rattle.machine.specs.Working.Machine.{State, stuck, placed, put_below_on, binary_on, binary_step}
+use Rattle.machine.specs.Working.Live.{Live, landed}
 use Rattle.machine.specs.Working.Stepping.{drop-take, live-stuck, put-live, binary-two}
 use Rattle.machine.specs.Working.Quick.{put_two, two-put, top-first, top-second, pick-both}
 use Rattle.machine.specs.declared.Tops.{Tops}
-use Rattle.machine.specs.declared.Tops.TheVariants.{At, Stuck}
+use Rattle.machine.specs.declared.Tops.TheVariants.{Stuck}
 
 -- "==" or "!=" of strings, and the kinds of strings
 unfoldable pub is_alike : ℕ → ℕ → ℕ → Bool

@@ -1,7 +1,7 @@
 -- The ways out of the functions that give a string. Assumes nothing.
 use Rattle.std.proofs.Math.Path.{◌≡◌, ap}
-use Rattle.std.specs.Prelude.{refl, Bool, ℕ, ◌≤◌, take}
-use Rattle.std.proofs.Common.{sym, ◌∙◌, arith}
+use Rattle.std.specs.Prelude.{Bool, ℕ, ◌≤◌, take}
+use Rattle.std.proofs.Common.{arith}
 use mathlib.Core.List.{List, [], map}
 use Rattle.std.proofs.Math.ListN.{length}
 use Rattle.std.proofs.Math.Seq.{length-take-le}

@@ -15,13 +15,13 @@ use Rattle.expression.specs.Working.Clauses.{combined}
 use Rattle.expression.specs.Working.Operating.{join-over, join-in}
 use Rattle.expression.specs.declared.value.Operand.{Operand}
 use Rattle.expression.specs.declared.value.Operand.TheVariants.{Text, Fault}
-use Rattle.machine.specs.Working.Machine.{State, on, stuck, placed, put_below_on, binary_on, binary_step}
-use Rattle.machine.specs.Working.Live.{Live, Landed, landed, put_at}
+use Rattle.machine.specs.Working.Machine.{State, stuck, placed, put_below_on, binary_on, binary_step}
+use Rattle.machine.specs.Working.Live.{Live, landed, put_at}
 use Rattle.machine.specs.Working.Stepping.{live-stuck, put-live, binary-two}
 use Rattle.machine.specs.Working.Quick.{top-first, top-second, pick-both}
 use Rattle.machine.specs.Working.Alike.{text-kind}
 use Rattle.machine.specs.declared.Tops.{Tops}
-use Rattle.machine.specs.declared.Tops.TheVariants.{At, Stuck}
+use Rattle.machine.specs.declared.Tops.TheVariants.{Stuck}
 use Rattle.limits.specs.Limits.{most_string}
 
 -- ".", and the kinds of strings

@@ -1,5 +1,5 @@
 -- The machine, over lists: the numbers of its operands, two each, and the bytes of its strings; the last one is on top. Assumes nothing.
-use Rattle.std.specs.Prelude.{Bool, true, false, not, List, [], ◌∷◌, ◌++◌, ℕ, zero, suc, ◌+◌, ◌-◌, ◌/◌, ◌%◌, min, eqb, leb, ltb, length, get_or, take, drop}
+use Rattle.std.specs.Prelude.{Bool, true, false, not, List, [], ◌∷◌, ◌++◌, ℕ, zero, suc, ◌+◌, ◌-◌, ◌/◌, ◌%◌, eqb, leb, ltb, length, get_or, take, drop}
 use Rattle.text.specs.Choice.{pick}
 use Rattle.text.specs.Scan.{run}
 use Rattle.text.specs.Class.{in_class, digit, word}

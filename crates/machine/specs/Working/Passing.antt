@@ -1,9 +1,9 @@
 -- Working laws: the entries that are passed by once a test is decided, and the ways out of the functions that find them. Assumes nothing.
-use Rattle.std.specs.Prelude.{◌≡◌, Bool, true, false, not, eqb, leb, ltb, get_or, take, drop}
+use Rattle.std.specs.Prelude.{◌≡◌, Bool, true, false, not, eqb, leb, get_or, drop}
 use Rattle.std.proofs.Math.Path.{refl, ap}
-use Rattle.std.proofs.Common.{sym, ◌∙◌, add-one, drop_of_length-le, length-append, length-take, drop-cons, get_or-take, length-take-le}
+use Rattle.std.proofs.Common.{sym, ◌∙◌, add-one, drop_of_length-le, length-append, drop-cons}
 use mathlib.Core.List.{List, [], ◌∷◌, ◌++◌, append_assoc}
-use Prim.Native.Nat.{ℕ, zero, suc, ◌+◌, ◌-◌, ◌*◌, ◌/◌, ◌<◌, ◌≤◌}
+use Prim.Native.Nat.{ℕ, zero, suc, ◌+◌, ◌-◌, ◌/◌, ◌<◌, ◌≤◌}
 use native.Mathlib.Omega.{arith}
 use Rattle.std.proofs.Math.ListN.{length}
 use borrow.Author.Tests.{le-leb, lt-leb, lt-ltb, le-ltb, eq-eqb, ne_eqb}
@@ -13,7 +13,7 @@ use Rattle.syntax.specs.Operation.{unary_number, binary_number}
 use Rattle.syntax.specs.Theorems.Numbers.{unary-between, binary-between}
 use Rattle.syntax.specs.Code.{entry, Codes, code-literal, code-name, code-number, code-true, code-false, code-decimal, code-unary, code-binary, ProgramCodes, code-none, code-also}
 use Rattle.expression.specs.Conditions.{top}
-use Rattle.machine.specs.Working.Machine.{State, on, stuck, is_false, outer, above, behind_of, stop_at, go_on, ahead, stepped, exec_behind}
+use Rattle.machine.specs.Working.Machine.{State, stuck, outer, above, behind_of, stop_at, go_on, ahead, exec_behind}
 
 -- entries passed by are left out
 module _ (depth room : ℕ) (s : List ℕ) (look : List ℕ → List ℕ) (vals : List (List ℕ)) where

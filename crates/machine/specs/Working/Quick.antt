@@ -1,5 +1,5 @@
 -- Steps on operands without bytes, by their numbers alone: the ways out of the functions that take them. Assumes nothing.
-use Rattle.std.specs.Prelude.{◌≡◌, refl, true, ℕ, suc, ◌+◌, ◌-◌, ◌<◌, ◌≤◌, max, leb, ltb, get_or, drop, set}
+use Rattle.std.specs.Prelude.{◌≡◌, refl, true, ℕ, suc, ◌+◌, ◌-◌, ◌≤◌, max, leb, ltb, get_or, drop, set}
 use Rattle.std.proofs.Common.{sym, ◌∙◌, take-suc}
 use Rattle.std.proofs.Math.Path.{ap}
 use Rattle.std.proofs.Math.Bool.{Bool, false}
@@ -10,23 +10,23 @@ use Rattle.std.proofs.Math.Dec.{eqb}
 use Rattle.std.proofs.Math.ListN.{length, take}
 use Rattle.std.proofs.lemmas.List.{length-map}
 use Rattle.std.proofs.Math.Seq.{length-take-le, take-length}
-use borrow.Author.Tests.{lt-ltb, le-ltb, le-leb, lt-leb, eq-eqb, ne_eqb, eqb-true, eqb-false, ltb-false, leb-true, leb-false}
+use borrow.Author.Tests.{le-ltb, le-leb, lt-leb, eq-eqb, ne_eqb, eqb-true, ltb-false, leb-true}
 use Rattle.text.specs.Choice.{pick, split, clash}
 use Rattle.text.specs.Counted.{counted}
 use Rattle.text.specs.Decimal.{integer as signed}
 use Rattle.text.specs.declared.Integer.{Integer}
-use Rattle.expression.specs.Value.{Value, integer, test, rank, operand, bytes_of}
-use Rattle.expression.specs.Operands.{kind_of, size_of, pack, unpacked, width, value_of, holds_in, rank_in}
+use Rattle.expression.specs.Value.{integer, test, rank, operand, bytes_of}
+use Rattle.expression.specs.Operands.{kind_of, size_of, pack, unpacked, width, value_of, rank_in}
 use Rattle.expression.specs.Working.Numbered.{arithmetic, logical, of_integers, of_tests, is_textual, binary_by}
 use Rattle.expression.specs.Conditions.{gate, top}
 use Rattle.expression.specs.Working.Clauses.{applied, combined}
 use Rattle.expression.specs.declared.value.Operand.{Operand}
 use Rattle.expression.specs.declared.value.Operand.TheVariants.{Number, Test, Rank}
 use Rattle.expression.specs.declared.value.Packed.{Packed}
-use Rattle.machine.specs.Working.Machine.{on, placed, top_of, below, unary_on, unary_step, put_below_on, binary_on, binary_step, raised}
+use Rattle.machine.specs.Working.Machine.{placed, top_of, unary_on, unary_step, put_below_on, binary_on, binary_step, raised}
 use Rattle.machine.specs.Working.Live.{Live, Landed, landed, put_at}
 use Rattle.machine.specs.Working.Widths.{front-combined}
-use Rattle.machine.specs.Working.Stacking.{pair, topped, width_is, place_is, binary-is}
+use Rattle.machine.specs.Working.Stacking.{pair, width_is, place_is, binary-is}
 use Rattle.machine.specs.Working.Stepping.{put-live, top-some, below-is, binary-two}
 use Rattle.machine.specs.declared.Tops.{Tops}
 use Rattle.machine.specs.declared.Tops.TheVariants.{At}

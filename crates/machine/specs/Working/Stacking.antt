@@ -13,7 +13,6 @@ use Rattle.expression.specs.Value.{Value, text, integer, test, rank, float, faul
 use Rattle.expression.specs.Operands.{kind_of, size_of, unpacked, width, value_of, is_text}
 use Rattle.expression.specs.Operations.{held, unary_of}
 use Rattle.expression.specs.Working.Clauses.{applied, combined}
-use Rattle.expression.specs.declared.value.Operand.{Operand}
 use Rattle.expression.specs.declared.value.Operand.TheVariants.{Text, Float, Fault}
 use Rattle.machine.specs.Working.Machine.{State, on, placed, text_step, top_of, below, is_false, is_highest, is_idle, unary_on, unary_step, lookup_on, lookup_step, put_below_on, binary_on, binary_step}
 use Rattle.machine.specs.Working.Kinds.{Said}

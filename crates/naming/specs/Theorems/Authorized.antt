@@ -31,7 +31,6 @@ use Rattle.naming.specs.Source.{Source, Author}
 use Rattle.naming.specs.String.{plain_from, source}
 use Rattle.naming.specs.Authorizer.{authorizer}
 use Rattle.naming.specs.Naming.{identified, author}
-use Rattle.naming.specs.Fault as Spec
 use Rattle.naming.specs.Fault.{verified, clear, faulty, source_fault, policy_fault, author_fault}
 use Rattle.naming.specs.Working.Faults.{meant}
 use Rattle.syntax.specs.Working.Faults.{against}

@@ -22,7 +22,7 @@ use Rattle.syntax.specs.Expr.{Expr, literal, name}
 use Rattle.syntax.specs.Code.{name_at}
 use Rattle.syntax.specs.Parsed.{Parsed, ok, aside}
 use Rattle.syntax.specs.Stood.{Stood, stood-at}
-use Rattle.expression.specs.Value.{bytes_of, fault}
+use Rattle.expression.specs.Value.{bytes_of}
 use Rattle.expression.specs.Operations.{held}
 use Rattle.expression.specs.Names.{Environment, lookup}
 use Rattle.expression.specs.Conditions.{evaluate}

@@ -1,6 +1,6 @@
 -- What the readers of Licensees do to the index and to the code: they grow by what was read, and the room is enough for sixteen licensees.
 -- Assumes nothing.
-use Rattle.std.specs.Prelude.{◌≡◌, refl, true, List, [], ◌∷◌, ◌++◌, ℕ, ◌+◌, ◌-◌, ◌*◌, ◌<◌, ◌≤◌, length, take}
+use Rattle.std.specs.Prelude.{◌≡◌, refl, true, List, [], ◌∷◌, ◌++◌, ℕ, ◌+◌, ◌*◌, ◌<◌, ◌≤◌, length, take}
 use Rattle.std.proofs.Common.{sym, ap, ◌∙◌, append_assoc, append-nil, arith, length-append, take-take, take_at, length-take-le}
 use Rattle.limits.specs.Limits.{most_licensees, most_counted, most_numbers, most_code}
 use Rattle.principal.specs.Principal.{Principal, policy}

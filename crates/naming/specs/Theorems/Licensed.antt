@@ -21,7 +21,7 @@ use Rattle.fields.specs.Parsed.{ended}
 use Rattle.naming.specs.Working.Code.{above, pushed}
 use Rattle.fields.specs.Theorems.Together.{both, refusal-some}
 use Rattle.naming.specs.Theorems.Code.{compile-short}
-use Rattle.naming.specs.Source.{Sources, Licensees, missing, empty, given}
+use Rattle.naming.specs.Source.{Sources, Licensees, empty, given}
 use Rattle.naming.specs.Licensees.{primary, expression, licensees}
 use Rattle.naming.specs.Fault.{licensees_fault}
 use Rattle.naming.specs.Working.Faults.{meant, clear_at}

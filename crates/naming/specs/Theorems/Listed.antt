@@ -37,7 +37,7 @@ use Rattle.naming.specs.Fault.{clear, faulty, source_fault, first_fault}
 use Rattle.naming.specs.Working.Faults.{first_of, meant, first-meant}
 use Rattle.syntax.specs.Working.Faults.{against}
 use Rattle.naming.specs.Working.Identifying.{sight, Done, named, of_number, of_kept, is_plain}
-use Rattle.naming.specs.Working.List.{Ran, ran, wrote, refused_licensed, sized, state_of, placed_in, on_wrote, on_named, before_in, is_over, string_in, licensee_in, items_of, listed_in, Loop, on_item, list_in, opened_in, of_in, threshold_of, threshold_in}
+use Rattle.naming.specs.Working.List.{Ran, ran, refused_licensed, sized, state_of, placed_in, on_wrote, on_named, before_in, is_over, string_in, licensee_in, items_of, listed_in, Loop, on_item, list_in, opened_in, of_in, threshold_of, threshold_in}
 use Rattle.naming.specs.Working.List.{list_turn as item_turn}
 use Rattle.naming.specs.declared.identifier.Named.TheVariants.{Nobody}
 use Rattle.naming.specs.declared.list.State.{State}

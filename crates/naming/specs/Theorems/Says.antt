@@ -1,8 +1,8 @@
 -- What `string_field` gives is what the string expression says. Assumes nothing.
-use Rattle.std.specs.Prelude.{◌≡◌, Bool, true, false, ℕ, ◌+◌, ◌-◌, ◌*◌, ◌<◌, ◌≤◌, eqb, ltb, leb, length, take, replicate}
+use Rattle.std.specs.Prelude.{◌≡◌, ℕ, ◌+◌, ◌-◌, ◌*◌, ◌<◌, ◌≤◌, eqb, ltb, leb, length, take, replicate}
 use Rattle.std.proofs.Math.Path.{refl}
 use Rattle.std.proofs.Common.{sym, ap, ◌∙◌, arith}
-use mathlib.Core.List.{List, [], ◌∷◌, ◌++◌, map, append-nil}
+use mathlib.Core.List.{List, [], map, append-nil}
 use Rattle.std.proofs.lemmas.List.{length-replicate}
 use borrow.Author.Tests.{le-ltb, ltb-true, ltb-false, eqb-true, eqb-false, leb-true}
 use Rattle.text.specs.Choice.{split, clash}
@@ -12,12 +12,12 @@ use Rattle.lexical.specs.Kind
 use Rattle.lexical.specs.Line.{token_at}
 use Rattle.lexical.specs.Theorems.LineLaws.{token-real, token-fault, token_end}
 use Rattle.lexical.specs.declared.token.Token.{Token}
-use Rattle.syntax.specs.Operator.{Sort, a-string}
+use Rattle.syntax.specs.Operator.{a-string}
 use Rattle.syntax.specs.Expr.{Expr}
 use Rattle.syntax.specs.Code.{Codes}
 use Rattle.syntax.specs.Parsed.{Parsed, ok, aside}
 use Rattle.syntax.specs.Stood.{Stood}
-use Rattle.expression.specs.Value.{Value, bytes_of}
+use Rattle.expression.specs.Value.{bytes_of}
 use Rattle.expression.specs.Names.{Environment}
 use Rattle.expression.specs.Conditions.{evaluate}
 use Rattle.expression.specs.Tables.{lookup_in, Shows}
@@ -27,23 +27,22 @@ use Rattle.conditions.specs.Parsed.{Part, part}
 use Rattle.conditions.specs.Expression.{read_expression}
 use Rattle.conditions.specs.Program.{DEPTH}
 use Rattle.conditions.specs.Working.Emit.{Ran, ran}
-use Rattle.conditions.specs.Working.Expression.{expr_at}
-use Rattle.conditions.specs.Working.Written.{Keeps, keeps, Grown, grown, Wrote, wrote}
+use Rattle.conditions.specs.Working.Written.{keeps, grown, Wrote, wrote}
 use Rattle.conditions.specs.Working.Same.{PartCodes, whole, Same, same-aside, same-part}
 use Rattle.conditions.proofs.Working.TieExpression.{expression-same}
 use Rattle.conditions.specs.Working.Pace.{Sound, sound, within, Paced, paced-aside, paced-found}
 use Rattle.conditions.proofs.Working.PaceExpression.{expression-paced}
 use Rattle.conditions.specs.declared.emit.Out.TheVariants.{Found, Aside as Refused}
-use Rattle.machine.specs.Working.Machine.{State, on, exec_behind, exec}
+use Rattle.machine.specs.Working.Machine.{on, exec_behind, exec}
 use Rattle.machine.specs.Working.Given.{Gave, gave, buffer_of, string_of, string_in}
 use Rattle.machine.specs.Working.Need as Need
 use Rattle.machine.specs.Theorems.Runs.{run-expression}
 use Rattle.machine.specs.Working.Stacking.{topped}
 use Rattle.machine.specs.declared.Given.TheVariants.{Bytes}
 use Rattle.judge.specs.Working.Fit.{Holds, holds-is, Fits, fit, expression-fits}
-use Rattle.judge.specs.Working.Saying.{Told, said, valued_at, said_of, on_read, said_in, string_size, said_here}
+use Rattle.judge.specs.Working.Saying.{Told, said, valued_at, on_read, said_in, string_size, said_here}
 use Rattle.judge.specs.declared.string.Said.TheVariants.{On, Aside}
-use Rattle.naming.specs.Theorems.Strings.{Strung, strung-aside, strung-ok, expression-strung}
+use Rattle.naming.specs.Theorems.Strings.{Strung, strung-ok, expression-strung}
 use Rattle.syntax.specs.Working.Faults.{against}
 use Rattle.syntax.specs.declared.fault.Fault.{Fault}
 

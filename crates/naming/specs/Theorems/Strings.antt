@@ -1,11 +1,10 @@
 -- Where a string is wanted and no comparison may follow, a string is read, and a token of the text is behind it. Assumes nothing.
-use Rattle.std.specs.Prelude.{◌≡◌, refl, List, ℕ, zero, suc, ◌+◌, ◌-◌, ◌<◌, ◌≤◌, eqb, leb, ltb}
-use Rattle.std.proofs.Common.{sym, ap, ◌∙◌, arith}
+use Rattle.std.specs.Prelude.{◌≡◌, refl, List, ℕ, zero, suc, ◌+◌, ◌-◌, ◌≤◌, eqb, leb, ltb}
+use Rattle.std.proofs.Common.{sym, ap, arith}
 use Rattle.std.proofs.Math.Bool.{Bool, true, false}
 use Rattle.std.proofs.Math.ListN.{length}
 use borrow.Author.Tests.{lt-leb, eqb-true}
-use Rattle.text.specs.Choice.{pick, split, clash}
-use Rattle.text.specs.Loop.{Step, next, done, loop}
+use Rattle.text.specs.Choice.{split, clash}
 use Rattle.lexical.specs.Kind
 use Rattle.lexical.specs.Theorems.Bounds.{chosen}
 use Rattle.lexical.specs.Literal.{decoded_at}
@@ -13,13 +12,13 @@ use Rattle.lexical.specs.declared.token.Token.{Token}
 use Rattle.syntax.specs.Operator.{Unary, Binary, a-string, unary_takes, unary_gives, binary_takes, binary_gives}
 use Rattle.syntax.specs.Operator as Operator
 use Rattle.syntax.specs.Expr.{Expr, unary, binary}
-use Rattle.syntax.specs.Parsed.{Parsed, ok, aside, unexpected}
+use Rattle.syntax.specs.Parsed.{Parsed, ok, aside}
 use Rattle.syntax.specs.Stood.{Stood, stood-at}
 use Rattle.conditions.specs.Table.{PartSort, sorted, Want, want-string, Infix, no-infix, between, Prefix, no-prefix, before}
 use Rattle.conditions.specs.Table as Table
 use Rattle.conditions.specs.Word.{next_at, word_sort}
 use Rattle.conditions.specs.Parsed.{Part, part, on_part}
-use Rattle.conditions.specs.Operand.{read_leaf, read_literal, read_name, applied, settled_tree}
+use Rattle.conditions.specs.Operand.{read_leaf, read_literal, read_name, applied}
 use Rattle.conditions.specs.Expression.{read_expression, read_operand, read_prefixed, read_bracketed, read_chain, read_joined, State, chain_turn, on_joined}
 use Rattle.conditions.specs.Working.Cases.{infix-cases, prefix_cases}
 use Rattle.conditions.specs.Working.Keeping.{Kept, kept_next, kept-done, loop-keeps}

@@ -1,9 +1,9 @@
 -- Working definitions: Authorizer by the tables, and the ways out of its functions. Assumes nothing.
-use Rattle.std.specs.Prelude.{◌≡◌, refl, Bool, true, false, List, [], ◌∷◌, ℕ, ◌<◌, ◌≤◌, eqb, leb, length, get_or}
+use Rattle.std.specs.Prelude.{◌≡◌, Bool, true, false, List, [], ◌∷◌, ℕ, ◌<◌, ◌≤◌, eqb, leb, length, get_or}
 use Rattle.std.proofs.Math.Path.{sym}
-use Rattle.std.proofs.Common.{ap, ◌∙◌}
+use Rattle.std.proofs.Common.{◌∙◌}
 use borrow.Author.Tests.{le-leb, lt-leb, eq-eqb, ne_eqb}
-use Rattle.text.specs.Choice.{pick, split}
+use Rattle.text.specs.Choice.{pick}
 use Rattle.limits.specs.Limits.{most_brackets}
 use Rattle.index.specs.Entry.{identifier_at}
 use Rattle.lexical.specs.Kind
@@ -11,7 +11,6 @@ use Rattle.lexical.specs.Kind.{ending}
 use Rattle.lexical.specs.Line.{token_at}
 use Rattle.lexical.specs.declared.token.Token.{Token}
 use Rattle.principal.specs.Principal.{same, policy}
-use Rattle.syntax.specs.Parsed.{refusal}
 use Rattle.conditions.specs.Word.{next_at}
 use Rattle.naming.specs.String.{plain_from}
 use Rattle.naming.specs.Fault.{verified}

@@ -1,6 +1,6 @@
 -- Working definitions: chains of operands, brackets and the field, written as instructions. The recursion goes by the brackets that may
 -- still be opened. Assumes nothing.
-use Rattle.std.specs.Prelude.{Bool, true, false, List, [], ◌∷◌, ℕ, zero, suc, ◌+◌, ◌-◌, eqb, leb, ltb, length}
+use Rattle.std.specs.Prelude.{Bool, true, false, List, ℕ, zero, suc, ◌+◌, ◌-◌, eqb, leb, ltb, length}
 use Rattle.text.specs.Choice.{pick}
 use Rattle.text.specs.Loop.{Step, next, done, loop}
 use Rattle.limits.specs.Limits.{most_licensees, most_brackets, most_code}

@@ -1,9 +1,9 @@
 -- The ways out of the functions that write chains, brackets and the field. Assumes nothing.
-use Rattle.std.specs.Prelude.{◌≡◌, leb, ltb, length}
+use Rattle.std.specs.Prelude.{◌≡◌, length}
 use Rattle.std.proofs.Math.Path.{refl, sym}
 use Rattle.std.proofs.Common.{ap, ◌∙◌, arith}
 use Rattle.std.proofs.Math.Bool.{Bool, true, false}
-use mathlib.Core.List.{List, []}
+use mathlib.Core.List.{List}
 use Prim.Native.Nat.{ℕ, zero, suc, ◌+◌, ◌-◌, ◌<◌, ◌≤◌}
 use Rattle.std.proofs.Math.Dec.{eqb}
 use borrow.Author.Tests.{lt-ltb, le-ltb, le-leb, lt-leb, eq-eqb, ne_eqb, eqb-true, eqb-false}
@@ -18,14 +18,12 @@ use Rattle.lexical.specs.Token.{token}
 use Rattle.lexical.specs.declared.token.Token.{Token}
 use Rattle.compliance.specs.Codes.{and_code, or_code, zero_code}
 use Rattle.naming.specs.Working.Code.{above, pushed}
-use Rattle.conditions.specs.Word.{next_at}
-use Rattle.naming.specs.String.{nest_of}
 use Rattle.naming.specs.Working.Faults.{clear_at}
 use Rattle.syntax.specs.Working.Faults.{against}
 use Rattle.naming.specs.Working.Identifying.{Sight, is_plain}
 use Rattle.naming.specs.Working.List.{Ran, ran, refused_licensed, sized, state_at, state_of, before_in, literal_in, licensee_in, threshold_in}
 use Rattle.naming.specs.Working.ListWays.{licensee-plain, literal-before, before-next}
-use Rattle.naming.specs.Working.Chain.{joint_of, join_of, on_on, single, is_lone, is_longer, behind_in, closed_in, operand_at, more_at, chain_at, primary_at, primary_body, inner_at, end_in, field_in}
+use Rattle.naming.specs.Working.Chain.{joint_of, join_of, on_on, single, is_lone, is_longer, closed_in, operand_at, more_at, chain_at, primary_at, primary_body, inner_at, end_in, field_in}
 use Rattle.syntax.specs.declared.fault.Fault.{Fault}
 use Rattle.naming.specs.declared.list.State.{State}
 use Rattle.naming.specs.declared.list.Licensed.{Licensed}

@@ -1,9 +1,8 @@
 -- Working definitions: the faults of identifiers as the code has them. Assumes nothing.
-use Rattle.std.specs.Prelude.{◌≡◌, refl, Bool, ℕ, ◌<◌, ◌≤◌, eqb, leb}
+use Rattle.std.specs.Prelude.{◌≡◌, refl, Bool, ◌<◌, ◌≤◌, eqb, leb}
 use Rattle.std.proofs.Math.Bool.{true, false}
-use Rattle.std.proofs.Common.{arith}
 use borrow.Author.Tests.{le-leb, lt-leb, eq-eqb, ne_eqb}
-use Rattle.text.specs.Choice.{pick, split}
+use Rattle.text.specs.Choice.{pick}
 use Rattle.naming.specs.Fault as Spec
 use Rattle.syntax.specs.Working.Faults.{against}
 use Rattle.syntax.specs.declared.fault.Fault.{Fault}

@@ -1,5 +1,5 @@
 -- Working definitions: licensees one by one and in lists, written as instructions. Assumes nothing.
-use Rattle.std.specs.Prelude.{◌≡◌, Bool, true, false, List, [], ◌∷◌, ℕ, ◌+◌, ◌-◌, eqb, leb, ltb, length, set}
+use Rattle.std.specs.Prelude.{◌≡◌, Bool, false, List, ℕ, ◌+◌, ◌-◌, eqb, leb, ltb}
 use Rattle.text.specs.Choice.{pick}
 use Rattle.text.specs.Loop.{Step, next, done, loop}
 use Rattle.limits.specs.Limits.{most_licensees}
@@ -7,7 +7,6 @@ use Rattle.lexical.specs.Kind
 use Rattle.lexical.specs.Number.{number_at}
 use Rattle.lexical.specs.declared.token.Token.{Token}
 use Rattle.compliance.specs.Codes.{k_of_code}
-use Rattle.syntax.specs.Parsed.{refusal}
 use Rattle.conditions.specs.Table.{begins_string}
 use Rattle.conditions.specs.Word.{next_at}
 use Rattle.naming.specs.Working.Code.{above, pushed}

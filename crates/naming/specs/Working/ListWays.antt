@@ -1,5 +1,5 @@
 -- The ways out of the functions that write licensees and lists. Assumes nothing.
-use Rattle.std.specs.Prelude.{◌≡◌, Bool, false, List, [], eqb, leb, ltb, length, set, take, drop}
+use Rattle.std.specs.Prelude.{◌≡◌, Bool, false, List, [], eqb, leb, length, drop}
 use Rattle.std.proofs.Math.Path.{refl, sym, ap}
 use Rattle.std.proofs.Common.{◌∙◌, length-drop, length-take-le, Fits}
 use Rattle.std.proofs.Math.Bool.{true}
@@ -17,10 +17,8 @@ use Rattle.lexical.specs.Number.{number_at}
 use Rattle.lexical.specs.Token.{token}
 use Rattle.lexical.specs.declared.token.Token.{Token}
 use Rattle.compliance.specs.Codes.{k_of_code}
-use Rattle.syntax.specs.Parsed.{refusal}
 use Rattle.naming.specs.Working.Code.{above, pushed}
 use Rattle.conditions.specs.Table.{begins_string}
-use Rattle.conditions.specs.Word.{next_at}
 use Rattle.naming.specs.String.{plain_from, nest_of}
 use Rattle.naming.specs.Working.Faults.{first_of}
 use Rattle.syntax.specs.Working.Faults.{against}

@@ -1,7 +1,6 @@
 -- Laws of folding and of the canonical form: it has the identifier's length and its first ":" where that has it. Assumes nothing.
-use Rattle.std.specs.Prelude.{◌≡◌, refl, Bool, true, false, ◌||◌, ◌&&◌, List, [], ◌∷◌, ◌++◌, ℕ, zero, suc, ◌+◌, ◌-◌, ◌≤◌, ◌<◌, eqb, leb, ltb, length}
-use Rattle.std.proofs.Common.{sym, ap, ◌∙◌, append-nil, arith, length-append, eqb-true, eq-eqb, ne_eqb, leb-true, leb-false, le-leb}
-use Rattle.std.proofs.lemmas.Bool.{eqb-false, lt-leb}
+use Rattle.std.specs.Prelude.{◌≡◌, refl, false, List, [], ◌∷◌, ◌++◌, ℕ, suc, ◌+◌, ◌≤◌, eqb, leb, length}
+use Rattle.std.proofs.Common.{sym, ap, ◌∙◌, append-nil, arith, length-append, eqb-true, ne_eqb, leb-true, leb-false}
 use Rattle.text.specs.Choice.{pick, split}
 use Rattle.principal.specs.Canonical.{fold, folded, front, behind, is_hex, canonical_with, canonical}
 

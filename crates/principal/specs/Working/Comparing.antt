@@ -1,18 +1,18 @@
 -- The ways out of the functions that compare principals. Assumes nothing.
-use Rattle.std.specs.Prelude.{◌≡◌, refl, Bool, ◌||◌, ◌&&◌, eqb, leb, ltb, get_or, take, drop}
+use Rattle.std.specs.Prelude.{◌≡◌, refl, Bool, ◌&&◌, eqb, get_or, take, drop}
 use Rattle.std.proofs.Math.Path.{sym, ap}
-use Rattle.std.proofs.Common.{◌∙◌, arith, add-one, add-zero, length-append, length-drop, length-take-le, take_all, take_at, drop_at}
+use Rattle.std.proofs.Common.{◌∙◌, arith, add-one, add-zero, length-drop, length-take-le, take_all, take_at, drop_at}
 use Rattle.std.proofs.Math.Bool.{true, false}
 use mathlib.Core.List.{List, [], ◌∷◌, ◌++◌}
-use Prim.Native.Nat.{ℕ, zero, suc, ◌+◌, ◌-◌, ◌≤◌, ◌<◌}
+use Prim.Native.Nat.{ℕ, suc, ◌+◌, ◌-◌, ◌≤◌, ◌<◌}
 use Rattle.std.proofs.Math.ListN.{length, drop_of_length-le}
 use Rattle.std.proofs.Math.Seq.{drop-cons}
-use borrow.Author.Tests.{eqb-true, eqb-false, eq-eqb, ne_eqb, leb-true, leb-false, lt-leb, le-leb}
-use Rattle.text.specs.Choice.{pick, split, clash}
-use Rattle.text.specs.Equal.{equal, equal-refl, equal-true}
-use Rattle.principal.specs.Canonical.{fold, folded, front, behind, rsa_hex, dsa_hex, is_hex, canonical}
-use Rattle.principal.specs.Theorems.Canonical.{tail, behind-cases, front-behind, parts-long, folded-long, canonical-plain, canonical-key}
-use Rattle.principal.specs.Principal.{Principal, same, same-canonical, same_refl}
+use borrow.Author.Tests.{eq-eqb, ne_eqb, lt-leb, le-leb}
+use Rattle.text.specs.Choice.{pick, split}
+use Rattle.text.specs.Equal.{equal, equal-true}
+use Rattle.principal.specs.Canonical.{fold, folded, front, behind, rsa_hex, dsa_hex, is_hex}
+use Rattle.principal.specs.Theorems.Canonical.{front-behind, folded-long}
+use Rattle.principal.specs.Principal.{Principal, same, same_refl}
 
 -- `colon_at`: from byte i on
 unfoldable pub front_from : Principal → ℕ → ℕ

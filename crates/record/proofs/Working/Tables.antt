@@ -24,7 +24,7 @@ use Rattle.record.specs.Working.Moves.{cursor, seen_of, item_move}
 use Rattle.record.specs.Working.Groups.{Ran, ran, by_group, least_count, most_count, on_move, items_into, group_into, both, on_ran, groups_into, on_both, rest_into, table_into}
 use Rattle.record.specs.Working.Ties.{Ties, tie-to, tie-no, Spot, itself, name_of, text_of, count-tie, value-tie, requester-tie, attribute-tie, assertion-tie}
 use Rattle.record.specs.declared.Moved.{Moved}
-use Rattle.record.specs.declared.Moved.TheVariants.{To, Refused}
+use Rattle.record.specs.declared.Moved.TheVariants.{To}
 use Rattle.record.specs.declared.Groups.TheVariants as groups
 use Rattle.record.specs.declared.Reading.TheVariants as reading
 use Rattle.record.specs.Working.Tables.{Group, Runs, Whole, group-no, group-to, lies-of, map-itself, map-snoc-key, places-length, put-cons, put_next, run-no, run-to, seen_more, seen_none, whole-no, whole_to}

@@ -1,7 +1,7 @@
 -- Working laws: the ways out of `copy_entries` and `read`. Assumes nothing.
-use Rattle.std.specs.Prelude.{◌≡◌, refl, List, [], ◌∷◌, ◌++◌, ℕ, zero, suc, ◌+◌, ◌-◌, ◌<◌, ◌≤◌, get_or, take, drop, replicate}
+use Rattle.std.specs.Prelude.{◌≡◌, refl, List, ◌++◌, ℕ, suc, ◌+◌, ◌<◌, ◌≤◌, get_or, take, drop, replicate}
 use Rattle.std.proofs.Math.Path.{sym}
-use Rattle.std.proofs.Common.{ap, ◌∙◌, append-nil, length-append, length-take, length-take-le}
+use Rattle.std.proofs.Common.{ap, ◌∙◌, length-append, length-take-le}
 use native.Mathlib.Omega.{arith}
 use Rattle.std.proofs.Math.Numerals.{add-one}
 use Rattle.std.proofs.Math.Nat.{zero-add}
@@ -9,14 +9,12 @@ use Rattle.std.proofs.Math.ListN.{length, set}
 use Rattle.std.proofs.lemmas.List.{length-replicate}
 use Rattle.std.proofs.Math.Seq.{paste, paste-suc, take-append_seam}
 use Rattle.text.specs.Copy.{put}
-use Rattle.text.specs.CopyLaws.{put-nil, put-length}
+use Rattle.text.specs.CopyLaws.{put-nil}
 use Rattle.limits.specs.Limits.{most_items}
 use Rattle.record.specs.Query.{Query}
 use Rattle.record.specs.Read.{Verdict, accepted, refused}
-use Rattle.record.specs.Record.{read_record}
 use Rattle.record.specs.Places.{places_from, string_size, attribute_size, assertion_size, requesters_start, attributes_start, assertions_start, places}
-use Rattle.record.specs.Reading.{Told, told, group_ends, leaves, read_into, tabled, tabled_verdict}
-use Rattle.record.specs.Working.Groups.{table_into}
+use Rattle.record.specs.Reading.{Told, told, group_ends}
 use Rattle.record.specs.Working.Tables.{Whole, whole_to, whole-no, places-length}
 use Rattle.record.specs.declared.Reading.{Reading}
 use Rattle.record.specs.declared.Reading.TheVariants.{Accepted, Refused}

@@ -1,11 +1,9 @@
 -- Working definitions: the cursor's steps, by places, and the ways out of each. `Ties` says what they have to do with the readers of
 -- Field and Item. Assumes nothing.
-use Rattle.std.specs.Prelude.{◌≡◌, refl, Bool, true, false, List, [], ◌∷◌, map, ℕ, zero, suc, ◌+◌, ◌-◌, ◌<◌, ◌≤◌, eqb, ltb, leb, length, get_or, take, drop}
-use Rattle.std.proofs.Common.{sym, ap, ◌∙◌, arith, add-one, not-suc-le-zero, drop_of_length-le, length-take, length-drop, drop-cons, lt-ltb, le-ltb, le-leb, eq-eqb, ne_eqb, ltb-true, ltb-false, leb-true, leb-false}
-use Rattle.std.proofs.lemmas.Bool.{lt-leb}
-use Rattle.text.specs.Choice.{pick, split}
+use Rattle.std.specs.Prelude.{List, map, ℕ, ◌+◌, ◌-◌, eqb, ltb, leb, length, get_or}
+use Rattle.text.specs.Choice.{pick}
 use Rattle.text.specs.Scan.{run}
-use Rattle.text.specs.Class.{is_letter, in_class, word, plain}
+use Rattle.text.specs.Class.{in_class, plain}
 use Rattle.text.specs.Equal.{equal}
 use Rattle.text.specs.Counted.{part, pair_at, counted}
 use Rattle.limits.specs.Limits.{least_value, most_value, least_requester, most_requester, least_name, most_name, least_setting, most_setting, least_text, most_text, most_standing}

@@ -1,36 +1,25 @@
 -- Working theorems: items, groups and the whole record with the table of places are what `read_record` says. Assumes nothing.
-use Rattle.std.specs.Prelude.{◌≡◌, Bool, true, false, eqb, ltb, leb, get_or, take, drop, set, replicate}
+use Rattle.std.specs.Prelude.{◌≡◌, take, drop, set}
 use Rattle.std.proofs.Math.Path.{refl}
-use Rattle.std.proofs.Common.{sym, ap, ◌∙◌, subst, add-one, length-drop, length-set, take-suc-set}
-use mathlib.Core.List.{List, [], ◌∷◌, ◌++◌, map, append_assoc, append-nil}
-use Prim.Native.Nat.{ℕ, zero, suc, ◌+◌, ◌-◌, ◌<◌, ◌≤◌}
+use Rattle.std.proofs.Common.{sym, ap, ◌∙◌, subst, add-one, length-drop, take-suc-set}
+use mathlib.Core.List.{List, [], ◌∷◌, ◌++◌, map, append_assoc}
+use Prim.Native.Nat.{ℕ, suc, ◌+◌, ◌-◌, ◌<◌, ◌≤◌}
 use native.Mathlib.Omega.{arith}
-use Rattle.std.proofs.Math.Nat.{add-zero}
-use Rattle.std.proofs.Math.ListN.{length, length-append}
-use Rattle.std.proofs.lemmas.List.{length-replicate, set_split, drop-set-add}
-use Rattle.std.proofs.lemmas.Bool.{lt-leb}
-use Rattle.text.specs.Choice.{pick, split}
+use Rattle.std.proofs.Math.ListN.{length}
+use Rattle.std.proofs.lemmas.List.{set_split, drop-set-add}
 use Rattle.text.specs.Copy.{put}
-use Rattle.text.specs.CopyLaws.{put-nil, put-append, put-length}
+use Rattle.text.specs.CopyLaws.{put-append}
 use Rattle.text.specs.Counted.{part, counted}
-use Rattle.limits.specs.Limits.{most_record, least_values, most_values, least_requesters, most_requesters, least_attributes, most_attributes, least_assertions, most_assertions, most_items}
-use Rattle.record.specs.Query.{Query, Attribute, Supplied}
-use Rattle.record.specs.Read.{Read, got, bad, and_then, Verdict, accepted, refused}
-use Rattle.record.specs.Field.{count_at}
-use Rattle.record.specs.Item.{value_at, requester_at, attribute_at, assertion_at, items_at, group_at}
-use Rattle.record.specs.Record.{query_at, ended, read_record}
-use Rattle.record.specs.Places.{string_size, attribute_size, assertion_size, places_from, end_from, requesters_start, attributes_start, assertions_start, places}
-use Rattle.record.specs.Lies.{StringAt, AttributeAt, AssertionAt, Lie, lie[], lie∷, Lies}
-use Rattle.record.specs.Reading.{Told, told, group_ends, leaves, read_into}
-use Rattle.record.specs.Working.Moves.{cursor, seen_of, count_move, value_move, plain_move, attribute_move, assertion_move, item_move}
-use Rattle.record.specs.Working.Groups.{Ran, ran, by_group, least_count, most_count, on_move, items_into, group_into, Both, both, on_ran, groups_into, on_both, rest_into, table_into}
-use Rattle.record.specs.Working.Ties.{Ties, tie-to, tie-no, Spot, itself, name_of, text_of, count-tie, value-tie, requester-tie, attribute-tie, assertion-tie}
-use Rattle.record.specs.declared.Cursor.{Cursor}
-use Rattle.record.specs.declared.Moved.{Moved}
+use Rattle.limits.specs.Limits.{most_items}
+use Rattle.record.specs.Query.{Query}
+use Rattle.record.specs.Read.{Read, got, bad, Verdict, accepted, refused}
+use Rattle.record.specs.Places.{places_from, end_from, places}
+use Rattle.record.specs.Lies.{Lie, Lies}
+use Rattle.record.specs.Reading.{Told, told, group_ends}
+use Rattle.record.specs.Working.Moves.{cursor, seen_of}
+use Rattle.record.specs.Working.Groups.{Ran, ran}
+use Rattle.record.specs.Working.Ties.{itself}
 use Rattle.record.specs.declared.Moved.TheVariants.{To, Refused}
-use Rattle.record.specs.declared.Groups.{Groups}
-use Rattle.record.specs.declared.Groups.TheVariants as groups
-use Rattle.record.specs.declared.Reading.{Reading}
 use Rattle.record.specs.declared.Reading.TheVariants as reading
 
 -- lists

@@ -1,11 +1,11 @@
 -- Working theorems: the cursor's steps go by places, the readers of Field and Item by what they read; here each is tied to the other.
 -- Assumes nothing.
-use Rattle.std.specs.Prelude.{◌≡◌, Bool, true, false, List, [], ◌∷◌, map, ℕ, zero, suc, ◌+◌, ◌-◌, ◌<◌, ◌≤◌, min, eqb, ltb, leb, get_or, take, drop}
+use Rattle.std.specs.Prelude.{◌≡◌, Bool, true, false, List, map, ℕ, ◌+◌, ◌-◌, ◌≤◌, ltb, leb, get_or}
 use Rattle.std.proofs.Math.Path.{refl}
-use Rattle.std.proofs.Common.{sym, ap, ◌∙◌, arith, length-take, length-drop}
+use Rattle.std.proofs.Common.{arith, length-take, length-drop}
 use Rattle.std.proofs.Math.ListN.{length}
-use borrow.Author.Tests.{lt-ltb, le-ltb, le-leb, lt-leb, ltb-true, ltb-false, leb-true, leb-false}
-use Rattle.text.specs.Choice.{pick, split}
+use borrow.Author.Tests.{le-ltb, ltb-false}
+use Rattle.text.specs.Choice.{pick}
 use Rattle.text.specs.Scan.{run}
 use Rattle.text.specs.Class.{in_class, plain}
 use Rattle.text.specs.Counted.{part, pair_at, counted}
@@ -19,7 +19,6 @@ use Rattle.record.specs.Item.{plain_at, value_at, requester_at, attribute_name_a
 use Rattle.record.specs.Places.{string_size, attribute_size, assertion_size}
 use Rattle.record.specs.Lies.{StringAt, AttributeAt, AssertionAt}
 use Rattle.record.specs.Working.Moves.{cursor, on_to, count_move, length_move, content_move, field_move, permitted_move, askable_move, distinct_move, plain_move, value_move, requester_move, name_move, attribute_move, assertion_move}
-use Rattle.record.specs.declared.Cursor.{Cursor}
 use Rattle.record.specs.declared.Moved.{Moved}
 use Rattle.record.specs.declared.Moved.TheVariants.{To, Refused}
 

@@ -1,13 +1,13 @@
 -- Working laws: the ways out of the cursor's steps. Assumes nothing.
-use Rattle.std.specs.Prelude.{◌≡◌, refl, Bool, true, false, List, [], ◌∷◌, map, eqb, ltb, leb, length, get_or, take, drop}
+use Rattle.std.specs.Prelude.{◌≡◌, refl, Bool, true, false, List, map, ltb, length, get_or, take, drop}
 use Rattle.std.proofs.Math.Path.{sym}
 use Rattle.std.proofs.Common.{ap, ◌∙◌, drop_of_length-le, length-take, length-drop}
-use Prim.Native.Nat.{ℕ, zero, suc, ◌+◌, ◌-◌, ◌<◌, ◌≤◌}
+use Prim.Native.Nat.{ℕ, suc, ◌+◌, ◌-◌, ◌<◌, ◌≤◌}
 use native.Mathlib.Omega.{arith}
 use Rattle.std.proofs.Math.Numerals.{add-one}
 use Rattle.std.proofs.Math.ListN.{get_or-eq_default}
 use Rattle.std.proofs.Math.Seq.{drop-cons, take-nil}
-use borrow.Author.Tests.{lt-ltb, le-ltb, le-leb, lt-leb, eq-eqb, ne_eqb, ltb-true, ltb-false}
+use borrow.Author.Tests.{lt-ltb, le-ltb, le-leb, lt-leb, eq-eqb, ne_eqb}
 use Rattle.text.specs.Choice.{pick, split}
 use Rattle.text.specs.Scan.{run}
 use Rattle.text.specs.Class.{is_letter, in_class}
@@ -16,7 +16,7 @@ use Rattle.text.specs.Counted.{part, pair_at, counted}
 use Rattle.limits.specs.Limits.{least_value, most_value, least_requester, most_requester, least_name, most_name, least_setting, most_setting, least_text, most_text, most_standing}
 use Rattle.principal.specs.Principal.{policy}
 use Rattle.record.specs.Field.{name_front, among}
-use Rattle.record.specs.Working.Moves.{cursor, on_to, seen_of, count_move, length_move, content_move, field_move, plain_move, value_move, requester_move, name_move, attribute_move, assertion_move, item_move}
+use Rattle.record.specs.Working.Moves.{cursor, seen_of, count_move, length_move, content_move, field_move, plain_move, value_move, requester_move, name_move, attribute_move, assertion_move, item_move}
 use Rattle.record.specs.declared.Cursor.{Cursor}
 use Rattle.record.specs.declared.Moved.{Moved}
 use Rattle.record.specs.declared.Moved.TheVariants.{To, Refused}

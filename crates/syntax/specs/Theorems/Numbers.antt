@@ -1,6 +1,6 @@
 -- The numbers of the operations differ and fit an entry. Assumes nothing.
-use Rattle.std.specs.Prelude.{◌≡◌, refl, true, false, List, [], ◌∷◌, ℕ, ◌<◌, ◌≤◌, get_or}
-use Rattle.std.proofs.Common.{sym, ap, ◌∙◌, arith}
+use Rattle.std.specs.Prelude.{◌≡◌, refl, true, false, List, [], ◌∷◌, ◌<◌, ◌≤◌, get_or}
+use Rattle.std.proofs.Common.{arith}
 use Rattle.syntax.specs.Op
 use Rattle.syntax.specs.Operator.{Unary, Binary, Side, Relation, Ordering, lookup, convert, negate, opposite, to-float, float-negate, join, power, times, over, remainder, plus, minus, comparison, matches, float-power, float-times, float-over, float-plus, float-minus, float-order, both, either, strings, integers, equal, unequal, less, greater, at_most, at_least, float-less, float-greater, float_at_most, float-at-least}
 use Rattle.syntax.specs.Operation.{Operation, literal, name, number, truth, decimal, unary, binary, begin, plain, valued, nested, raise, unary_number, comparison_number, order_number, binary_number, number_of}

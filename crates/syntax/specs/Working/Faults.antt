@@ -1,5 +1,5 @@
 -- Working definitions: a fault as the code has it. Assumes nothing.
-use Rattle.std.specs.Prelude.{◌≡◌, refl, ℕ}
+use Rattle.std.specs.Prelude.{◌≡◌, ℕ}
 use Rattle.lexical.specs.declared.token.Token.{Token}
 use Rattle.syntax.specs.Parsed.{refusal}
 use Rattle.syntax.specs.declared.fault.Fault.{Fault}

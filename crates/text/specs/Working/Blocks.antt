@@ -4,7 +4,7 @@ use Rattle.std.proofs.Math.Path.{sym, ap}
 use Rattle.std.proofs.Common.{◌∙◌, arith, zero-add, suc-add, add-one, length-drop, take-append-drop, take-suc, take_all, drop-drop, get_or-drop, length-take-le, eq-eqb, ne_eqb}
 use Rattle.std.proofs.Math.Bool.{true, false}
 use Rattle.std.proofs.Math.Seq.{take-nil}
-use Rattle.text.specs.Choice.{pick, split}
+use Rattle.text.specs.Choice.{split}
 use Rattle.text.specs.Equal.{equal, equal-true}
 use Rattle.text.specs.Working.Common.{common, common_from}
 

@@ -1,14 +1,12 @@
 -- Working laws of the loop that copies. Assumes nothing.
-use Rattle.std.specs.Prelude.{◌≡◌, refl, Bool, true, false, List, [], ◌∷◌, ◌++◌, ℕ, zero, suc, ◌+◌, ◌-◌, ◌<◌, ◌≤◌, leb, get_or, take, drop, set}
+use Rattle.std.specs.Prelude.{◌≡◌, refl, true, false, List, ◌++◌, ℕ, ◌+◌, ◌-◌, ◌<◌, ◌≤◌, get_or, take, drop, set}
 use Rattle.std.proofs.Common.{sym, ap, ◌∙◌, take_at, length-take-le}
 use native.Mathlib.Omega.{arith}
 use Rattle.std.proofs.Math.Numerals.{add-one}
 use Rattle.std.proofs.Math.ListN.{length}
 use Rattle.std.proofs.Math.Seq.{paste, paste-zero, paste-suc, take_all}
-use Rattle.std.proofs.lemmas.List.Edits.{length-paste}
 use borrow.Author.Tests.{le-leb, lt-leb}
-use Rattle.text.specs.Choice.{pick}
-use Rattle.text.specs.Copy.{Copied, copied, put, copy_at}
+use Rattle.text.specs.Copy.{copied, put, copy_at}
 
 -- the buffer with the first i bytes of the string in place
 unfoldable pub pasted : List ℕ → ℕ → List ℕ → ℕ → List ℕ

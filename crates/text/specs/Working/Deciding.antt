@@ -1,11 +1,11 @@
 -- Working laws: the ways out of the functions that read a decimal number. The code holds a number at a limit; below it nothing is lost.
 -- Assumes nothing.
-use Rattle.std.specs.Prelude.{◌≡◌, refl, Bool, true, false, List, [], ◌∷◌, ℕ, zero, suc, ◌+◌, ◌-◌, ◌<◌, ◌≤◌, min, eqb, ltb, leb, length, get_or, take, drop}
-use Rattle.std.proofs.Common.{sym, ap, ◌∙◌, arith, not-suc-le-zero, add-one, length-drop, take_all, length-take-le}
-use borrow.Author.Tests.{lt-ltb, le-ltb, le-leb, lt-leb, eq-eqb, ne_eqb, eqb-true, eqb-false, ltb-true, ltb-false}
+use Rattle.std.specs.Prelude.{◌≡◌, refl, Bool, true, false, List, [], ◌∷◌, ℕ, ◌+◌, ◌-◌, ◌<◌, ◌≤◌, min, eqb, length, get_or, take, drop}
+use Rattle.std.proofs.Common.{sym, ◌∙◌, arith, not-suc-le-zero, length-drop, take_all, length-take-le}
+use borrow.Author.Tests.{lt-ltb, le-ltb, le-leb, lt-leb, eq-eqb, ne_eqb, eqb-true, eqb-false}
 use Rattle.text.specs.Choice.{pick, split}
 use Rattle.text.specs.Scan.{run}
-use Rattle.text.specs.Class.{in_class, digit}
+use Rattle.text.specs.Class.{in_class}
 use Rattle.text.specs.Digits.{value}
 use Rattle.text.specs.Decimal.{integer, in_range, rounded_down, with_fraction, unsigned, decimal}
 use Rattle.text.specs.Working.Holding.{most_held}

@@ -1,16 +1,14 @@
 -- Working laws: the loops that join strings with commas. Assumes nothing.
-use Rattle.std.specs.Prelude.{◌≡◌, refl, Bool, List, [], ◌∷◌, ◌++◌, map, eqb, leb, ltb, get_or, take, drop, set}
+use Rattle.std.specs.Prelude.{◌≡◌, refl, Bool, List, [], ◌∷◌, ◌++◌, map, leb, get_or, drop, set}
 use Rattle.std.proofs.Math.Path.{sym}
-use Rattle.std.proofs.Common.{ap, ◌∙◌, append_assoc, append-nil, add-one, add-zero, add-suc, length-append, length-take, length-drop, drop_of_length-le, take-append-drop, drop-cons, take-suc, take_at, drop-drop, length-take-le}
+use Rattle.std.proofs.Common.{ap, ◌∙◌, add-one, length-append, drop_of_length-le, drop-cons}
 use Rattle.std.proofs.Math.Bool.{true, false}
 use Prim.Native.Nat.{ℕ, zero, suc, ◌+◌, ◌-◌, ◌<◌, ◌≤◌}
 use native.Mathlib.Omega.{arith}
 use Rattle.std.proofs.Math.ListN.{length}
-use Rattle.std.proofs.Math.Seq.{drop-append-add, append_snoc}
-use Rattle.std.proofs.lemmas.List.{set_at}
-use borrow.Author.Tests.{lt-ltb, le-ltb, le-leb, lt-leb, eq-eqb, ne_eqb, leb-true, leb-false}
-use Rattle.text.specs.Choice.{pick, split, clash}
-use Rattle.text.specs.Copy.{Copied, copied, put, copy_at}
+use borrow.Author.Tests.{le-leb, lt-leb, leb-true, leb-false}
+use Rattle.text.specs.Choice.{split, clash}
+use Rattle.text.specs.Copy.{copied, put, copy_at}
 use Rattle.text.specs.CopyLaws.{put-nil, put-append, put_front, put-length}
 use Rattle.text.specs.Counted.{counted}
 use Rattle.text.specs.Join.{followed, joined}

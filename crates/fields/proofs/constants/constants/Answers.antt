@@ -1,4 +1,3 @@
-use Rattle.fields.specs.Constants.{assigned}
 use Rattle.fields.specs.Working.Setting.{setting-more, setting-aside, constants-end, setting-fault, setting-most}
 use borrow.Author.Rules.{rules}
 use Rattle.fields.proofs.constants.constants.Goals as goal
