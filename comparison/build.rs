@@ -15,7 +15,7 @@ fn main() {
     let archive = directory.join("liborders.a");
     println!("cargo:rerun-if-changed={}", archive.display());
     if !archive.is_file() {
-        eprintln!("{} is missing. Run `rt staticlib orders` at the root of the repository.", archive.display());
+        eprintln!("{} is missing. Run `tools/build orders` at the root of the repository.", archive.display());
         exit(1);
     }
     println!("cargo:rustc-link-search=native={}", directory.display());

@@ -1,7 +1,7 @@
 /*
  * Lampsickle: the answer to a KeyNote (RFC 2704) query.
  *
- * Link with -lkeynote from target/staticlib, which `rt staticlib keynote` writes, for Linux on x86-64. The library allocates nothing, reads
+ * Link with -lkeynote from target/staticlib, which `tools/build keynote` writes, for Linux on x86-64. The library allocates nothing, reads
  * and writes no file, and keeps no state between calls, so it may be called from many threads at once. Its tables lie on the stack: a thread
  * that calls it needs 2 MiB (docs/ARCHITECTURE.md has what was measured).
  */

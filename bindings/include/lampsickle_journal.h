@@ -1,7 +1,7 @@
 /*
  * Lampsickle's journal: answers on a lent page, in an order of stores that survives a power cut.
  *
- * Link with -ljournal from target/staticlib, which `rt staticlib journal` writes, for Linux on x86-64. The library allocates nothing, reads and
+ * Link with -ljournal from target/staticlib, which `tools/build journal` writes, for Linux on x86-64. The library allocates nothing, reads and
  * writes no file, and keeps no state between calls, so it may be called from many threads at once, on pages of their own.
  *
  * A page begins with the byte 1. Behind it stand finished entries: an answer's length in two bytes, big-endian, never 0; the answer; and the

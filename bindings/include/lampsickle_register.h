@@ -1,7 +1,7 @@
 /*
  * Lampsickle: a register of priority moves.
  *
- * Link with -lregister from target/staticlib, which `rt staticlib register` writes, for Linux on x86-64; -lkeynote may stand beside it. The
+ * Link with -lregister from target/staticlib, which `tools/build register` writes, for Linux on x86-64; -lkeynote may stand beside it. The
  * library allocates nothing, reads and writes no file, and keeps no state between calls: a register is bytes that the caller lends.
  */
 #ifndef LAMPSICKLE_REGISTER_H

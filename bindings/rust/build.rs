@@ -5,7 +5,7 @@ use std::os::unix::process::parent_id;
 use std::path::{Path, PathBuf};
 use std::process::exit;
 
-/// Each is made by `rt staticlib NAME`, as libNAME.a.
+/// Each is made by `tools/build NAME`, as libNAME.a.
 const LIBRARIES: [&str; 3] = ["keynote", "journal", "register"];
 
 fn main() {
@@ -22,7 +22,7 @@ fn link(directory: &Path, library: &str) {
     println!("cargo:rerun-if-changed={}", archive.display());
     if !archive.is_file() {
         eprintln!("{} is missing.", archive.display());
-        eprintln!("Run `rt staticlib {library}` at the root of the repository, or set LAMPSICKLE_LIB to the archives' directory.");
+        eprintln!("Run `tools/build {library}` at the root of the repository, or set LAMPSICKLE_LIB to the archives' directory.");
         exit(1);
     }
     println!("cargo:rustc-link-lib=static={library}");

@@ -1,25 +1,30 @@
 // Reads the Conditions field of each text of a file and prints `kept`, or the reason and the place of its first fault. The byte 30 ends a text.
+#![tactic(auto)]
+
 use conditions::emit::Out;
 use conditions::program::conditions;
+use input::{large_buffer, read_full};
 use lexical::kind;
 use lexical::label::label_kind;
 use lexical::line::token_at;
-use libc::STDOUT_FILENO;
+use std::io::{BufWriter, Write};
+use std::rt::{Env, Files};
+use std::{env, fs, io};
 use syntax::fault::Fault;
 
 // The longest text.
 const MOST: usize = 8192;
 
-fn put(b: &[u8]) {
-    io::write_all(STDOUT_FILENO, b);
+fn put<W: Write>(out: &mut W, b: &[u8]) -> io::Result<()> {
+    out.write_all(b)
 }
 
-fn put_fault(fault: Fault) {
-    put(b"reason ");
-    io::print_decimal(STDOUT_FILENO, fault.reason as u64);
-    put(b" at ");
-    io::print_decimal(STDOUT_FILENO, fault.place as u64);
-    put(b"\n");
+fn put_fault<W: Write>(out: &mut W, fault: Fault) -> io::Result<()> {
+    put(out, b"reason ")?;
+    write!(out, "{}", fault.reason)?;
+    put(out, b" at ")?;
+    write!(out, "{}", fault.place)?;
+    put(out, b"\n")
 }
 
 // The place behind the label of the Conditions field, or 0.
@@ -34,7 +39,7 @@ fn field_start(s: &[u8]) -> usize {
     0
 }
 
-fn read(s: &[u8], code: &mut [u32]) {
+fn read<W: Write>(out: &mut W, s: &[u8], code: &mut [u32]) -> io::Result<()> {
     let t = token_at(s, kind::IN_FIELD, field_start(s));
     match conditions(s, code, 0, t) {
         Out::Found {
@@ -42,41 +47,40 @@ fn read(s: &[u8], code: &mut [u32]) {
             place: _,
             top: _,
             next: _,
-        } => {
-            put(b"kept\n");
-        }
-        Out::Aside { fault } => {
-            put_fault(fault);
-        }
+        } => put(out, b"kept\n"),
+        Out::Aside { fault } => put_fault(out, fault),
     }
 }
 
 // Reads each text of d.
-fn read_all(d: &[u8], code: &mut [u32]) {
+fn read_all<W: Write>(out: &mut W, d: &[u8], code: &mut [u32]) -> io::Result<()> {
     let mut from: usize = 0;
     let mut i: usize = 0;
     while i < d.len() {
         if d[i] == 30 {
-            read(&d[from..i], code);
+            read(out, &d[from..i], code)?;
             i += 1;
             from = i;
             continue;
         }
         i += 1;
     }
+    Ok(())
 }
 
-fn main() {
-    let mut path = io::buffer();
-    let n = os::arg(1, &mut path);
-    let fd = os::open_read(&path[..n]);
-    if fd < 0 {
-        os::fail(&path[..n]);
-        return;
+// The file that the first argument names; with no argument that is no file.
+fn texts<R: Files + Env + Alloc>(rt: &R) -> io::Result<R::File> {
+    match env::args(rt)?.nth(1) {
+        Some(path) => fs::open(rt, path),
+        None => fs::open(rt, ""),
     }
-    let mut file = io::large_buffer();
-    let size = io::read_full(fd, &mut file);
-    libc::close(fd);
+}
+
+fn main(rt: HostRuntime) -> io::Result<()> {
+    let mut out = BufWriter::new(rt.alloc(), io::writer(&rt))?;
+    let mut file = large_buffer(rt.alloc())?;
+    let size = read_full(&mut texts(&rt)?, &mut file)?;
     let mut code = [0u32; MOST];
-    read_all(&file[..size], &mut code);
+    read_all(&mut out, &file[..size], &mut code)?;
+    out.flush()
 }

@@ -1,12 +1,16 @@
 // Reads a query's record from standard input and prints its class, the rounds, the reach and what became of each assertion, or its refusal.
-use libc::{STDIN_FILENO, STDOUT_FILENO};
+#![tactic(auto)]
+
+use input::{large_buffer, read_full};
 use printed::{LINES, answer_lines, cut};
+use std::io;
+use std::io::Write;
 
 // The buffer holds one byte more than the longest record, so a longer one is refused as such.
-fn main() {
-    let mut record = io::large_buffer();
-    let n = io::read_full(STDIN_FILENO, &mut record);
+fn main(rt: HostRuntime) -> io::Result<()> {
+    let mut record = large_buffer(rt.alloc())?;
+    let n = read_full(&mut rt.stdin(), &mut record)?;
     let mut out = [0u8; LINES];
     let size = answer_lines(&record[..n], b"\n", &mut out);
-    io::write_all(STDOUT_FILENO, cut(&out, size));
+    io::writer(&rt).write_all(cut(&out, size))
 }

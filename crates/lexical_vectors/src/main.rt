@@ -1,7 +1,10 @@
 // Prints the tokens of each text of a file, a line for a text. A text is a line of the file, in which \n \r \t \0 \\ and \xHH stand for those bytes.
 // A token is kind@start-end, then the decoded bytes of a literal, the value of digits, or the keyword that a name is; the last is the end or a fault.
+#![tactic(auto)]
+
 ghost use Rattle.std.specs.Prelude.{◌<◌, ◌≤◌};
 
+use input::{large_buffer, read_full};
 use lexical::kind;
 use lexical::line::token_at;
 use lexical::literal::{decode_into, literal_length};
@@ -9,92 +12,97 @@ use lexical::number::number_at;
 use lexical::scan::byte_at;
 use lexical::token::Token;
 use lexical::word::{is_false, is_true};
-use libc::STDOUT_FILENO;
+use std::alloc::Global;
+use std::io::{BufWriter, Write};
+use std::rt::{Env, Files};
+use std::{env, fs, io};
 
-fn put(b: &[u8]) {
-    io::write_all(STDOUT_FILENO, b);
+fn put<W: Write>(out: &mut W, b: &[u8]) -> io::Result<()> {
+    out.write_all(b)
 }
 
-fn put_number(n: usize) {
-    io::print_decimal(STDOUT_FILENO, n as u64);
+fn put_number<W: Write>(out: &mut W, n: usize) -> io::Result<()> {
+    write!(out, "{n}")
 }
 
-fn put_byte(b: u8) {
-    io::print_hex(STDOUT_FILENO, b as u64, 2);
+fn put_byte<W: Write>(out: &mut W, b: u8) -> io::Result<()> {
+    write!(out, "{b:02x}")
 }
 
 // The first n bytes of b.
-fn put_hex(b: &[u8], n: usize) {
+fn put_hex<W: Write>(out: &mut W, b: &[u8], n: usize) -> io::Result<()> {
     let mut i: usize = 0;
     while i < n {
         if b.len() <= i {
-            return;
+            return Ok(());
         }
-        put_byte(b[i]);
+        put_byte(out, b[i])?;
         i += 1;
     }
+    Ok(())
 }
 
 // What a literal gives, where buf has room for it.
-fn put_decoded(s: &[u8], start: usize, buf: &mut [u8]) {
-    put(b"=");
+fn put_decoded<W: Write>(out: &mut W, s: &[u8], start: usize, buf: &mut [u8]) -> io::Result<()> {
+    put(out, b"=")?;
     if decode_into(s, start, buf, 0) {
-        put_hex(buf, literal_length(s, start));
+        put_hex(out, buf, literal_length(s, start))?;
     }
+    Ok(())
 }
 
-fn put_literal(s: &[u8], start: usize) {
-    let mut buf = io::large_buffer();
-    put_decoded(s, start, &mut buf);
+fn put_literal<W: Write>(out: &mut W, alloc: Global, s: &[u8], start: usize) -> io::Result<()> {
+    let mut buf = large_buffer(alloc)?;
+    put_decoded(out, s, start, &mut buf)
 }
 
-fn put_value(s: &[u8], t: Token) {
+fn put_value<W: Write>(out: &mut W, alloc: Global, s: &[u8], t: Token) -> io::Result<()> {
     if t.kind == kind::LITERAL {
-        put_literal(s, t.start);
-        return;
+        return put_literal(out, alloc, s, t.start);
     }
     if t.kind == kind::DIGITS {
-        put(b"=");
-        io::print_decimal(STDOUT_FILENO, number_at(s, t.start, t.end));
-        return;
+        put(out, b"=")?;
+        let value = number_at(s, t.start, t.end);
+        return write!(out, "{value}");
     }
     if t.kind != kind::NAME {
-        return;
+        return Ok(());
     }
     if is_true(s, t.start, t.end) {
-        put(b"=true");
+        put(out, b"=true")?;
     }
     if is_false(s, t.start, t.end) {
-        put(b"=false");
+        put(out, b"=false")?;
     }
+    Ok(())
 }
 
-fn put_token(s: &[u8], t: Token) {
-    put_number(t.kind as usize);
-    put(b"@");
-    put_number(t.start);
-    put(b"-");
-    put_number(t.end);
-    put_value(s, t);
+fn put_token<W: Write>(out: &mut W, alloc: Global, s: &[u8], t: Token) -> io::Result<()> {
+    put_number(out, t.kind as usize)?;
+    put(out, b"@")?;
+    put_number(out, t.start)?;
+    put(out, b"-")?;
+    put_number(out, t.end)?;
+    put_value(out, alloc, s, t)
 }
 
-fn show(s: &[u8]) {
+fn show<W: Write>(out: &mut W, alloc: Global, s: &[u8]) -> io::Result<()> {
     let mut mode = kind::BEFORE;
     let mut at: usize = 0;
     while at <= s.len() {
         let t = token_at(s, mode, at);
-        put_token(s, t);
+        put_token(out, alloc, s, t)?;
         if t.end <= at {
             break;
         }
         if t.kind <= kind::BAD_LINE {
             break;
         }
-        put(b" ");
+        put(out, b" ")?;
         mode = kind::mode_after(mode, t.kind);
         at = t.end;
     }
-    put(b"\n");
+    put(out, b"\n")
 }
 
 fn hex_value(b: u8) -> u8
@@ -170,19 +178,19 @@ fn piece_at(d: &[u8], i: usize) -> Piece {
 }
 
 // Shows each line of d; `text` holds a line's bytes.
-fn show_all(d: &[u8], text: &mut [u8]) {
+fn show_all<W: Write>(out: &mut W, alloc: Global, d: &[u8], text: &mut [u8]) -> io::Result<()> {
     let mut i: usize = 0;
     let mut n: usize = 0;
     while i < d.len() {
         if d[i] == 10 {
-            show(&text[..n]);
+            show(out, alloc, &text[..n])?;
             n = 0;
             i += 1;
             continue;
         }
         let p = piece_at(d, i);
         if p.next <= i {
-            return;
+            return Ok(());
         }
         if n < text.len() {
             text[n] = p.byte;
@@ -190,19 +198,22 @@ fn show_all(d: &[u8], text: &mut [u8]) {
         }
         i = p.next;
     }
+    Ok(())
 }
 
-fn main() {
-    let mut path = io::buffer();
-    let n = os::arg(1, &mut path);
-    let fd = os::open_read(&path[..n]);
-    if fd < 0 {
-        os::fail(&path[..n]);
-        return;
+// The file that the first argument names; with no argument that is no file.
+fn texts<R: Files + Env + Alloc>(rt: &R) -> io::Result<R::File> {
+    match env::args(rt)?.nth(1) {
+        Some(path) => fs::open(rt, path),
+        None => fs::open(rt, ""),
     }
-    let mut file = io::large_buffer();
-    let size = io::read_full(fd, &mut file);
-    libc::close(fd);
-    let mut text = io::large_buffer();
-    show_all(&file[..size], &mut text);
+}
+
+fn main(rt: HostRuntime) -> io::Result<()> {
+    let mut out = BufWriter::new(rt.alloc(), io::writer(&rt))?;
+    let mut file = large_buffer(rt.alloc())?;
+    let size = read_full(&mut texts(&rt)?, &mut file)?;
+    let mut text = large_buffer(rt.alloc())?;
+    show_all(&mut out, rt.alloc(), &file[..size], &mut text)?;
+    out.flush()
 }

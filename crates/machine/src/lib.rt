@@ -948,6 +948,7 @@ fn run_middle<'a>(
 }
 
 // The same with all the room that Conditions may need.
+#[inline(never)]
 fn run_wide<'a>(
     code: &[u32],
     s: &[u8],
@@ -1062,6 +1063,7 @@ fn string_narrow<'a>(
 }
 
 // The same with all the room that a string may need.
+#[inline(never)]
 fn string_wide<'a>(
     code: &[u32],
     s: &[u8],

@@ -1,19 +1,27 @@
 // Reads the records in the file `records` and says of each what the reader gives; then reads the fronts of the record in the file `full`,
 // one byte longer each, and says where what they give changes.
+#![tactic(auto)]
+
+ghost use Rattle.std.specs.Io.{ReadsAtMost};
 ghost use Rattle.std.specs.Prelude.{◌<◌};
 
-use libc::STDOUT_FILENO;
+use input::read_full;
 use record::Reading;
+use std::io::{BufWriter, Read, Write};
+use std::{fs, io};
+
+// Room for a record that is too long.
+const ROOM: usize = 65600;
 
 // A line of a vector: its name and what was read.
-fn print_reading(name: &[u8], reading: Reading) {
-    io::write_all(STDOUT_FILENO, name);
+fn print_reading<W: Write>(out: &mut W, name: &[u8], reading: Reading) -> io::Result<()> {
+    out.write_all(name)?;
     match reading {
         Reading::Refused { number, at } => {
-            io::write_all(STDOUT_FILENO, b" refused ");
-            io::print_decimal(STDOUT_FILENO, number as u64);
-            io::write_all(STDOUT_FILENO, b" at ");
-            io::print_decimal(STDOUT_FILENO, at as u64);
+            out.write_all(b" refused ")?;
+            write!(out, "{number}")?;
+            out.write_all(b" at ")?;
+            write!(out, "{at}")?;
         }
         Reading::Accepted {
             values: _,
@@ -21,15 +29,16 @@ fn print_reading(name: &[u8], reading: Reading) {
             attributes: _,
             assertions: _,
         } => {
-            io::write_all(STDOUT_FILENO, b" accepted");
+            out.write_all(b" accepted")?;
         }
     }
-    io::write_all(STDOUT_FILENO, b"\n");
+    out.write_all(b"\n")
 }
 
-fn try_record(name: &[u8], bytes: &[u8]) {
+fn try_record<W: Write>(out: &mut W, name: &[u8], bytes: &[u8]) -> io::Result<()> {
     let mut table = [0usize; record::MOST_ITEMS];
-    print_reading(name, record::read(bytes, &mut table));
+    let reading = record::read(bytes, &mut table);
+    print_reading(out, name, reading)
 }
 
 fn wide(b: u8) -> usize
@@ -44,38 +53,49 @@ fn size_of(four: &[u8; 4]) -> usize {
 }
 
 // Reads n bytes to the front of a buffer, and answers how many there were.
-fn fill(fd: i32, buf: &mut [u8], n: usize) -> usize {
+fn fill<R: Read>(input: &mut R, buf: &mut [u8], n: usize) -> io::Result<usize>
+    ensures { ReadsAtMost result buf.new }
+{
     if buf.len() < n {
-        return 0;
+        return Ok(0);
     }
-    io::read_full(fd, &mut buf[..n])
+    read_full(input, &mut buf[..n])
 }
 
 // A vector in the fronts of two buffers.
-fn try_fronts_of(name: &[u8], k: usize, bytes: &[u8], m: usize) {
+fn try_fronts_of<W: Write>(
+    out: &mut W,
+    name: &[u8],
+    k: usize,
+    bytes: &[u8],
+    m: usize,
+) -> io::Result<()> {
     if name.len() < k {
-        return;
+        return Ok(());
     }
     if bytes.len() < m {
-        return;
+        return Ok(());
     }
-    try_record(&name[..k], &bytes[..m]);
+    try_record(out, &name[..k], &bytes[..m])
 }
 
-// One vector of the file: a name behind its length byte, a record behind its four-byte length.
-fn next_vector(fd: i32) -> bool {
+// One vector of the file: a name behind its length byte, a record behind its four-byte length. The record is read into `bytes`.
+fn next_vector<R: Read, W: Write>(
+    input: &mut R,
+    bytes: &mut [u8],
+    out: &mut W,
+) -> io::Result<bool> {
     let mut one = [0u8; 1];
-    if io::read_full(fd, &mut one) < 1 {
-        return false;
+    if read_full(input, &mut one)? < 1 {
+        return Ok(false);
     }
     let mut name = [0u8; 256];
-    let k = fill(fd, &mut name, wide(one[0]));
+    let k = fill(input, &mut name, wide(one[0]))?;
     let mut four = [0u8; 4];
-    io::read_full(fd, &mut four);
-    let mut bytes = [0u8; 65600];
-    let m = fill(fd, &mut bytes, size_of(&four));
-    try_fronts_of(&name, k, &bytes, m);
-    true
+    read_full(input, &mut four)?;
+    let m = fill(input, bytes, size_of(&four))?;
+    try_fronts_of(out, &name, k, bytes, m)?;
+    Ok(true)
 }
 
 fn number_of(reading: Reading) -> u64 {
@@ -103,7 +123,7 @@ fn place_of(reading: Reading) -> usize {
 }
 
 // The fronts of a record of 0 to all of its bytes: a line where number or place differ from the front before.
-fn try_fronts(bytes: &[u8]) {
+fn try_fronts<W: Write>(out: &mut W, bytes: &[u8]) -> io::Result<()> {
     let mut number: u64 = 0;
     let mut place: usize = 0;
     let mut n: usize = 0;
@@ -113,36 +133,39 @@ fn try_fronts(bytes: &[u8]) {
         let k = number_of(r);
         let p = place_of(r);
         if k != number {
-            print_front(n, r);
+            print_front(out, n, r)?;
         } else {
             if p != place {
-                print_front(n, r);
+                print_front(out, n, r)?;
             }
         }
         number = k;
         place = p;
         n += 1;
     }
+    Ok(())
 }
 
-fn print_front(n: usize, r: Reading) {
-    io::write_all(STDOUT_FILENO, b"front ");
-    io::print_decimal(STDOUT_FILENO, n as u64);
-    print_reading(b"", r);
+fn print_front<W: Write>(out: &mut W, n: usize, r: Reading) -> io::Result<()> {
+    out.write_all(b"front ")?;
+    write!(out, "{n}")?;
+    print_reading(out, b"", r)
 }
 
-fn main() {
-    let fd = os::open_read(b"records");
+fn main(rt: HostRuntime) -> io::Result<()> {
+    let mut out = BufWriter::new(rt.alloc(), io::writer(&rt))?;
+    let mut bytes = vec![in rt.alloc(); 0u8; ROOM]?;
+    let mut records = fs::open(&rt, "records")?;
     let mut left: usize = 10000;
     while 0 < left {
-        if next_vector(fd) {
+        if next_vector(&mut records, &mut bytes, &mut out)? {
             left -= 1;
         } else {
             left = 0;
         }
     }
-    let full = os::open_read(b"full");
-    let mut bytes = [0u8; 65600];
-    let n = io::read_full(full, &mut bytes);
-    try_fronts(&bytes[..n]);
+    let mut full = fs::open(&rt, "full")?;
+    let n = read_full(&mut full, &mut bytes)?;
+    try_fronts(&mut out, &bytes[..n])?;
+    out.flush()
 }

@@ -114,6 +114,7 @@ fn solve_rows(
 }
 
 // The assertions from the one with that number on read and solved, over tables for every query that begin as the old ones.
+#[inline(never)]
 fn grown_large(
     query: &[u8],
     values: &[usize],
@@ -165,6 +166,7 @@ fn grown_large(
 }
 
 // The same over tables for most long records, and from where these are full over those for every query.
+#[inline(never)]
 fn grown(
     query: &[u8],
     values: &[usize],
