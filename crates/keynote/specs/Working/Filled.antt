@@ -233,32 +233,32 @@ module _ {s : List ℕ} {q : Query} {values names : List ℕ} {start t : ℕ} {s
   -- in large tables
   each_last : Solves large []
   unfolding each_from on_stretch
-  each_last texts _ _ seen lie[] each[] smalls direct l i front _ h n de (reached-at e x a c d page made fe pe) = solved-all direct l i front made pe
-  each_last texts _ _ seen (lie∷ {v = v} {vs = vs} {a = u} {l = m} at lies) (each∷ ok oks) smalls direct l i front _ h n de (reached-at e x a c d page made fe pe) =
+  each_last texts _ _ seen lie[] each[] fews direct l i front _ h n de (reached-at e x a c d page made fe pe) = solved-all direct l i front made pe
+  each_last texts _ _ seen (lie∷ {v = v} {vs = vs} {a = u} {l = m} at lies) (each∷ ok oks) fews direct l i front _ h n de (reached-at e x a c d page made fe pe) =
       let not : full_at all v e x ≡ false = never-full made (omega (arith, h, fit.at_most)) v (at-short v u at ok.1.1) in
       let k : suc i + length m ≡ i + suc (length m) = omega arith in
       rw not
-      (each_last texts vs m _ lies oks (small-tail smalls) direct (joining q l (reading q u)) (suc i) (front ++ entry_bytes (reading q u))
+      (each_last texts vs m _ lies oks (small-tail fews) direct (joining q l (reading q u)) (suc i) (front ++ entry_bytes (reading q u))
       (on_one a c d page i e (one_in all v x e.index.count e.index.end e.size)) (omega (arith, h)) (k ∙ n) (drop-next texts i v vs de)
-      (step made (omega (arith, h)) v u at not ok.1.1 (small-head smalls) front page fe pe)
+      (step made (omega (arith, h)) v u at not ok.1.1 (small-head fews) front page fe pe)
       ∙ next-same m l i front u)
 
   -- in tables of a size that fits into the next
   module _ (size next : Size) (sizes : List Size) (within : Within size next) (later : Solves next sizes) where
     each_more : Solves size (next ∷ sizes)
     unfolding each_from on_stretch
-    each_more texts _ _ seen lie[] each[] smalls direct l i front _ h n de (reached-at e x a c d page made fe pe) =
+    each_more texts _ _ seen lie[] each[] fews direct l i front _ h n de (reached-at e x a c d page made fe pe) =
         rw (le-ltb i (length texts) (omega (arith, n))) (solved-all direct l i front made pe)
-    each_more texts _ _ seen (lie∷ {v = v} {vs = vs} {a = u} {l = m} at lies) (each∷ ok oks) smalls direct l i front _ h n de (reached-at e x a c d page made fe pe) =
+    each_more texts _ _ seen (lie∷ {v = v} {vs = vs} {a = u} {l = m} at lies) (each∷ ok oks) fews direct l i front _ h n de (reached-at e x a c d page made fe pe) =
         split (full_at all v e x)
         (λ f. rw (f, lt-ltb i (length texts) (omega (arith, n)), de)
-        (later texts (v ∷ vs) (u ∷ m) seen (lie∷ at lies) (each∷ ok oks) smalls _ l i front _ h n de
+        (later texts (v ∷ vs) (u ∷ m) seen (lie∷ at lies) (each∷ ok oks) fews _ l i front _ h n de
         (reached-at e _ a c d page (made-larger made next within fit.start-low) fe pe)))
         (λ f. let k : suc i + length m ≡ i + suc (length m) = omega arith in
         rw f
-        (each_more texts vs m _ lies oks (small-tail smalls) direct (joining q l (reading q u)) (suc i) (front ++ entry_bytes (reading q u))
+        (each_more texts vs m _ lies oks (small-tail fews) direct (joining q l (reading q u)) (suc i) (front ++ entry_bytes (reading q u))
         (on_one a c d page i e (one_in all v x e.index.count e.index.end e.size)) (omega (arith, h)) (k ∙ n) (drop-next texts i v vs de)
-        (step made (omega (arith, h)) v u at f ok.1.1 (small-head smalls) front page fe pe)
+        (step made (omega (arith, h)) v u at f ok.1.1 (small-head fews) front page fe pe)
         ∙ next-same m l i front u))
 
   each-middle : Solves middle (large ∷ [])
@@ -314,7 +314,7 @@ top-same q values e h = omega (arith, e, h)
 module _ (s : List ℕ) (q : Query) (page : List ℕ) (start : ℕ) (consts : List ℕ) (x : Index) (pool places direct : List ℕ) (st : Started s q start consts x pool places direct)
     (values names texts : List ℕ) where
   module _ (vl : Lie (StringAt s) values q.values) (nl : Lie (AttributeAt s) names q.attributes) (tl : Lie (AssertionAt s) texts q.assertions)
-      (oks : All SuppliedOk [] q.assertions) (smalls : AllSmall (map (reading q) q.assertions)) (low : length q.values ≤ 256)
+      (oks : All SuppliedOk [] q.assertions) (fews : AllSmall (map (reading q) q.assertions)) (low : length q.values ≤ 256)
       (paper : 3 + 3 * length q.assertions ≤ length page) where
     n : length texts ≡ length q.assertions
     n = lie-length tl
@@ -355,7 +355,7 @@ module _ (s : List ℕ) (q : Query) (page : List ℕ) (start : ℕ) (consts : Li
         ≡ solved_as q page
     unfolding filled_in
     filled-from few =
-        each-small (fit some_rows few (omega arith)) texts texts q.assertions [] tl oks smalls direct [] 0 (1 ∷ pair_bytes (3 * length texts)) _ (omega arith) (omega (arith, n)) refl
+        each-small (fit some_rows few (omega arith)) texts texts q.assertions [] tl oks fews direct [] 0 (1 ∷ pair_bytes (3 * length texts)) _ (omega arith) (omega (arith, n)) refl
         (reached-at (ends_at x 0 0) (store consts pool places (replicate some_code 0)) (replicate some_rows 0) (replicate some_rows 0) (replicate some_rows 0) (header_into page (length texts))
         (made some_rows few (omega arith)) (front-start (3 * length texts)) (head-is some_rows few (omega arith)))
         ∙ page-is
@@ -368,7 +368,7 @@ module _ (s : List ℕ) (q : Query) (page : List ℕ) (start : ℕ) (consts : Li
           ≡ solved_as q page
       unfolding grown_in
       grown-from size sizes within solves =
-          solves texts texts q.assertions [] tl oks smalls _ [] 0 (1 ∷ pair_bytes (3 * length texts)) _ (omega arith) (omega (arith, n)) refl
+          solves texts texts q.assertions [] tl oks fews _ [] 0 (1 ∷ pair_bytes (3 * length texts)) _ (omega arith) (omega (arith, n)) refl
           (reached-at (ends_at x 0 0) _ (replicate most_assertions 0) (replicate most_assertions 0) (replicate most_assertions 0) (header_into page (length texts))
           (made-larger (made most_assertions few (omega arith)) size within st.start-low) (front-start (3 * length texts)) (head-is most_assertions few (omega arith)))
           ∙ page-is
