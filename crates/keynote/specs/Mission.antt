@@ -1,13 +1,10 @@
 -- Demand 3 as the outline and W-203 word it: two suppositions about the kept assertions that POLICY hears, the reach as a relation, and two about
 -- every text otherwise well formed. Read this first; `Secrets` has the same as one supposition. Assumes nothing.
-use Rattle.std.specs.Prelude.{◌≡◌, refl, Bool, true, false, ◌||◌, ℕ, length}
+use Rattle.std.specs.Prelude.{◌≡◌, refl, Bool, true, false, ◌||◌, ℕ}
 use mathlib.Core.List.{List, [], ◌∷◌, Memᴰ as Mem}
 use Rattle.text.specs.Choice.{pick, split, clash}
 use Rattle.record.specs.Query.{Query}
-use Rattle.record.specs.Read.{accepted}
-use Rattle.record.specs.Record.{read_record}
 use Rattle.compliance.specs.Reach.{Reachable}
-use Rattle.compliance.specs.Theorems.Reach.{reach-sound}
 use Rattle.syntax.specs.Expr.{Expr, none, also, plain}
 use Rattle.expression.specs.Reads.{reads, program_reads, clause_reads, is_set}
 use Rattle.expression.specs.Standing.{names, computes, program_names, clause_names, program_computes, clause_computes}
@@ -16,9 +13,7 @@ use Rattle.naming.specs.Source.{Source, Licensees, missing, empty, given, Author
 use Rattle.assertion.specs.Assertion.{Assertion, Conditions, absent, stated}
 use Rattle.assertion.specs.Said.{Said}
 use Rattle.keynote.specs.Answer.{readings, kept_of, system}
-use Rattle.keynote.specs.Outcome.{needed, outcome}
-use Rattle.keynote.specs.Secrets.{dereferences, any_reads, author_reads, licensees_read, naming_reads, Supplies, Dereferenced, in-conditions, in-naming, AlikeBut}
-use Rattle.keynote.specs.Theorems.Demand3.{SameAnswer}
+use Rattle.keynote.specs.Secrets.{dereferences, any_reads, author_reads, licensees_read, Supplies}
 
 -- "the name stands there as a string and no Local-Constants field earlier in the text sets it"
 unfoldable pub standing : Conditions → List ℕ → Bool

@@ -1,5 +1,5 @@
 -- The report. Assumes nothing.
-use Rattle.std.specs.Prelude.{List, [], ◌∷◌, ◌++◌, ℕ, ◌+◌, ◌*◌, ◌/◌, ◌%◌, length}
+use Rattle.std.specs.Prelude.{List, [], ◌∷◌, ◌++◌, ℕ, ◌+◌, ◌*◌, length}
 use Rattle.assertion.specs.Read.{Read, kept, dropped}
 use Rattle.text.specs.Counted.{pair_bytes}
 

@@ -1,10 +1,8 @@
 -- Worked examples: numbers, and the lines of an answer and of a refusal. Assumes nothing.
-use Rattle.std.specs.Prelude.{◌≡◌, refl, List, [], ◌∷◌, ℕ}
+use Rattle.std.specs.Prelude.{◌≡◌, refl, [], ◌∷◌}
 use Rattle.text.specs.Counted as TextCounted
 use Rattle.keynote.specs.Outcome.{refused_with}
-use Rattle.keynote.specs.declared.Outcome.{Outcome}
 use Rattle.printed.specs.Numeral.{last_digit, digits, decimal}
-use Rattle.printed.specs.Fill.{filled, fill_at}
 use Rattle.printed.specs.Lines.{bytes, said, line, pair_line, head_lines, assertion_line, assertion_lines, refusal_line, outcome_lines}
 
 pub record Examples : Type 0 where

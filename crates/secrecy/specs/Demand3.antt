@@ -5,7 +5,6 @@ use Rattle.record.specs.Read.{accepted}
 use Rattle.record.specs.Record.{read_record}
 use Rattle.keynote.specs.Outcome.{needed}
 use Rattle.keynote.specs.Secrets.{Dereferenced, AlikeWhere}
-use Rattle.keynote.specs.declared.Outcome.{Outcome}
 use Rattle.secrecy.specs.declared.Both.{Both}
 
 -- Two accepted queries that are alike but for the values of attributes that no reached, kept assertion of the first dereferences in its Conditions and

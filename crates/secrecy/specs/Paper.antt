@@ -8,7 +8,6 @@ use Rattle.record.specs.Query.{Query, Supplied}
 use Rattle.record.specs.Read.{accepted}
 use Rattle.record.specs.Record.{read_record}
 use Rattle.keynote.specs.Outcome.{needed}
-use Rattle.keynote.specs.declared.Outcome.{Outcome}
 use Rattle.keynote.specs.Paper.{EqualBut, Outside}
 use Rattle.keynote.specs.Theorems.More.{report_with}
 use Rattle.secrecy.specs.declared.Both.{Both}

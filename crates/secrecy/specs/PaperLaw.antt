@@ -1,16 +1,11 @@
 -- What the two calls return and leave meets `MorePaper`. Assumes nothing.
 use Rattle.std.specs.Prelude.{◌≡◌, List, ℕ, length}
 use Rattle.std.proofs.Common.{sym, ap, ◌∙◌}
-use Rattle.record.specs.Query.{Query}
-use Rattle.record.specs.Read.{accepted}
-use Rattle.record.specs.Record.{read_record}
 use Rattle.keynote.specs.Outcome.{outcome, page_after}
 use Rattle.keynote.specs.declared.Outcome.{Outcome}
-use Rattle.keynote.specs.Paper.{EqualBut}
 use Rattle.keynote.specs.Theorems.More.{page-reordered, page-replaced}
 use Rattle.keynote.proofs.Theorems.More.{rank-added, outcome-reordered, outcome-replaced}
-use Rattle.secrecy.specs.Paper.{Paper, MorePaper}
-use Rattle.secrecy.specs.declared.Both.{Both}
+use Rattle.secrecy.specs.Paper.{MorePaper}
 
 pub paper-is : (s s' page leaf out out' : List ℕ) (r r' : Outcome) → r ≡ outcome s (length page) → out ≡ page_after s page → r' ≡ outcome s' (length leaf) → out' ≡ page_after s' leaf
     → MorePaper s s' (record { first = r; second = r' }) out out'

@@ -1,17 +1,12 @@
 -- What the two calls return and leave meets the demand. Assumes nothing.
-use Rattle.std.specs.Prelude.{◌≡◌, List, ℕ, ◌≤◌, length, take}
+use Rattle.std.specs.Prelude.{◌≡◌, List, ℕ, ◌≤◌, length}
 use Rattle.std.proofs.Common.{sym, ap, ◌∙◌}
-use Rattle.record.specs.Query.{Query}
-use Rattle.record.specs.Read.{accepted}
-use Rattle.record.specs.Record.{read_record}
 use Rattle.keynote.specs.Outcome.{needed, outcome, page_after}
-use Rattle.keynote.specs.Secrets.{Dereferenced, AlikeWhere}
 use Rattle.keynote.specs.Theorems.Numbers.{answered-fits}
 use Rattle.keynote.specs.Theorems.Demand3.{SameAnswer, needed-same}
 use Rattle.keynote.proofs.Theorems.Demand3.{demand-3}
 use Rattle.keynote.specs.declared.Outcome.{Outcome}
 use Rattle.secrecy.specs.Demand3.{Secret}
-use Rattle.secrecy.specs.declared.Both.{Both}
 
 pub secret-is : (s s' page leaf out out' : List ℕ) (r r' : Outcome) → r ≡ outcome s (length page) → out ≡ page_after s page → r' ≡ outcome s' (length leaf) → out' ≡ page_after s' leaf
     → Secret s s' (record { first = r; second = r' }) out out'

@@ -1,12 +1,11 @@
 -- Local-Constants: its reader gives reason 2 where the grammar allows no continuation, and else reads a sentence. Assumes nothing.
-use Rattle.std.specs.Prelude.{◌≡◌, refl, true, ℕ, ◌+◌, ◌-◌, ◌<◌, leb, ltb, length}
-use Rattle.std.proofs.Common.{sym, ap, ◌∙◌, subst, arith, length-append}
+use Rattle.std.specs.Prelude.{◌≡◌, refl, true, ℕ, ◌<◌, leb, ltb, length}
+use Rattle.std.proofs.Common.{sym, ap, ◌∙◌, subst, arith}
 use Rattle.std.proofs.Math.Bool.{false}
-use mathlib.Core.List.{List, [], ◌∷◌, ◌++◌, append_assoc, append-nil}
+use mathlib.Core.List.{List, [], ◌∷◌, ◌++◌, append_assoc}
 use Rattle.std.proofs.Math.Dec.{eqb}
 use borrow.Author.Tests.{eqb-true, leb-false, ne_eqb}
 use Rattle.text.specs.Choice.{pick, clash}
-use Rattle.text.specs.Loop.{Step}
 use Rattle.record.specs.Query.{Attribute}
 use Rattle.lexical.specs.Kind
 use Rattle.lexical.specs.Kind.{ending}
@@ -14,15 +13,14 @@ use Rattle.lexical.specs.Theorems.Bounds.{chosen}
 use Rattle.lexical.specs.Literal.{decoded_at}
 use Rattle.lexical.specs.declared.token.Token.{Token}
 use Rattle.syntax.specs.Code.{name_at}
-use Rattle.syntax.specs.Parsed.{Parsed, ok, aside, refusal, unexpected}
+use Rattle.syntax.specs.Parsed.{Parsed, ok, aside, refusal}
 use Rattle.fields.specs.Parsed.{behind}
-use Rattle.fields.specs.Constants.{is_set, reserved, constant_value, assigned, name_fault, constant, on_constant, constants_turn, constants_from}
+use Rattle.fields.specs.Constants.{is_set, reserved, constant_value, assigned, name_fault, constant}
 use Rattle.fields.specs.Theorems.Together.{refusal-some}
-use Rattle.grammar.specs.Fields.{Ends, end-of-text, Field, field, Assignments, no-assignment, assignment}
-use Rattle.grammar.specs.Viable.{Viable, Open, opens, Kinds, here, further, Judged, plainly, through, another}
-use Rattle.grammar.specs.Working.Automaton.{run, run-append, not-viable, not-longer}
-use Rattle.grammar.specs.Working.Looping.{Turned, turned-next, turned-done, loop-turned, kinds-append, kinds-one}
-use Rattle.grammar.specs.Theorems.OneToken.{ends-ending, judged-stop, opens-end}
+use Rattle.grammar.specs.Fields.{end-of-text, Field, field, Assignments, no-assignment, assignment}
+use Rattle.grammar.specs.Viable.{Open}
+use Rattle.grammar.specs.Working.Automaton.{run}
+use Rattle.grammar.specs.Theorems.OneToken.{opens-end}
 use Rattle.limits.specs.Limits.{most_literal}
 
 -- states: 1 before a name or the end, 2 before "=", 3 before a literal, 4 behind the token that ends the field, 0 none

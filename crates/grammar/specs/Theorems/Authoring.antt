@@ -1,35 +1,16 @@
 -- Authorizer as a string expression (W-203): its reader gives reason 2 where the grammar allows no continuation, and else reads a sentence and gives
 -- a tree of it. Assumes nothing.
-use Rattle.std.specs.Prelude.{◌≡◌, refl, Bool, true, false, List, [], ◌∷◌, ◌++◌, ℕ, eqb}
-use Rattle.std.proofs.Common.{sym, ap, ◌∙◌, subst, append_assoc, arith}
-use Rattle.limits.specs.Limits.{most_brackets}
-use Rattle.record.specs.Query.{Attribute}
+use Rattle.std.specs.Prelude.{◌≡◌, refl, false, List, ℕ, eqb}
+use Rattle.std.proofs.Common.{◌∙◌, arith}
 use Rattle.lexical.specs.Kind
 use Rattle.lexical.specs.Kind.{ending}
-use Rattle.lexical.specs.Theorems.Bounds.{chosen}
-use Rattle.lexical.specs.Line.{token_at}
 use Rattle.lexical.specs.declared.token.Token.{Token}
-use Rattle.syntax.specs.Expr.{Expr}
-use Rattle.syntax.specs.Parsed.{Parsed, ok, aside, refusal, and_then}
 use Rattle.conditions.specs.Table
-use Rattle.fields.specs.Parsed.{ended}
-use Rattle.naming.specs.Source as S
-use Rattle.naming.specs.String.{source}
-use Rattle.naming.specs.Authorizer.{authorizer}
-use Rattle.grammar.specs.Fields.{Ends, end-of-text, next-version, next-constants, next-authorizer, next-licensees, next-conditions, next-comment, next-signature, Field, field}
-use Rattle.grammar.specs.Conditions.{whole, Str}
-use Rattle.grammar.specs.Naming.{Author}
-use Rattle.grammar.specs.Spelled.{kind_in, kinds_in, Tokens}
-use Rattle.grammar.specs.Sourced.{SourceTree}
-use Rattle.grammar.specs.Viable.{Viable, opens, JudgedBy, through, another}
-use Rattle.grammar.specs.Theorems.OneToken.{judged-stop, opens-end}
-use Rattle.grammar.specs.Working.Marks.{kinds-append}
-use Rattle.grammar.specs.Working.Automaton.{run, run-append, not-viable, not-longer}
-use Rattle.grammar.specs.Working.Joints.{kind-same, test-kind}
-use Rattle.grammar.specs.Working.States.{TEXT, alone, State, p-dead, p-over, p-text, p-have, step}
-use Rattle.grammar.specs.Working.Accepts.{step-dead, through-part, as-text, text-run}
-use Rattle.grammar.specs.Working.Known.{token-real}
-use Rattle.grammar.specs.Working.Strings.{leaves, tokens-kinds}
+use Rattle.grammar.specs.Fields.{Ends, end-of-text, next-version, next-constants, next-authorizer, next-licensees, next-conditions, next-comment, next-signature}
+use Rattle.grammar.specs.Spelled.{kind_in}
+use Rattle.grammar.specs.Working.Joints.{kind-same}
+use Rattle.grammar.specs.Working.States.{TEXT, alone, p-dead, p-over, p-have, step}
+use Rattle.grammar.specs.Working.Strings.{leaves}
 
 -- what ends the field
 pub ends-alone : (k : ℕ) → Ends k → step (p-have TEXT alone) k ≡ p-over

@@ -1,11 +1,8 @@
 -- B01: the precedence classes belong to the grammar. "@x ." begins no sentence of Conditions, and "@(x . y) == 0;" is one. Assumes nothing.
-use Rattle.std.specs.Prelude.{refl, List, [], ◌∷◌, ℕ}
+use Rattle.std.specs.Prelude.{List, [], ◌∷◌, ℕ}
 use Rattle.lexical.specs.Kind
-use Rattle.conditions.specs.Table
 use Rattle.grammar.specs.Fields.{end-of-text, field}
-use Rattle.grammar.specs.Conditions.{operand, whole, TRUTH, Name, any_name, truth-name, str-name, str-bracket, str-one, str-join, Int, int-literal, int-convert, int-one, int_up, int-term, equal, of-integers, test-comparison, test-one, test-ands, no-clause, clause, tested, Conditions}
-use Rattle.grammar.specs.Viable.{Viable}
-use Rattle.grammar.specs.Working.States.{step}
+use Rattle.grammar.specs.Conditions.{operand, whole, any_name, str-name, str-bracket, str-one, str-join, Int, int-literal, int-convert, int-one, int_up, int-term, equal, of-integers, test-comparison, test-one, test-ands, no-clause, clause, tested, Conditions}
 
 -- "@(x . y) == 0;" is a sentence
 pub convert-bracket : Conditions (Kind.AT ∷ Kind.OPEN ∷ Kind.NAME ∷ Kind.DOT ∷ Kind.NAME ∷ Kind.CLOSE ∷ Kind.EQUAL ∷ Kind.DIGITS ∷ Kind.SEMICOLON ∷ Kind.END ∷ [])

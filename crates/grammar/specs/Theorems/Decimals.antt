@@ -22,9 +22,9 @@ use Rattle.lexical.specs.declared.token.Token.{Token}
 use Rattle.syntax.specs.Operator.{a-float}
 use Rattle.syntax.specs.Expr.{decimal}
 use Rattle.syntax.specs.Code.{decimal_at}
-use Rattle.syntax.specs.Parsed.{Parsed, ok, aside}
+use Rattle.syntax.specs.Parsed.{ok, aside}
 use Rattle.conditions.specs.Table.{sorted}
-use Rattle.conditions.specs.Parsed.{Part, part}
+use Rattle.conditions.specs.Parsed.{part}
 use Rattle.conditions.specs.Word.{next_at}
 use Rattle.conditions.specs.Operand.{read_float}
 use Rattle.limits.specs.Limits.{most_float}

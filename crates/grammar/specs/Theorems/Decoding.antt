@@ -1,25 +1,20 @@
 -- What lexical's reader decodes from a legal literal is what document 01's list of escapes gives. Assumes nothing.
 use Rattle.std.specs.Prelude.{◌≡◌, Bool, true, leb, ltb, length, get_or, take, drop}
 use Rattle.std.proofs.Math.Path.{refl}
-use Rattle.std.proofs.Common.{sym, ap, ◌∙◌, subst}
+use Rattle.std.proofs.Common.{ap, ◌∙◌, subst}
 use Rattle.std.proofs.Math.Bool.{false}
 use mathlib.Core.List.{List, [], ◌∷◌}
-use Prim.Native.Nat.{ℕ, zero, suc, ◌+◌, ◌-◌, ◌≤◌, ◌<◌}
+use Prim.Native.Nat.{ℕ, suc, ◌+◌, ◌-◌, ◌≤◌, ◌<◌}
 use native.Mathlib.Omega.{arith}
 use Rattle.std.proofs.Math.Numerals.{add-one}
 use Rattle.std.proofs.Math.Dec.{eqb}
 use Rattle.std.proofs.Math.Seq.{drop-cons}
-use borrow.Author.Tests.{eqb-true, eqb-false, leb-true, ltb-true, ltb-false, ne_eqb, eq-eqb}
+use borrow.Author.Tests.{eqb-true, leb-true, ltb-true, ltb-false}
 use Rattle.text.specs.Choice.{pick, split, clash}
-use Rattle.text.specs.Scan.{past, past_more, past_stop, past-from}
 use Rattle.lexical.specs.Theorems.Bounds.{chosen}
 use Rattle.lexical.specs.Class.{class_of}
 use Rattle.lexical.specs.Run.{has_class, in_run, WHITE}
-use Rattle.lexical.specs.declared.unit.Unit.{Unit}
 use Rattle.lexical.specs.Unit as U
-use Rattle.lexical.specs.Literal.{inside, units, units_at, closing, given, literal_end, decoded_at}
-use Rattle.lexical.specs.Theorems.UnitLaws.{unit-closing}
-use Rattle.lexical.specs.Theorems.LiteralLaws.{Closed, closing-within}
 use Rattle.grammar.specs.Escape.{octal, white, leads, two_octal, Control, Dropped, stopped, dropped, Other, other_byte, plain_byte, octal_value, Gives, ends, plain, control, joined, one_more, three, zero-1, zero-2, zero-3, other}
 use Rattle.grammar.specs.Escape as E
 

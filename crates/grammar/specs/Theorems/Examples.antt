@@ -10,14 +10,11 @@ use Rattle.lexical.specs.Token.{token, width_of, operator_at, operator_token, to
 use Rattle.lexical.specs.Line.{visible, in_line, token_at}
 use Rattle.lexical.specs.Word.{lower, stands, spells}
 use Rattle.lexical.specs.declared.token.Token.{Token}
-use Rattle.conditions.specs.Table
-use Rattle.naming.specs.Licensees.{licensees}
-use Rattle.grammar.specs.Fields.{Ends, end-of-text, field}
+use Rattle.grammar.specs.Fields.{Ends, end-of-text}
 use Rattle.grammar.specs.Conditions.{any_name, str-name, str-one}
 use Rattle.grammar.specs.Naming.{Licensees, somebody, either, principal}
 use Rattle.grammar.specs.Spelled.{kind_in, kinds_in}
-use Rattle.grammar.specs.Viable.{viable, TokensIn, at_once, and-on}
-use Rattle.grammar.specs.Working.States.{step}
+use Rattle.grammar.specs.Viable.{TokensIn, at_once, and-on}
 
 -- `a||b` behind a blank, and the tokens behind that blank
 abbrev pub joined : List ℕ

@@ -1,11 +1,8 @@
 -- F04, F05: which tokens go on behind a float, and which begin no sentence. Assumes nothing.
-use Rattle.std.specs.Prelude.{refl, List, [], ◌∷◌, ℕ}
+use Rattle.std.specs.Prelude.{List, [], ◌∷◌, ℕ}
 use Rattle.lexical.specs.Kind
-use Rattle.conditions.specs.Table
 use Rattle.grammar.specs.Fields.{end-of-text, field}
-use Rattle.grammar.specs.Conditions.{operand, whole, TRUTH, Name, any_name, truth-name, str-name, Float, float-literal, float-minus, float_convert, float-bracket, float_one, float_up, float-term, float-sum, plus, less, of-floats, test-comparison, test-one, test-ands, no-clause, clause, tested, Conditions}
-use Rattle.grammar.specs.Viable.{Viable}
-use Rattle.grammar.specs.Working.States.{step}
+use Rattle.grammar.specs.Conditions.{operand, whole, any_name, str-name, Float, float-literal, float-minus, float_convert, float-bracket, float_one, float_up, float-term, float-sum, plus, less, of-floats, test-comparison, test-one, test-ands, no-clause, clause, tested, Conditions}
 
 -- `-(1.5) < -&x + 4.0;` is a sentence
 pub floats_compared : Conditions (Kind.MINUS ∷ Kind.OPEN ∷ Kind.FLOAT ∷ Kind.CLOSE ∷ Kind.LESS ∷ Kind.MINUS ∷ Kind.AMPERSAND ∷ Kind.NAME ∷ Kind.PLUS ∷ Kind.FLOAT ∷ Kind.SEMICOLON ∷ Kind.END ∷ [])

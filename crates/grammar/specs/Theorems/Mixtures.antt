@@ -1,14 +1,12 @@
 -- R01: "in Licensees round brackets are both the licensees' and the strings'": which mixtures are sentences, and where others go wrong.
 -- Assumes nothing.
-use Rattle.std.specs.Prelude.{refl, List, [], ◌∷◌, ℕ}
+use Rattle.std.specs.Prelude.{[], ◌∷◌}
 use Rattle.lexical.specs.Kind
 use Rattle.lexical.specs.Kind.{ending}
-use Rattle.conditions.specs.Table
 use Rattle.grammar.specs.Fields.{end-of-text, Field, field}
 use Rattle.grammar.specs.Conditions.{any_name, str-literal, str-name, str-lookup, str-bracket, str-one, str-join}
 use Rattle.grammar.specs.Naming.{Author, one, comma, bracket, both, either, threshold, principal, Licensees, somebody}
-use Rattle.grammar.specs.Viable.{Viable, Open, opens}
-use Rattle.grammar.specs.Working.States.{step}
+use Rattle.grammar.specs.Viable.{Open, opens}
 
 -- `("a" || "b") . "c"`: what stands before the "." begins a sentence, with the "." it begins none
 pub mixed-open : Open (Field Licensees) (Kind.OPEN ∷ Kind.LITERAL ∷ Kind.OR ∷ Kind.LITERAL ∷ Kind.CLOSE ∷ [])

@@ -1,25 +1,20 @@
 -- KeyNote-Version and Signature: their readers give reason 2 where the grammar allows no continuation, and else read a sentence.
 -- Assumes nothing.
-use Rattle.std.specs.Prelude.{◌≡◌, Bool, true, false, List, [], ◌∷◌, ◌++◌, ℕ, ◌≤◌, ◌<◌, eqb, leb, ltb, length}
+use Rattle.std.specs.Prelude.{◌≡◌, Bool, true, false, List, [], ◌∷◌, ◌++◌, ℕ, ◌≤◌, ◌<◌, eqb, ltb, length}
 use Rattle.std.proofs.Math.Path.{refl}
-use Rattle.std.proofs.Common.{ap, ◌∙◌, arith, eqb-true, ltb-false, leb-true}
+use Rattle.std.proofs.Common.{arith, eqb-true}
 use Rattle.std.proofs.lemmas.Bool.{eqb-false}
-use Rattle.text.specs.Choice.{pick, split, clash}
-use Rattle.text.specs.Equal.{equal}
+use Rattle.text.specs.Choice.{pick, split}
 use Rattle.lexical.specs.Kind
 use Rattle.lexical.specs.Kind.{ending}
 use Rattle.lexical.specs.Theorems.Bounds.{chosen}
 use Rattle.lexical.specs.Literal.{decoded_at}
-use Rattle.lexical.specs.Number.{LIMIT, number_at}
 use Rattle.lexical.specs.declared.token.Token.{Token}
 use Rattle.syntax.specs.Parsed.{Parsed, ok, aside, refusal}
 use Rattle.limits.specs.Limits.{most_literal}
-use Rattle.fields.specs.Parsed.{behind, ended}
-use Rattle.fields.specs.Version as Vers
 use Rattle.fields.specs.Signature as Sign
-use Rattle.grammar.specs.Fields.{Ends, end-of-text, next-version, next-constants, next-authorizer, next-licensees, next-conditions, next-comment, next-signature, Field, field, Version, version-integer, version-literal, Signature, signature}
-use Rattle.grammar.specs.Viable.{Viable, viable, Open, opens, KindsBy, here, further, Judged, JudgedBy, plainly, through, no-continuation, another}
-use Rattle.grammar.specs.Working.Automaton.{run, not-viable, not-longer}
+use Rattle.grammar.specs.Fields.{Ends, end-of-text, next-version, next-constants, next-authorizer, next-licensees, next-conditions, next-comment, next-signature, Version, version-integer, version-literal, Signature, signature}
+use Rattle.grammar.specs.Viable.{Viable, viable, Open, opens, KindsBy, JudgedBy, no-continuation, another}
 
 -- the reader's test of what ends a field
 pub ends-ending : (k : ℕ) → Ends k → ending k ≡ true

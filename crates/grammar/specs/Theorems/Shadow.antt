@@ -6,12 +6,10 @@ use Rattle.lexical.specs.Kind
 use Rattle.lexical.specs.Theorems.Bounds.{chosen}
 use Rattle.lexical.specs.Word.{word_true, word_false}
 use Rattle.lexical.specs.declared.token.Token.{Token}
-use Rattle.syntax.specs.Expr.{Expr}
-use Rattle.grammar.specs.Conditions.{Class, operand, power, product, conjunction, whole, TRUTH, Name, any_name, truth-name, Str, str-literal, str-name, str-lookup, str-bracket, str-one, str-join, Product, times, divide, remainder, Sum, plus, minus, Int, int-literal, int-minus, int-convert, int-bracket, int-one, int-power, int_up, int-product, int-term, int-sum, FloatTimes, float-times, float-divide, Float, float-literal, float-minus, float_convert, float-bracket, float_one, float-power, float_up, float-product, float-term, float-sum, Order, less, greater, at_most, at_least, Compare, order, equal, unequal, of-integers, of-floats, of-strings, matching, Tests, test-truth, test-comparison, test-not, test-bracket, test-one, test-and, test-ands, test-or, Clauses, no-clause, clause, tested, valued, nested}
-use Rattle.grammar.specs.Spelled.{spelled, kind_in, kinds_in}
-use Rattle.grammar.specs.Working.Marks.{kinds-append, around, before}
+use Rattle.grammar.specs.Conditions.{Class, operand, whole, TRUTH, Name, any_name, truth-name, Product, times, divide, remainder, Sum, plus, minus, FloatTimes, float-times, float-divide, Order, less, greater, at_most, at_least, Compare, order, equal, unequal, Clauses, no-clause, clause, tested, valued, nested}
+use Rattle.grammar.specs.Spelled.{spelled, kind_in}
 use Rattle.syntax.specs.Operator.{Binary, Relation, Ordering}
-use Rattle.grammar.specs.Trees.{StrTree, literal-tree, name-tree, lookup-tree, text-bracket, text-one, join-tree, ProductOp, times-op, divide-op, remainder-op, SumOp, plus-op, minus-op, IntTree, number-tree, negate-tree, convert-tree, number-bracket, number-one, power-tree, number_up, product-tree, number-term, sum-tree, CompareOp, equal-op, unequal-op, less-op, greater-op, at-most-op, at-least-op, FloatProductOp, float-times-op, float-divide-op, FloatSumOp, float-plus-op, float-minus-op, FloatTree, decimal-tree, float-negate-tree, to-float-tree, decimal-bracket, decimal-one, float-power-tree, decimal-up, float-product-tree, decimal-term, float-sum-tree, OrderOp, float-less-op, float-greater-op, float-at-most-op, float-at-least-op, TestTree, true-tree, false-tree, compare-numbers, compare-floats, compare-texts, match-tree, not-tree, test-bracket-tree, test-once, and-tree, test-up, or-tree, Says, a_program, a-clause, ProgramTree, no-clauses, one_more, plain-tree, valued-tree, nested-tree}
+use Rattle.grammar.specs.Trees.{ProductOp, times-op, divide-op, remainder-op, SumOp, plus-op, minus-op, CompareOp, equal-op, unequal-op, less-op, greater-op, at-most-op, at-least-op, FloatProductOp, float-times-op, float-divide-op, FloatSumOp, float-plus-op, float-minus-op, OrderOp, float-less-op, float-greater-op, float-at-most-op, float-at-least-op, Says, a_program, a-clause}
 
 -- any token but a name is of the lexer's kind
 pub kind-other : (s : List ℕ) (t : Token) → eqb t.kind Kind.NAME ≡ false → kind_in s t ≡ t.kind

@@ -1,17 +1,12 @@
 -- What the list of escapes gives is one thing only: the bytes in quotes are a legal literal, and it is what lexical decodes from it. Assumes nothing.
-use Rattle.std.specs.Prelude.{◌≡◌, refl, Bool, true, false, List, [], ◌∷◌, ◌++◌, ℕ, suc, ◌+◌, ◌-◌, ◌≤◌, ◌<◌, drop}
-use Rattle.std.proofs.Common.{sym, ap, ◌∙◌, arith, length-drop, drop-drop, get_or-drop}
-use Rattle.std.proofs.Math.ListN.{length, get_or}
-use borrow.Author.Tests.{ne_eqb, lt-leb, le-ltb}
+use Rattle.std.specs.Prelude.{◌≡◌, refl, Bool, true, false, List, [], ◌∷◌, ◌++◌, ℕ, ◌-◌, ◌≤◌}
+use Rattle.std.proofs.Common.{◌∙◌, arith}
+use Rattle.std.proofs.Math.ListN.{get_or}
+use borrow.Author.Tests.{ne_eqb, le-ltb}
 use Rattle.text.specs.Choice.{pick, split}
-use Rattle.text.specs.Scan.{past, past_more, past_stop}
 use Rattle.lexical.specs.Theorems.Bounds.{chosen}
-use Rattle.lexical.specs.Run.{in_run, WHITE}
-use Rattle.lexical.specs.declared.unit.Unit.{Unit}
 use Rattle.lexical.specs.Unit as U
-use Rattle.lexical.specs.Literal.{units_at, closing, given, literal_end, decoded_at}
-use Rattle.lexical.specs.Theorems.LiteralLaws.{units-more, units-last}
-use Rattle.grammar.specs.Escape.{octal, white, leads, two_octal, Control, newline, return, tab, feed, Dropped, stopped, dropped, Other, other_byte, Plain, plain_byte, octal_value, Gives, ends, plain, control, joined, one_more, three, zero-1, zero-2, zero-3, other}
+use Rattle.grammar.specs.Escape.{octal, white, leads, two_octal, Control, newline, return, tab, feed, Other, other_byte, octal_value}
 use Rattle.grammar.specs.Theorems.Decoding.{octal-is, octal-range, octal-zero}
 
 -- the list with a closing quote behind it, and more

@@ -1,14 +1,13 @@
 -- The automaton goes through every sentence of Conditions. Assumes nothing.
 use Rattle.std.specs.Prelude.{◌≡◌, refl, true, List, [], ◌∷◌, ◌++◌, ℕ, suc, ◌⊎◌}
-use Rattle.std.proofs.Common.{sym, ap, ◌∙◌, subst, append_assoc, arith, ne_eqb, inl, inr}
+use Rattle.std.proofs.Common.{sym, ap, ◌∙◌, subst, arith, ne_eqb, inl, inr}
 use Rattle.text.specs.Choice.{split}
 use Rattle.lexical.specs.Kind
 use Rattle.conditions.specs.Table.{PartSort, want-any, want-string, want-number, want-integer, want-float}
 use Rattle.conditions.specs.Table
-use Rattle.grammar.specs.Fields.{Ends, end-of-text, next-version, next-constants, next-authorizer, next-licensees, next-conditions, next-comment, next-signature, field}
-use Rattle.grammar.specs.Conditions.{Class, operand, power, product, conjunction, whole, TRUTH, Name, any_name, truth-name, Str, str-literal, str-name, str-lookup, str-bracket, str-one, str-join, Product, times, divide, remainder, Sum, plus, minus, Int, int-literal, int-minus, int-convert, int-bracket, int-one, int-power, int_up, int-product, int-term, int-sum, FloatTimes, float-times, float-divide, Float, float-literal, float-minus, float_convert, float-bracket, float_one, float-power, float_up, float-product, float-term, float-sum, Order, less, greater, at_most, at_least, Compare, order, equal, unequal, Comparison, of-integers, of-floats, of-strings, matching, Tests, test-truth, test-comparison, test-not, test-bracket, test-one, test-and, test-ands, test-or, Clauses, no-clause, clause, tested, valued, nested, Conditions}
-use Rattle.grammar.specs.Viable.{Viable}
-use Rattle.grammar.specs.Working.Automaton.{run, run-append, run-dead, not-viable, not-longer}
+use Rattle.grammar.specs.Fields.{Ends, end-of-text, next-version, next-constants, next-authorizer, next-licensees, next-conditions, next-comment, next-signature}
+use Rattle.grammar.specs.Conditions.{Class, operand, power, product, conjunction, whole, TRUTH, Name, any_name, truth-name, Str, str-literal, str-name, str-lookup, str-bracket, str-one, str-join, Product, times, divide, remainder, Sum, plus, minus, FloatTimes, float-times, float-divide, Order, less, greater, at_most, at_least, Compare, order, equal, unequal}
+use Rattle.grammar.specs.Working.Automaton.{run, run-append, run-dead}
 use Rattle.grammar.specs.Working.States.{TEXT, NUMBER, TEST, TRUE, FLOATING, Spot, in-clause, in-bracket, Frame, tests, right, value, texts, numbers, State, p-dead, p-over, p-begin, p-arrow, p-block, p-any, p-text, p-number, p-have, strict, flat, step}
 
 pub step-dead : (k : ℕ) → step p-dead k ≡ p-dead

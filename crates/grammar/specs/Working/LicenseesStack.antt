@@ -1,25 +1,15 @@
 -- A machine with a stack of operators that makes the tree of a Licensees field from its tokens: by it a field has one tree. Assumes nothing.
-use Rattle.std.specs.Prelude.{◌≡◌, ℕ, ◌+◌, ◌≤◌, eqb}
-use Rattle.std.proofs.Math.Path.{refl, ap}
-use Rattle.std.proofs.Common.{sym, ◌∙◌, subst, arith}
-use Rattle.std.proofs.Math.Bool.{true, false}
+use Rattle.std.specs.Prelude.{◌≡◌, ℕ, eqb}
+use Rattle.std.proofs.Math.Path.{refl}
 use mathlib.Core.List.{List, [], ◌∷◌, ◌++◌}
 use Rattle.text.specs.Choice.{pick}
-use Rattle.record.specs.Query.{Attribute}
 use Rattle.lexical.specs.Kind
-use Rattle.lexical.specs.Literal.{decoded_at}
-use Rattle.lexical.specs.Number.{number_at}
 use Rattle.lexical.specs.declared.token.Token.{Token}
 use Rattle.syntax.specs.Operator as Operator
-use Rattle.syntax.specs.Code.{name_at}
-use Rattle.syntax.specs.Expr.{Expr, literal, name, unary, binary}
-use Rattle.naming.specs.Source.{Source, Sources, one, and, or, k_of, Licensees, empty, given}
-use Rattle.grammar.specs.Conditions.{Class, operand, power, product, conjunction, whole}
-use Rattle.grammar.specs.Sourced.{Plain, plain_here, plain-behind, SourceTree, source-tree, ListTree, one-item, more-items, PrincTree, principal-tree, threshold-tree, bracket-tree, once, both-tree, up, either-tree, LicenseesTree, nobody-tree, somebody-tree}
-use Rattle.grammar.specs.Trees.{StrTree, literal-tree, name-tree, lookup-tree, text-bracket, text-one, join-tree}
-use Rattle.grammar.specs.Working.Automaton.{run, run-append}
-use Rattle.grammar.specs.Working.Marks.{at-kind}
-use Rattle.grammar.specs.Working.Pending.{Entry, pending, opening, reduce, reduce-same, Stops, stops_end, stops-open, stops-low, stops-up, stops-is, reduce-own}
+use Rattle.syntax.specs.Expr.{Expr, literal, unary, binary}
+use Rattle.naming.specs.Source.{Source, Sources, one, and, or, k_of}
+use Rattle.grammar.specs.Sourced.{Plain, plain_here, plain-behind}
+use Rattle.grammar.specs.Working.Pending.{Entry, pending, opening}
 
 -- the stack: operators and brackets that wait
 abbrev pub Waiting : Type 0

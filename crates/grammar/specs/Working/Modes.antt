@@ -1,7 +1,7 @@
 -- The tokens of Licensees and those of other fields: they differ in "-of" alone, which is a "-" elsewhere. Assumes nothing.
-use Rattle.std.specs.Prelude.{◌≡◌, refl, Bool, true, false, List, [], ◌∷◌, ◌++◌, eqb, leb, ltb, length, get_or}
-use Rattle.std.proofs.Common.{sym, ap, ◌∙◌, subst, arith, eqb-true}
-use Prim.Native.Nat.{ℕ, zero, suc, ◌+◌, ◌-◌, ◌<◌}
+use Rattle.std.specs.Prelude.{◌≡◌, refl, true, false, List, eqb, leb, ltb, length, get_or}
+use Rattle.std.proofs.Common.{eqb-true}
+use Prim.Native.Nat.{ℕ, zero, suc, ◌+◌, ◌-◌}
 use Rattle.text.specs.Choice.{pick, split, clash}
 use Rattle.text.specs.Loop.{Step, next, done, after, turns, loop}
 use Rattle.text.specs.Scan.{past}
@@ -10,7 +10,7 @@ use Rattle.lexical.specs.Kind.{ending}
 use Rattle.lexical.specs.Class.{class_of, BLANK, NEWLINE, HASH, LETTER, DIGIT, QUOTE}
 use Rattle.lexical.specs.Run.{in_run, BLANKS}
 use Rattle.lexical.specs.Operator.{pair_of, mark_kind, is_of, operator_kind}
-use Rattle.lexical.specs.Token.{end_of, width_of, operator_at, operator_token, token_from}
+use Rattle.lexical.specs.Token.{end_of, operator_at, operator_token, token_from}
 use Rattle.lexical.specs.Line.{visible, in_line, blank_to, indented, line_at, line_turn, lines_from, token_at}
 use Rattle.lexical.specs.declared.token.Token.{Token}
 use Rattle.syntax.specs.Parsed.{refusal}

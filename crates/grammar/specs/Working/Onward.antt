@@ -1,15 +1,14 @@
 -- The automaton along the reader: where it stands behind what was read, and where a mark leads it. Assumes nothing.
-use Rattle.std.specs.Prelude.{◌≡◌, refl, Bool, true, false, ℕ, ◌+◌, ◌≤◌, ◌<◌, eqb, ltb}
+use Rattle.std.specs.Prelude.{◌≡◌, refl, Bool, true, false, ℕ, ◌+◌, ◌≤◌, ◌<◌, eqb}
 use Rattle.std.proofs.Common.{sym, ap, ◌∙◌, arith, eqb-true, leb-false}
-use Rattle.text.specs.Choice.{pick, split, clash}
+use Rattle.text.specs.Choice.{split}
 use Rattle.lexical.specs.Kind
 use Rattle.lexical.specs.Theorems.Bounds.{chosen}
 use Rattle.syntax.specs.Operator.{Binary, Sort, a-string, an-integer, a-float, a_test}
 use Rattle.conditions.specs.Table.{PartSort, sorted, word, Want, want-any, want-string, want-number, want-integer, want-float}
 use Rattle.conditions.specs.Table
-use Rattle.grammar.specs.Theorems.Shadow.{product-shadow, sum-shadow, float-product-shadow, float-sum-shadow, order-shadow, compare-shadow}
 use Rattle.grammar.specs.Working.States.{TEXT, NUMBER, FLOATING, TEST, TRUE, Spot, in-clause, in-bracket, Frame, tests, right, State, p-dead, p-over, p-begin, p-arrow, p-block, p-any, p-text, p-number, p-have, p-names, p-princ, p-people, p-count, p-of, strict, step, end_at}
-use Rattle.grammar.specs.Working.Accepts.{Words, w-text, w-word, Held, h-test, h-word, Junction, junction-and, junction-or, strict-strict, power-number, product-number, sum_number, power-float, times-float, sum-float, dot-text, words-dot, number-compare, float-compare, words-compare, words-match, held-junction}
+use Rattle.grammar.specs.Working.Accepts.{Words, w-text, w-word, Held, h-test, h-word}
 use Rattle.grammar.specs.Working.Joints.{Fits, fit-test, fit-text, fit-number, fit-float, fit_word, fit-name, Unfit, unfit-text, unfit-number, unfit-float, Joint, j-power, j-product, j-sum, j-float-power, j-float-product, j-float-sum, j-orders, j-join, j-numbers, j-texts, j-match, j-and, j-or, Tabled, tabled, joint-tabled, TestFit, test_fits, test-unfit, test-fit, Operated, no-operator, joins, binds-less}
 use Rattle.grammar.specs.Working.Told.{aim, Suits, suits-any, suits-text, suits-number, suits-decimal, suits-integer, suits-float}
 

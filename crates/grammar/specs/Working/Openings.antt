@@ -1,5 +1,5 @@
 -- The automaton and the trees where an operand begins: a prefix operator, a bracket, one token. Assumes nothing.
-use Rattle.std.specs.Prelude.{◌≡◌, Bool, true, false, List, [], ◌∷◌, ℕ, ◌≤◌, eqb}
+use Rattle.std.specs.Prelude.{◌≡◌, Bool, true, false, List, ◌∷◌, ℕ, ◌≤◌, eqb}
 use Rattle.std.proofs.Math.Path.{refl}
 use Rattle.std.proofs.Common.{sym, ap, ◌∙◌, subst, arith, eqb-true, ne_eqb}
 use Rattle.text.specs.Choice.{split, clash}
@@ -17,11 +17,11 @@ use Rattle.grammar.specs.Conditions.{TRUTH}
 use Rattle.grammar.specs.Spelled.{spelled, kind_in}
 use Rattle.grammar.specs.Trees.{lookup-tree, negate-tree, convert-tree, float-negate-tree, to-float-tree, not-tree}
 use Rattle.grammar.specs.Theorems.Shadow.{kind-name, kind-true, kind-false}
-use Rattle.grammar.specs.Working.States.{TEXT, NUMBER, FLOATING, TEST, TRUE, Spot, in-bracket, Frame, tests, texts, numbers, State, p-dead, p-any, p-text, p-number, p-have, strict, flat, step}
+use Rattle.grammar.specs.Working.States.{TEXT, NUMBER, FLOATING, Spot, in-bracket, Frame, tests, texts, numbers, State, p-dead, p-any, p-text, p-number, p-have, flat, step}
 use Rattle.grammar.specs.Working.Accepts.{open-text, close-text, name-text, truth-any, open_any}
 use Rattle.grammar.specs.Working.Joints.{Fits, binds-less, kind-same}
 use Rattle.grammar.specs.Working.Told.{aim, Goal, goal-test, goal-text, goal-number, goal-decimal, goal-integer, goal-float, Told, told_text, told-number, told-float, told-test, Suits, suits-any, suits-text, suits-number, suits-decimal, suits-integer, suits-float}
-use Rattle.grammar.specs.Working.Onward.{word_same, Starts, start-any, start-text, start_operand, start-number, start-integer, start-float, after, Asked, asked-any, asked-text, asked-number, asked-integer, asked-float, Onward, onward, typed, number-after, float-after, number-test, float_test, text-test}
+use Rattle.grammar.specs.Working.Onward.{word_same, Starts, start-any, start-text, start_operand, start-number, start-integer, start-float, after, Asked, asked-any, asked-text, asked-number, asked-integer, asked-float, number-after, float-after}
 
 -- where `want` is wanted, the mark k writes the prefix operator op, behind which `wanted` is read at `level`; of one of sort o it makes one of sort r
 pub data Before : ℕ → Unary → Want → ℕ → Want → Sort → Sort → Type 0 where

@@ -1,20 +1,15 @@
 -- The automaton goes through every sentence of Licensees with string expressions. Assumes nothing.
-use Rattle.std.specs.Prelude.{◌≡◌, refl, true, false, List, [], ◌∷◌, ◌++◌, ℕ, zero, suc, eqb}
-use Rattle.std.proofs.Common.{sym, ap, ◌∙◌, subst, arith}
-use Rattle.text.specs.Choice.{pick, split, clash}
+use Rattle.std.specs.Prelude.{◌≡◌, refl, true, false, List, [], ◌∷◌, ◌++◌, ℕ, suc}
+use Rattle.std.proofs.Common.{◌∙◌, arith}
 use Rattle.lexical.specs.Kind
 use Rattle.lexical.specs.Kind.{ending}
-use Rattle.lexical.specs.Theorems.Bounds.{chosen}
 use Rattle.conditions.specs.Table.{want-string}
 use Rattle.conditions.specs.Table
-use Rattle.grammar.specs.Fields.{Ends, end-of-text, next-version, next-constants, next-authorizer, next-licensees, next-conditions, next-comment, next-signature, Field, field}
-use Rattle.grammar.specs.Conditions.{Class, operand, whole, Name, any_name, truth-name, Str, str-literal, str-name, str-lookup, str-bracket, str-one, str-join}
-use Rattle.grammar.specs.Naming.{PrincList, one, comma, PrincExpr, bracket, both, either, threshold, principal, Licensees, nobody, somebody}
-use Rattle.grammar.specs.Viable.{Viable}
-use Rattle.grammar.specs.Theorems.OneToken.{ends-ending}
-use Rattle.grammar.specs.Working.Automaton.{run, run-append, run-dead, not-viable, not-longer}
-use Rattle.grammar.specs.Working.States.{TEXT, people, item, State, p-dead, p-over, p-text, p-have, p-names, p-princ, p-people, p-count, p-of, step}
-use Rattle.grammar.specs.Working.Accepts.{step-dead, through-part, first_part, dot-text, any-sort, as-text, text-run}
+use Rattle.grammar.specs.Fields.{Ends, end-of-text, next-version, next-constants, next-authorizer, next-licensees, next-conditions, next-comment, next-signature}
+use Rattle.grammar.specs.Conditions.{whole, Name, any_name, truth-name, Str, str-bracket, str-one}
+use Rattle.grammar.specs.Working.Automaton.{run}
+use Rattle.grammar.specs.Working.States.{TEXT, people, item, p-dead, p-over, p-text, p-have, p-names, p-princ, p-people, p-count, p-of, step}
+use Rattle.grammar.specs.Working.Accepts.{through-part, first_part}
 
 -- "&&" and "||"
 pub data Joins : ℕ → Type 0 where

@@ -1,32 +1,15 @@
 -- A machine with a stack of operators that makes the tree of a Conditions field from its tokens: by it a field has one tree. Assumes nothing.
-use Rattle.std.specs.Prelude.{◌≡◌, ℕ, ◌+◌, ◌-◌, ◌≤◌, ltb}
-use Rattle.std.proofs.Math.Path.{refl, ap}
-use Rattle.std.proofs.Common.{sym, ◌∙◌, subst, arith}
-use Rattle.std.proofs.Math.Bool.{true, false}
-use mathlib.Core.List.{List, [], ◌∷◌, ◌++◌, append_assoc}
+use Rattle.std.specs.Prelude.{ℕ}
+use mathlib.Core.List.{List, [], ◌∷◌}
 use Rattle.std.proofs.Math.Dec.{eqb}
-use Rattle.text.specs.Choice.{pick, split, clash}
+use Rattle.text.specs.Choice.{pick}
 use Rattle.lexical.specs.Kind
-use Rattle.lexical.specs.Theorems.Bounds.{chosen}
-use Rattle.lexical.specs.Literal.{decoded_at}
-use Rattle.lexical.specs.Word.{spells, word_true, word_false}
-use Rattle.lexical.specs.declared.token.Token.{Token}
-use Rattle.syntax.specs.Operator.{Unary, Binary, Relation, Ordering, Sort, a-string, an-integer, a-float, a_test, unary_takes, unary_gives, binary_takes, binary_gives}
-use Rattle.syntax.specs.Operator as Operator
-use Rattle.syntax.specs.Code.{name_at, number_from, decimal_at}
-use Rattle.syntax.specs.Expr.{Expr, literal, name, number, truth, decimal, unary, binary, Program, none, also, Clause, plain, valued, nested}
+use Rattle.syntax.specs.Operator.{Unary, Binary, Sort, a-string, a_test, unary_takes, unary_gives, binary_takes, binary_gives}
+use Rattle.syntax.specs.Expr.{Expr, unary, binary, Program, none, also, Clause, plain, valued, nested}
 use Rattle.conditions.specs.Table.{PartSort, sorted, word, want-any}
 use Rattle.conditions.specs.Table
-use Rattle.conditions.specs.Word.{word_sort}
 use Rattle.conditions.specs.Operand.{settled_tree}
-use borrow.Author.Tests.{eqb-true, ne_eqb}
-use Rattle.grammar.specs.Conditions.{Class, operand, power, product, conjunction, whole}
-use Rattle.grammar.specs.Spelled.{spelled}
-use Rattle.grammar.specs.Trees.{StrTree, literal-tree, name-tree, lookup-tree, text-bracket, text-one, join-tree, times-op, divide-op, remainder-op, plus-op, minus-op, IntTree, number-tree, negate-tree, convert-tree, number-bracket, number-one, power-tree, number_up, product-tree, number-term, sum-tree, float-times-op, float-divide-op, float-plus-op, float-minus-op, FloatTree, decimal-tree, float-negate-tree, to-float-tree, decimal-bracket, decimal-one, float-power-tree, decimal-up, float-product-tree, decimal-term, float-sum-tree, OrderOp, float-less-op, float-greater-op, float-at-most-op, float-at-least-op, CompareOp, equal-op, unequal-op, less-op, greater-op, at-most-op, at-least-op, TestTree, true-tree, false-tree, compare-numbers, compare-floats, compare-texts, match-tree, not-tree, test-bracket-tree, test-once, and-tree, test-up, or-tree, Says, a_program, a-clause, ProgramTree, no-clauses, one_more, plain-tree, valued-tree, nested-tree}
-use Rattle.grammar.specs.Working.Joints.{Joint, j-power, j-product, j-sum, j-float-power, j-float-product, j-float-sum, j-orders, j-join, j-numbers, j-texts, j-match, j-and, j-or, Tabled, tabled, joint-tabled}
-use Rattle.grammar.specs.Working.Automaton.{run, run-append}
-use Rattle.grammar.specs.Working.Marks.{at-kind}
-use Rattle.grammar.specs.Working.Pending.{Entry, pending, opening, reduce, reduce-same, Stops, stops_end, stops-open, stops-low, stops-up, stops-is, reduce-own}
+use Rattle.grammar.specs.Working.Pending.{Entry, pending, opening}
 
 -- a sort and a tree
 abbrev pub Value : Type 0

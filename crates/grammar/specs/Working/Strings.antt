@@ -1,37 +1,19 @@
 -- The reader of a principal's string expression against its trees and the automaton. Assumes nothing.
-use Rattle.std.specs.Prelude.{◌≡◌, refl, Bool, true, false, List, [], ◌∷◌, ◌++◌, ℕ, ◌≤◌, eqb}
-use Rattle.std.proofs.Common.{sym, ap, ◌∙◌, subst, arith, eqb-true}
-use Rattle.text.specs.Choice.{pick, split, clash}
+use Rattle.std.specs.Prelude.{◌≡◌, refl, true, false, List, [], ◌∷◌, ◌++◌, ℕ, eqb}
+use Rattle.std.proofs.Common.{sym, ap, ◌∙◌, subst, eqb-true}
+use Rattle.text.specs.Choice.{split, clash}
 use Rattle.lexical.specs.Kind
 use Rattle.lexical.specs.Kind.{ending}
 use Rattle.lexical.specs.Line.{token_at}
 use Rattle.lexical.specs.declared.token.Token.{Token}
-use Rattle.syntax.specs.Operator.{a-string, a_test}
-use Rattle.syntax.specs.Expr.{Expr}
-use Rattle.syntax.specs.Parsed.{Parsed, ok, aside, refusal}
+use Rattle.syntax.specs.Operator.{a-string}
 use Rattle.conditions.specs.Table.{PartSort, sorted, want-string}
 use Rattle.conditions.specs.Table
-use Rattle.conditions.specs.Parsed.{Part, on_part}
-use Rattle.conditions.specs.Expression.{read_expression}
-use Rattle.conditions.specs.Program.{DEPTH}
-use Rattle.naming.specs.Source.{Source}
-use Rattle.naming.specs.String.{plain_from, nest_of, source}
-use Rattle.grammar.specs.Conditions.{Class, operand, whole, Name, Str, str-literal, str-name, str-lookup, str-bracket, str-one, str-join}
-use Rattle.grammar.specs.Sourced.{SourceTree, source-tree}
-use Rattle.grammar.specs.Spelled.{kind_in, kinds_in, Tokens}
-use Rattle.grammar.specs.Trees.{StrTree, literal-tree, name-tree, lookup-tree, text-bracket, text-one, join-tree}
+use Rattle.grammar.specs.Spelled.{kind_in, kinds_in}
 use Rattle.grammar.specs.Viable.{TokensIn, at_once, and-on, KindsBy, here, further}
 use Rattle.grammar.specs.Theorems.Shadow.{kind-mark}
-use Rattle.grammar.specs.Working.Automaton.{run, run-append}
-use Rattle.grammar.specs.Working.Marks.{kinds-append}
-use Rattle.grammar.specs.Working.States.{TEXT, Spot, in-clause, in-bracket, Frame, tests, right, value, texts, numbers, alone, people, item, State, p-dead, p-text, p-have, step, leave_at}
-use Rattle.grammar.specs.Working.Accepts.{name-text, literal-text, lookup-text, open-text, close-text, dot-text, as-text, text-run}
-use Rattle.grammar.specs.Working.Told.{goal-text, told_text, suits-text, completes}
-use Rattle.grammar.specs.Working.Onward.{start-text, asked-text}
-use Rattle.grammar.specs.Working.Reading.{Real}
-use Rattle.grammar.specs.Working.Known.{next-real}
-use Rattle.grammar.specs.Working.Begun.{Begun, begun-so}
-use Rattle.grammar.specs.Working.Modes.{Near, near_same, near_of, token-near, near-is, near-refusal, near-start}
+use Rattle.grammar.specs.Working.Automaton.{run}
+use Rattle.grammar.specs.Working.States.{TEXT, in-clause, in-bracket, Frame, tests, right, value, texts, numbers, alone, people, item, State, p-dead, p-text, p-have, step, leave_at}
 
 -- behind a string the automaton stays in it with "." alone
 pub dot-only : (k : ℕ) → eqb k Kind.DOT ≡ false → Table.binds 3 (Table.operator (sorted a-string) k) ≡ false

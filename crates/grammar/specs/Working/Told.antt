@@ -1,6 +1,6 @@
 -- What a reader has read, by its sort and its level: trees, and how they grow. Assumes nothing.
 use Rattle.std.specs.Prelude.{◌≡◌, refl, Bool, List, [], ◌∷◌, ◌++◌, ℕ, zero, suc, ◌+◌, ◌≤◌}
-use Rattle.std.proofs.Common.{sym, subst, append-nil, arith}
+use Rattle.std.proofs.Common.{sym, subst}
 use Rattle.std.proofs.Math.Decide.{le_ind}
 use Rattle.lexical.specs.Kind
 use Rattle.lexical.specs.declared.token.Token.{Token}
@@ -9,7 +9,7 @@ use Rattle.syntax.specs.Expr.{Expr, truth, binary}
 use Rattle.conditions.specs.Table.{PartSort, sorted, word, want_of, Want, want-any, want-string, want-number, want-integer, want-float}
 use Rattle.conditions.specs.Operand.{settled_tree}
 use Rattle.grammar.specs.Conditions.{Class, operand, power, product, conjunction, whole}
-use Rattle.grammar.specs.Trees.{StrTree, literal-tree, text-bracket, text-one, join-tree, IntTree, number-tree, number-bracket, number-one, power-tree, number_up, product-tree, number-term, sum-tree, FloatTree, decimal-tree, decimal-bracket, decimal-one, float-power-tree, decimal-up, float-product-tree, decimal-term, float-sum-tree, ProductOp, SumOp, FloatProductOp, FloatSumOp, OrderOp, float-less-op, CompareOp, equal-op, TestTree, compare-numbers, compare-floats, compare-texts, match-tree, test-bracket-tree, test-once, and-tree, test-up, or-tree}
+use Rattle.grammar.specs.Trees.{StrTree, literal-tree, text-bracket, text-one, join-tree, IntTree, number-tree, number-bracket, number-one, power-tree, number_up, product-tree, number-term, sum-tree, FloatTree, decimal-tree, decimal-bracket, decimal-one, float-power-tree, decimal-up, float-product-tree, decimal-term, float-sum-tree, ProductOp, SumOp, FloatProductOp, FloatSumOp, OrderOp, CompareOp, equal-op, TestTree, compare-numbers, compare-floats, compare-texts, match-tree, test-bracket-tree, test-once, and-tree, test-up, or-tree}
 use Rattle.grammar.specs.Working.Marks.{mark}
 use Rattle.grammar.specs.Working.Joints.{Fits, fit-test, fit-text, fit-number, fit-float, fit_word, fit-name, Joint, j-power, j-product, j-sum, j-float-power, j-float-product, j-float-sum, j-orders, j-join, j-numbers, j-texts, j-match, j-and, j-or}
 

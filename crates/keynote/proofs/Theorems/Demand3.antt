@@ -13,7 +13,7 @@ use Rattle.compliance.specs.Reach.{InReach}
 use Rattle.compliance.specs.Theorems.Alike.{Alike, AlikeIn, reach-same, rounds-same, reached-same, policy-same}
 use Rattle.expression.specs.Names.{Environment, environment}
 use Rattle.expression.specs.Value.{bytes_of}
-use Rattle.expression.specs.Conditions.{top, evaluate, conditions}
+use Rattle.expression.specs.Conditions.{top, evaluate}
 use Rattle.expression.specs.Reads.{reads, is_set}
 use Rattle.expression.proofs.Theorems.Unread.{evaluate-same}
 use Rattle.naming.specs.Source.{Source, Licensees, given, sources}

@@ -1,5 +1,5 @@
 -- Worked instances of what demand 3 supposes: queries of which it holds, and of which it doesn't. Assumes nothing.
-use Rattle.std.specs.Prelude.{◌≡◌, refl, false, List, [], ℕ}
+use Rattle.std.specs.Prelude.{◌≡◌, refl, false, List, ℕ}
 use Rattle.std.proofs.Common.{⊎_elim, arith}
 use Rattle.expression.specs.Reads.{alike[], alike∷}
 use Rattle.assertion.specs.Assertion.{Assertion}

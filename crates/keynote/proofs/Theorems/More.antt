@@ -16,7 +16,7 @@ use Rattle.keynote.specs.declared.Outcome.{Outcome}
 use Rattle.keynote.specs.Theorems.Answered.{outcome-answered}
 use Rattle.keynote.specs.Theorems.Numbers.{answered-fits}
 use Rattle.compliance.specs.Theorems.Outside.{SameWithin, policy-within, rounds-within, reached-within}
-use Rattle.keynote.specs.Theorems.More.{answer-reordered, back, class-grows, equal-back, other, outside-not, reading-equal, system-moves}
+use Rattle.keynote.specs.Theorems.More.{answer-reordered, class-grows, equal-back, other, outside-not, reading-equal, system-moves}
 
 module _ (q q' : Query) (k : EqualBut q q') (x y : Supplied) (front back : List Supplied)
     (e : q.assertions ≡ front ++ (x ∷ back)) (e' : q'.assertions ≡ front ++ (y ∷ back)) (old : Outside q x) (new : Outside q y) where

@@ -1,14 +1,14 @@
 -- What `lampsickle_answer` gives and leaves is the outcome and the page of the definition. Assumes nothing.
-use Rattle.std.specs.Prelude.{◌≡◌, refl, List, [], ◌∷◌, ◌++◌, ℕ, ◌+◌, ◌-◌, ◌*◌, ◌<◌, ◌≤◌, ltb, take, drop, replicate}
+use Rattle.std.specs.Prelude.{◌≡◌, refl, List, ℕ, ◌+◌, ◌*◌, ◌<◌, ◌≤◌, ltb, replicate}
 use Rattle.std.proofs.Math.Path.{sym, ap}
 use Rattle.std.proofs.Common.{◌∙◌, arith}
 use Rattle.std.proofs.Math.ListN.{length}
 use Rattle.std.proofs.lemmas.List.{length-replicate}
-use borrow.Author.Tests.{lt-ltb, le-ltb, ltb-true, ltb-false}
+use borrow.Author.Tests.{ltb-true, ltb-false}
 use Rattle.limits.specs.Limits.{most_items}
 use Rattle.text.specs.Choice.{pick, split}
 use Rattle.record.specs.Query.{Query}
-use Rattle.record.specs.Read.{Verdict, accepted, refused}
+use Rattle.record.specs.Read.{accepted, refused}
 use Rattle.record.specs.Record.{read_record}
 use Rattle.record.specs.Reading.{told, read_into}
 use Rattle.record.specs.RoundTrip.{Bytes}
@@ -17,7 +17,7 @@ use Rattle.record.specs.declared.Reading.TheVariants.{Accepted, Refused}
 use Rattle.system.specs.Working.Solving.{solved_in}
 use Rattle.keynote.specs.Outcome.{refused_with, answer, needed, outcome, page_after}
 use Rattle.keynote.specs.Report.{report_size}
-use Rattle.keynote.specs.Working.Answering.{part_of, Given, given_by, on_solved, answered_in}
+use Rattle.keynote.specs.Working.Answering.{Given, given_by, on_solved, answered_in}
 use Rattle.keynote.specs.Theorems.Answered.{outcome-refused, page-refused, outcome-small, page-small, outcome-answered, page-answered}
 use Rattle.keynote.specs.Theorems.Parts.{Parts, places-length, accepted-query, accepted-parts, refused-record}
 use Rattle.keynote.specs.Working.Filled.{values_at, requesters_at, attributes_at, assertions_at, solved_as}

@@ -1,5 +1,5 @@
 -- W-206, "Nobody asks as POLICY": no accepted query has POLICY among its requesters, so its direct authorization is 0. Assumes nothing.
-use Rattle.std.specs.Prelude.{◌≡◌, refl, true, false, List, [], ◌∷◌, ℕ}
+use Rattle.std.specs.Prelude.{◌≡◌, refl, true, false, List, ℕ}
 use Rattle.text.specs.Choice.{split, clash}
 use Rattle.text.specs.Equal.{equal, equal-refl}
 use Rattle.record.specs.Query.{Query}

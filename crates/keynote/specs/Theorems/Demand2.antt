@@ -25,7 +25,7 @@ use Rattle.principal.specs.Members.{member, Distinct, distinct-le}
 use Rattle.compliance.specs.Licensees.{Rank}
 use Rattle.compliance.specs.System.{Assertion, round, Least}
 use Rattle.compliance.specs.Reach.{reach, Reachable}
-use Rattle.compliance.specs.Rounds.{settled, mentioned, rank, rounds, reached}
+use Rattle.compliance.specs.Rounds.{mentioned, rank, rounds, reached}
 use Rattle.compliance.specs.Theorems.Reach.{reach-sound, reach-complete, reach-distinct}
 use Rattle.compliance.specs.Theorems.Settle.{rank-least, least-unique, settled-equal, equal-settled, rounds-settled, rounds-first, rounds-bound, rounds-times, rounds-rank, rounds-end}
 use Rattle.expression.specs.Conditions.{top}

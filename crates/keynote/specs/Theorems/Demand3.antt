@@ -1,37 +1,26 @@
 -- Demand 3, of the definition: values of attributes that no kept assertion of a reached principal dereferences in its Conditions, and no text in
 -- Authorizer or Licensees, have no effect on rank, rounds, reached and the report. Assumes nothing.
-use Rattle.std.specs.Prelude.{◌≡◌, refl, Bool, ◌||◌, ℕ, ◌≤◌, length, take}
+use Rattle.std.specs.Prelude.{◌≡◌, refl, Bool, ◌||◌, ℕ, length, take}
 use Rattle.std.proofs.Common.{sym, ◌∙◌, ⊎_elim}
-use Rattle.std.proofs.Math.Path.{ap, subst}
+use Rattle.std.proofs.Math.Path.{ap}
 use Rattle.std.proofs.Math.Bool.{true, false}
 use mathlib.Core.List.Memᴰ.{cases_cons as mem-∷}
 use mathlib.Core.List.Memᴰ.{head as here}
 use mathlib.Core.List.Memᴰ.{tail as there}
 use mathlib.Core.List.{List, [], ◌∷◌, map, Memᴰ as Mem}
-use Rattle.record.specs.Query.{Query, Attribute, Supplied}
-use Rattle.record.specs.Read.{accepted}
-use Rattle.record.specs.Record.{read_record}
+use Rattle.record.specs.Query.{Query, Attribute}
 use Rattle.principal.specs.Principal.{Principal}
-use Rattle.principal.specs.Members.{member}
-use Rattle.compliance.specs.Reach.{InReach}
-use Rattle.compliance.specs.Theorems.Alike.{Alike, a[], a∷, AlikeIn, reach-same, rounds-same, reached-same, policy-same}
+use Rattle.compliance.specs.Theorems.Alike.{Alike, a[], a∷}
 use Rattle.expression.specs.Names.{Environment, environment}
-use Rattle.expression.specs.Value.{bytes_of}
-use Rattle.expression.specs.Conditions.{top, evaluate, conditions}
+use Rattle.expression.specs.Conditions.{top, conditions}
 use Rattle.expression.specs.Reads.{reads, program_reads, is_set, Alike as AlikeAttributes, alike[], alike∷, with_attributes}
-use Rattle.expression.proofs.Theorems.Unread.{evaluate-same, conditions-same}
-use Rattle.naming.specs.Source.{Source, Licensees, given, sources}
-use Rattle.naming.specs.Naming.{identified}
+use Rattle.expression.proofs.Theorems.Unread.{conditions-same}
+use Rattle.naming.specs.Source.{Source}
 use Rattle.assertion.specs.Assertion.{Assertion, Conditions, absent, stated}
-use Rattle.assertion.specs.Said.{Said}
-use Rattle.assertion.specs.Form.{read_assertion}
-use Rattle.assertion.specs.Theorems.Agreed.{map_same, Agree, LicenseesAgree, SaidAgree, resolved-agree}
-use Rattle.keynote.specs.Answer.{worth, ranked, reading, readings, kept_of, system, class_given, rounds_of, reached_of}
-use Rattle.keynote.specs.Report.{report, report_size}
-use Rattle.keynote.specs.Outcome.{answer, needed, outcome, page_after}
-use Rattle.keynote.specs.Secrets.{dereferences, any_reads, author_reads, licensees_read, naming_reads, Dereferenced, in-conditions, in-naming, AlikeWhere, AlikeBut}
-use Rattle.keynote.specs.Theorems.Answered.{outcome-answered, report-written}
-use Rattle.keynote.specs.Theorems.Numbers.{answered-fits}
+use Rattle.keynote.specs.Answer.{worth, ranked}
+use Rattle.keynote.specs.Report.{report_size}
+use Rattle.keynote.specs.Outcome.{needed, outcome, page_after}
+use Rattle.keynote.specs.Secrets.{dereferences, any_reads, Dereferenced, AlikeWhere}
 
 pub environment-own : (q : Query) (cs : List Attribute) → with_attributes (environment q cs) q.attributes ≡ environment q cs
 unfolding with_attributes environment

@@ -1,14 +1,8 @@
 -- Worked instances of what demand 3 supposes: queries of which it holds, and of which it doesn't. Assumes nothing.
-use Rattle.std.specs.Prelude.{◌≡◌, refl, false, ◌⊎◌, List, [], ◌∷◌, ℕ, length}
-use Rattle.std.proofs.Common.{⊎_elim, arith}
+use Rattle.std.specs.Prelude.{◌≡◌, ◌⊎◌, List, [], ◌∷◌, ℕ, length}
 use Rattle.record.specs.Query.{Attribute}
 use Rattle.expression.specs.Reads.{Alike, alike[], alike∷}
-use Rattle.assertion.specs.Assertion.{Assertion}
-use Rattle.assertion.specs.Said.{Said}
-use Rattle.keynote.specs.Secrets.{Supplies, Dereferenced, AlikeWhere}
-use Rattle.keynote.specs.Mission.{Heard, standing, computed, naming, naming_computed, Unread}
-use Rattle.keynote.specs.Rulings.{bytes, set, secret_query, is_read, is_named, stands, stands_naming, one, other, seen, computing, naming_b, naming_other, naming_computing, rulings}
-use Rattle.keynote.specs.Theorems.Hearing.{none-heard, none-supplied, none-dereferenced, is-dereferenced, is-named}
+use Rattle.keynote.specs.Rulings.{bytes}
 
 -- the same for the suppositions of `Mission`, where the names that may differ are these three
 abbrev pub Secret : List ℕ → Type 0

@@ -37,12 +37,10 @@ use Rattle.keynote.specs.Answer.{worth, ranked, reading, readings, kept_of, syst
 use Rattle.keynote.specs.Paper.{EqualBut, ReadOutside, set-aside, unreached, Outside}
 use Rattle.keynote.specs.Report.{entry_bytes, entries_bytes, report, report_size}
 use Rattle.keynote.specs.Outcome.{answer, needed, outcome, page_after}
-use Rattle.keynote.specs.declared.Outcome.{Outcome}
 use Rattle.keynote.specs.Theorems.Report.{Entry, entries-length, report-entry}
-use Rattle.keynote.specs.Theorems.Answered.{outcome-answered, report-written}
+use Rattle.keynote.specs.Theorems.Answered.{report-written}
 use Rattle.keynote.specs.Theorems.Numbers.{answered-fits}
 use Rattle.keynote.specs.Theorems.Demand2.{kept_in_lem, kept_from, map_at}
-use Rattle.compliance.specs.Theorems.Outside.{SameWithin, policy-within, rounds-within, reached-within}
 
 pub equal-back : {q q' : Query} → EqualBut q q' → EqualBut q' q
 equal-back k = record { values = sym k.values; requesters = sym k.requesters; attributes = sym k.attributes }

@@ -6,9 +6,8 @@ use Rattle.principal.specs.Members.{member}
 use Rattle.compliance.specs.Reach.{reach}
 use Rattle.compliance.specs.Theorems.Reach.{reach-sound, reach-complete}
 use Rattle.assertion.specs.Read.{Read, kept, dropped}
-use Rattle.keynote.specs.Answer.{reading, system}
-use Rattle.keynote.specs.Paper.{ReadOutside, set-aside, unreached, Outside}
-use Rattle.keynote.specs.Rulings.{supplied, bytes, paper_web, by_a, by_b, broken, rulings}
+use Rattle.keynote.specs.Answer.{system}
+use Rattle.keynote.specs.Paper.{ReadOutside, set-aside, unreached}
 use Rattle.keynote.specs.Working.Outsiders.{is_outside}
 
 -- what the test tells

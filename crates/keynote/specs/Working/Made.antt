@@ -1,5 +1,5 @@
 -- One assertion more: the tables, the index and the page after it. Assumes nothing.
-use Rattle.std.specs.Prelude.{◌≡◌, refl, true, ℕ, suc, ◌+◌, ◌-◌, ◌*◌, ◌%◌, ◌≤◌, ◌<◌, take, drop, set, replicate}
+use Rattle.std.specs.Prelude.{◌≡◌, refl, true, ℕ, suc, ◌+◌, ◌*◌, ◌%◌, ◌≤◌, ◌<◌, take, drop, set, replicate}
 use Rattle.std.proofs.Common.{sym, ◌∙◌, subst, arith, add-one, length-set, take-suc-set, length-take-le}
 use mathlib.Core.List.{List, [], ◌∷◌, ◌++◌, map, Memᴰ as Mem}
 use Rattle.std.proofs.Math.ListN.{length}
@@ -7,7 +7,6 @@ use Rattle.std.proofs.Math.Seq.{append_snoc}
 use Rattle.std.proofs.lemmas.Bool.{lt-leb}
 use Rattle.limits.specs.Limits.{most_assertions, most_licensees, most_constants, most_asking, most_named, most_counted, most_code}
 use Rattle.text.specs.Join.{joined}
-use Rattle.text.specs.Counted.{counted}
 use Rattle.record.specs.Query.{Query}
 use Rattle.record.specs.Encode.{string_bytes}
 use Rattle.principal.specs.Principal.{Principal}

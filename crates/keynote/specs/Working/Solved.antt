@@ -22,7 +22,7 @@ use Rattle.constants.specs.Theorems.Begun.{begun-is}
 use Rattle.expression.specs.Conditions.{top}
 use Rattle.index.specs.declared.Index.{Index}
 use Rattle.system.specs.Working.Sizes.{small, some_rows, long_record}
-use Rattle.system.specs.Working.Asking.{Asked, Begun, begun}
+use Rattle.system.specs.Working.Asking.{Asked, Begun}
 use Rattle.system.specs.Working.Solving.{filled_in, filled_long, on_asked, on_begun, on_written, solved_in}
 use Rattle.keynote.specs.Outcome.{needed}
 use Rattle.keynote.specs.Working.Filled.{values_at, requesters_at, attributes_at, assertions_at, solved_as, long-is, filled_is}

@@ -1,5 +1,5 @@
 -- Working laws of the functions that add numbers and lines. Assumes nothing.
-use Rattle.std.specs.Prelude.{◌≡◌, refl, List, [], ◌∷◌, ◌++◌, ℕ, zero, suc, ◌+◌, ◌-◌, ◌*◌, ◌/◌, ◌%◌, ◌<◌, ◌≤◌, ltb, length, get_or}
+use Rattle.std.specs.Prelude.{◌≡◌, refl, List, [], ◌∷◌, ◌++◌, ℕ, zero, suc, ◌+◌, ◌*◌, ◌/◌, ◌%◌, ◌<◌, ◌≤◌, ltb, length, get_or}
 use Rattle.std.proofs.Common.{sym, ◌∙◌, arith, add-one}
 use Rattle.std.proofs.Math.Path.{ap}
 use Rattle.std.proofs.Math.ListN.{get_or-eq_default}
@@ -10,7 +10,7 @@ use Rattle.text.specs.Counted.{pair_at}
 use Rattle.keynote.specs.Outcome.{outcome, page_after}
 use Rattle.keynote.specs.declared.Outcome.{Outcome}
 use Rattle.printed.specs.Numeral.{last_digit, digits, decimal}
-use Rattle.printed.specs.Fill.{Filled, filled, fill_at}
+use Rattle.printed.specs.Fill.{filled, fill_at}
 use Rattle.printed.specs.Lines.{bytes, said, line, pair_line, head_lines, assertion_line, assertion_lines, refusal_line, outcome_lines, blank, lines}
 use Rattle.printed.specs.Working.Filling.{fill-nil, fill-then}
 

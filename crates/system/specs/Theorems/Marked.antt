@@ -8,7 +8,6 @@ use Rattle.std.proofs.Math.ListN.{length, length-append}
 use Rattle.std.proofs.lemmas.List.{length-map, set_at}
 use Rattle.limits.specs.Limits.{most_requesters, most_identifier, most_principals, most_counted}
 use Rattle.text.specs.Choice.{split, clash, bool_iff}
-use Rattle.text.specs.Counted.{counted}
 use Rattle.record.specs.Lies.{Lie, lie[], lie∷, StringAt}
 use Rattle.record.specs.Valid.{Each, each∷, RequesterOk}
 use Rattle.principal.specs.Principal.{Principal, same, same-sym, same_refl}

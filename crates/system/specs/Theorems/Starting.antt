@@ -18,7 +18,6 @@ use Rattle.index.specs.Tree.{tree-none}
 use Rattle.index.specs.Index.{enter, Holds}
 use Rattle.compliance.specs.Theorems.Filling.{asking, fill_start}
 use Rattle.constants.specs.Constants.{written, counted_into, begun_into}
-use Rattle.expression.specs.Conditions.{top}
 use Rattle.index.specs.Working.Entering.{Kept}
 use Rattle.naming.specs.Theorems.Entry.{EntryRead, entry_at, entry_read}
 use Rattle.index.specs.declared.Index.{Index}

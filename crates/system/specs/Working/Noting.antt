@@ -1,7 +1,5 @@
 -- Working definitions: what became of an assertion noted, and the ways out of the functions that do it. Assumes nothing.
-use Rattle.std.specs.Prelude.{◌≡◌, refl, List, [], ◌∷◌, ℕ, ◌+◌, ◌-◌, ◌*◌, ◌/◌, ◌%◌, ◌<◌, ◌≤◌, leb, ltb, length, set}
-use Rattle.std.proofs.Common.{sym, ap, ◌∙◌, arith, le-leb, lt-ltb, le-ltb}
-use Rattle.std.proofs.lemmas.Bool.{lt-leb}
+use Rattle.std.specs.Prelude.{List, [], ◌∷◌, ℕ, ◌+◌, ◌*◌, ◌/◌, ◌%◌, leb, ltb, length, set}
 use Rattle.text.specs.Choice.{pick}
 use Rattle.text.specs.Copy.{put}
 use Rattle.assertion.specs.declared.Assessment.{Assessment}
