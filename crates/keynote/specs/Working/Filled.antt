@@ -314,7 +314,7 @@ top-same q values e h = omega (arith, e, h)
 module _ (s : List ℕ) (q : Query) (page : List ℕ) (start : ℕ) (consts : List ℕ) (x : Index) (pool places direct : List ℕ) (st : Started s q start consts x pool places direct)
     (values names texts : List ℕ) where
   module _ (vl : Lie (StringAt s) values q.values) (nl : Lie (AttributeAt s) names q.attributes) (tl : Lie (AssertionAt s) texts q.assertions)
-      (oks : All SuppliedOk [] q.assertions) (fews : AllSmall (map (reading q) q.assertions)) (low : length q.values ≤ 256)
+      (oks : All SuppliedOk [] q.assertions) (smalls : AllSmall (map (reading q) q.assertions)) (low : length q.values ≤ 256)
       (paper : 3 + 3 * length q.assertions ≤ length page) where
     n : length texts ≡ length q.assertions
     n = lie-length tl
@@ -355,7 +355,7 @@ module _ (s : List ℕ) (q : Query) (page : List ℕ) (start : ℕ) (consts : Li
         ≡ solved_as q page
     unfolding filled_in
     filled-from few =
-        each-small (fit some_rows few (omega arith)) texts texts q.assertions [] tl oks fews direct [] 0 (1 ∷ pair_bytes (3 * length texts)) _ (omega arith) (omega (arith, n)) refl
+        each-small (fit some_rows few (omega arith)) texts texts q.assertions [] tl oks smalls direct [] 0 (1 ∷ pair_bytes (3 * length texts)) _ (omega arith) (omega (arith, n)) refl
         (reached-at (ends_at x 0 0) (store consts pool places (replicate some_code 0)) (replicate some_rows 0) (replicate some_rows 0) (replicate some_rows 0) (header_into page (length texts))
         (made some_rows few (omega arith)) (front-start (3 * length texts)) (head-is some_rows few (omega arith)))
         ∙ page-is
@@ -368,7 +368,7 @@ module _ (s : List ℕ) (q : Query) (page : List ℕ) (start : ℕ) (consts : Li
           ≡ solved_as q page
       unfolding grown_in
       grown-from size sizes within solves =
-          solves texts texts q.assertions [] tl oks fews _ [] 0 (1 ∷ pair_bytes (3 * length texts)) _ (omega arith) (omega (arith, n)) refl
+          solves texts texts q.assertions [] tl oks smalls _ [] 0 (1 ∷ pair_bytes (3 * length texts)) _ (omega arith) (omega (arith, n)) refl
           (reached-at (ends_at x 0 0) _ (replicate most_assertions 0) (replicate most_assertions 0) (replicate most_assertions 0) (header_into page (length texts))
           (made-larger (made most_assertions few (omega arith)) size within st.start-low) (front-start (3 * length texts)) (head-is most_assertions few (omega arith)))
           ∙ page-is
