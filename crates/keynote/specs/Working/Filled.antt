@@ -21,7 +21,7 @@ use Rattle.record.specs.Lies.{Lie, lie[], lie∷, StringAt, AttributeAt, Asserti
 use Rattle.record.proofs.Laws.Located.{read-lies}
 use Rattle.record.specs.Places.{string_size, attribute_size, assertion_size, places_from, requesters_start, attributes_start, assertions_start}
 use Rattle.record.specs.Valid.{Valid, SuppliedOk}
-use Rattle.record.specs.Valid.{Each, each[], each∷}
+use Rattle.record.specs.Valid.{Each as EachOf, each[], each∷}
 use Rattle.record.specs.RoundTrip.{Bytes}
 use Rattle.record.proofs.Laws.RoundTrip.{read_back}
 use Rattle.principal.specs.Principal.{policy}
@@ -207,7 +207,7 @@ module _ {s : List ℕ} {q : Query} {values names : List ℕ} {start t : ℕ} {s
   -- that the assertions from the one with the number i on, read into tables of a size and then of the sizes behind it, give the answer
   abbrev Solves : Size → List Size → Type 0
   Solves size sizes =
-      (texts ps : List ℕ) (m seen : List Supplied) → Lie (AssertionAt s) ps m → Each SuppliedOk seen m → AllSmall (map (reading q) m)
+      (texts ps : List ℕ) (m seen : List Supplied) → Lie (AssertionAt s) ps m → EachOf SuppliedOk seen m → AllSmall (map (reading q) m)
       → (direct : List ℕ) (l : List Assertion) (i : ℕ) (front : List ℕ) (z : Each) → i + length m ≤ most → i + length m ≡ length texts → drop i texts ≡ ps
       → Reached size room q start direct sheet l i front z
       → on_stretch sizes all texts direct (each_from all ps i z)
@@ -314,7 +314,7 @@ top-same q values e h = omega (arith, e, h)
 module _ (s : List ℕ) (q : Query) (page : List ℕ) (start : ℕ) (consts : List ℕ) (x : Index) (pool places direct : List ℕ) (st : Started s q start consts x pool places direct)
     (values names texts : List ℕ) where
   module _ (vl : Lie (StringAt s) values q.values) (nl : Lie (AttributeAt s) names q.attributes) (tl : Lie (AssertionAt s) texts q.assertions)
-      (oks : Each SuppliedOk [] q.assertions) (smalls : AllSmall (map (reading q) q.assertions)) (low : length q.values ≤ 256)
+      (oks : EachOf SuppliedOk [] q.assertions) (smalls : AllSmall (map (reading q) q.assertions)) (low : length q.values ≤ 256)
       (paper : 3 + 3 * length q.assertions ≤ length page) where
     n : length texts ≡ length q.assertions
     n = lie-length tl
