@@ -47,7 +47,7 @@ module _ (first : ℕ → Bool) where
   unfolding one_step
   one-second k b h = rw h
 
-  module _ (G : List ℕ → Type 0) (shape : (ks : List ℕ) → G ks → Single ks) (holds : (k : ℕ) → first k ≡ true → G (k ∷ [])) (some : ℕ) (some_IsFirst : first some ≡ true) where
+  module _ (G : List ℕ → Type 0) (shape : (ks : List ℕ) → G ks → Single ks) (holds : (k : ℕ) → first k ≡ true → G (k ∷ [])) (some : ℕ) (some-first : first some ≡ true) where
     single-run : (ks : List ℕ) (e : ℕ) → Single ks → Ends e → run one_step 1 (ks ++ e ∷ []) ≡ 3
     single-run _ e (single k h) en = rw (one-first k true h, one-second e true (ends-ending e en))
 
@@ -67,7 +67,7 @@ module _ (first : ℕ → Bool) where
     module _ {A : Type 0} (s : List ℕ) (mode : ℕ) (t : Token) where
       pub one-wrong : first t.kind ≡ false → (r : ℕ) → r ≡ refusal t.kind → Judged {A = A} (Field G) s mode t (aside r t.start)
       one-wrong h r e =
-          judged-stop plainly (Field G) s mode t [] t (here t) (opens some (Kind.END ∷ []) (field (some ∷ []) Kind.END (holds some some_IsFirst) end-of-text))
+          judged-stop plainly (Field G) s mode t [] t (here t) (opens some (Kind.END ∷ []) (field (some ∷ []) Kind.END (holds some some-first) end-of-text))
           (one-dead (t.kind ∷ []) (one-first t.kind false h)) r e
 
       pub one_right : (a : A) → first t.kind ≡ true → Judged {A = A} (Field G) s mode t (ended a (behind s mode t))

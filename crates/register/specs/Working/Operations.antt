@@ -61,7 +61,7 @@ module _ (r : Register) (e : length r.places ≡ 64) where
   moves-at x i w f =
       let k = holds r.places x i w f in
       let s = find_at es x i w (sym (found-is r.places e x) ∙ f) in
-      let m : get_or es i (entry_of nobody) ≡ entry_of (at r.places i) = get_d_map entry_of r.places i nobody in
+      let m : get_or es i (entry_of nobody) ≡ entry_of (at r.places i) = get_or-map entry_of r.places i nobody in
       let g : entry_of (at r.places i) ≡ held (at r.places i).principal (at r.places i).moves = rw k.held refl in
       let o : held (at r.places i).principal (at r.places i).moves ≡ held x (moves_of x es) = sym g ∙ sym m ∙ s.entry in
       rw (lt-ltb i 64 k.within) (moves-of o)
@@ -69,10 +69,10 @@ module _ (r : Register) (e : length r.places ≡ 64) where
       moves-of : {x y m n : ℕ} → held x m ≡ held y n → m ≡ n
       moves-of h = cc
 
-      get_d_map : (f : Place → Entry) (l : List Place) (n : ℕ) (d : Place) → get_or (map f l) n (f d) ≡ f (get_or l n d)
-      get_d_map f [] n d = refl
-      get_d_map f (y ∷ l) zero d = refl
-      get_d_map f (y ∷ l) (suc n) d = get_d_map f l n d
+      get_or-map : (f : Place → Entry) (l : List Place) (n : ℕ) (d : Place) → get_or (map f l) n (f d) ≡ f (get_or l n d)
+      get_or-map f [] n d = refl
+      get_or-map f (y ∷ l) zero d = refl
+      get_or-map f (y ∷ l) (suc n) d = get_or-map f l n d
 
   -- other moves at the place found
   pub moves-told : (x i w m : ℕ) → found r.places x ≡ At i w
