@@ -7,7 +7,7 @@ use input::{large_buffer, read_full};
 use lexical::kind;
 use lexical::label::label_kind;
 use lexical::line::token_at;
-use std::io::{BufWriter, Write};
+use std::io::Write;
 use std::rt::{Env, Files};
 use std::{env, fs, io};
 use syntax::fault::Fault;
@@ -77,10 +77,9 @@ fn texts<R: Files + Env + Alloc>(rt: &R) -> io::Result<R::File> {
 }
 
 fn main(rt: HostRuntime) -> io::Result<()> {
-    let mut out = BufWriter::new(rt.alloc(), io::writer(&rt))?;
-    let mut file = large_buffer(rt.alloc())?;
+    let mut out = io::writer(&rt);
+    let mut file = large_buffer();
     let size = read_full(&mut texts(&rt)?, &mut file)?;
     let mut code = [0u32; MOST];
-    read_all(&mut out, &file[..size], &mut code)?;
-    out.flush()
+    read_all(&mut out, &file[..size], &mut code)
 }

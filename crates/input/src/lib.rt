@@ -1,11 +1,10 @@
 // Reads as much of an input as a buffer holds.
 #![tactic(auto)]
 
-ghost use Rattle.std.specs.Prelude.{◌≡◌, ◌<◌, length, take, IfOk, vec_len};
+ghost use Rattle.std.specs.Prelude.{◌≡◌, ◌<◌, length, take, replicate, IfOk};
 ghost use Rattle.std.specs.Io.{ReadsAtMost};
 ghost use Rattle.std.specs.Io.KnownBytes.{Consumes, IsAtEnd};
 
-use std::alloc::{AllocError, Global};
 use std::io;
 use std::io::Read;
 
@@ -13,10 +12,10 @@ use std::io::Read;
 pub const LARGE: usize = 65536;
 
 // That many zeros.
-pub fn large_buffer(alloc: Global) -> Result<Vec<u8>, AllocError>
-    ensures { IfOk result (λ v. vec_len v ≡ 65536) }
+pub fn large_buffer() -> [u8; LARGE]
+    ensures { result ≡ replicate LARGE 0 }
 {
-    vec![in alloc; 0u8; LARGE]
+    [0u8; LARGE]
 }
 
 // Reads until the buffer is full or the input ends, and gives how many bytes it put at the buffer's front.

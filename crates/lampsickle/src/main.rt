@@ -8,7 +8,7 @@ use std::io::Write;
 
 // The buffer holds one byte more than the longest record, so a longer one is refused as such.
 fn main(rt: HostRuntime) -> io::Result<()> {
-    let mut record = large_buffer(rt.alloc())?;
+    let mut record = large_buffer();
     let n = read_full(&mut rt.stdin(), &mut record)?;
     let mut out = [0u8; LINES];
     let size = answer_lines(&record[..n], b"\n", &mut out);

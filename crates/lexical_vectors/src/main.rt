@@ -12,8 +12,7 @@ use lexical::number::number_at;
 use lexical::scan::byte_at;
 use lexical::token::Token;
 use lexical::word::{is_false, is_true};
-use std::alloc::Global;
-use std::io::{BufWriter, Write};
+use std::io::Write;
 use std::rt::{Env, Files};
 use std::{env, fs, io};
 
@@ -51,14 +50,14 @@ fn put_decoded<W: Write>(out: &mut W, s: &[u8], start: usize, buf: &mut [u8]) ->
     Ok(())
 }
 
-fn put_literal<W: Write>(out: &mut W, alloc: Global, s: &[u8], start: usize) -> io::Result<()> {
-    let mut buf = large_buffer(alloc)?;
+fn put_literal<W: Write>(out: &mut W, s: &[u8], start: usize) -> io::Result<()> {
+    let mut buf = large_buffer();
     put_decoded(out, s, start, &mut buf)
 }
 
-fn put_value<W: Write>(out: &mut W, alloc: Global, s: &[u8], t: Token) -> io::Result<()> {
+fn put_value<W: Write>(out: &mut W, s: &[u8], t: Token) -> io::Result<()> {
     if t.kind == kind::LITERAL {
-        return put_literal(out, alloc, s, t.start);
+        return put_literal(out, s, t.start);
     }
     if t.kind == kind::DIGITS {
         put(out, b"=")?;
@@ -77,21 +76,21 @@ fn put_value<W: Write>(out: &mut W, alloc: Global, s: &[u8], t: Token) -> io::Re
     Ok(())
 }
 
-fn put_token<W: Write>(out: &mut W, alloc: Global, s: &[u8], t: Token) -> io::Result<()> {
+fn put_token<W: Write>(out: &mut W, s: &[u8], t: Token) -> io::Result<()> {
     put_number(out, t.kind as usize)?;
     put(out, b"@")?;
     put_number(out, t.start)?;
     put(out, b"-")?;
     put_number(out, t.end)?;
-    put_value(out, alloc, s, t)
+    put_value(out, s, t)
 }
 
-fn show<W: Write>(out: &mut W, alloc: Global, s: &[u8]) -> io::Result<()> {
+fn show<W: Write>(out: &mut W, s: &[u8]) -> io::Result<()> {
     let mut mode = kind::BEFORE;
     let mut at: usize = 0;
     while at <= s.len() {
         let t = token_at(s, mode, at);
-        put_token(out, alloc, s, t)?;
+        put_token(out, s, t)?;
         if t.end <= at {
             break;
         }
@@ -178,12 +177,12 @@ fn piece_at(d: &[u8], i: usize) -> Piece {
 }
 
 // Shows each line of d; `text` holds a line's bytes.
-fn show_all<W: Write>(out: &mut W, alloc: Global, d: &[u8], text: &mut [u8]) -> io::Result<()> {
+fn show_all<W: Write>(out: &mut W, d: &[u8], text: &mut [u8]) -> io::Result<()> {
     let mut i: usize = 0;
     let mut n: usize = 0;
     while i < d.len() {
         if d[i] == 10 {
-            show(out, alloc, &text[..n])?;
+            show(out, &text[..n])?;
             n = 0;
             i += 1;
             continue;
@@ -210,10 +209,9 @@ fn texts<R: Files + Env + Alloc>(rt: &R) -> io::Result<R::File> {
 }
 
 fn main(rt: HostRuntime) -> io::Result<()> {
-    let mut out = BufWriter::new(rt.alloc(), io::writer(&rt))?;
-    let mut file = large_buffer(rt.alloc())?;
+    let mut out = io::writer(&rt);
+    let mut file = large_buffer();
     let size = read_full(&mut texts(&rt)?, &mut file)?;
-    let mut text = large_buffer(rt.alloc())?;
-    show_all(&mut out, rt.alloc(), &file[..size], &mut text)?;
-    out.flush()
+    let mut text = large_buffer();
+    show_all(&mut out, &file[..size], &mut text)
 }

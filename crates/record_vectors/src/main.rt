@@ -7,7 +7,7 @@ ghost use Rattle.std.specs.Prelude.{◌<◌};
 
 use input::read_full;
 use record::Reading;
-use std::io::{BufWriter, Read, Write};
+use std::io::{Read, Write};
 use std::{fs, io};
 
 // Room for a record that is too long.
@@ -79,12 +79,8 @@ fn try_fronts_of<W: Write>(
     try_record(out, &name[..k], &bytes[..m])
 }
 
-// One vector of the file: a name behind its length byte, a record behind its four-byte length. The record is read into `bytes`.
-fn next_vector<R: Read, W: Write>(
-    input: &mut R,
-    bytes: &mut [u8],
-    out: &mut W,
-) -> io::Result<bool> {
+// One vector of the file: a name behind its length byte, a record behind its four-byte length.
+fn next_vector<R: Read, W: Write>(input: &mut R, out: &mut W) -> io::Result<bool> {
     let mut one = [0u8; 1];
     if read_full(input, &mut one)? < 1 {
         return Ok(false);
@@ -93,8 +89,9 @@ fn next_vector<R: Read, W: Write>(
     let k = fill(input, &mut name, wide(one[0]))?;
     let mut four = [0u8; 4];
     read_full(input, &mut four)?;
-    let m = fill(input, bytes, size_of(&four))?;
-    try_fronts_of(out, &name, k, bytes, m)?;
+    let mut bytes = [0u8; ROOM];
+    let m = fill(input, &mut bytes, size_of(&four))?;
+    try_fronts_of(out, &name, k, &bytes, m)?;
     Ok(true)
 }
 
@@ -153,19 +150,18 @@ fn print_front<W: Write>(out: &mut W, n: usize, r: Reading) -> io::Result<()> {
 }
 
 fn main(rt: HostRuntime) -> io::Result<()> {
-    let mut out = BufWriter::new(rt.alloc(), io::writer(&rt))?;
-    let mut bytes = vec![in rt.alloc(); 0u8; ROOM]?;
+    let mut out = io::writer(&rt);
     let mut records = fs::open(&rt, "records")?;
     let mut left: usize = 10000;
     while 0 < left {
-        if next_vector(&mut records, &mut bytes, &mut out)? {
+        if next_vector(&mut records, &mut out)? {
             left -= 1;
         } else {
             left = 0;
         }
     }
     let mut full = fs::open(&rt, "full")?;
+    let mut bytes = [0u8; ROOM];
     let n = read_full(&mut full, &mut bytes)?;
-    try_fronts(&mut out, &bytes[..n])?;
-    out.flush()
+    try_fronts(&mut out, &bytes[..n])
 }

@@ -4,7 +4,7 @@
 use input::read_full;
 use printed::{LINES, answer_lines, cut};
 use std::io;
-use std::io::{BufWriter, Write};
+use std::io::Write;
 use text::counted_at;
 
 // Room for the file.
@@ -53,11 +53,10 @@ fn put_rulings<W: Write>(to: &mut W, file: &[u8]) -> io::Result<()> {
 
 // The file as a whole is too long for a record.
 fn main(rt: HostRuntime) -> io::Result<()> {
-    let mut to = BufWriter::new(rt.alloc(), io::writer(&rt))?;
+    let mut to = io::writer(&rt);
     let mut rulings = std::fs::open(&rt, "rulings")?;
-    let mut file = vec![in rt.alloc(); 0u8; ROOM]?;
+    let mut file = [0u8; ROOM];
     let size = read_full(&mut rulings, &mut file)?;
     put_rulings(&mut to, &file[..size])?;
-    put_ruling(&mut to, b"too-long", &file[..size])?;
-    to.flush()
+    put_ruling(&mut to, b"too-long", &file[..size])
 }
