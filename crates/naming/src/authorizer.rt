@@ -6,6 +6,7 @@ ghost use Rattle.naming.specs.Working.Authorizing.{policy_at, barred_at, bar_fau
 use crate::fault::{clear, fault_at};
 use crate::identifier::{Named, is_plain, plain_named, string_named};
 use crate::list::plain_from;
+use expression::name::Scope;
 use fields::out::is_ending;
 use index::Index;
 use lexical::kind;
@@ -108,55 +109,39 @@ fn authored(
 }
 
 // The expression whose first token is t, outside any bracket.
-fn author_named<'a>(
+fn author_named(
     s: &[u8],
-    query: &'a [u8],
-    consts: &'a [u8],
-    values: &[usize],
-    names: &[usize],
-    constants: &[usize],
+    scope: &Scope,
     pool: &mut [u8],
     places: &mut [usize],
     index: Index,
     t: Token,
 ) -> Named
-    ensures { named result pool.new places.new ≡ author_named s.now (sight query.now consts.now values.now names.now constants.now) pool.old places.old index.count index.end t }
+    ensures { named result pool.new places.new ≡ author_named s.now (sight scope.now.query.now scope.now.consts.now scope.now.values.now scope.now.names.now scope.now.constants.now) pool.old places.old index.count index.end t }
 {
     if is_plain(s, t) {
         let n = token_at(s, kind::IN_FIELD, t.end);
         if n.kind == kind::DOT {
-            return string_named(
-                s, query, consts, values, names, constants, pool, places, index, t, 0,
-            );
+            return string_named(s, scope, pool, places, index, t, 0);
         }
-        return plain_named(
-            s, query, consts, values, names, constants, pool, places, index, t, n,
-        );
+        return plain_named(s, scope, pool, places, index, t, n);
     }
-    string_named(
-        s, query, consts, values, names, constants, pool, places, index, t, 0,
-    )
+    string_named(s, scope, pool, places, index, t, 0)
 }
 
 // The field whose first token is t, of an assertion of that standing.
-pub fn authorizer<'a>(
+pub fn authorizer(
     s: &[u8],
     standing: u8,
-    query: &'a [u8],
-    consts: &'a [u8],
-    values: &[usize],
-    names: &[usize],
-    constants: &[usize],
+    scope: &Scope,
     pool: &mut [u8],
     places: &mut [usize],
     index: Index,
     t: Token,
 ) -> Author
-    ensures { made result pool.new places.new ≡ authorizer_in s.now standing (sight query.now consts.now values.now names.now constants.now) pool.old places.old index.count index.end t }
+    ensures { made result pool.new places.new ≡ authorizer_in s.now standing (sight scope.now.query.now scope.now.consts.now scope.now.values.now scope.now.names.now scope.now.constants.now) pool.old places.old index.count index.end t }
 {
     let p = plain_from(s, t, MOST_BRACKETS);
-    let e = author_named(
-        s, query, consts, values, names, constants, pool, places, index, t,
-    );
+    let e = author_named(s, scope, pool, places, index, t);
     authored(standing, pool, places, index, p.start, e)
 }

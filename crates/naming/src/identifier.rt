@@ -3,7 +3,7 @@ ghost use Rattle.std.specs.Prelude.{◌≡◌, true};
 ghost use Rattle.naming.specs.Working.Identifying.{sight, named, of_number, entered_in, string_named, is_plain, plain_named};
 
 use crate::whole::is_whole;
-use expression::name::lookup;
+use expression::name::Scope;
 use fields::out::word;
 use index::{Index, Numbered, enter};
 use judge::string::{Said, string_field};
@@ -62,23 +62,19 @@ fn entered(pool: &mut [u8], places: &mut [usize], index: Index, id: &[u8], n: To
 }
 
 // The expression whose first token is t, inside `nest` brackets.
-pub fn string_named<'a>(
+pub fn string_named(
     s: &[u8],
-    query: &'a [u8],
-    consts: &'a [u8],
-    values: &[usize],
-    names: &[usize],
-    constants: &[usize],
+    scope: &Scope,
     pool: &mut [u8],
     places: &mut [usize],
     index: Index,
     t: Token,
     nest: usize,
 ) -> Named
-    ensures { named result pool.new places.new ≡ string_named s.now (sight query.now consts.now values.now names.now constants.now) pool.old places.old index.count index.end nest t }
+    ensures { named result pool.new places.new ≡ string_named s.now (sight scope.now.query.now scope.now.consts.now scope.now.values.now scope.now.names.now scope.now.constants.now) pool.old places.old index.count index.end nest t }
 {
     let mut id = [0u8; MOST_IDENTIFIER];
-    match string_field(s, t, nest, query, consts, values, names, constants, &mut id) {
+    match string_field(s, t, nest, scope, &mut id) {
         Said::Aside { fault } => Named::Aside { fault },
         Said::On { count: k, next } => {
             if MOST_IDENTIFIER < k {
@@ -100,13 +96,9 @@ pub(crate) fn is_plain(s: &[u8], t: Token) -> bool
 }
 
 // The expression that is the name or the clear literal t alone, before the token n.
-pub(crate) fn plain_named<'a>(
+pub(crate) fn plain_named(
     s: &[u8],
-    query: &'a [u8],
-    consts: &'a [u8],
-    values: &[usize],
-    names: &[usize],
-    constants: &[usize],
+    scope: &Scope,
     pool: &mut [u8],
     places: &mut [usize],
     index: Index,
@@ -114,11 +106,11 @@ pub(crate) fn plain_named<'a>(
     n: Token,
 ) -> Named
     requires { is_plain s.now t ≡ true }
-    ensures { named result pool.new places.new ≡ plain_named s.now (sight query.now consts.now values.now names.now constants.now) pool.old places.old index.count index.end t n }
+    ensures { named result pool.new places.new ≡ plain_named s.now (sight scope.now.query.now scope.now.consts.now scope.now.values.now scope.now.names.now scope.now.constants.now) pool.old places.old index.count index.end t n }
 {
     if t.kind == kind::NAME {
         let w = word(s, t);
-        let id = lookup(query, consts, values, names, constants, w);
+        let id = scope.lookup(w);
         return entered(pool, places, index, id, n);
     }
     entered(pool, places, index, &s[t.start + 1..t.end - 1], n)

@@ -9,6 +9,7 @@ use crate::fault::clear;
 use crate::identifier::is_plain;
 use crate::list::{Licensed, State, licensee, literal_before, name_before, refused, threshold};
 use compliance::machine as instruction;
+use expression::name::Scope;
 use fields::out::is_ending;
 use index::Index;
 use lexical::kind;
@@ -81,13 +82,9 @@ fn is_lone(k: usize) -> bool
 
 // An operand of a chain of that level; `left` more brackets may be opened.
 #[cycle(chain_more_operand_primary)]
-fn operand<'a>(
+fn operand(
     s: &[u8],
-    query: &'a [u8],
-    consts: &'a [u8],
-    values: &[usize],
-    names: &[usize],
-    constants: &[usize],
+    scope: &Scope,
     pool: &mut [u8],
     places: &mut [usize],
     code: &mut [u16],
@@ -96,12 +93,10 @@ fn operand<'a>(
     level: usize,
     left: usize,
 ) -> Licensed
-    ensures { ran result pool.new places.new code.new ≡ operand_at left level s.now (sight query.now consts.now values.now names.now constants.now) pool.old places.old code.old st t }
+    ensures { ran result pool.new places.new code.new ≡ operand_at left level s.now (sight scope.now.query.now scope.now.consts.now scope.now.values.now scope.now.names.now scope.now.constants.now) pool.old places.old code.old st t }
 {
     if level == 0 {
-        return primary(
-            s, query, consts, values, names, constants, pool, places, code, st, t, left,
-        );
+        return primary(s, scope, pool, places, code, st, t, left);
     }
     if is_single(level, t.kind) {
         let n = token_at(s, kind::IN_FIELD, t.end);
@@ -113,38 +108,19 @@ fn operand<'a>(
                     );
                 }
                 return name_before(
-                    s, query, consts, values, names, constants, pool, places, code, st, t.start,
-                    t.end, n.kind, n.start, n.end,
+                    s, scope, pool, places, code, st, t.start, t.end, n.kind, n.start, n.end,
                 );
             }
         }
     }
-    chain(
-        s,
-        query,
-        consts,
-        values,
-        names,
-        constants,
-        pool,
-        places,
-        code,
-        st,
-        t,
-        level - 1,
-        left,
-    )
+    chain(s, scope, pool, places, code, st, t, level - 1, left)
 }
 
 // The rest of a chain behind its first operand.
 #[cycle(chain_more_operand_primary)]
-fn more<'a>(
+fn more(
     s: &[u8],
-    query: &'a [u8],
-    consts: &'a [u8],
-    values: &[usize],
-    names: &[usize],
-    constants: &[usize],
+    scope: &Scope,
     pool: &mut [u8],
     places: &mut [usize],
     code: &mut [u16],
@@ -153,16 +129,14 @@ fn more<'a>(
     level: usize,
     left: usize,
 ) -> Licensed
-    ensures { ran result pool.new places.new code.new ≡ more_at left level s.now (sight query.now consts.now values.now names.now constants.now) pool.old places.old code.old st from }
+    ensures { ran result pool.new places.new code.new ≡ more_at left level s.now (sight scope.now.query.now scope.now.consts.now scope.now.values.now scope.now.names.now scope.now.constants.now) pool.old places.old code.old st from }
 {
     let joint = joint_of(level);
     let mut state = st;
     let mut t = from;
     while t.kind == joint {
         let n = token_at(s, kind::IN_LICENSEES, t.end);
-        match operand(
-            s, query, consts, values, names, constants, pool, places, code, state, n, level, left,
-        ) {
+        match operand(s, scope, pool, places, code, state, n, level, left) {
             Licensed::On { state: u, next } => {
                 if rest(state.listed) <= rest(u.listed) {
                     return Licensed::Aside {
@@ -193,13 +167,9 @@ fn more<'a>(
 
 // Operands joined at a level, from left to right.
 #[cycle(chain_more_operand_primary)]
-fn chain<'a>(
+fn chain(
     s: &[u8],
-    query: &'a [u8],
-    consts: &'a [u8],
-    values: &[usize],
-    names: &[usize],
-    constants: &[usize],
+    scope: &Scope,
     pool: &mut [u8],
     places: &mut [usize],
     code: &mut [u16],
@@ -208,16 +178,11 @@ fn chain<'a>(
     level: usize,
     left: usize,
 ) -> Licensed
-    ensures { ran result pool.new places.new code.new ≡ chain_at left level s.now (sight query.now consts.now values.now names.now constants.now) pool.old places.old code.old st t }
+    ensures { ran result pool.new places.new code.new ≡ chain_at left level s.now (sight scope.now.query.now scope.now.consts.now scope.now.values.now scope.now.names.now scope.now.constants.now) pool.old places.old code.old st t }
 {
-    match operand(
-        s, query, consts, values, names, constants, pool, places, code, st, t, level, left,
-    ) {
+    match operand(s, scope, pool, places, code, st, t, level, left) {
         Licensed::On { state, next } => {
-            more(
-                s, query, consts, values, names, constants, pool, places, code, state, next, level,
-                left,
-            )
+            more(s, scope, pool, places, code, state, next, level, left)
         }
         aside => aside,
     }
@@ -238,13 +203,9 @@ fn is_longer(st: State, u: State, k: usize) -> bool
 
 // A string, a K-of or a bracket. A bracket that holds one string, a "." behind it, begins a longer string.
 #[cycle(chain_more_operand_primary)]
-fn primary<'a>(
+fn primary(
     s: &[u8],
-    query: &'a [u8],
-    consts: &'a [u8],
-    values: &[usize],
-    names: &[usize],
-    constants: &[usize],
+    scope: &Scope,
     pool: &mut [u8],
     places: &mut [usize],
     code: &mut [u16],
@@ -252,17 +213,13 @@ fn primary<'a>(
     t: Token,
     left: usize,
 ) -> Licensed
-    ensures { ran result pool.new places.new code.new ≡ primary_at left s.now (sight query.now consts.now values.now names.now constants.now) pool.old places.old code.old st t }
+    ensures { ran result pool.new places.new code.new ≡ primary_at left s.now (sight scope.now.query.now scope.now.consts.now scope.now.values.now scope.now.names.now scope.now.constants.now) pool.old places.old code.old st t }
 {
     if t.kind == kind::DIGITS {
-        return threshold(
-            s, query, consts, values, names, constants, pool, places, code, st, t, left,
-        );
+        return threshold(s, scope, pool, places, code, st, t, left);
     }
     if t.kind != kind::OPEN {
-        return licensee(
-            s, query, consts, values, names, constants, pool, places, code, st, t, left,
-        );
+        return licensee(s, scope, pool, places, code, st, t, left);
     }
     if left == 0 {
         return Licensed::Aside {
@@ -273,27 +230,11 @@ fn primary<'a>(
         };
     }
     let n = token_at(s, kind::IN_LICENSEES, t.end);
-    match chain(
-        s,
-        query,
-        consts,
-        values,
-        names,
-        constants,
-        pool,
-        places,
-        code,
-        st,
-        n,
-        ANY,
-        left - 1,
-    ) {
+    match chain(s, scope, pool, places, code, st, n, ANY, left - 1) {
         Licensed::On { state, next } => match closed(s, state, next) {
             Licensed::On { state: u, next: v } => {
                 if is_longer(st, u, v.kind) {
-                    return licensee(
-                        s, query, consts, values, names, constants, pool, places, code, st, t, left,
-                    );
+                    return licensee(s, scope, pool, places, code, st, t, left);
                 }
                 Licensed::On { state: u, next: v }
             }
@@ -314,13 +255,9 @@ fn finished(st: State, t: Token) -> Licensed
 }
 
 // The field whose first token is t: its program goes into `code` from `size` on.
-pub fn licensees<'a>(
+pub fn licensees(
     s: &[u8],
-    query: &'a [u8],
-    consts: &'a [u8],
-    values: &[usize],
-    names: &[usize],
-    constants: &[usize],
+    scope: &Scope,
     pool: &mut [u8],
     places: &mut [usize],
     code: &mut [u16],
@@ -328,7 +265,7 @@ pub fn licensees<'a>(
     size: usize,
     t: Token,
 ) -> Licensed
-    ensures { ran result pool.new places.new code.new ≡ field_in s.now (sight query.now consts.now values.now names.now constants.now) pool.old places.old code.old index.count index.end size t }
+    ensures { ran result pool.new places.new code.new ≡ field_in s.now (sight scope.now.query.now scope.now.consts.now scope.now.values.now scope.now.names.now scope.now.constants.now) pool.old places.old code.old index.count index.end size t }
 {
     if code.len() < size {
         return Licensed::Aside {
@@ -364,21 +301,7 @@ pub fn licensees<'a>(
         listed: 0,
         fault: clear(),
     };
-    match chain(
-        s,
-        query,
-        consts,
-        values,
-        names,
-        constants,
-        pool,
-        places,
-        code,
-        st,
-        t,
-        ANY,
-        MOST_BRACKETS,
-    ) {
+    match chain(s, scope, pool, places, code, st, t, ANY, MOST_BRACKETS) {
         Licensed::On { state, next } => finished(state, next),
         aside => aside,
     }

@@ -13,6 +13,7 @@ use crate::identifier::{Named, is_plain, plain_named, string_named};
 use crate::whole::is_whole;
 use compliance::machine as instruction;
 use conditions::table::is_string;
+use expression::name::Scope;
 use index::{Index, Numbered, enter};
 use lexical::kind;
 use lexical::line::token_at;
@@ -209,13 +210,9 @@ fn placed_number(code: &mut [u16], st: State, n: Token, e: Numbered) -> Licensed
 
 // The licensee that is the name from `start` to `stop` alone, before a token. Both are handed over in parts: a copy of a whole one would wait for the
 // stores of its parts.
-pub(crate) fn name_before<'a>(
+pub(crate) fn name_before(
     s: &[u8],
-    query: &'a [u8],
-    consts: &'a [u8],
-    values: &[usize],
-    names: &[usize],
-    constants: &[usize],
+    scope: &Scope,
     pool: &mut [u8],
     places: &mut [usize],
     code: &mut [u16],
@@ -226,7 +223,7 @@ pub(crate) fn name_before<'a>(
     from: usize,
     to: usize,
 ) -> Licensed
-    ensures { ran result pool.new places.new code.new ≡ before_in s.now (sight query.now consts.now values.now names.now constants.now) pool.old places.old code.old st (token Kind.NAME start stop) (token then from to) }
+    ensures { ran result pool.new places.new code.new ≡ before_in s.now (sight scope.now.query.now scope.now.consts.now scope.now.values.now scope.now.names.now scope.now.constants.now) pool.old places.old code.old st (token Kind.NAME start stop) (token then from to) }
 {
     if MOST_LICENSEES <= st.listed {
         return Licensed::Aside {
@@ -246,9 +243,7 @@ pub(crate) fn name_before<'a>(
         start: from,
         end: to,
     };
-    let e = plain_named(
-        s, query, consts, values, names, constants, pool, places, st.index, t, n,
-    );
+    let e = plain_named(s, scope, pool, places, st.index, t, n);
     placed(code, st, start, e)
 }
 
@@ -286,13 +281,9 @@ pub(crate) fn literal_before(
 }
 
 // The licensee whose first token is t, any string; `left` more brackets may be opened.
-fn string_licensee<'a>(
+fn string_licensee(
     s: &[u8],
-    query: &'a [u8],
-    consts: &'a [u8],
-    values: &[usize],
-    names: &[usize],
-    constants: &[usize],
+    scope: &Scope,
     pool: &mut [u8],
     places: &mut [usize],
     code: &mut [u16],
@@ -300,7 +291,7 @@ fn string_licensee<'a>(
     t: Token,
     left: usize,
 ) -> Licensed
-    ensures { ran result pool.new places.new code.new ≡ string_in s.now (sight query.now consts.now values.now names.now constants.now) pool.old places.old code.old st left t }
+    ensures { ran result pool.new places.new code.new ≡ string_in s.now (sight scope.now.query.now scope.now.consts.now scope.now.values.now scope.now.names.now scope.now.constants.now) pool.old places.old code.old st left t }
 {
     let p = plain_from(s, t, left);
     if is_over(st.listed, p.kind) {
@@ -312,20 +303,14 @@ fn string_licensee<'a>(
         };
     }
     let nest = nest_of(left);
-    let e = string_named(
-        s, query, consts, values, names, constants, pool, places, st.index, t, nest,
-    );
+    let e = string_named(s, scope, pool, places, st.index, t, nest);
     placed(code, st, p.start, e)
 }
 
 // The licensee whose first token is t; `left` more brackets may be opened.
-pub fn licensee<'a>(
+pub fn licensee(
     s: &[u8],
-    query: &'a [u8],
-    consts: &'a [u8],
-    values: &[usize],
-    names: &[usize],
-    constants: &[usize],
+    scope: &Scope,
     pool: &mut [u8],
     places: &mut [usize],
     code: &mut [u16],
@@ -333,14 +318,12 @@ pub fn licensee<'a>(
     t: Token,
     left: usize,
 ) -> Licensed
-    ensures { ran result pool.new places.new code.new ≡ licensee_in s.now (sight query.now consts.now values.now names.now constants.now) pool.old places.old code.old st left t }
+    ensures { ran result pool.new places.new code.new ≡ licensee_in s.now (sight scope.now.query.now scope.now.consts.now scope.now.values.now scope.now.names.now scope.now.constants.now) pool.old places.old code.old st left t }
 {
     if is_plain(s, t) {
         let n = token_at(s, kind::IN_FIELD, t.end);
         if n.kind == kind::DOT {
-            return string_licensee(
-                s, query, consts, values, names, constants, pool, places, code, st, t, left,
-            );
+            return string_licensee(s, scope, pool, places, code, st, t, left);
         }
         if t.kind != kind::NAME {
             return literal_before(
@@ -348,13 +331,10 @@ pub fn licensee<'a>(
             );
         }
         return name_before(
-            s, query, consts, values, names, constants, pool, places, code, st, t.start, t.end,
-            n.kind, n.start, n.end,
+            s, scope, pool, places, code, st, t.start, t.end, n.kind, n.start, n.end,
         );
     }
-    string_licensee(
-        s, query, consts, values, names, constants, pool, places, code, st, t, left,
-    )
+    string_licensee(s, scope, pool, places, code, st, t, left)
 }
 
 // How many licensees were read since there were `before`; 0 where that is no list's length.
@@ -453,13 +433,9 @@ struct Listing {
 }
 
 // The list of a K-of, from a licensee on.
-fn list<'a>(
+fn list(
     s: &[u8],
-    query: &'a [u8],
-    consts: &'a [u8],
-    values: &[usize],
-    names: &[usize],
-    constants: &[usize],
+    scope: &Scope,
     pool: &mut [u8],
     places: &mut [usize],
     code: &mut [u16],
@@ -467,14 +443,12 @@ fn list<'a>(
     st: State,
     from: Token,
 ) -> Licensed
-    ensures { ran result pool.new places.new code.new ≡ list_in s.now (sight query.now consts.now values.now names.now constants.now) m.left m.k m.before pool.old places.old code.old st from }
+    ensures { ran result pool.new places.new code.new ≡ list_in s.now (sight scope.now.query.now scope.now.consts.now scope.now.values.now scope.now.names.now scope.now.constants.now) m.left m.k m.before pool.old places.old code.old st from }
 {
     let mut state = st;
     let mut t = from;
     loop {
-        match licensee(
-            s, query, consts, values, names, constants, pool, places, code, state, t, m.left,
-        ) {
+        match licensee(s, scope, pool, places, code, state, t, m.left) {
             Licensed::On { state: u, next } => {
                 if next.kind == kind::CLOSE {
                     return list_end(s, code, m.k, m.before, u, next);
@@ -501,13 +475,9 @@ fn list<'a>(
 }
 
 // The bracket t of a K-of; `left` more brackets may be opened.
-fn opened<'a>(
+fn opened(
     s: &[u8],
-    query: &'a [u8],
-    consts: &'a [u8],
-    values: &[usize],
-    names: &[usize],
-    constants: &[usize],
+    scope: &Scope,
     pool: &mut [u8],
     places: &mut [usize],
     code: &mut [u16],
@@ -516,7 +486,7 @@ fn opened<'a>(
     t: Token,
     left: usize,
 ) -> Licensed
-    ensures { ran result pool.new places.new code.new ≡ opened_in left s.now (sight query.now consts.now values.now names.now constants.now) k pool.old places.old code.old st t }
+    ensures { ran result pool.new places.new code.new ≡ opened_in left s.now (sight scope.now.query.now scope.now.consts.now scope.now.values.now scope.now.names.now scope.now.constants.now) k pool.old places.old code.old st t }
 {
     if t.kind != kind::OPEN {
         return refused(t);
@@ -533,11 +503,7 @@ fn opened<'a>(
     match literals(s, pool, places, code, st, n) {
         Licensed::On { state, next } => list(
             s,
-            query,
-            consts,
-            values,
-            names,
-            constants,
+            scope,
             pool,
             places,
             code,
@@ -554,13 +520,9 @@ fn opened<'a>(
 }
 
 // A K-of, from its number t on.
-pub fn threshold<'a>(
+pub fn threshold(
     s: &[u8],
-    query: &'a [u8],
-    consts: &'a [u8],
-    values: &[usize],
-    names: &[usize],
-    constants: &[usize],
+    scope: &Scope,
     pool: &mut [u8],
     places: &mut [usize],
     code: &mut [u16],
@@ -568,7 +530,7 @@ pub fn threshold<'a>(
     t: Token,
     left: usize,
 ) -> Licensed
-    ensures { ran result pool.new places.new code.new ≡ threshold_in left s.now (sight query.now consts.now values.now names.now constants.now) pool.old places.old code.old st t }
+    ensures { ran result pool.new places.new code.new ≡ threshold_in left s.now (sight scope.now.query.now scope.now.consts.now scope.now.values.now scope.now.names.now scope.now.constants.now) pool.old places.old code.old st t }
 {
     let k = number_at(s, t.start, t.end);
     if k == 0 {
@@ -592,19 +554,5 @@ pub fn threshold<'a>(
         return refused(o);
     }
     let n = token_at(s, kind::IN_LICENSEES, o.end);
-    opened(
-        s,
-        query,
-        consts,
-        values,
-        names,
-        constants,
-        pool,
-        places,
-        code,
-        small(k),
-        st,
-        n,
-        left,
-    )
+    opened(s, scope, pool, places, code, small(k), st, n, left)
 }

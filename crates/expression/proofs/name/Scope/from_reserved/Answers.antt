@@ -1,5 +1,5 @@
 use Rattle.expression.specs.Working.Searching.{query-least, query-most, query-values, query-authorizers, query-attribute}
-use Rattle.expression.proofs.name.from_reserved.Goals as goal
+use Rattle.expression.proofs.name.Scope.from_reserved.Goals as goal
 
 pub returns-then-same_bytes : goal.returns-then-same_bytes
 returns-then-same_bytes c = search query-least
