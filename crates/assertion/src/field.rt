@@ -7,6 +7,7 @@ ghost use Rattle.naming.specs.Working.Authorizing.{authorizer_in};
 ghost use Rattle.naming.specs.Working.Chain.{field_in};
 ghost use Rattle.assertion.specs.Working.Field.{given, tabled, moved, passed_on, settled, settled_as, made_as, listed, listed_as, on_judged, field_at};
 
+use expression::name::Scope;
 use fields::constants::{Settings, constants as local_constants};
 use fields::out::{Out, ended};
 use fields::version::version;
@@ -94,35 +95,19 @@ fn constants_field(
     }
 }
 
-fn authorizer_field<'a>(
+fn authorizer_field(
     s: &[u8],
     standing: u8,
-    query: &'a [u8],
-    values: &[usize],
-    names: &[usize],
-    consts: &'a [u8],
-    constants: &[usize],
+    scope: &Scope,
     pool: &mut [u8],
     places: &mut [usize],
     d: Partial,
     t: Token,
 ) -> Went
-    ensures { settled result pool.new places.new ≡ made_as d (authorizer_in s.now standing (sight query.now consts.now values.now names.now (take d.known constants.now)) pool.old places.old d.index.count d.index.end t) }
+    ensures { settled result pool.new places.new ≡ made_as d (authorizer_in s.now standing (sight scope.now.query.now scope.now.consts.now scope.now.values.now scope.now.names.now scope.now.constants.now) pool.old places.old d.index.count d.index.end t) }
 {
     let besides = d.besides;
-    match authorizer(
-        s,
-        standing,
-        query,
-        consts,
-        values,
-        names,
-        front(constants, d.known),
-        pool,
-        places,
-        d.index,
-        t,
-    ) {
+    match authorizer(s, standing, scope, pool, places, d.index, t) {
         Author::Aside { fault } => Went::Aside { fault },
         Author::On {
             number,
@@ -146,36 +131,19 @@ fn authorizer_field<'a>(
     }
 }
 
-fn licensees_field<'a>(
+fn licensees_field(
     s: &[u8],
-    query: &'a [u8],
-    values: &[usize],
-    names: &[usize],
-    consts: &'a [u8],
-    constants: &[usize],
+    scope: &Scope,
     pool: &mut [u8],
     places: &mut [usize],
     code: &mut [u16],
     d: Partial,
     t: Token,
 ) -> Went
-    ensures { listed result pool.new places.new code.new ≡ listed_as d (field_in s.now (sight query.now consts.now values.now names.now (take d.known constants.now)) pool.old places.old code.old d.index.count d.index.end d.size t) }
+    ensures { listed result pool.new places.new code.new ≡ listed_as d (field_in s.now (sight scope.now.query.now scope.now.consts.now scope.now.values.now scope.now.names.now scope.now.constants.now) pool.old places.old code.old d.index.count d.index.end d.size t) }
 {
     let against = d.against;
-    match licensees(
-        s,
-        query,
-        consts,
-        values,
-        names,
-        front(constants, d.known),
-        pool,
-        places,
-        code,
-        d.index,
-        d.size,
-        t,
-    ) {
+    match licensees(s, scope, pool, places, code, d.index, d.size, t) {
         Licensed::Aside { fault } => Went::Aside { fault },
         Licensed::On { state, next } => {
             let index = state.index;
@@ -198,30 +166,13 @@ fn licensees_field<'a>(
     }
 }
 
-fn conditions_field<'a>(
-    s: &[u8],
-    query: &'a [u8],
-    values: &[usize],
-    names: &[usize],
-    consts: &'a [u8],
-    constants: &[usize],
-    d: Partial,
-    t: Token,
-) -> Went
-    ensures { result ≡ on_judged d (judged_here s.now t query.now consts.now values.now names.now (take d.known constants.now)) }
+fn conditions_field(s: &[u8], scope: &Scope, d: Partial, t: Token) -> Went
+    ensures { result ≡ on_judged d (judged_here s.now t scope.now.query.now scope.now.consts.now scope.now.values.now scope.now.names.now scope.now.constants.now) }
 {
     let index = d.index;
     let against = d.against;
     let besides = d.besides;
-    match judge_field(
-        s,
-        t,
-        query,
-        consts,
-        values,
-        names,
-        front(constants, d.known),
-    ) {
+    match judge_field(s, t, scope) {
         Judged::Aside { fault } => Went::Aside { fault },
         Judged::On { rank, next } => Went::On {
             partial: Partial {
@@ -265,18 +216,21 @@ pub fn field(
     if k == kind::LOCAL_CONSTANTS {
         return constants_field(s, consts, start, constants, d, t);
     }
+    let scope = Scope {
+        query,
+        consts,
+        values,
+        names,
+        constants: front(constants, d.known),
+    };
     if k == kind::AUTHORIZER {
-        return authorizer_field(
-            s, standing, query, values, names, consts, constants, pool, places, d, t,
-        );
+        return authorizer_field(s, standing, &scope, pool, places, d, t);
     }
     if k == kind::LICENSEES {
-        return licensees_field(
-            s, query, values, names, consts, constants, pool, places, code, d, t,
-        );
+        return licensees_field(s, &scope, pool, places, code, d, t);
     }
     if k == kind::CONDITIONS {
-        return conditions_field(s, query, values, names, consts, constants, d, t);
+        return conditions_field(s, &scope, d, t);
     }
     passed(d, ended(t))
 }

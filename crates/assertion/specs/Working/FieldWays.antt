@@ -68,40 +68,40 @@ module _ (d : Partial) (x : Stored) (r : Settings) (c q : List ℕ) (e : stored 
   settings-not f k = rw (← e, k)
 
 -- `authorizer_field`
-module _ (d : Partial) (s : List ℕ) (standing : ℕ) (query consts values names constants known pool places : List ℕ) (t : Token) (ke : known ≡ take d.known constants)
+module _ (d : Partial) (s : List ℕ) (standing : ℕ) (query consts values names known pool places : List ℕ) (t : Token)
     (r : Author) (p l : List ℕ) (e : made r p l ≡ authorizer_in s standing (sight query consts values names known) pool places d.index.count d.index.end t) where
   abbrev meant : Settled
-  meant = made_as d (authorizer_in s standing (sight query consts values names (take d.known constants)) pool places d.index.count d.index.end t)
+  meant = made_as d (authorizer_in s standing (sight query consts values names known) pool places d.index.count d.index.end t)
 
   pub author-on : (i : ℕ) (x : Index) (f : Fault) (n : Token) → r ≡ Authored i x f n → settled (On (authored_by d i x f) n) p l ≡ meant
-  author-on i x f n k = rw (← ke, ← e, k)
+  author-on i x f n k = rw (← e, k)
 
   pub author-not : (f : Fault) → r ≡ Unauthored f → settled (Aside f) p l ≡ meant
-  author-not f k = rw (← ke, ← e, k)
+  author-not f k = rw (← e, k)
 
 -- `licensees_field`
-module _ (d : Partial) (s query consts values names constants known pool places code : List ℕ) (t : Token) (ke : known ≡ take d.known constants)
+module _ (d : Partial) (s query consts values names known pool places code : List ℕ) (t : Token)
     (r : Licensed) (p l m : List ℕ) (e : ran r p l m ≡ field_in s (sight query consts values names known) pool places code d.index.count d.index.end d.size t) where
   abbrev listing : Listing
-  listing = listed_as d (field_in s (sight query consts values names (take d.known constants)) pool places code d.index.count d.index.end d.size t)
+  listing = listed_as d (field_in s (sight query consts values names known) pool places code d.index.count d.index.end d.size t)
 
   pub listed-on : (u : State) (n : Token) → r ≡ Listed u n → listed (On (licensed_to d u) n) p l m ≡ listing
-  listed-on u n k = rw (← ke, ← e, k)
+  listed-on u n k = rw (← e, k)
 
   pub listed-not : (f : Fault) → r ≡ Unlisted f → listed (Aside f) p l m ≡ listing
-  listed-not f k = rw (← ke, ← e, k)
+  listed-not f k = rw (← e, k)
 
 -- `conditions_field`
-module _ (d : Partial) (s : List ℕ) (t : Token) (query consts values names constants known : List ℕ) (ke : known ≡ take d.known constants)
+module _ (d : Partial) (s : List ℕ) (t : Token) (query consts values names known : List ℕ)
     (r : Judged) (e : r ≡ judged_here s t query consts values names known) where
   abbrev judged : Went
-  judged = on_judged d (judged_here s t query consts values names (take d.known constants))
+  judged = on_judged d (judged_here s t query consts values names known)
 
   pub judged-on : (k : ℕ) (n : Token) → r ≡ Ranked k n → On (ranked_at d k) n ≡ judged
-  judged-on k n f = rw (← ke, ← e, f)
+  judged-on k n f = rw (← e, f)
 
   pub judged-not : (w : Fault) → r ≡ Unranked w → Aside w ≡ judged
-  judged-not w f = rw (← ke, ← e, f)
+  judged-not w f = rw (← e, f)
 
 -- `field`
 module _ (s : List ℕ) (standing : ℕ) (query values names : List ℕ) (start k : ℕ) (consts constants pool places code : List ℕ) (d : Partial) (t : Token) where
@@ -122,25 +122,25 @@ module _ (s : List ℕ) (standing : ℕ) (query values names : List ℕ) (start 
     field-constants r c q h e = rw (h, ← e)
 
     module _ (n5 : k ≡ Kind.LOCAL_CONSTANTS → ⊥) where
-      pub field-authorizer : (r : Went) (p l : List ℕ) → k ≡ Kind.AUTHORIZER
-          → settled r p l ≡ made_as d (authorizer_in s standing (sight query consts values names (take d.known constants)) pool places d.index.count d.index.end t)
+      pub field-authorizer : (known : List ℕ) → known ≡ take d.known constants → (r : Went) (p l : List ℕ) → k ≡ Kind.AUTHORIZER
+          → settled r p l ≡ made_as d (authorizer_in s standing (sight query consts values names known) pool places d.index.count d.index.end t)
           → moved r (tabled consts constants p l code) ≡ field_at g k x d t
       unfolding field_at authorizer_at
-      field-authorizer r p l h e = rw (h, ← e)
+      field-authorizer known ke r p l h e = rw (h, ← ke, ← e)
 
       module _ (n6 : k ≡ Kind.AUTHORIZER → ⊥) where
-        pub field-licensees : (r : Went) (p l m : List ℕ) → k ≡ Kind.LICENSEES
-            → listed r p l m ≡ listed_as d (field_in s (sight query consts values names (take d.known constants)) pool places code d.index.count d.index.end d.size t)
+        pub field-licensees : (known : List ℕ) → known ≡ take d.known constants → (r : Went) (p l m : List ℕ) → k ≡ Kind.LICENSEES
+            → listed r p l m ≡ listed_as d (field_in s (sight query consts values names known) pool places code d.index.count d.index.end d.size t)
             → moved r (tabled consts constants p l m) ≡ field_at g k x d t
         unfolding field_at licensees_at
-        field-licensees r p l m h e = rw (h, ← e)
+        field-licensees known ke r p l m h e = rw (h, ← ke, ← e)
 
         module _ (n7 : k ≡ Kind.LICENSEES → ⊥) where
-          pub field-conditions : (r : Went) → k ≡ Kind.CONDITIONS
-              → r ≡ on_judged d (judged_here s t query consts values names (take d.known constants))
+          pub field-conditions : (known : List ℕ) → known ≡ take d.known constants → (r : Went) → k ≡ Kind.CONDITIONS
+              → r ≡ on_judged d (judged_here s t query consts values names known)
               → moved r x ≡ field_at g k x d t
           unfolding field_at conditions_at
-          field-conditions r h e = rw (h, e)
+          field-conditions known ke r h e = rw (h, ← ke, e)
 
           pub field-comment : (o : Out) (r : Went) → (k ≡ Kind.CONDITIONS → ⊥) → o ≡ ended_out t → r ≡ passed_on d o → moved r x ≡ field_at g k x d t
           unfolding field_at
