@@ -54,13 +54,10 @@ fn passed(d: Partial, o: Out) -> Went
 }
 
 // The first n entries, or all where there are fewer.
-fn front(places: &[usize], n: usize) -> &[usize]
-    ensures { result.now ≡ take n places.now }
+pub fn front<T>(l: &[T], n: usize) -> &[T]
+    ensures { result.now ≡ take n l.now }
 {
-    if places.len() <= n {
-        return places;
-    }
-    &places[..n]
+    &l[..n.min(l.len())]
 }
 
 fn constants_field(

@@ -18,10 +18,7 @@ pub const LINES: usize = 64 + 33 * MOST_ASSERTIONS;
 pub fn cut(text: &[u8], n: usize) -> &[u8]
     ensures { result.now ≡ take n text.now }
 {
-    if text.len() <= n {
-        return text;
-    }
-    &text[..n]
+    &text[..n.min(text.len())]
 }
 
 // Writes at a place as much of a text as fits, and gives the place behind it.

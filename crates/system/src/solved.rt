@@ -1,13 +1,14 @@
 // A query solved: its tables are made, filled and handed to the solver.
-ghost use Rattle.std.specs.Prelude.{◌≡◌, [], ◌∷◌, take, ◌-◌, ◌%◌};
+ghost use Rattle.std.specs.Prelude.{◌≡◌, [], ◌∷◌, ◌-◌, ◌%◌};
 ghost use Rattle.text.specs.Copy.{copied, copy_at};
 ghost use Rattle.system.specs.Working.Each.{fixed};
 ghost use Rattle.system.specs.Working.Sizes.{middle, large};
 ghost use Rattle.system.specs.Working.Solving.{solved_by, rows_give, grown_in, filled_in, filled_long, solved_in};
 
 use crate::asked::{ask_all, begin as begin_index};
-use crate::each::read_each;
+use crate::each::{Shared, read_each};
 use crate::note::{Ends, put_header};
+use assertion::field::front;
 use compliance::{Solution, solve};
 use constants::begin as begin_constants;
 use index::Index;
@@ -35,33 +36,6 @@ const MIDDLE_MOST: usize = MIDDLE_POOL - MOST_ENTERED;
 
 // Longer records, and those with more assertions, mostly need the larger tables.
 const LONG: usize = 16384;
-
-fn front_bytes(l: &[u8], n: usize) -> &[u8]
-    ensures { result.now ≡ take n l.now }
-{
-    if l.len() <= n {
-        return l;
-    }
-    &l[..n]
-}
-
-fn front_pairs(l: &[u16], n: usize) -> &[u16]
-    ensures { result.now ≡ take n l.now }
-{
-    if l.len() <= n {
-        return l;
-    }
-    &l[..n]
-}
-
-fn front_places(l: &[usize], n: usize) -> &[usize]
-    ensures { result.now ≡ take n l.now }
-{
-    if l.len() <= n {
-        return l;
-    }
-    &l[..n]
-}
 
 // Copies numbers into dst at a place, and tells whether they fit; where they don't, nothing is written.
 fn copy_places(dst: &mut [usize], at: usize, src: &[usize]) -> bool
@@ -104,11 +78,11 @@ fn solve_rows(
     ensures { result ≡ rows_give authors.now conds.now ends.now code.now direct.now e top }
 {
     solve(
-        front_pairs(authors, e.kept),
-        front_bytes(conds, e.kept),
-        front_pairs(ends, e.kept),
-        front_pairs(code, e.size),
-        front_bytes(direct, e.index.count),
+        front(authors, e.kept),
+        front(conds, e.kept),
+        front(ends, e.kept),
+        front(code, e.size),
+        front(direct, e.index.count),
         top,
     )
 }
@@ -116,11 +90,7 @@ fn solve_rows(
 // The assertions from the one with that number on read and solved, over tables for every query that begin as the old ones.
 #[inline(never)]
 fn grown_large(
-    query: &[u8],
-    values: &[usize],
-    names: &[usize],
-    top: u8,
-    start: usize,
+    shared: &Shared,
     texts: &[usize],
     joined: &[u8],
     identifiers: &[u8],
@@ -134,7 +104,7 @@ fn grown_large(
     next: usize,
     e: Ends,
 ) -> Solution
-    ensures { solved_by result page.new ≡ grown_in large [] (fixed query.now values.now names.now top start) texts.now joined.now identifiers.now indexed.now marks.now code.old authors.old conds.old ends.old page.old next e }
+    ensures { solved_by result page.new ≡ grown_in large [] (fixed shared.now.query.now shared.now.values.now shared.now.names.now shared.now.top shared.now.start) texts.now joined.now identifiers.now indexed.now marks.now code.old authors.old conds.old ends.old page.old next e }
 {
     let mut consts = [0u8; MOST_CONSTS];
     let mut pool = [0u8; MOST_POOL];
@@ -145,11 +115,7 @@ fn grown_large(
     copy_places(&mut places, 0, indexed);
     text::copy_at(&mut direct, 0, marks);
     let w = read_each(
-        query,
-        values,
-        names,
-        top,
-        start,
+        shared,
         texts,
         &mut consts,
         &mut pool,
@@ -162,17 +128,13 @@ fn grown_large(
         next,
         e,
     );
-    solve_rows(authors, conds, ends, code, &direct, w.ends, top)
+    solve_rows(authors, conds, ends, code, &direct, w.ends, shared.top)
 }
 
 // The same over tables for most long records, and from where these are full over those for every query.
 #[inline(never)]
 fn grown(
-    query: &[u8],
-    values: &[usize],
-    names: &[usize],
-    top: u8,
-    start: usize,
+    shared: &Shared,
     texts: &[usize],
     joined: &[u8],
     identifiers: &[u8],
@@ -186,7 +148,7 @@ fn grown(
     next: usize,
     e: Ends,
 ) -> Solution
-    ensures { solved_by result page.new ≡ grown_in middle (large ∷ []) (fixed query.now values.now names.now top start) texts.now joined.now identifiers.now indexed.now marks.now code.old authors.old conds.old ends.old page.old next e }
+    ensures { solved_by result page.new ≡ grown_in middle (large ∷ []) (fixed shared.now.query.now shared.now.values.now shared.now.names.now shared.now.top shared.now.start) texts.now joined.now identifiers.now indexed.now marks.now code.old authors.old conds.old ends.old page.old next e }
 {
     let mut consts = [0u8; MOST_CONSTS];
     let mut pool = [0u8; MIDDLE_POOL];
@@ -197,11 +159,7 @@ fn grown(
     copy_places(&mut places, 0, indexed);
     text::copy_at(&mut direct, 0, marks);
     let w = read_each(
-        query,
-        values,
-        names,
-        top,
-        start,
+        shared,
         texts,
         &mut consts,
         &mut pool,
@@ -217,16 +175,12 @@ fn grown(
     let u = w.ends;
     if w.next < texts.len() {
         return grown_large(
-            query,
-            values,
-            names,
-            top,
-            start,
+            shared,
             texts,
-            front_bytes(&consts, start),
-            front_bytes(&pool, u.index.end),
-            front_places(&places, u.index.count),
-            front_bytes(&direct, u.index.count),
+            front(&consts, shared.start),
+            front(&pool, u.index.end),
+            front(&places, u.index.count),
+            front(&direct, u.index.count),
             code,
             authors,
             conds,
@@ -236,7 +190,7 @@ fn grown(
             u,
         );
     }
-    solve_rows(authors, conds, ends, code, &direct, u, top)
+    solve_rows(authors, conds, ends, code, &direct, u, shared.top)
 }
 
 // The assertions at `texts` read and solved, over an index that has POLICY and the requesters.
@@ -259,7 +213,13 @@ fn fill(
     let mut authors = [0u16; SOME_ROWS];
     let mut conds = [0u8; SOME_ROWS];
     let mut ends = [0u16; SOME_ROWS];
-    let top = top_of(values.len());
+    let shared = Shared {
+        query,
+        values,
+        names,
+        top: top_of(values.len()),
+        start,
+    };
     put_header(page, texts.len());
     let from = Ends {
         index,
@@ -267,11 +227,7 @@ fn fill(
         kept: 0,
     };
     let w = read_each(
-        query,
-        values,
-        names,
-        top,
-        start,
+        &shared,
         texts,
         consts,
         pool,
@@ -287,16 +243,12 @@ fn fill(
     let e = w.ends;
     if w.next < texts.len() {
         return grown(
-            query,
-            values,
-            names,
-            top,
-            start,
+            &shared,
             texts,
-            front_bytes(consts, start),
-            front_bytes(pool, e.index.end),
-            front_places(places, e.index.count),
-            front_bytes(direct, e.index.count),
+            front(consts, start),
+            front(pool, e.index.end),
+            front(places, e.index.count),
+            front(direct, e.index.count),
             &mut code,
             &mut authors,
             &mut conds,
@@ -306,7 +258,7 @@ fn fill(
             e,
         );
     }
-    solve_rows(&authors, &conds, &ends, &code, direct, e, top)
+    solve_rows(&authors, &conds, &ends, &code, direct, e, shared.top)
 }
 
 // The same for a long record or many assertions: into the middle tables at once, or into the large ones. That each of the functions called here is called
@@ -330,7 +282,13 @@ fn fill_long(
     let mut authors = [0u16; MOST_ASSERTIONS];
     let mut conds = [0u8; MOST_ASSERTIONS];
     let mut ends = [0u16; MOST_ASSERTIONS];
-    let top = top_of(values.len());
+    let shared = Shared {
+        query,
+        values,
+        names,
+        top: top_of(values.len()),
+        start,
+    };
     put_header(page, texts.len());
     let e = Ends {
         index,
@@ -339,16 +297,12 @@ fn fill_long(
     };
     if MIDDLE_MOST < e.index.end {
         return grown_large(
-            query,
-            values,
-            names,
-            top,
-            start,
+            &shared,
             texts,
-            front_bytes(consts, start),
-            front_bytes(pool, e.index.end),
-            front_places(places, e.index.count),
-            front_bytes(direct, e.index.count),
+            front(consts, start),
+            front(pool, e.index.end),
+            front(places, e.index.count),
+            front(direct, e.index.count),
             &mut code,
             &mut authors,
             &mut conds,
@@ -359,16 +313,12 @@ fn fill_long(
         );
     }
     grown(
-        query,
-        values,
-        names,
-        top,
-        start,
+        &shared,
         texts,
-        front_bytes(consts, start),
-        front_bytes(pool, e.index.end),
-        front_places(places, e.index.count),
-        front_bytes(direct, e.index.count),
+        front(consts, start),
+        front(pool, e.index.end),
+        front(places, e.index.count),
+        front(direct, e.index.count),
         &mut code,
         &mut authors,
         &mut conds,
