@@ -1,5 +1,5 @@
 // A query solved: its tables are made, filled and handed to the solver.
-ghost use Rattle.std.specs.Prelude.{◌≡◌, [], ◌∷◌, ◌-◌, ◌%◌};
+ghost use Rattle.std.specs.Prelude.{◌≡◌, [], ◌∷◌, length, ◌-◌, ◌%◌};
 ghost use Rattle.text.specs.Copy.{copied, copy_at};
 ghost use Rattle.system.specs.Working.Each.{fixed};
 ghost use Rattle.system.specs.Working.Sizes.{middle, large};
@@ -65,6 +65,15 @@ fn top_of(n: usize) -> u8
     ((n - 1) % 256) as u8
 }
 
+// What the smaller tables hold: the joined texts, the identifiers, their places, and which of them are requesters.
+#[derive(Clone, Copy)]
+struct Begun<'a> {
+    joined: &'a [u8],
+    identifiers: &'a [u8],
+    indexed: &'a [usize],
+    marks: &'a [u8],
+}
+
 // What the rows in use give.
 fn solve_rows(
     authors: &[u16],
@@ -88,14 +97,12 @@ fn solve_rows(
 }
 
 // The assertions from the one with that number on read and solved, over tables for every query that begin as the old ones.
+// Kept: one function for this and `grown` would call itself with a larger table, and such a call gets no proof.
 #[inline(never)]
 fn grown_large(
     shared: &Shared,
     texts: &[usize],
-    joined: &[u8],
-    identifiers: &[u8],
-    indexed: &[usize],
-    marks: &[u8],
+    begun: &Begun,
     code: &mut [u16],
     authors: &mut [u16],
     conds: &mut [u8],
@@ -104,16 +111,16 @@ fn grown_large(
     next: usize,
     e: Ends,
 ) -> Solution
-    ensures { solved_by result page.new ≡ grown_in large [] (fixed shared.now.query.now shared.now.values.now shared.now.names.now shared.now.top shared.now.start) texts.now joined.now identifiers.now indexed.now marks.now code.old authors.old conds.old ends.old page.old next e }
+    ensures { solved_by result page.new ≡ grown_in large [] (fixed shared.now.query.now shared.now.values.now shared.now.names.now shared.now.top shared.now.start) texts.now begun.now.joined.now begun.now.identifiers.now begun.now.indexed.now begun.now.marks.now code.old authors.old conds.old ends.old page.old next e }
 {
     let mut consts = [0u8; MOST_CONSTS];
     let mut pool = [0u8; MOST_POOL];
     let mut places = [0usize; MOST_PRINCIPALS];
     let mut direct = [0u8; MOST_PRINCIPALS];
-    text::copy_at(&mut consts, 0, joined);
-    text::copy_at(&mut pool, 0, identifiers);
-    copy_places(&mut places, 0, indexed);
-    text::copy_at(&mut direct, 0, marks);
+    text::copy_at(&mut consts, 0, begun.joined);
+    text::copy_at(&mut pool, 0, begun.identifiers);
+    copy_places(&mut places, 0, begun.indexed);
+    text::copy_at(&mut direct, 0, begun.marks);
     let w = read_each(
         shared,
         texts,
@@ -136,10 +143,7 @@ fn grown_large(
 fn grown(
     shared: &Shared,
     texts: &[usize],
-    joined: &[u8],
-    identifiers: &[u8],
-    indexed: &[usize],
-    marks: &[u8],
+    begun: &Begun,
     code: &mut [u16],
     authors: &mut [u16],
     conds: &mut [u8],
@@ -148,16 +152,16 @@ fn grown(
     next: usize,
     e: Ends,
 ) -> Solution
-    ensures { solved_by result page.new ≡ grown_in middle (large ∷ []) (fixed shared.now.query.now shared.now.values.now shared.now.names.now shared.now.top shared.now.start) texts.now joined.now identifiers.now indexed.now marks.now code.old authors.old conds.old ends.old page.old next e }
+    ensures { solved_by result page.new ≡ grown_in middle (large ∷ []) (fixed shared.now.query.now shared.now.values.now shared.now.names.now shared.now.top shared.now.start) texts.now begun.now.joined.now begun.now.identifiers.now begun.now.indexed.now begun.now.marks.now code.old authors.old conds.old ends.old page.old next e }
 {
     let mut consts = [0u8; MOST_CONSTS];
     let mut pool = [0u8; MIDDLE_POOL];
     let mut places = [0usize; MOST_PRINCIPALS];
     let mut direct = [0u8; MOST_PRINCIPALS];
-    text::copy_at(&mut consts, 0, joined);
-    text::copy_at(&mut pool, 0, identifiers);
-    copy_places(&mut places, 0, indexed);
-    text::copy_at(&mut direct, 0, marks);
+    text::copy_at(&mut consts, 0, begun.joined);
+    text::copy_at(&mut pool, 0, begun.identifiers);
+    copy_places(&mut places, 0, begun.indexed);
+    text::copy_at(&mut direct, 0, begun.marks);
     let w = read_each(
         shared,
         texts,
@@ -174,20 +178,14 @@ fn grown(
     );
     let u = w.ends;
     if w.next < texts.len() {
+        let begun = Begun {
+            joined: front(&consts, shared.start),
+            identifiers: front(&pool, u.index.end),
+            indexed: front(&places, u.index.count),
+            marks: front(&direct, u.index.count),
+        };
         return grown_large(
-            shared,
-            texts,
-            front(&consts, shared.start),
-            front(&pool, u.index.end),
-            front(&places, u.index.count),
-            front(&direct, u.index.count),
-            code,
-            authors,
-            conds,
-            ends,
-            page,
-            w.next,
-            u,
+            shared, texts, &begun, code, authors, conds, ends, page, w.next, u,
         );
     }
     solve_rows(authors, conds, ends, code, &direct, u, shared.top)
@@ -195,11 +193,8 @@ fn grown(
 
 // The assertions at `texts` read and solved, over an index that has POLICY and the requesters.
 fn fill(
-    query: &[u8],
-    values: &[usize],
-    names: &[usize],
+    shared: &Shared,
     texts: &[usize],
-    start: usize,
     consts: &mut [u8],
     pool: &mut [u8],
     places: &mut [usize],
@@ -207,19 +202,13 @@ fn fill(
     index: Index,
     page: &mut [u8],
 ) -> Solution
-    ensures { solved_by result page.new ≡ filled_in query.now values.now names.now texts.now start consts.old pool.old places.old direct.now index page.old }
+    requires { shared.now.top ≡ (length shared.now.values.now - 1) % 256 }
+    ensures { solved_by result page.new ≡ filled_in shared.now.query.now shared.now.values.now shared.now.names.now texts.now shared.now.start consts.old pool.old places.old direct.now index page.old }
 {
     let mut code = [0u16; SOME_CODE];
     let mut authors = [0u16; SOME_ROWS];
     let mut conds = [0u8; SOME_ROWS];
     let mut ends = [0u16; SOME_ROWS];
-    let shared = Shared {
-        query,
-        values,
-        names,
-        top: top_of(values.len()),
-        start,
-    };
     put_header(page, texts.len());
     let from = Ends {
         index,
@@ -227,7 +216,7 @@ fn fill(
         kept: 0,
     };
     let w = read_each(
-        &shared,
+        shared,
         texts,
         consts,
         pool,
@@ -242,13 +231,16 @@ fn fill(
     );
     let e = w.ends;
     if w.next < texts.len() {
+        let begun = Begun {
+            joined: front(consts, shared.start),
+            identifiers: front(pool, e.index.end),
+            indexed: front(places, e.index.count),
+            marks: front(direct, e.index.count),
+        };
         return grown(
-            &shared,
+            shared,
             texts,
-            front(consts, start),
-            front(pool, e.index.end),
-            front(places, e.index.count),
-            front(direct, e.index.count),
+            &begun,
             &mut code,
             &mut authors,
             &mut conds,
@@ -264,11 +256,8 @@ fn fill(
 // The same for a long record or many assertions: into the middle tables at once, or into the large ones. That each of the functions called here is called
 // from two places also has the compiler keep their tables apart.
 fn fill_long(
-    query: &[u8],
-    values: &[usize],
-    names: &[usize],
+    shared: &Shared,
     texts: &[usize],
-    start: usize,
     consts: &[u8],
     pool: &[u8],
     places: &[usize],
@@ -276,33 +265,30 @@ fn fill_long(
     index: Index,
     page: &mut [u8],
 ) -> Solution
-    ensures { solved_by result page.new ≡ filled_long query.now values.now names.now texts.now start consts.now pool.now places.now direct.now index page.old }
+    requires { shared.now.top ≡ (length shared.now.values.now - 1) % 256 }
+    ensures { solved_by result page.new ≡ filled_long shared.now.query.now shared.now.values.now shared.now.names.now texts.now shared.now.start consts.now pool.now places.now direct.now index page.old }
 {
     let mut code = [0u16; MOST_PROGRAMS];
     let mut authors = [0u16; MOST_ASSERTIONS];
     let mut conds = [0u8; MOST_ASSERTIONS];
     let mut ends = [0u16; MOST_ASSERTIONS];
-    let shared = Shared {
-        query,
-        values,
-        names,
-        top: top_of(values.len()),
-        start,
-    };
     put_header(page, texts.len());
     let e = Ends {
         index,
         size: 0,
         kept: 0,
     };
+    let begun = Begun {
+        joined: front(consts, shared.start),
+        identifiers: front(pool, e.index.end),
+        indexed: front(places, e.index.count),
+        marks: front(direct, e.index.count),
+    };
     if MIDDLE_MOST < e.index.end {
         return grown_large(
-            &shared,
+            shared,
             texts,
-            front(consts, start),
-            front(pool, e.index.end),
-            front(places, e.index.count),
-            front(direct, e.index.count),
+            &begun,
             &mut code,
             &mut authors,
             &mut conds,
@@ -313,12 +299,9 @@ fn fill_long(
         );
     }
     grown(
-        &shared,
+        shared,
         texts,
-        front(consts, start),
-        front(pool, e.index.end),
-        front(places, e.index.count),
-        front(direct, e.index.count),
+        &begun,
         &mut code,
         &mut authors,
         &mut conds,
@@ -354,22 +337,21 @@ pub fn solved(
         &mut direct,
         alone,
     );
-    if LONG < query.len() {
-        return fill_long(
-            query, values, names, texts, start, &consts, &pool, &places, &direct, index, page,
-        );
-    }
-    if SOME_ROWS < texts.len() {
-        return fill_long(
-            query, values, names, texts, start, &consts, &pool, &places, &direct, index, page,
-        );
-    }
-    fill(
+    let shared = Shared {
         query,
         values,
         names,
-        texts,
+        top: top_of(values.len()),
         start,
+    };
+    if LONG < query.len() || SOME_ROWS < texts.len() {
+        return fill_long(
+            &shared, texts, &consts, &pool, &places, &direct, index, page,
+        );
+    }
+    fill(
+        &shared,
+        texts,
         &mut consts,
         &mut pool,
         &mut places,
