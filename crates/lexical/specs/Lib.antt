@@ -1,3 +1,4 @@
+pub mod Found
 pub mod Kind
 pub mod Class
 pub mod Run

@@ -100,40 +100,36 @@ pub const IN_COMMENT: u8 = 2;
 pub const IN_FIELD: u8 = 3;
 
 // Where the text goes on behind a label of this kind.
+#[tactic(auto, unfolding(crate::specs::Kind::opened))]
 pub fn mode_of(kind: usize) -> u8
     ensures { result ≡ opened kind }
 {
-    if kind == LICENSEES {
-        return IN_LICENSEES;
+    match kind {
+        LICENSEES => IN_LICENSEES,
+        COMMENT => IN_COMMENT,
+        _ => IN_FIELD,
     }
-    if kind == COMMENT {
-        return IN_COMMENT;
-    }
-    IN_FIELD
 }
 
 // Where it goes on behind any token.
+#[tactic(auto, unfolding(crate::specs::Kind::mode_after))]
 pub fn mode_after(mode: u8, kind: usize) -> u8
     ensures { result ≡ mode_after mode kind }
 {
-    if kind < KEYNOTE_VERSION {
-        return mode;
+    match kind {
+        KEYNOTE_VERSION..=SIGNATURE => mode_of(kind),
+        _ => mode,
     }
-    if SIGNATURE < kind {
-        return mode;
-    }
-    mode_of(kind)
 }
 
 // The reason for a fault of this kind, or 0; its place is the token's start.
+#[tactic(auto, unfolding(crate::specs::Reason::reason_of))]
 pub fn reason_of(kind: usize) -> u8
     ensures { result ≡ reason_of kind }
 {
-    if kind == ILLEGAL {
-        return 1;
+    match kind {
+        ILLEGAL => 1,
+        BAD_LINE => 3,
+        _ => 0,
     }
-    if kind == BAD_LINE {
-        return 3;
-    }
-    0
 }

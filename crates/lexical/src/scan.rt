@@ -6,89 +6,72 @@ ghost use Rattle.lexical.specs.Working.Runs.{white, free, wordly};
 
 use crate::class::{is_blank, is_name_letter, is_numeral};
 
-pub const BLANKS: u8 = 0;
-
-pub const WHITE: u8 = 1;
-
-pub const FREE: u8 = 2;
-
-pub const WORD: u8 = 3;
-
-pub const NUMERALS: u8 = 4;
+// What a run is made of: spaces and tabs; these and newlines; all but newline and NUL; letters, digits and underscores; digits.
+#[derive(Clone, Copy)]
+pub enum Run {
+    Blanks,
+    White,
+    Free,
+    Word,
+    Numerals,
+}
 
 // The byte k places on, or 0 behind the end.
 pub fn byte_at(s: &[u8], i: usize, k: usize) -> u8
     ensures { result ≡ get_or s.now (i + k) 0 }
 {
-    if s.len() <= i {
-        return 0;
-    }
-    if s.len() - i <= k {
-        return 0;
-    }
-    s[i + k]
+    s.get(i.saturating_add(k)).copied().unwrap_or(0)
 }
 
 // Is it a space, a tab or a newline?
+#[tactic(auto, unfolding(crate::specs::Working::Runs::white))]
 fn is_white(b: u8) -> bool
     ensures { result ≡ white b }
 {
-    if is_blank(b) {
-        return true;
-    }
-    b == b'\n'
+    is_blank(b) || b == b'\n'
 }
 
 // Is it neither newline nor NUL?
+#[tactic(auto, unfolding(crate::specs::Working::Runs::free))]
 fn is_free(b: u8) -> bool
     ensures { result ≡ free b }
 {
-    if b == b'\n' {
-        return false;
-    }
-    b != 0
+    b != b'\n' && b != 0
 }
 
 // Is it a letter, a digit or the underscore?
+#[tactic(auto, unfolding(crate::specs::Working::Runs::wordly))]
 fn is_wordly(b: u8) -> bool
     ensures { result ≡ wordly b }
 {
-    if is_name_letter(b) {
-        return true;
-    }
-    is_numeral(b)
+    is_name_letter(b) || is_numeral(b)
 }
 
-// Does a byte belong to the run k?
-pub fn in_run(k: u8, b: u8) -> bool
-    ensures { result ≡ in_run k b }
-{
-    if k == BLANKS {
-        return is_blank(b);
+impl Run {
+    // Does a byte belong to it?
+    #[tactic(auto, using(crate::proofs::ScanWays::runs))]
+    pub fn has(self, b: u8) -> bool
+        ensures { result ≡ in_run self b }
+    {
+        match self {
+            Run::Blanks => is_blank(b),
+            Run::White => is_white(b),
+            Run::Free => is_free(b),
+            Run::Word => is_wordly(b),
+            Run::Numerals => is_numeral(b),
+        }
     }
-    if k == WHITE {
-        return is_white(b);
-    }
-    if k == FREE {
-        return is_free(b);
-    }
-    if k == WORD {
-        return is_wordly(b);
-    }
-    is_numeral(b)
 }
 
-// The end of the run k that starts at `at`.
-pub fn skip(s: &[u8], at: usize, k: u8) -> usize
-    ensures { result ≡ past (in_run k) s.now at }
+// The end of the run that starts at `at`.
+#[tactic(auto, using(text::specs::Scan::scan))]
+pub fn skip(s: &[u8], at: usize, run: Run) -> usize
+    ensures { result ≡ past (in_run run) s.now at }
 {
-    let mut i = at;
-    while i < s.len() {
-        if in_run(k, s[i]) {
-            i += 1;
-        } else {
+    for i in at..s.len() {
+        if !run.has(s[i]) {
             return i;
         }
     }
-    i
+    at.max(s.len())
 }

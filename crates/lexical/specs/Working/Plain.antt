@@ -9,7 +9,7 @@ use borrow.Author.Tests.{lt-leb, eq-eqb, eqb-true, ltb-true, ltb-false}
 use Rattle.text.specs.Choice.{pick, split, clash}
 use Rattle.text.specs.Scan.{past, past_more, past_stop, past_end, past-from}
 use Rattle.lexical.specs.Theorems.Bounds.{chosen, byte-within}
-use Rattle.lexical.specs.Unit.{GIVES, gives, closes, barred, unit_at}
+use Rattle.lexical.specs.Unit.{GIVES, gives, closes, barred, kind, unit_at}
 use Rattle.lexical.specs.Literal.{units_at, given, literal_end, decoded_at}
 use Rattle.lexical.specs.Theorems.LiteralLaws.{units-more, units-last}
 
@@ -45,7 +45,7 @@ module _ (s : List ℕ) (i : ℕ) (h : i < length s) (p : plain (get_or s i 0) �
       simp (lt-leb _ _ h, u, v, w)
 
   plain-units : units_at s i ≡ gives 1 (get_or s i 0) ∷ units_at s (i + 1)
-  plain-units = let k : (unit_at s i).kind ≤ GIVES = rw plain-unit (omega arith) in rw plain-unit at (units-more s i k)
+  plain-units = let k : kind (unit_at s i) ≤ GIVES = rw plain-unit (omega arith) in rw plain-unit at (units-more s i k)
 
 -- a literal ends where it ends behind its plain bytes
 end-behind : (n : ℕ) (s : List ℕ) (i : ℕ) → length s - i ≤ n → literal_end s i ≡ literal_end s (past plain s i)
@@ -71,7 +71,7 @@ module _ (s : List ℕ) (e : ℕ) (q : get_or s e 0 ≡ 34) where
   quote-unit = simp (lt-leb _ _ quote-within, eq-eqb _ _ q)
 
   pub quote-units : units_at s e ≡ closes ∷ []
-  quote-units = let k : GIVES < (unit_at s e).kind = rw quote-unit (omega arith) in rw quote-unit at (units-last s e k)
+  quote-units = let k : GIVES < kind (unit_at s e) = rw quote-unit (omega arith) in rw quote-unit at (units-last s e k)
 
   pub end-quote : literal_end s e ≡ e + 1
   unfolding literal_end
