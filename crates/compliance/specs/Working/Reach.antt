@@ -1,7 +1,7 @@
 -- The reach as flags, one for each principal, in the code's shape, and the ways of its functions. Assumes nothing.
-use Rattle.std.specs.Prelude.{◌≡◌, refl, Bool, true, false, List, [], ◌∷◌, ℕ, zero, suc, ◌+◌, ◌-◌, ◌≤◌, ◌<◌, eqb, ltb, get_or, set, take, drop}
+use Rattle.std.specs.Prelude.{◌≡◌, refl, Bool, true, false, List, [], ◌∷◌, ℕ, zero, suc, ◌+◌, ◌-◌, ◌≤◌, ◌<◌, eqb, ltb, get_or, set, take, drop, Option, MatchOption}
 use Rattle.std.proofs.Math.Path.{sym}
-use Rattle.std.proofs.Common.{◌∙◌, drop_of_length-le, drop-cons, drop-set-lt, get_or-take}
+use Rattle.std.proofs.Common.{◌∙◌, drop_of_length-le, drop-cons, drop-set-lt, get_or-take, le_refl}
 use native.Mathlib.Omega.{arith}
 use Rattle.std.proofs.Math.Numerals.{add-one}
 use Rattle.std.proofs.Math.Nat.{sub-zero}
@@ -31,6 +31,12 @@ open_at authors done reach j = pick (eqb (get_or done j 0) 0) (eqb (get_or reach
 unfoldable pub open_from : List ℕ → List ℕ → List ℕ → ℕ → ℕ → ℕ
 open_from authors done reach zero j = j
 open_from authors done reach (suc k) j = pick (open_at authors done reach j) j (open_from authors done reach k (suc j))
+
+-- the first such of all, if there is one
+abbrev pub FirstOpen : List ℕ → List ℕ → List ℕ → Option ℕ → Type 0
+FirstOpen authors done reach o =
+    MatchOption o (open_from authors done reach (length authors) 0 ≡ length authors)
+    (λ j. (j ≡ open_from authors done reach (length authors) 0) × (j < length authors))
 
 -- at most k assertions expanded
 unfoldable pub spread_from : List ℕ → List ℕ → List ℕ → ℕ → List ℕ → List ℕ → List ℕ
@@ -73,13 +79,15 @@ spare-on a b c e f = e ∙ f
 
 -- `is_reached`
 module _ (ws : List ℕ) (n i : ℕ) where
-  pub reached-at : i < n → (r : ℕ) → r ≡ get_or (flags_of ws) i 0 → r ≡ get_or (flags_in n ws) i 0
+  pub reached-at : i < n → (b : Bool) → b ≡ eqb (get_or (flags_of ws) i 0) 1 → b ≡ eqb (get_or (flags_in n ws) i 0) 1
   unfolding flags_in
-  reached-at h r e = e ∙ sym (get_or-take n (flags_of ws) i 0 h)
+  reached-at h b e = e ∙ rw (get_or-take n (flags_of ws) i 0 h)
 
-  pub reached-past : n ≤ i → 0 ≡ get_or (flags_in n ws) i 0
+  pub reached-past : n ≤ i → ltb i n ≡ eqb (get_or (flags_in n ws) i 0) 1
   unfolding flags_in
-  reached-past h = sym (get_or-eq_default (take n (flags_of ws)) 0 (omega (arith, h, length-take n (flags_of ws))))
+  reached-past h =
+      let e : get_or (take n (flags_of ws)) i 0 ≡ 0 = get_or-eq_default (take n (flags_of ws)) 0 (omega (arith, h, length-take n (flags_of ws))) in
+      rw (le-ltb i n h, e)
 
 unfoldable pub mark_from : List ℕ → ℕ → List ℕ → List ℕ
 mark_from code i reach = marked_all (drop i code) reach
@@ -98,11 +106,11 @@ module _ (code : List ℕ) (i : ℕ) (reach a : List ℕ) (inv : mark_from code 
   mark-end h = rw (drop_of_length-le code h) at inv
 
 module _ (authors done reach : List ℕ) (j d : ℕ) (de : d ≡ get_or done j 0) where
-  pub open-flag : d ≡ 0 → (p f : ℕ) → p ≡ get_or authors j 0 → f ≡ get_or reach p 0 → eqb f 1 ≡ open_at authors done reach j
+  pub open-flag : d ≡ 0 → (p : ℕ) → p ≡ get_or authors j 0 → (b : Bool) → b ≡ eqb (get_or reach p 0) 1 → b ≡ open_at authors done reach j
   unfolding open_at
-  open-flag h p f pe fe = simp (sym de, eq-eqb d 0 h, sym pe, sym fe)
+  open-flag h p pe b be = simp (sym de, eq-eqb d 0 h, sym pe, sym be)
 
-  pub open_done : (d ≡ 0 → ⊥) → false ≡ open_at authors done reach j
+  pub open_done : (d ≡ 0 → ⊥) → eqb d 0 ≡ open_at authors done reach j
   unfolding open_at
   open_done n = simp (sym de, ne_eqb d 0 n)
 
@@ -110,9 +118,9 @@ pub open-start : (authors done reach : List ℕ) → open_from authors done reac
 open-start authors done reach = rw sub-zero
 
 module _ (authors done reach : List ℕ) (j r : ℕ) (inv : open_from authors done reach (length authors - j) j ≡ r) where
-  pub open_none : length authors ≤ j → j ≡ r
+  pub open_none : length authors ≤ j → j ≤ length authors → r ≡ length authors
   unfolding open_from
-  open_none h = let z : length authors - j ≡ 0 = omega arith in rw z at inv
+  open_none h g = let z : length authors - j ≡ 0 = omega arith in omega (arith, rw z at inv, h, g)
 
   module _ (h : j < length authors) (o : Bool) (oe : o ≡ open_at authors done reach j) where
     pub open-here : o ≡ true → j ≡ r
@@ -139,15 +147,15 @@ module _ (authors ends code : List ℕ) where
     unfolding spread_from
     spread_end h = let z : length authors - n ≡ 0 = omega arith in rw z at inv
 
-    module _ (h : n < length authors) (j : ℕ) (je : j ≡ open_from authors done reach (length authors) 0) where
-      pub spread-stop : length authors ≤ j → reach ≡ a
+    module _ (h : n < length authors) where
+      pub spread-stop : open_from authors done reach (length authors) 0 ≡ length authors → reach ≡ a
       unfolding spread_from
-      spread-stop k = rw (one_less (length authors) n h, ← je, le-ltb j (length authors) k) at inv
+      spread-stop e = rw (one_less (length authors) n h, e, le-ltb (length authors) (length authors) (le_refl _)) at inv
 
-      pub spread-more : j < length authors → (d z : List ℕ) → Expanded d z (set done j 1) (marked_all (program_of ends code j) reach)
+      pub spread-more : (j : ℕ) → (j ≡ open_from authors done reach (length authors) 0) × (j < length authors) → (d z : List ℕ) → Expanded d z (set done j 1) (marked_all (program_of ends code j) reach)
           → spread_from authors ends code (length authors - (n + 1)) d z ≡ a
       unfolding spread_from
-      spread-more k d z e = rw (e.expanded, e.flags) (rw (one_less (length authors) n h, ← je, lt-ltb j (length authors) k) at inv)
+      spread-more j (je, k) d z e = rw (e.expanded, e.flags) (rw (one_less (length authors) n h, ← je, lt-ltb j (length authors) k) at inv)
 
 pub found-is : (authors ends code done reach r z : List ℕ) → r ≡ marked 0 reach → z ≡ spread_from authors ends code (length authors) done r
     → z ≡ spread_from authors ends code (length authors) done (marked 0 reach)

@@ -16,10 +16,6 @@ use Rattle.compliance.specs.Working.RoundWays.{settle-same}
 use Rattle.compliance.specs.Working.Words.{flags_of, flags_in, spare_in, words_for, take-blank, blank-flags, blank-spare, parted-at, parted-count}
 use Rattle.compliance.specs.declared.Solution.{Solution}
 
--- the principals that the smaller tables are made for
-abbrev pub few : ℕ
-few = 64
-
 -- n numbers, all 0
 abbrev pub blank : ℕ → List ℕ
 blank n = replicate n 0
@@ -64,18 +60,18 @@ blank-ranks m n ranks next reach done b = b.no_ranks ∙ rw b.next_long
 
 -- the first n numbers of a blank table of k
 module _ (k n : ℕ) (h : n ≤ k) where
-  pub part-long : n ≡ length (take n (blank k))
+  part-long : n ≡ length (take n (blank k))
   part-long = rw (take-blank n k h) (sym (length-replicate n 0))
 
-  pub part-blank : k ≤ most_principals → (j m : ℕ) → m ≤ j → Blank m n (take n (blank k)) (take n (blank k)) (blank (words_for k)) (take m (blank j))
-  part-blank few j m i =
-      let w : length (blank (words_for k)) ≡ words_for k = length-replicate {A = ℕ} (words_for k) 0 in
+  pub part-blank : k ≤ most_principals → (w : ℕ) → w ≡ words_for k → (j m : ℕ) → m ≤ j → Blank m n (take n (blank k)) (take n (blank k)) (blank w) (take m (blank j))
+  part-blank few w we j m i =
+      let l : length (blank w) ≡ w = length-replicate {A = ℕ} w 0 in
       record {
         no_ranks = take-blank n k h;
         next_long = sym part-long;
-        no_reach = ap blank (sym w);
-        reach_wide = omega (arith, h, w);
-        reach_few = omega (arith, few, w);
+        no_reach = ap blank (sym l);
+        reach_wide = omega (arith, h, l, we);
+        reach_few = omega (arith, few, l, we);
         none_done = take-blank m j i;
       }
 
