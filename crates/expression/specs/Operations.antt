@@ -5,8 +5,8 @@ use Rattle.text.specs.Choice.{pick}
 use Rattle.text.specs.Order.{order}
 use Rattle.text.specs.Decimal.{decimal}
 use Rattle.text.specs.declared.Integer.{Integer}
-use Rattle.text.specs.declared.Order.{Order}
-use Rattle.text.specs.declared.Order.TheVariants.{Less, Equal, Greater}
+use Rattle.std.specs.declared.cmp.Ordering.{Ordering as Order}
+use Rattle.std.specs.declared.cmp.Ordering.TheVariants.{Less, Equal, Greater}
 use Rattle.pattern.specs.Test.{test_of}
 use Rattle.pattern.specs.declared.Answer.{Answer}
 use Rattle.pattern.specs.declared.Answer.TheVariants.{Yes, No, Error}

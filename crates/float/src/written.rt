@@ -57,7 +57,7 @@ fn with_fraction(negative: bool, whole: &[u8], digits: &[u8]) -> f32
     requires { AllDigits whole.now }
     ensures { result ≡ with_fraction negative whole.now digits.now }
 {
-    let j = text::front(digits, text::DIGIT);
+    let j = text::front(digits, text::Class::Digit);
     if j == 0 {
         return 0.0;
     }
@@ -70,7 +70,7 @@ fn with_fraction(negative: bool, whole: &[u8], digits: &[u8]) -> f32
 fn without_sign(negative: bool, s: &[u8]) -> f32
     ensures { result ≡ unsigned negative s.now }
 {
-    let k = text::front(s, text::DIGIT);
+    let k = text::front(s, text::Class::Digit);
     if k == 0 {
         return 0.0;
     }

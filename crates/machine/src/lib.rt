@@ -67,7 +67,7 @@ fn digits_end(s: &[u8], at: usize) -> usize
     if s.len() <= at {
         return at;
     }
-    at + text::front(&s[at..], text::DIGIT)
+    at + text::front(&s[at..], text::Class::Digit)
 }
 
 // The float that the literal from a place on writes.
@@ -112,7 +112,7 @@ fn push_text(stack: &mut [u64], n: usize, bytes: &mut [u8], t: usize, b: &[u8]) 
     if MOST_STRING < k {
         return put(stack, n, t, Operand::Fault);
     }
-    if text::copy_long(bytes, t, b) {
+    if text::copy_at(bytes, t, b) {
         return put(stack, n, t + k, Operand::Text { length: k });
     }
     Tops::Stuck

@@ -78,7 +78,7 @@ fn name_front(b: &[u8]) -> usize
         return 0;
     }
     if text::is_letter(b[0]) {
-        return text::front(b, text::WORD);
+        return text::front(b, text::Class::Word);
     }
     0
 }
@@ -181,7 +181,7 @@ impl Cursor {
         match self.field(s, least, most) {
             Moved::To { value, next } => {
                 let b = text::counted_at(s, value);
-                let k = text::front(b, text::PLAIN);
+                let k = text::front(b, text::Class::Plain);
                 if k < b.len() {
                     return Moved::Refused {
                         number: 6,

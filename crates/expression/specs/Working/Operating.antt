@@ -15,11 +15,12 @@ use Rattle.text.specs.Order.{order}
 use Rattle.text.specs.OrderLaws.{order-refl, order-equal}
 use Rattle.text.specs.Decimal.{integer as signed, decimal}
 use Rattle.text.specs.declared.Integer.{Integer}
-use Rattle.text.specs.declared.Order.{Order}
+use Rattle.std.specs.declared.cmp.Ordering.{Ordering as Order}
+use Rattle.std.specs.Ordering.{is_eq, is_ne, is_lt, is_gt, is_le, is_ge}
 use Rattle.pattern.specs.Test.{test_of}
 use Rattle.pattern.specs.declared.Answer.{Answer}
 use Rattle.pattern.specs.declared.Answer.TheVariants.{Yes, No, Error}
-use Rattle.text.specs.declared.Order.TheVariants.{Less, Equal, Greater}
+use Rattle.std.specs.declared.cmp.Ordering.TheVariants.{Less, Equal, Greater}
 use Rattle.float.specs.Written.{float_of}
 use Rattle.float.specs.Operations as Floats
 use Rattle.float.specs.declared.operation.Computed.{Computed}
@@ -204,6 +205,39 @@ module _ (k : ℕ) (o : Order) (r : Bool) where
           pub relates-least : q ≡ is_less o → (k ≡ 4 → ⊥) → r ≡ not q → r ≡ relates_by k o
           unfolding relates_by
           relates-least qe n4 e = e ∙ simp (qe, ne_eqb _ _ n0, ne_eqb _ _ n1, ne_eqb _ _ n2, ne_eqb _ _ n3, ne_eqb _ _ n4)
+
+-- the library's tests of an order
+pub eq-is : (o : Order) → is_eq o ≡ is_equal o
+eq-is Less = refl
+eq-is Equal = refl
+eq-is Greater = refl
+
+pub ne-is : (o : Order) → is_ne o ≡ not (is_equal o)
+ne-is Less = refl
+ne-is Equal = refl
+ne-is Greater = refl
+
+pub lt-is : (o : Order) → is_lt o ≡ is_less o
+lt-is Less = refl
+lt-is Equal = refl
+lt-is Greater = refl
+
+pub gt-is : (o : Order) → is_gt o ≡ is_greater o
+gt-is Less = refl
+gt-is Equal = refl
+gt-is Greater = refl
+
+pub le-is : (o : Order) → is_le o ≡ not (is_greater o)
+le-is Less = refl
+le-is Equal = refl
+le-is Greater = refl
+
+pub ge-is : (o : Order) → is_ge o ≡ not (is_less o)
+ge-is Less = refl
+ge-is Equal = refl
+ge-is Greater = refl
+
+pub ruleset orders = (eq-is, ne-is, lt-is, gt-is, le-is, ge-is, eq-eqb, ne_eqb)
 
 -- the ways out of `of_integers`
 module _ (op : ℕ) (a b : Integer) (r : Operand) where

@@ -39,13 +39,13 @@ passes p [] e i h = absurd (not-suc-le-zero h)
 passes p (x ∷ xs) e zero h = head-is p x xs e
 passes p (x ∷ xs) e (suc i) h = passes p xs (tail-same p x xs e) i (le_of_suc-le-suc h)
 
-ten : (b : ℕ) → in_class 1 b ≡ true → b - 48 < 10
+ten : (b : ℕ) → in_class digit b ≡ true → b - 48 < 10
 unfolding in_class is_digit
 ten b e = split (leb 48 b) (λ t. let h : b ≤ 57 = leb-true b 57 (rw t at e) in omega arith) (λ t. clash refl (sym (rw t at e)))
 
 digit-is : (ds : List ℕ) (i d : ℕ) → AllDigits ds → i < length ds → d ≡ get_or ds i 0 - 48 → d < 10
 unfolding AllDigits
-digit-is ds i d a h e = subst (λ (z : ℕ). z < 10) (sym e) (ten (get_or ds i 0) (passes (in_class 1) ds a i h))
+digit-is ds i d a h e = subst (λ (z : ℕ). z < 10) (sym e) (ten (get_or ds i 0) (passes (in_class digit) ds a i h))
 
 -- the loop
 module _ (v m n i d : ℕ) (ds : List ℕ) (a : AllDigits ds) (h : i < length ds) (small : n < 10 ^ (m + i)) where
@@ -132,17 +132,17 @@ rest-none s = ap (take (length s - length s)) (drop_of_length-le s (le_refl (len
     take-empty zero = refl
     take-empty (suc k) = refl
 
-pub digits-all : (ds : List ℕ) (j : ℕ) → j ≡ run (in_class 1) ds → length ds ≤ j → AllDigits ds
+pub digits-all : (ds : List ℕ) (j : ℕ) → j ≡ run (in_class digit) ds → length ds ≤ j → AllDigits ds
 unfolding AllDigits
-digits-all ds j e h = le_antisymm (run_length (in_class 1) ds) (subst (λ (z : ℕ). length ds ≤ z) e h)
+digits-all ds j e h = le_antisymm (run_length (in_class digit) ds) (subst (λ (z : ℕ). length ds ≤ z) e h)
 
 pub run-front : (p : ℕ → Bool) (xs : List ℕ) → run p (take (run p xs) xs) ≡ length (take (run p xs) xs)
 run-front p [] = refl
 run-front p (x ∷ xs) = split (p x) (λ t. rw (t, t) (ap suc (run-front p xs))) (λ t. rw t refl)
 
-pub digits-front : (s : List ℕ) (k : ℕ) → k ≡ run (in_class 1) s → AllDigits (take k s)
+pub digits-front : (s : List ℕ) (k : ℕ) → k ≡ run (in_class digit) s → AllDigits (take k s)
 unfolding AllDigits
-digits-front s k e = subst (λ (z : ℕ). run (in_class 1) (take z s) ≡ length (take z s)) (sym e) (run-front (in_class 1) s)
+digits-front s k e = subst (λ (z : ℕ). run (in_class digit) (take z s) ≡ length (take z s)) (sym e) (run-front (in_class digit) s)
 
 no-digits : AllDigits []
 unfolding AllDigits
@@ -152,7 +152,7 @@ pub digits-none : (s : List ℕ) → AllDigits (take (length s - length s) (drop
 digits-none s = subst AllDigits (sym (rest-none s)) no-digits
 
 -- the ways out of `with_fraction`
-module _ (n : Bool) (w ds : List ℕ) (j : ℕ) (je : j ≡ run (in_class 1) ds) where
+module _ (n : Bool) (w ds : List ℕ) (j : ℕ) (je : j ≡ run (in_class digit) ds) where
   pub fraction-none : j ≡ 0 → nought ≡ with_fraction n w ds
   unfolding with_fraction
   fraction-none h = simp (sym je, eq-eqb _ _ h)
@@ -170,7 +170,7 @@ module _ (n : Bool) (w ds : List ℕ) (j : ℕ) (je : j ≡ run (in_class 1) ds)
 tail-is : (s : List ℕ) (k : ℕ) → take (length s - k) (drop k s) ≡ drop k s
 tail-is s k = take_all (length s - k) (drop k s) (simp length-drop (omega arith))
 
-module _ (n : Bool) (s : List ℕ) (k : ℕ) (ke : k ≡ run (in_class 1) s) where
+module _ (n : Bool) (s : List ℕ) (k : ℕ) (ke : k ≡ run (in_class digit) s) where
   pub unsigned-none : k ≡ 0 → nought ≡ unsigned n s
   unfolding unsigned
   unsigned-none h = simp (sym ke, eq-eqb _ _ h)

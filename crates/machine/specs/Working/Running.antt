@@ -10,6 +10,7 @@ use Rattle.std.proofs.lemmas.List.{length-map}
 use Rattle.std.proofs.Math.Seq.{drop-drop, get_or-take}
 use borrow.Author.Tests.{le-leb, lt-leb, lt-ltb, le-ltb, ltb-true, ltb-false, eq-eqb, ne_eqb}
 use Rattle.text.specs.Choice.{pick, split, clash}
+use Rattle.text.specs.Class.{word}
 use Rattle.text.specs.Counted.{counted}
 use Rattle.text.specs.Digits.{digits_at, value}
 use Rattle.lexical.specs.Literal.{decoded_at}
@@ -51,9 +52,9 @@ module _ (s : List ℕ) (look : List ℕ → List ℕ) (op at : ℕ) where
     push-literal h l = rw (eq-eqb op 0 h) l
 
     module _ (n0 : op ≡ 0 → ⊥) where
-      pub push-name : op ≡ 1 → (a : List ℕ) → a ≡ run_at 2 s at → (b : List ℕ) → b ≡ look a → Live r st m (text_step depth room b vs bs) → Live r st m (push_step depth room s look op at vs bs)
+      pub push-name : op ≡ 1 → (a : List ℕ) → a ≡ run_at word s at → (b : List ℕ) → b ≡ look a → Live r st m (text_step depth room b vs bs) → Live r st m (push_step depth room s look op at vs bs)
       unfolding push_step
-      push-name h a ae b be l = let q : b ≡ look (run_at 2 s at) = be ∙ ap look ae in rw (ne_eqb op 0 n0, eq-eqb op 1 h, ← q) l
+      push-name h a ae b be l = let q : b ≡ look (run_at word s at) = be ∙ ap look ae in rw (ne_eqb op 0 n0, eq-eqb op 1 h, ← q) l
 
   module _ (n0 : op ≡ 0 → ⊥) (n1 : op ≡ 1 → ⊥) (room : ℕ) (st m : List ℕ) (n t : ℕ) (hn : n ≤ length st) (ht : t ≤ length m) (r : Tops) (st' : List ℕ) where
     pub push-number : op ≡ 2 → (k : ℕ) → k ≡ min (value (digits_at s at)) 4294967295 → (v : Operand) → v ≡ operand (ranged false k)

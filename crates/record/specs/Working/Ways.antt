@@ -10,7 +10,7 @@ use Rattle.std.proofs.Math.Seq.{drop-cons, take-nil}
 use borrow.Author.Tests.{lt-ltb, le-ltb, le-leb, lt-leb, eq-eqb, ne_eqb}
 use Rattle.text.specs.Choice.{pick, split}
 use Rattle.text.specs.Scan.{run}
-use Rattle.text.specs.Class.{is_letter, in_class}
+use Rattle.text.specs.Class.{is_letter, in_class, plain, word}
 use Rattle.text.specs.Equal.{equal}
 use Rattle.text.specs.Counted.{part, pair_at, counted}
 use Rattle.limits.specs.Limits.{least_value, most_value, least_requester, most_requester, least_name, most_name, least_setting, most_setting, least_text, most_text, most_standing}
@@ -28,7 +28,7 @@ module _ (b : List ℕ) where
   name-empty h = rw (get_or-eq_default b 0 h)
 
   module _ (l : Bool) (le : l ≡ is_letter (get_or b 0 0)) where
-    pub name-letter : l ≡ true → (k : ℕ) → k ≡ run (in_class 2) b → k ≡ name_front b
+    pub name-letter : l ≡ true → (k : ℕ) → k ≡ run (in_class word) b → k ≡ name_front b
     unfolding name_front
     name-letter t k e = simp (sym le, t) e
 
@@ -158,7 +158,7 @@ module _ (s : List ℕ) (least most at : ℕ) (m : Moved) (me : m ≡ field_move
   unfolding plain_move
   plain-refused n p e = simp (sym me, e)
 
-  module _ (v : ℕ) (c : Cursor) (e : m ≡ To v c) (b : List ℕ) (be : b ≡ counted s v) (k : ℕ) (ke : k ≡ run (in_class 0) b) where
+  module _ (v : ℕ) (c : Cursor) (e : m ≡ To v c) (b : List ℕ) (be : b ≡ counted s v) (k : ℕ) (ke : k ≡ run (in_class plain) b) where
     pub plain_byte : k < length b → Refused 6 (v + k) ≡ plain_move s least most at
     unfolding plain_move
     plain_byte h = simp (sym me, e, sym be, sym ke, lt-ltb _ _ h)
