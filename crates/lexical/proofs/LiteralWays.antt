@@ -2,7 +2,7 @@
 use mathlib.Core.Path.{◌≡◌, refl, sym, ap, ◌∙◌}
 use mathlib.Core.Bool.{Bool, true, false}
 use mathlib.Core.List.{List, [], ◌∷◌}
-use Prim.Native.Nat.{ℕ, suc, ◌+◌, ◌-◌, ◌≤◌, ◌<◌, ◌^◌}
+use Prim.Native.Nat.{ℕ, ◌+◌, ◌-◌, ◌≤◌, ◌<◌, ◌^◌}
 use native.Mathlib.Omega.{arith}
 use native.Mathlib.Nat.{lt_of_le_of_lt}
 use mir.Syntax.{w64}
@@ -23,7 +23,7 @@ use Rattle.lexical.specs.Decode.{ran, decode_into, within, decode_within}
 use Rattle.lexical.specs.declared.literal.Unput.TheVariants.{Long, Full}
 use Rattle.std.proofs.Common.{inl, inr}
 use Rattle.std.specs.Prelude.{◌⊎◌, Some, None, Ok, Err}
-use Rattle.text.specs.Scan.{past, past_end, past-from}
+use Rattle.text.specs.Scan.{past, past_end}
 use Rattle.lexical.specs.Working.Short.{near, near-short}
 use Rattle.lexical.specs.Working.Plain.{plain, bare_end, end-plain, quote-within, end-quote}
 
@@ -229,29 +229,16 @@ pub short-near : (s : List ℕ) (start end most : ℕ) (t : Bool) → t ≡ near
 short-near s start end most t te h = sym (le-leb _ _ (near-short s start end most (sym te ∙ h)))
 
 -- where a literal of plain bytes closes
-module _ (s : List ℕ) (start : ℕ) where
-  pub bare-past : length s ≤ start → None ≡ found (bare_end s start)
-  unfolding bare_end
-  bare-past h =
-      let p : past plain s (start + 1) ≡ start + 1 = past_end plain s (start + 1) (omega (arith, h)) in
-      let z : get_or s (start + 1) 0 ≡ 0 = get_or-eq_default s 0 (omega (arith, h)) in
-      simp (p, z)
-
-  module _ (e : ℕ) (ee : e ≡ past plain s (start + 1)) (t : Bool) (te : t ≡ eqb (get_or s e 0) 34) where
-    pub bare-closed : t ≡ true → Some e ≡ found (bare_end s start)
-    unfolding bare_end
-    bare-closed h =
-        let l : 1 ≤ e = omega (arith, ee, past-from plain s (start + 1)) in
-        let z : e ≡ suc (e - 1) = omega arith in
-        simp (sym ee, sym te, h) (rw z refl)
-
-    pub bare-open : t ≡ false → None ≡ found (bare_end s start)
-    unfolding bare_end
-    bare-open h = simp (sym ee, sym te, h)
+pub bare-past : (s : List ℕ) (start : ℕ) → length s ≤ start → None ≡ bare_end s start
+unfolding bare_end
+bare-past s start h =
+    let p : past plain s (start + 1) ≡ start + 1 = past_end plain s (start + 1) (omega (arith, h)) in
+    let z : get_or s (start + 1) 0 ≡ 0 = get_or-eq_default s 0 (omega (arith, h)) in
+    simp (p, z)
 
 pub ruleset short = (short-near)
 
-pub ruleset bare = (bare-past, bare-closed, bare-open)
+pub ruleset bare = (bare-past)
 
 pub ruleset into = (into-none, into-full, into-past, into-room, into-all)
 

@@ -108,9 +108,9 @@ pub fn is_sized(s: &[u8], start: usize, end: usize, most: usize) -> bool
 }
 
 // Where the literal at `start` closes, if it holds plain bytes only.
-#[tactic(auto, using(crate::proofs::LiteralWays::bare))]
+#[tactic(auto, using(crate::proofs::LiteralWays::bare), unfolding(crate::specs::Working::Plain::bare_end))]
 pub fn bare_end(s: &[u8], start: usize) -> Option<usize>
-    ensures { result ≡ found (bare_end s.now start) }
+    ensures { result ≡ bare_end s.now start }
 {
     if s.len() <= start {
         return None;

@@ -26,7 +26,7 @@ use expression::operator::{apply, combine, of_naturals, top_rank};
 use expression::value::{
     Operand, Packed, is_fault, is_text, kind_of, rank_in, size_of, told, unpack, width_of,
 };
-use lexical::literal::{Decoded, bare_end, decode_within};
+use lexical::literal::{Unput, bare_end, decode_within};
 use limits::MOST_STRING;
 
 // How many numbers and bytes the stacks hold; or that the machine can't go on, the code being none or a buffer too small.
@@ -130,14 +130,13 @@ fn push_literal(
     requires { (n ≤ length stack.old) × (t ≤ length bytes.old) }
     ensures { Live result stack.new bytes.new (text_step (length stack.old) (length bytes.old) (decoded_at s.now at) (take n stack.old) (take t bytes.old)) }
 {
-    let e = bare_end(s, at);
-    if e != 0 {
-        return push_text(stack, n, bytes, t, &s[at + 1..e]);
+    if let Some(end) = bare_end(s, at) {
+        return push_text(stack, n, bytes, t, &s[at + 1..end]);
     }
     match decode_within(s, at, bytes, t, MOST_STRING) {
-        Decoded::Long => put(stack, n, t, Operand::Fault),
-        Decoded::Full => Tops::Stuck,
-        Decoded::Put { count } => put(stack, n, t + count, Operand::Text { length: count }),
+        Ok(length) => put(stack, n, t + length, Operand::Text { length }),
+        Err(Unput::Long) => put(stack, n, t, Operand::Fault),
+        Err(Unput::Full) => Tops::Stuck,
     }
 }
 

@@ -1,7 +1,7 @@
 -- An expression entered by the tables is the one that the meaning reads: the index holds whom it identifies, or it identifies nobody. Assumes nothing.
 use Rattle.std.specs.Prelude.{◌≡◌, Bool, false, ℕ, zero, suc, ◌+◌, ◌-◌, ◌*◌, ◌<◌, ◌≤◌, eqb, leb, ltb, take, drop, replicate}
 use Rattle.std.proofs.Math.Path.{refl, subst}
-use Rattle.std.proofs.Common.{sym, ap, arith, take_at}
+use Rattle.std.proofs.Common.{ap, arith, take_at}
 use Rattle.std.proofs.Math.Bool.{true}
 use mathlib.Core.List.{List, []}
 use Rattle.std.proofs.Math.ListN.{length, length-take}
@@ -184,7 +184,7 @@ module _ {rec consts values names constants : List ℕ} {env : Environment} (sho
     unfolding evaluate
     literal-read w =
         let g : decoded_at s t.start ≡ inner s t.start t.end
-        = bare-given s t.start (t.end - 1) (sym w.closed) (λ z. let no : ⊥ = omega (arith, z, w.some) in no) in
+        = bare-given s t.start (t.end - 1) _ refl w.closed in
         let l : length (decoded_at s t.start) ≤ 2048
         = rw g (omega (arith, length-take (t.end - 1 - (t.start + 1)) (drop (t.start + 1) s), w.few)) in
         one-named (literal (decoded_at s t.start)) (inner s t.start t.end) (λ d. literal-operand s (nest_of left) t other d w.literal l) (ap held g)
