@@ -125,24 +125,18 @@ impl Pattern<'_> {
         x.hit == 0 && x.places == self.whole.fm
     }
 
-    fn mark(&self, x: Swept) -> u8
-        ensures { result ≡ K.mark x self.now.whole.fm }
-    {
-        if self.is_idle(x) { 1 } else { 0 }
-    }
-
     // Marks the bytes at which no match begins inside a string.
-    fn note_idle(&self, m: &mut [u8; 256])
+    fn note_idle(&self, m: &mut [bool; 256])
         ensures { K.Noted self.now.bytes.now self.now.table.now self.now.whole.fm self.now.whole.lm 256 m.new }
     {
         for k in 0..256 {
             let r = self.step(self.whole.fm, self.whole.lm, k as u8);
-            m[k] = self.mark(r);
+            m[k] = self.is_idle(r);
         }
     }
 
     // Where only a match's beginning is awaited, past marked bytes.
-    fn skip_from(&self, m: &[u8; 256], s: &[u8], i: usize, at: Places) -> usize
+    fn skip_from(&self, m: &[bool; 256], s: &[u8], i: usize, at: Places) -> usize
         ensures { result ≡ K.skip_from m.now s.now i at self.now.whole.fm }
     {
         if at == self.whole.fm {
@@ -152,7 +146,7 @@ impl Pattern<'_> {
         }
     }
 
-    fn run_skipping(&self, s: &[u8], m: &[u8; 256]) -> bool
+    fn run_skipping(&self, s: &[u8], m: &[bool; 256]) -> bool
         requires { K.Noted self.now.bytes.now self.now.table.now self.now.whole.fm self.now.whole.lm 256 m.now }
         ensures { result ≡ M.run_from self.now.bytes.now s.now self.now.table.now self.now.whole.fm self.now.whole.lm self.now.whole.le 0 self.now.whole.fs }
     {
@@ -180,7 +174,7 @@ impl Pattern<'_> {
     fn run_long(&self, s: &[u8]) -> bool
         ensures { result ≡ M.run_from self.now.bytes.now s.now self.now.table.now self.now.whole.fm self.now.whole.lm self.now.whole.le 0 self.now.whole.fs }
     {
-        let mut m = [0u8; 256];
+        let mut m = [false; 256];
         self.note_idle(&mut m);
         self.run_skipping(s, &m)
     }
@@ -201,14 +195,14 @@ fn chosen(e: bool, x: Places, y: Places) -> Places
     if e { x } else { y }
 }
 
-fn is_marked(m: &[u8; 256], c: u8) -> bool
+fn is_marked(m: &[bool; 256], c: u8) -> bool
     ensures { result ≡ K.marked m.now c }
 {
-    m[usize::from(c)] == 1
+    m[usize::from(c)]
 }
 
 // Past marked bytes, at most to the last.
-fn skip(m: &[u8; 256], s: &[u8], from: usize) -> usize
+fn skip(m: &[bool; 256], s: &[u8], from: usize) -> usize
     ensures { result ≡ K.skipped m.now s.now from }
 {
     let last = s.len().saturating_sub(1);
