@@ -41,7 +41,7 @@ impl System<'_> {
         ranks: &mut [u8],
         next: &mut [u8],
         reach: &mut [u64],
-        done: &mut [u8],
+        done: &mut [bool],
         stack: &mut [u8],
     ) -> Solution
         requires { Blank (length self.now.authors.now) (length self.now.direct.now) ranks.old next.old reach.old done.old }
@@ -69,7 +69,7 @@ impl System<'_> {
         let mut ranks = [0u8; N];
         let mut next = [0u8; N];
         let mut reach = [0u64; W];
-        let mut done = [0u8; MOST_ASSERTIONS];
+        let mut done = [false; MOST_ASSERTIONS];
         let mut stack = [0u8; MOST_LICENSEES];
         self.solve_in(
             &mut ranks[..n],

@@ -41,6 +41,7 @@ pub(crate) fn index_at(s: &[u16], i: usize) -> usize
 }
 
 // Puts v on a stack of sp numbers, unless it is full; how many it has then.
+// Kept: a slice with its length beside, since there is no heap and the caller lends the memory.
 fn push(stack: &mut [u8], sp: usize, v: u8) -> usize
     requires { sp ≤ length stack.old }
     ensures { Live stack.new result (pushed (length stack.old) (take sp stack.old) v) }
@@ -63,6 +64,7 @@ fn combine(stack: &mut [u8], sp: usize, k: usize, n: usize) -> usize
 }
 
 // One instruction.
+// Kept: a number and no enum, since `solve` is lent a table of such numbers and its clause speaks of them (specs/Codes).
 fn step(op: u16, ranks: &[u8], top: u8, stack: &mut [u8], sp: usize) -> usize
     requires { sp ≤ length stack.old }
     ensures { Live stack.new result (stepped ranks.now top (length stack.old) op (take sp stack.old)) }

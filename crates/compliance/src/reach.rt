@@ -1,5 +1,5 @@
 // The reach: POLICY and, repeatedly, the licensees of assertions whose authorizer is in it. One bit for each of n principals.
-ghost use Rattle.std.specs.Prelude.{◌≡◌, length, get_or, set, eqb};
+ghost use Rattle.std.specs.Prelude.{◌≡◌, length, get_or, set, eqb, true};
 ghost use Rattle.compliance.specs.Tables.{program_of};
 ghost use Rattle.compliance.specs.Working.Reach.{marked, marked_all, open_at, FirstOpen, Expanded, spread_from};
 ghost use Rattle.compliance.specs.Working.Words.{flags_in, spare_in};
@@ -38,15 +38,15 @@ fn is_reached(n: usize, reach: &[u64], i: usize) -> bool
 
 impl System<'_> {
     // Is assertion j still to be expanded, and its authorizer reached?
-    fn is_open(&self, done: &[u8], reach: &[u64], j: usize) -> bool
+    fn is_open(&self, done: &[bool], reach: &[u64], j: usize) -> bool
         ensures { result ≡ open_at self.now.authors.now done.now (flags_in (length self.now.direct.now) reach.now) j }
     {
         let author = index_at(self.authors, j);
-        item_or(done, j, 0) == 0 && is_reached(self.direct.len(), reach, author)
+        !item_or(done, j, false) && is_reached(self.direct.len(), reach, author)
     }
 
     // The first assertion that is.
-    fn first_open(&self, done: &[u8], reach: &[u64]) -> Option<usize>
+    fn first_open(&self, done: &[bool], reach: &[u64]) -> Option<usize>
         ensures { FirstOpen self.now.authors.now done.now (flags_in (length self.now.direct.now) reach.now) result }
     {
         for j in 0..self.authors.len() {
@@ -58,18 +58,18 @@ impl System<'_> {
     }
 
     // Flags the licensees of assertion j, which is then expanded.
-    fn expand(&self, done: &mut [u8], reach: &mut [u64], j: usize)
-        ensures expanded { Expanded done.new (flags_in (length self.now.direct.now) reach.new) (set done.old j 1) (marked_all (program_of self.now.ends.now self.now.code.now j) (flags_in (length self.now.direct.now) reach.old)) }
+    fn expand(&self, done: &mut [bool], reach: &mut [u64], j: usize)
+        ensures expanded { Expanded done.new (flags_in (length self.now.direct.now) reach.new) (set done.old j true) (marked_all (program_of self.now.ends.now self.now.code.now j) (flags_in (length self.now.direct.now) reach.old)) }
         ensures reach_unchanged { spare_in (length self.now.direct.now) reach.new ≡ spare_in (length self.now.direct.now) reach.old }
     {
         mark_all(self.direct.len(), self.program(j), reach);
         if j < done.len() {
-            done[j] = 1;
+            done[j] = true;
         }
     }
 
     // Expands each assertion whose authorizer is reached, once.
-    fn spread(&self, done: &mut [u8], reach: &mut [u64])
+    fn spread(&self, done: &mut [bool], reach: &mut [u64])
         ensures reach_after { flags_in (length self.now.direct.now) reach.new ≡ spread_from self.now.authors.now self.now.ends.now self.now.code.now (length self.now.authors.now) done.old (flags_in (length self.now.direct.now) reach.old) }
         ensures reach_unchanged { spare_in (length self.now.direct.now) reach.new ≡ spare_in (length self.now.direct.now) reach.old }
     {
@@ -82,7 +82,7 @@ impl System<'_> {
     }
 
     // From a table of no flags: POLICY, and all of the principals that it reaches.
-    pub(crate) fn find_reach(&self, done: &mut [u8], reach: &mut [u64])
+    pub(crate) fn find_reach(&self, done: &mut [bool], reach: &mut [u64])
         ensures reach_after { flags_in (length self.now.direct.now) reach.new ≡ spread_from self.now.authors.now self.now.ends.now self.now.code.now (length self.now.authors.now) done.old (marked 0 (flags_in (length self.now.direct.now) reach.old)) }
         ensures reach_unchanged { spare_in (length self.now.direct.now) reach.new ≡ spare_in (length self.now.direct.now) reach.old }
     {

@@ -30,6 +30,7 @@ fn adopt(ranks: &mut [u8], next: &[u8]) -> bool
     same
 }
 
+// Kept: the tables of a round are parameters and no struct, since each clause names just those that its function changes.
 impl System<'_> {
     // The rank of assertion j: the lesser of its conditions' and its licensees'.
     fn granted(&self, ranks: &[u8], stack: &mut [u8], j: usize) -> u8

@@ -5,6 +5,7 @@ ghost use Rattle.compliance.specs.Tables.{start_of, program_of};
 use crate::machine::index_at;
 
 // The tables that `solve` is given: see there.
+// Kept: parallel tables, and 1 for a requester in `direct`, since that is how `solve` is called.
 #[derive(Clone, Copy)]
 pub(crate) struct System<'a> {
     pub authors: &'a [u16],

@@ -17,9 +17,7 @@ use crate::value::{
     Operand, Packed, float_in, holds_in, integer_in, is_float, is_number, is_test, is_text,
     pack_operand, rank_in, told,
 };
-use float::operation::Computed;
 use limits::MOST_STRING;
-use pattern::Answer;
 use std::cmp::Ordering;
 use text::Integer;
 
@@ -158,13 +156,12 @@ fn join(a: &[u8], b: &[u8]) -> Operand
 }
 
 // What a pattern test gives: what is no pattern is a fault.
-fn answer(x: Answer) -> Operand
+fn answer(x: Option<bool>) -> Operand
     ensures { result ≡ operand (answered x) }
 {
     match x {
-        Answer::Yes => Operand::Test { holds: true },
-        Answer::No => Operand::Test { holds: false },
-        Answer::Error => Operand::Fault,
+        Some(holds) => Operand::Test { holds },
+        None => Operand::Fault,
     }
 }
 
@@ -227,12 +224,12 @@ fn integers(op: u32, x: Operand, y: Operand, a: &[u8], b: &[u8]) -> Operand
 }
 
 // What an operation on floats gives: an error is a fault.
-fn value_of(x: Computed) -> Operand
+fn value_of(x: Option<f32>) -> Operand
     ensures { result ≡ operand (valued x) }
 {
     match x {
-        Computed::Finite { value } => Operand::Float { value },
-        Computed::Error => Operand::Fault,
+        Some(value) => Operand::Float { value },
+        None => Operand::Fault,
     }
 }
 

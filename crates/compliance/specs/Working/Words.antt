@@ -238,10 +238,13 @@ module _ (n : ℕ) (words : List ℕ) (k : ℕ) (none : spare_in n words ≡ rep
       ∙ (let z : at_least 1 (flags_in n words) + at_least 1 (replicate k 0) ≡ at_least 1 (flags_in n words) = omega (arith, blank-count k) in z)
 
 -- words of zeros
+pub take-same : {A : Type 0} (x : A) (n k : ℕ) → n ≤ k → take n (replicate k x) ≡ replicate n x
+take-same x zero k h = refl
+take-same x (suc n) zero h = absurd (omega arith)
+take-same {A} x (suc n) (suc k) h = ap (λ (l : List A). x ∷ l) (take-same x n k (omega arith))
+
 pub take-blank : (n k : ℕ) → n ≤ k → take n (replicate {A = ℕ} k 0) ≡ replicate n 0
-take-blank zero k h = refl
-take-blank (suc n) zero h = absurd (omega arith)
-take-blank (suc n) (suc k) h = ap (λ (l : List ℕ). 0 ∷ l) (take-blank n k (omega arith))
+take-blank n k h = take-same 0 n k h
 
 pub drop-blank : (n k : ℕ) → drop n (replicate {A = ℕ} k 0) ≡ replicate (k - n) 0
 drop-blank zero k = let z : k ≡ k - 0 = omega arith in ap (λ (x : ℕ). replicate x 0) z

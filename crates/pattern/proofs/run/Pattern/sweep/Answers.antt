@@ -1,5 +1,5 @@
 use Rattle.pattern.specs.Working.Sim.{way-sweep-done, way-sweep-end, way-sweep-past, way-sweep-place}
-use Rattle.pattern.proofs.run.sweep.Goals as goal
+use Rattle.pattern.proofs.run.Pattern.sweep.Goals as goal
 
 pub returns-then-x-eq0 : goal.returns-then-x-eq0
 returns-then-x-eq0 c = search way-sweep-done

@@ -1,6 +1,6 @@
 use Rattle.pattern.specs.Working.Sim.{way-run-end}
 use Rattle.pattern.specs.Working.Skip.{skip-end, skip-less, skip-hit, skip-more}
-use Rattle.pattern.proofs.run.run_skipping.Goals as goal
+use Rattle.pattern.proofs.run.Pattern.run_skipping.Goals as goal
 
 pub returns-then-s-j : goal.returns-then-s-j
 returns-then-s-j c = search skip-end

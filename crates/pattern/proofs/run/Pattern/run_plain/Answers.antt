@@ -1,5 +1,5 @@
 use Rattle.pattern.specs.Working.Sim.{way-run-end, way-run-hit, way-run-more}
-use Rattle.pattern.proofs.run.run_plain.Goals as goal
+use Rattle.pattern.proofs.run.Pattern.run_plain.Goals as goal
 
 pub returns-then-r-eq1 : goal.returns-then-r-eq1
 returns-then-r-eq1 c = search way-run-hit
