@@ -1,7 +1,8 @@
 // Scanning by an index: the byte some way on, and the end of a run of bytes.
-ghost use Rattle.std.specs.Prelude.{◌≡◌, ◌+◌, get_or};
+ghost use Rattle.std.specs.Prelude.{◌≡◌, ◌+◌, Bool, ℕ, get_or};
 ghost use Rattle.text.specs.Scan.{past};
 ghost use Rattle.lexical.specs.Run.{in_run};
+ghost use Rattle.lexical.specs.Tests.{Tests};
 
 use crate::class::{begins_name, begins_number, is_indent, is_newline};
 
@@ -38,15 +39,22 @@ impl Run {
     }
 }
 
-// The end of the run that starts at `at`.
-#[tactic(auto, using(text::specs::Scan::scan))]
-pub fn skip(s: &[u8], at: usize, run: Run) -> usize
-    ensures { result ≡ past (in_run run) s.now at }
+// The end of the bytes from `at` on that pass a test.
+pub fn end_of<F: Fn(u8) -> bool>(s: &[u8], at: usize, passes: F) -> usize
+    requires { F.IsAlwaysCallable passes }
+    ensures { (p : ℕ → Bool) → Tests (F.post passes) p → result ≡ past p s.now at }
 {
     for i in at..s.len() {
-        if !run.has(s[i]) {
+        if !passes(s[i]) {
             return i;
         }
     }
     at.max(s.len())
+}
+
+// The end of the run that starts at `at`.
+pub fn skip(s: &[u8], at: usize, run: Run) -> usize
+    ensures { result ≡ past (in_run run) s.now at }
+{
+    end_of(s, at, |b| run.has(b))
 }
