@@ -2,7 +2,6 @@
 ghost use Rattle.std.specs.Prelude.{◌≡◌, eqb};
 ghost use Rattle.lexical.specs.Class;
 ghost use Rattle.lexical.specs.Class.{class_of, or};
-ghost use Rattle.lexical.specs.Working.Runs.{blank, letter, numeral};
 
 pub const OTHER: usize = 0;
 
@@ -37,35 +36,11 @@ const CLASS: [u8; 256] = [
     0, 0, 0, 0, 0, 0, 0, 0, 0,
 ];
 
-// Is it a space or a tab?
-#[tactic(auto, unfolding(crate::specs::Working::Runs::blank))]
-pub fn is_blank(b: u8) -> bool
-    ensures { result ≡ blank b }
-{
-    b == b' ' || b == b'\t'
-}
-
-// Is it a letter or the underscore?
-#[tactic(auto, unfolding(crate::specs::Working::Runs::letter))]
-pub fn is_name_letter(b: u8) -> bool
-    ensures { result ≡ letter b }
-{
-    matches!(b, b'a'..=b'z' | b'A'..=b'Z' | b'_')
-}
-
-#[tactic(auto, unfolding(crate::specs::Working::Runs::numeral))]
-pub fn is_numeral(b: u8) -> bool
-    ensures { result ≡ numeral b }
-{
-    b.is_ascii_digit()
-}
-
 // Tests of a byte's class that need no table.
-#[tactic(auto, using(crate::proofs::ClassWays::classes))]
 pub fn is_indent(b: u8) -> bool
     ensures { result ≡ eqb (class_of b) Class.BLANK }
 {
-    is_blank(b)
+    b == b' ' || b == b'\t'
 }
 
 #[tactic(auto, using(crate::proofs::ClassWays::classes))]
@@ -75,18 +50,16 @@ pub fn is_newline(b: u8) -> bool
     b == b'\n'
 }
 
-#[tactic(auto, using(crate::proofs::ClassWays::classes))]
 pub fn begins_name(b: u8) -> bool
     ensures { result ≡ eqb (class_of b) Class.LETTER }
 {
-    is_name_letter(b)
+    b.is_ascii_alphabetic() || b == b'_'
 }
 
-#[tactic(auto, using(crate::proofs::ClassWays::classes))]
 pub fn begins_number(b: u8) -> bool
     ensures { result ≡ eqb (class_of b) Class.DIGIT }
 {
-    is_numeral(b)
+    b.is_ascii_digit()
 }
 
 #[tactic(auto, using(crate::proofs::ClassWays::classes))]

@@ -115,6 +115,7 @@ fn line_at(s: &[u8], mode: u8, i: usize) -> Token
 fn lines_from(s: &[u8], mode: u8, from: usize) -> Token
     ensures { result ≡ lines_from s.now mode from }
 {
+    // Kept: a turn goes on behind a line, so there is no range to go over.
     let mut i = from;
     loop {
         let t = line_at(s, mode, i);

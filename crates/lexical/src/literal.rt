@@ -8,7 +8,7 @@ ghost use Rattle.lexical.specs.Working.Plain.{plain, bare_end};
 ghost use Rattle.lexical.specs.Found.{found};
 ghost use Rattle.lexical.specs.Working.Short.{near, sized};
 
-use crate::scan::byte_at;
+use crate::scan::{byte_at, end_of};
 use crate::unit::{Unit, is_barred, unit_at};
 
 // Does a literal hold this byte as it stands? Small letters are the commonest.
@@ -20,16 +20,10 @@ fn is_plain(b: u8) -> bool
 }
 
 // The end of the bytes from `from` on that a literal holds as they stand.
-#[tactic(auto, using(text::specs::Scan::scan))]
 pub fn plain_end(s: &[u8], from: usize) -> usize
     ensures { result ≡ past plain s.now from }
 {
-    for i in from..s.len() {
-        if !is_plain(s[i]) {
-            return i;
-        }
-    }
-    from.max(s.len())
+    end_of(s, from, is_plain)
 }
 
 // Does a quote stand at i?
@@ -166,7 +160,7 @@ pub fn decode_into(s: &[u8], start: usize, buf: &mut [u8], at: usize) -> bool
 
 // Why a literal was not put: it gives more bytes than are allowed, or there is no room for them.
 #[derive(Clone, Copy)]
-pub enum Unput {
+pub enum DecodeError {
     Long,
     Full,
 }
@@ -179,15 +173,15 @@ pub fn decode_within(
     buf: &mut [u8],
     at: usize,
     most: usize,
-) -> Result<usize, Unput>
+) -> Result<usize, DecodeError>
     ensures { within result buf.new ≡ decode_within s.now start buf.old at most }
 {
     let n = literal_length(s, start);
     if most < n {
-        return Err(Unput::Long);
+        return Err(DecodeError::Long);
     }
     if decode_units(s, start, buf, at, n) {
         return Ok(n);
     }
-    Err(Unput::Full)
+    Err(DecodeError::Full)
 }
