@@ -34,14 +34,6 @@ module _ (n : Bool) (m : ℕ) where
     unfolding in_range
     range-positive t h = simp (ne_eqb _ _ nz, t, le-ltb _ _ h)
 
-    pub range-out : pick n 2147483648 2147483647 < m → integer false 0 ≡ in_range n m
-    unfolding in_range
-    range-out h = rw (ne_eqb m 0 nz, lt-ltb (pick n 2147483648 2147483647) m h)
-
-    pub range-in : m ≤ pick n 2147483648 2147483647 → integer n m ≡ in_range n m
-    unfolding in_range
-    range-in h = rw (ne_eqb m 0 nz, le-ltb (pick n 2147483648 2147483647) m h)
-
 -- a number held at the limit is in range just where it is
 held-range : (n : Bool) (m m' : ℕ) → (m ≡ m' → ⊥) → 2147483648 < m → 2147483648 < m' → in_range n m ≡ in_range n m'
 unfolding in_range
