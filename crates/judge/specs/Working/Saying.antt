@@ -1,5 +1,5 @@
 -- A string expression read into code that is run, as the program does it; and the ways out of its functions. Assumes nothing.
-use Rattle.std.specs.Prelude.{◌≡◌, List, ℕ, ◌-◌, ◌<◌, ◌≤◌, ltb, leb, length, take, replicate}
+use Rattle.std.specs.Prelude.{◌≡◌, List, ℕ, ◌-◌, ◌<◌, ◌≤◌, ltb, leb, length, take, replicate, Err}
 use borrow.Author.Tests.{lt-ltb, le-ltb, le-leb, lt-leb}
 use Rattle.text.specs.Choice.{pick}
 use Rattle.lexical.specs.declared.token.Token.{Token}
@@ -7,10 +7,8 @@ use Rattle.machine.specs.Working.Given.{Gave, gave, string_in}
 use Rattle.machine.specs.declared.Given.{Given}
 use Rattle.machine.specs.declared.Given.TheVariants.{Bytes, Stuck}
 use Rattle.conditions.specs.Program.{DEPTH}
-use Rattle.conditions.specs.Working.Emit.{Ran, ran}
+use Rattle.conditions.specs.Working.Emit.{found, Out, Ran, ran}
 use Rattle.conditions.specs.Working.Expression.{expr_at}
-use Rattle.conditions.specs.declared.emit.Out.{Out}
-use Rattle.conditions.specs.declared.emit.Out.TheVariants.{Found, Aside as Refused}
 use Rattle.judge.specs.declared.string.Said.{Said}
 use Rattle.judge.specs.declared.string.Said.TheVariants.{On, Aside}
 use Rattle.syntax.specs.Working.Faults.{against}
@@ -34,8 +32,8 @@ said_of at n (gave Stuck out) = said (Aside (against 0 at)) out
 
 -- the string of what was read, or its fault
 abbrev pub on_read : ℕ → List ℕ → (List ℕ → ℕ → Gave) → Ran → Told
-on_read at out f (ran (Refused w) b) = said (Aside w) out
-on_read at out f (ran (Found x p u n) b) = said_of at n (f b u)
+on_read at out f (ran (Err w) b) = said (Aside w) out
+on_read at out f (ran (found x p u n) b) = said_of at n (f b u)
 
 -- an expression in the text s whose first token is t; the code is written to m
 unfoldable pub said_in : List ℕ → Token → ℕ → List ℕ → List ℕ → List ℕ → List ℕ → List ℕ → List ℕ → List ℕ → Told
@@ -65,11 +63,11 @@ module _ (s rec consts values names constants out : List ℕ) where
 
   -- `string_in`
   module _ (t : Token) (nest : ℕ) (m b : List ℕ) (o : Out) (oe : ran o b ≡ expr_at DEPTH s m 0 3 1 0 nest t) where
-    pub said-aside : (w : Fault) → o ≡ Refused w → said (Aside w) out ≡ said_in s t nest rec consts values names constants m out
+    pub said-aside : (w : Fault) → o ≡ Err w → said (Aside w) out ≡ said_in s t nest rec consts values names constants m out
     unfolding said_in
     said-aside w e = rw (← oe, e)
 
-    module _ (x p u : ℕ) (n : Token) (e : o ≡ Found x p u n) (g : Given) (to : List ℕ) (ge : valued g to ≡ valued_at b u s rec consts values names constants out) where
+    module _ (x p u : ℕ) (n : Token) (e : o ≡ found x p u n) (g : Given) (to : List ℕ) (ge : valued g to ≡ valued_at b u s rec consts values names constants out) where
       pub said-stuck : g ≡ Stuck → said (Aside (against 0 t.start)) to ≡ said_in s t nest rec consts values names constants m out
       unfolding said_in
       said-stuck h = rw (← oe, e, ← ge, h)

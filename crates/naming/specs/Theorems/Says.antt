@@ -1,5 +1,5 @@
 -- What `string_field` gives is what the string expression says. Assumes nothing.
-use Rattle.std.specs.Prelude.{◌≡◌, ℕ, ◌+◌, ◌-◌, ◌*◌, ◌<◌, ◌≤◌, eqb, ltb, leb, length, take, replicate}
+use Rattle.std.specs.Prelude.{◌≡◌, ℕ, ◌+◌, ◌-◌, ◌*◌, ◌<◌, ◌≤◌, eqb, ltb, leb, length, take, replicate, Err}
 use Rattle.std.proofs.Math.Path.{refl}
 use Rattle.std.proofs.Common.{sym, ap, ◌∙◌, arith}
 use mathlib.Core.List.{List, [], map, append-nil}
@@ -26,13 +26,12 @@ use Rattle.conditions.specs.Table.{PartSort, sorted, want-string, is_any}
 use Rattle.conditions.specs.Parsed.{Part, part}
 use Rattle.conditions.specs.Expression.{read_expression}
 use Rattle.conditions.specs.Program.{DEPTH}
-use Rattle.conditions.specs.Working.Emit.{Ran, ran}
+use Rattle.conditions.specs.Working.Emit.{found, Ran, ran}
 use Rattle.conditions.specs.Working.Written.{keeps, grown, Wrote, wrote}
 use Rattle.conditions.specs.Working.Same.{PartCodes, whole, Same, same-aside, same-part}
 use Rattle.conditions.proofs.Working.TieExpression.{expression-same}
 use Rattle.conditions.specs.Working.Pace.{Sound, sound, within, Paced, paced-aside, paced-found}
 use Rattle.conditions.proofs.Working.PaceExpression.{expression-paced}
-use Rattle.conditions.specs.declared.emit.Out.TheVariants.{Found, Aside as Refused}
 use Rattle.machine.specs.Working.Machine.{on, exec_behind, exec}
 use Rattle.machine.specs.Working.Given.{Gave, gave, buffer_of, string_of, string_in}
 use Rattle.machine.specs.Working.Need as Need
@@ -99,11 +98,11 @@ module _ {rec consts values names constants : List ℕ} {env : Environment} (sho
     abbrev value : List ℕ → ℕ → Gave
     value b u = valued_at b u s rec consts values names constants out
 
-    not_none : (r p : ℕ) (b : List ℕ) (x : Ran) → Paced s 0 t.start t.start x → x ≡ ran (Refused (against r p)) b → r ≡ 0 → ⊥
+    not_none : (r p : ℕ) (b : List ℕ) (x : Ran) → Paced s 0 t.start t.start x → x ≡ ran (Err (against r p)) b → r ≡ 0 → ⊥
     not_none r p b _ (paced-aside r' p' b' h) e z = h (let q : against r' p' ≡ against r p = cc e in ap (λ (f : Fault). f.reason) q ∙ z)
     not_none r p b _ (paced-found _ _ _ _ _ _ _ _) e z = absurd (let q : ◌≡◌ {A = ℕ} 0 1 = cc e in omega (arith, q))
 
-    short-code : (k p u : ℕ) (n : Token) (b : List ℕ) (x : Ran) → Paced s 0 t.start t.start x → x ≡ ran (Found k p u n) b → u + t.start ≤ n.start
+    short-code : (k p u : ℕ) (n : Token) (b : List ℕ) (x : Ran) → Paced s 0 t.start t.start x → x ≡ ran (found k p u n) b → u + t.start ≤ n.start
     short-code k p u n b _ (paced-aside r' p' b' h) e = absurd (let q : ◌≡◌ {A = ℕ} 0 1 = cc e in omega (arith, q))
     short-code k p u n b _ (paced-found x' p' u' n' b' s' i j) e =
         let q : u' ≡ u = cc e in let o : n' ≡ n = cc e in let m : n'.start ≡ n.start = ap (λ (t : Token). t.start) o in omega (arith, q, m, j)
