@@ -1,11 +1,9 @@
 -- A string expression read into code that is run, as the program does it; and the ways out of its functions. Assumes nothing.
-use Rattle.std.specs.Prelude.{◌≡◌, List, ℕ, ◌-◌, ◌<◌, ◌≤◌, ltb, leb, length, take, replicate, Err}
+use Rattle.std.specs.Prelude.{◌≡◌, List, ℕ, ◌-◌, ◌<◌, ◌≤◌, ltb, leb, length, take, replicate, Err, Option, Some, None}
 use borrow.Author.Tests.{lt-ltb, le-ltb, le-leb, lt-leb}
 use Rattle.text.specs.Choice.{pick}
 use Rattle.lexical.specs.declared.token.Token.{Token}
 use Rattle.machine.specs.Working.Given.{Gave, gave, string_in}
-use Rattle.machine.specs.declared.Given.{Given}
-use Rattle.machine.specs.declared.Given.TheVariants.{Bytes, Stuck}
 use Rattle.conditions.specs.Program.{DEPTH}
 use Rattle.conditions.specs.Working.Emit.{found, Out, Ran, ran}
 use Rattle.conditions.specs.Working.Expression.{expr_at}
@@ -18,17 +16,17 @@ use Rattle.syntax.specs.declared.fault.Fault.{Fault}
 pub data Told : Type 0 where
   said : Said → List ℕ → Told
 
-abbrev pub valued : Given → List ℕ → Gave
+abbrev pub valued : Option ℕ → List ℕ → Gave
 valued = gave
 
 -- the string that the code up to top gives; none where the code is shorter
 unfoldable pub valued_at : List ℕ → ℕ → List ℕ → List ℕ → List ℕ → List ℕ → List ℕ → List ℕ → List ℕ → Gave
 valued_at code top s rec consts values names constants out =
-    pick (ltb (length code) top) (gave Stuck out) (string_in 208 77824 (take top code) s rec consts values names constants out)
+    pick (ltb (length code) top) (gave None out) (string_in 208 77824 (take top code) s rec consts values names constants out)
 
 abbrev pub said_of : ℕ → Token → Gave → Told
-said_of at n (gave (Bytes k) out) = said (On k n) out
-said_of at n (gave Stuck out) = said (Aside (against 0 at)) out
+said_of at n (gave (Some k) out) = said (On k n) out
+said_of at n (gave None out) = said (Aside (against 0 at)) out
 
 -- the string of what was read, or its fault
 abbrev pub on_read : ℕ → List ℕ → (List ℕ → ℕ → Gave) → Ran → Told
@@ -52,11 +50,11 @@ said_here s t nest rec consts values names constants out =
 module _ (s rec consts values names constants out : List ℕ) where
   -- `value_of`
   module _ (code : List ℕ) (top : ℕ) where
-    pub value-short : length code < top → valued Stuck out ≡ valued_at code top s rec consts values names constants out
+    pub value-short : length code < top → valued None out ≡ valued_at code top s rec consts values names constants out
     unfolding valued_at
     value-short h = rw (lt-ltb _ _ h)
 
-    pub value-whole : top ≤ length code → (part : List ℕ) → part ≡ take top code → (r : Given) (to : List ℕ)
+    pub value-whole : top ≤ length code → (part : List ℕ) → part ≡ take top code → (r : Option ℕ) (to : List ℕ)
         → gave r to ≡ string_in 208 77824 part s rec consts values names constants out → valued r to ≡ valued_at code top s rec consts values names constants out
     unfolding valued_at
     value-whole h part pe r to e = rw (le-ltb _ _ h, ← pe) e
@@ -67,12 +65,12 @@ module _ (s rec consts values names constants out : List ℕ) where
     unfolding said_in
     said-aside w e = rw (← oe, e)
 
-    module _ (x p u : ℕ) (n : Token) (e : o ≡ found x p u n) (g : Given) (to : List ℕ) (ge : valued g to ≡ valued_at b u s rec consts values names constants out) where
-      pub said-stuck : g ≡ Stuck → said (Aside (against 0 t.start)) to ≡ said_in s t nest rec consts values names constants m out
+    module _ (x p u : ℕ) (n : Token) (e : o ≡ found x p u n) (g : Option ℕ) (to : List ℕ) (ge : valued g to ≡ valued_at b u s rec consts values names constants out) where
+      pub said-stuck : g ≡ None → said (Aside (against 0 t.start)) to ≡ said_in s t nest rec consts values names constants m out
       unfolding said_in
       said-stuck h = rw (← oe, e, ← ge, h)
 
-      pub said-on : (k : ℕ) → g ≡ Bytes k → said (On k n) to ≡ said_in s t nest rec consts values names constants m out
+      pub said-on : (k : ℕ) → g ≡ Some k → said (On k n) to ≡ said_in s t nest rec consts values names constants m out
       unfolding said_in
       said-on k h = rw (← oe, e, ← ge, h)
 

@@ -1,5 +1,5 @@
 -- What `string_field` gives is what the string expression says. Assumes nothing.
-use Rattle.std.specs.Prelude.{◌≡◌, ℕ, ◌+◌, ◌-◌, ◌*◌, ◌<◌, ◌≤◌, eqb, ltb, leb, length, take, replicate, Err}
+use Rattle.std.specs.Prelude.{◌≡◌, ℕ, ◌+◌, ◌-◌, ◌*◌, ◌<◌, ◌≤◌, eqb, ltb, leb, length, take, replicate, Err, Some}
 use Rattle.std.proofs.Math.Path.{refl}
 use Rattle.std.proofs.Common.{sym, ap, ◌∙◌, arith}
 use mathlib.Core.List.{List, [], map, append-nil}
@@ -37,7 +37,6 @@ use Rattle.machine.specs.Working.Given.{Gave, gave, buffer_of, string_of, string
 use Rattle.machine.specs.Working.Need as Need
 use Rattle.machine.specs.Theorems.Runs.{run-expression}
 use Rattle.machine.specs.Working.Stacking.{topped}
-use Rattle.machine.specs.declared.Given.TheVariants.{Bytes}
 use Rattle.judge.specs.Working.Fit.{Holds, holds-is, Fits, fit, expression-fits}
 use Rattle.judge.specs.Working.Saying.{Told, said, valued_at, on_read, said_in, string_size, said_here}
 use Rattle.judge.specs.declared.string.Said.TheVariants.{On, Aside}
@@ -90,7 +89,7 @@ module _ {rec consts values names constants : List ℕ} {env : Environment} (sho
         ∙ run-expression 208 77824 s (lookup_in rec consts values names constants) env (lookup-is shows) k [] [] [] (omega (arith, string-fits.0)) (omega (arith, string-fits.1)))
 
     value_read : (b : List ℕ) (u : ℕ) (c : List ℕ) → u ≤ length b → take u b ≡ c → Codes s e c
-        → valued_at b u s rec consts values names constants out ≡ gave (Bytes (length (bytes_of (evaluate env e)))) (buffer_of (copy_at out 0 (bytes_of (evaluate env e))))
+        → valued_at b u s rec consts values names constants out ≡ gave (Some (length (bytes_of (evaluate env e)))) (buffer_of (copy_at out 0 (bytes_of (evaluate env e))))
     unfolding valued_at string_in string_of topped
     value_read b u c room k codes = rw (le-ltb _ _ room, k, string-run c codes)
 
@@ -109,7 +108,7 @@ module _ {rec consts values names constants : List ℕ} {env : Environment} (sho
 
     code_of : (p u : ℕ) (e : Expr) (n : Token) (b : List ℕ) → read_expression DEPTH s 3 want-string 0 nest t ≡ ok (part (sorted a-string) e) n → length b ≡ length m → u < length m
         → Wrote m 0 b u (λ c. PartCodes s p e c (sorted a-string))
-        → value b u ≡ gave (Bytes (length (bytes_of (evaluate env e)))) (buffer_of (copy_at out 0 (bytes_of (evaluate env e))))
+        → value b u ≡ gave (Some (length (bytes_of (evaluate env e)))) (buffer_of (copy_at out 0 (bytes_of (evaluate env e))))
     code_of p u e n b is l h (wrote c k (whole _ codes)) = value_read (sorted a-string) e n is b u c (omega (arith, l, h)) k codes
 
     both_say : (q : Parsed Part) (r : Ran) → read_expression DEPTH s 3 want-string 0 nest t ≡ q → Strung s q → Same s m 0 q r → Paced s 0 t.start t.start r
