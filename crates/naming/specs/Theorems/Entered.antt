@@ -38,7 +38,7 @@ use Rattle.conditions.specs.Program.{DEPTH}
 use Rattle.index.specs.Index.{Holds}
 use Rattle.index.specs.Working.Entering.{Kept}
 use Rattle.machine.specs.Working.Given.{buffer_of}
-use Rattle.judge.specs.Working.Saying.{Told, said}
+use Rattle.judge.specs.Working.Saying.{Told, said, spoken}
 use Rattle.naming.specs.Working.Whole.{whole, inner, Whole, whole_is}
 use Rattle.naming.specs.Theorems.Entry.{EntryRead, entry_read}
 use Rattle.naming.specs.Source.{Source}
@@ -46,7 +46,6 @@ use Rattle.naming.specs.String.{plain_from, nest_of, source}
 use Rattle.naming.specs.Naming.{identified}
 use Rattle.naming.specs.Fault.{clear, faulty, size_fault, source_fault}
 use Rattle.naming.specs.Working.Identifying.{sight, Done, named, of_kept, entered_in, said_as, string_named, is_plain, plain_named}
-use Rattle.judge.specs.declared.string.Said.TheVariants.{On}
 use Rattle.naming.specs.declared.identifier.Named.TheVariants.{Nobody, Aside}
 use Rattle.naming.specs.Theorems.Says.{Saying, said-not, said-value, string-field-read}
 use Rattle.fields.specs.Theorems.Words.{word-is}
@@ -139,7 +138,7 @@ module _ {rec consts values names constants : List ℕ} {env : Environment} (sho
   -- a string that was run
   said-is : (e : Expr) (place : ℕ) (n : Token) → Stood s n
       → Here place (ok (record { place = place; says = e }) n)
-      (said_as pool places count end (said (On (length (bytes_of (evaluate env e))) n) (buffer_of (copy_at (replicate most_identifier 0) 0 (bytes_of (evaluate env e))))))
+      (said_as pool places count end (said (spoken (length (bytes_of (evaluate env e))) n) (buffer_of (copy_at (replicate most_identifier 0) 0 (bytes_of (evaluate env e))))))
   unfolding identified
   said-is e place n st =
       split (ltb most_identifier (length (bytes_of (evaluate env e))))

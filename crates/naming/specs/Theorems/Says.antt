@@ -38,8 +38,7 @@ use Rattle.machine.specs.Working.Need as Need
 use Rattle.machine.specs.Theorems.Runs.{run-expression}
 use Rattle.machine.specs.Working.Stacking.{topped}
 use Rattle.judge.specs.Working.Fit.{Holds, holds-is, Fits, fit, expression-fits}
-use Rattle.judge.specs.Working.Saying.{Told, said, valued_at, on_read, said_in, string_size, said_here}
-use Rattle.judge.specs.declared.string.Said.TheVariants.{On, Aside}
+use Rattle.judge.specs.Working.Saying.{Told, said, valued_at, on_read, said_in, string_size, said_here, spoken}
 use Rattle.naming.specs.Theorems.Strings.{Strung, strung-ok, expression-strung}
 use Rattle.syntax.specs.Working.Faults.{against}
 use Rattle.syntax.specs.declared.fault.Fault.{Fault}
@@ -62,9 +61,9 @@ stood-sound s t st = rw st.is (sound start (λ h. let p : (st.at ≤ u.start) ×
 -- The same reason of document 01 at the same place, nothing written; or the string's value, its bytes counted and put where they fit, before a
 -- token of the text.
 pub data Saying (s : List ℕ) (env : Environment) (out : List ℕ) : Parsed Part → Told → Type 0 where
-  said-not : (r p : ℕ) → (r ≡ 0 → ⊥) → Saying s env out (aside r p) (said (Aside (against r p)) out)
+  said-not : (r p : ℕ) → (r ≡ 0 → ⊥) → Saying s env out (aside r p) (said (Err (against r p)) out)
   said-value : (e : Expr) (n : Token) → Stood s n
-      → Saying s env out (ok (part (sorted a-string) e) n) (said (On (length (bytes_of (evaluate env e))) n) (buffer_of (copy_at out 0 (bytes_of (evaluate env e)))))
+      → Saying s env out (ok (part (sorted a-string) e) n) (said (spoken (length (bytes_of (evaluate env e))) n) (buffer_of (copy_at out 0 (bytes_of (evaluate env e)))))
 
 module _ {rec consts values names constants : List ℕ} {env : Environment} (shows : Shows rec consts values names constants env)
     (s : List ℕ) (short : length s < 65536) (t : Token) (st : Stood s t) (nest : ℕ) (few : nest ≤ 16) (out : List ℕ) where

@@ -1,5 +1,5 @@
 -- Working definitions: what an expression gives, entered into the index; and the ways out of the functions that do it. Assumes nothing.
-use Rattle.std.specs.Prelude.{◌≡◌, refl, Bool, List, ℕ, ◌+◌, ◌-◌, ◌<◌, ◌≤◌, ◌^◌, eqb, ltb, length, take, replicate}
+use Rattle.std.specs.Prelude.{◌≡◌, refl, Bool, List, ℕ, ◌+◌, ◌-◌, ◌<◌, ◌≤◌, ◌^◌, eqb, ltb, length, take, replicate, Ok, Err}
 use Rattle.std.proofs.Math.Path.{sym}
 use Rattle.std.proofs.Common.{ap, ◌∙◌, Fits, length-take-le}
 use Rattle.std.proofs.Math.Bool.{true}
@@ -18,13 +18,12 @@ use Rattle.index.specs.Working.Entering.{Kept, numbered, enter_in}
 use Rattle.index.specs.declared.Index.{Index}
 use Rattle.index.specs.declared.Numbered.{Numbered}
 use Rattle.index.specs.declared.Numbered.TheVariants.{At as Known, Full}
-use Rattle.judge.specs.Working.Saying.{Told, said, said_here}
-use Rattle.judge.specs.declared.string.Said.{Said}
-use Rattle.judge.specs.declared.string.Said.TheVariants.{On, Aside as Refused}
+use Rattle.judge.specs.Working.Saying.{Told, said, said_here, Spoken}
 use Rattle.naming.specs.declared.identifier.Named.{Named}
 use Rattle.naming.specs.declared.identifier.Named.TheVariants.{At, Nobody, Aside}
 use Rattle.syntax.specs.Working.Faults.{against}
 use Rattle.syntax.specs.declared.fault.Fault.{Fault}
+use Rattle.judge.specs.declared.string.Said.{Said}
 
 -- where names are looked up: the record, the constants' bytes, and the places of the values, the names and the constants
 pub data Sight : Type 0 where
@@ -54,9 +53,9 @@ entered_in pool places count end n id =
     (pick (ltb most_identifier (length id)) (named (Nobody n) pool places) (of_kept n (enter_in pool places count end id)))
 
 abbrev pub said_as : List ℕ → List ℕ → ℕ → ℕ → Told → Done
-said_as pool places count end (said (Refused f) out) = named (Aside f) pool places
-said_as pool places count end (said (On k n) out) =
-    pick (ltb most_identifier k) (named (Nobody n) pool places) (entered_in pool places count end n (take k out))
+said_as pool places count end (said (Err f) out) = named (Aside f) pool places
+said_as pool places count end (said (Ok q) out) =
+    pick (ltb most_identifier q.count) (named (Nobody q.next) pool places) (entered_in pool places count end q.next (take q.count out))
 
 unfoldable pub string_named : List ℕ → Sight → List ℕ → List ℕ → ℕ → ℕ → ℕ → Token → Done
 string_named s look pool places count end nest t = said_as pool places count end (said_by s t nest look (replicate most_identifier 0))
@@ -96,21 +95,21 @@ module _ (pool places : List ℕ) (count end : ℕ) (n : Token) (id : Principal)
     entered-one h e p q ee r re = rw (ne_eqb _ _ some, le-ltb _ _ h, ← ee, re)
 
 -- `string_named`
-module _ (s rec consts values names constants pool places : List ℕ) (count end nest : ℕ) (t : Token) (r : Said) (m to : List ℕ) (me : m ≡ replicate most_identifier 0)
+module _ (s rec consts values names constants pool places : List ℕ) (count end nest : ℕ) (t : Token) (r : Spoken) (m to : List ℕ) (me : m ≡ replicate most_identifier 0)
     (re : said r to ≡ said_here s t nest rec consts values names constants m) where
-  pub string-aside : (f : Fault) → r ≡ Refused f → named (Aside f) pool places ≡ string_named s (sight rec consts values names constants) pool places count end nest t
+  pub string-aside : (f : Fault) → r ≡ Err f → named (Aside f) pool places ≡ string_named s (sight rec consts values names constants) pool places count end nest t
   unfolding string_named
   string-aside f h = rw (← me, ← re, h)
 
-  module _ (k : ℕ) (n : Token) (h : r ≡ On k n) where
-    pub string-long : most_identifier < k → named (Nobody n) pool places ≡ string_named s (sight rec consts values names constants) pool places count end nest t
+  module _ (q : Said) (h : r ≡ Ok q) where
+    pub string-long : most_identifier < q.count → named (Nobody q.next) pool places ≡ string_named s (sight rec consts values names constants) pool places count end nest t
     unfolding string_named
     string-long l = rw (← me, ← re, h) (rw (lt-ltb _ _ l))
 
-    pub string-entered : k ≤ most_identifier → (id : List ℕ) → id ≡ take k to → (v : Named) (p q : List ℕ) → named v p q ≡ entered_in pool places count end n id
-        → named v p q ≡ string_named s (sight rec consts values names constants) pool places count end nest t
+    pub string-entered : q.count ≤ most_identifier → (id : List ℕ) → id ≡ take q.count to → (v : Named) (p l : List ℕ) → named v p l ≡ entered_in pool places count end q.next id
+        → named v p l ≡ string_named s (sight rec consts values names constants) pool places count end nest t
     unfolding string_named
-    string-entered l id ie v p q e = rw (← me, ← re, h) (rw (le-ltb _ _ l, ← ie) e)
+    string-entered h2 id ie v p l e = rw (← me, ← re, h) (rw (le-ltb _ _ h2, ← ie) e)
 
 -- `is_plain`
 module _ (s : List ℕ) (t : Token) where
