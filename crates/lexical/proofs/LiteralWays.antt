@@ -20,7 +20,7 @@ use Rattle.lexical.specs.Theorems.UnitLaws.{unit-moves, unit-closing}
 use Rattle.lexical.specs.Literal.{units_at, given, literal_end, decoded_at}
 use Rattle.lexical.specs.Theorems.LiteralLaws.{units-more, units-last, units-end}
 use Rattle.lexical.specs.Decode.{ran, decode_into, within, decode_within}
-use Rattle.lexical.specs.declared.literal.Unput.TheVariants.{Long, Full}
+use Rattle.lexical.specs.declared.literal.DecodeError.TheVariants.{Long, Full}
 use Rattle.std.proofs.Common.{inl, inr}
 use Rattle.std.specs.Prelude.{◌⊎◌, Some, None, Ok, Err}
 use Rattle.text.specs.Scan.{past, past_end}

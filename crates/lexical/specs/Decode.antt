@@ -3,8 +3,8 @@ use Rattle.std.specs.Prelude.{Bool, true, false, List, Result, Ok, Err, ℕ, ◌
 use Rattle.std.proofs.lemmas.List.Edits.{sets}
 use Rattle.text.specs.Choice.{pick}
 use Rattle.lexical.specs.Literal.{decoded_at}
-use Rattle.lexical.specs.declared.literal.Unput.{Unput}
-use Rattle.lexical.specs.declared.literal.Unput.TheVariants.{Long, Full}
+use Rattle.lexical.specs.declared.literal.DecodeError.{DecodeError}
+use Rattle.lexical.specs.declared.literal.DecodeError.TheVariants.{Long, Full}
 
 -- whether it was written, and what the buffer holds then
 pub data Ran : Type 0 where
@@ -18,7 +18,7 @@ decode_into s start m at =
 
 -- the same of at most so many bytes: what it tells, and what the buffer holds then
 pub data Within : Type 0 where
-  within : Result ℕ Unput → List ℕ → Within
+  within : Result ℕ DecodeError → List ℕ → Within
 
 abbrev pub on_into : ℕ → Ran → Within
 on_into n (ran true m) = within (Ok n) m

@@ -37,6 +37,7 @@ const CLASS: [u8; 256] = [
     0, 0, 0, 0, 0, 0, 0, 0, 0,
 ];
 
+// Kept: the tests by a byte's own value are steps to those of its class.
 // Is it a space or a tab?
 #[tactic(auto, unfolding(crate::specs::Working::Runs::blank))]
 pub fn is_blank(b: u8) -> bool

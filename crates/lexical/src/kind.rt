@@ -2,6 +2,7 @@
 ghost use Rattle.std.specs.Prelude.{◌≡◌};
 ghost use Rattle.lexical.specs.Kind.{opened, mode_after};
 ghost use Rattle.lexical.specs.Reason.{reason_of};
+ghost use Rattle.lexical.specs.Found.{found};
 
 pub const END: usize = 0;
 
@@ -122,14 +123,14 @@ pub fn mode_after(mode: u8, kind: usize) -> u8
     }
 }
 
-// The reason for a fault of this kind, or 0; its place is the token's start.
+// The reason for a fault of this kind; its place is the token's start.
 #[tactic(auto, unfolding(crate::specs::Reason::reason_of))]
-pub fn reason_of(kind: usize) -> u8
-    ensures { result ≡ reason_of kind }
+pub fn reason_of(kind: usize) -> Option<u8>
+    ensures { result ≡ found (reason_of kind) }
 {
     match kind {
-        ILLEGAL => 1,
-        BAD_LINE => 3,
-        _ => 0,
+        ILLEGAL => Some(1),
+        BAD_LINE => Some(3),
+        _ => None,
     }
 }

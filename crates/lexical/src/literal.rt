@@ -166,7 +166,7 @@ pub fn decode_into(s: &[u8], start: usize, buf: &mut [u8], at: usize) -> bool
 
 // Why a literal was not put: it gives more bytes than are allowed, or there is no room for them.
 #[derive(Clone, Copy)]
-pub enum Unput {
+pub enum DecodeError {
     Long,
     Full,
 }
@@ -179,15 +179,15 @@ pub fn decode_within(
     buf: &mut [u8],
     at: usize,
     most: usize,
-) -> Result<usize, Unput>
+) -> Result<usize, DecodeError>
     ensures { within result buf.new ≡ decode_within s.now start buf.old at most }
 {
     let n = literal_length(s, start);
     if most < n {
-        return Err(Unput::Long);
+        return Err(DecodeError::Long);
     }
     if decode_units(s, start, buf, at, n) {
         return Ok(n);
     }
-    Err(Unput::Full)
+    Err(DecodeError::Full)
 }

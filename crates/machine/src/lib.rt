@@ -26,7 +26,7 @@ use expression::operator::{apply, combine, of_naturals, top_rank};
 use expression::value::{
     Operand, Packed, is_fault, is_text, kind_of, rank_in, size_of, told, unpack, width_of,
 };
-use lexical::literal::{Unput, bare_end, decode_within};
+use lexical::literal::{DecodeError, bare_end, decode_within};
 use limits::MOST_STRING;
 
 // How many numbers and bytes the stacks hold. There is none where the machine can't go on, the code being none or a buffer too small.
@@ -128,8 +128,8 @@ fn push_literal(
     }
     match decode_within(s, at, bytes, t, MOST_STRING) {
         Ok(length) => put(stack, n, t + length, Operand::Text { length }),
-        Err(Unput::Long) => put(stack, n, t, Operand::Fault),
-        Err(Unput::Full) => None,
+        Err(DecodeError::Long) => put(stack, n, t, Operand::Fault),
+        Err(DecodeError::Full) => None,
     }
 }
 

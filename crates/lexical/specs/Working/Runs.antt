@@ -7,7 +7,7 @@ use Rattle.std.proofs.lemmas.Bool.{lt-leb}
 use Rattle.text.specs.Choice.{pick, split}
 use Rattle.text.specs.Class.{is_digit, is_letter, is_word}
 use Rattle.text.specs.Table.{at}
-use Rattle.lexical.specs.Class.{class_of, or, within, BLANK, NEWLINE, LETTER, DIGIT, QUOTE, HASH}
+use Rattle.lexical.specs.Class.{class_of, or, within, BLANK, NEWLINE, LETTER, DIGIT, QUOTE, HASH, NUL}
 use Rattle.lexical.specs.Theorems.Classes.{classes, class-rule}
 use Rattle.lexical.specs.declared.scan.Run.{Run}
 use Rattle.lexical.specs.Run.{BLANKS, WHITE, FREE, WORD, NUMERALS, has_class, in_run}
@@ -83,6 +83,10 @@ module _ (b : ℕ) (h : b < 256) where
   pub hash-class : eqb b 35 ≡ eqb (class_of b) HASH
   unfolding alone
   hash-class = same-eq (eqb b 35) _ (at (alone (λ (x : ℕ). eqb x 35) HASH) classes tt b h) ∙ of-class HASH
+
+  pub nul-class : eqb b 0 ≡ eqb (class_of b) NUL
+  unfolding alone
+  nul-class = same-eq (eqb b 0) _ (at (alone (λ (x : ℕ). eqb x 0) NUL) classes tt b h) ∙ of-class NUL
 
   by-class : (k : Run) → has_class k (get_or classes b 0) ≡ in_run k b
   unfolding in_run

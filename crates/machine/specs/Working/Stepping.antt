@@ -16,8 +16,8 @@ use Rattle.text.specs.Copy.{copied, put, copy_at}
 use Rattle.text.specs.CopyLaws.{put-length}
 use Rattle.lexical.specs.Literal.{decoded_at}
 use Rattle.lexical.specs.Decode.{within, decode_into, decode_within}
-use Rattle.lexical.specs.declared.literal.Unput.{Unput}
-use Rattle.lexical.specs.declared.literal.Unput.TheVariants.{Long, Full}
+use Rattle.lexical.specs.declared.literal.DecodeError.{DecodeError}
+use Rattle.lexical.specs.declared.literal.DecodeError.TheVariants.{Long, Full}
 use Rattle.lexical.specs.Working.Plain.{bare_end, bare-given}
 use Rattle.expression.specs.Value.{operand}
 use Rattle.expression.specs.Operands.{kind_of, size_of, unpacked, width, value_of, is_text}
@@ -133,12 +133,12 @@ module _ (st m : List ℕ) (n t : ℕ) (hn : n ≤ length st) (ht : t ≤ length
           (λ f. text-stuck (leb-false _ _ f) st' m')
 
 -- what `decode_within` tells of a literal
-data Decoding (s : List ℕ) (at : ℕ) (m : List ℕ) (t : ℕ) : Result ℕ Unput → List ℕ → Type 0 where
+data Decoding (s : List ℕ) (at : ℕ) (m : List ℕ) (t : ℕ) : Result ℕ DecodeError → List ℕ → Type 0 where
   too_long : most_string < length (decoded_at s at) → Decoding s at m t (Err Long) m
   too-full : length (decoded_at s at) ≤ most_string → length m < t + length (decoded_at s at) → Decoding s at m t (Err Full) m
   put-there : length (decoded_at s at) ≤ most_string → t + length (decoded_at s at) ≤ length m → Decoding s at m t (Ok (length (decoded_at s at))) (sets m t (decoded_at s at))
 
-decodings : (s : List ℕ) (at : ℕ) (m : List ℕ) (t : ℕ) → t ≤ length m → (d : Result ℕ Unput) (m' : List ℕ) → within d m' ≡ decode_within s at m t most_string → Decoding s at m t d m'
+decodings : (s : List ℕ) (at : ℕ) (m : List ℕ) (t : ℕ) → t ≤ length m → (d : Result ℕ DecodeError) (m' : List ℕ) → within d m' ≡ decode_within s at m t most_string → Decoding s at m t d m'
 unfolding decode_within decode_into
 decodings s at m t ht d m' e =
     split (ltb most_string (length (decoded_at s at)))
@@ -151,30 +151,30 @@ decodings s at m t ht d m' e =
     let h : length (decoded_at s at) ≤ length m - t = ltb-false _ _ g in
     rw ((within-is q).0, (within-is q).1) (put-there (ltb-false _ _ f) (omega arith))))
   where
-    within-is : {d d' : Result ℕ Unput} {m m' : List ℕ} → within d m ≡ within d' m' → (d ≡ d') × (m ≡ m')
+    within-is : {d d' : Result ℕ DecodeError} {m m' : List ℕ} → within d m ≡ within d' m' → (d ≡ d') × (m ≡ m')
     within-is e = (cc, cc)
 
-module _ (s : List ℕ) (at : ℕ) (st m : List ℕ) (n t : ℕ) (hn : n ≤ length st) (ht : t ≤ length m) (d : Result ℕ Unput) (m' : List ℕ) (de : within d m' ≡ decode_within s at m t most_string) where
+module _ (s : List ℕ) (at : ℕ) (st m : List ℕ) (n t : ℕ) (hn : n ≤ length st) (ht : t ≤ length m) (d : Result ℕ DecodeError) (m' : List ℕ) (de : within d m' ≡ decode_within s at m t most_string) where
   abbrev step : State
   step = text_step (length st) (length m) (decoded_at s at) (take n st) (take t m)
 
-  over-from : (b : Result ℕ Unput) (w : List ℕ) → Decoding s at m t b w → b ≡ Err Long → (r : Reached) (st' : List ℕ) → landed r st' ≡ put_at st n t Fault → Live r st' w step
+  over-from : (b : Result ℕ DecodeError) (w : List ℕ) → Decoding s at m t b w → b ≡ Err Long → (r : Reached) (st' : List ℕ) → landed r st' ≡ put_at st n t Fault → Live r st' w step
   over-from _ _ (too_long h) e r st' is = text-over st m n t hn ht (decoded_at s at) h r st' is
   over-from _ _ (too-full h o) e r st' is = absurd (let z : ◌≡◌ {A = ℕ} 0 1 = cc e in omega (arith, z))
   over-from _ _ (put-there h o) e r st' is = absurd (let z : ◌≡◌ {A = ℕ} 0 1 = cc e in omega (arith, z))
 
-  pub literal-over : (e : Unput) → d ≡ Err e → e ≡ Long → (r : Reached) (st' : List ℕ) → landed r st' ≡ put_at st n t Fault → Live r st' m' step
+  pub literal-over : (e : DecodeError) → d ≡ Err e → e ≡ Long → (r : Reached) (st' : List ℕ) → landed r st' ≡ put_at st n t Fault → Live r st' m' step
   literal-over e is long = over-from d m' (decodings s at m t ht d m' de) (is ∙ ap Err long)
 
-  none_from : (b : Result ℕ Unput) (w : List ℕ) → Decoding s at m t b w → b ≡ Err Full → (st' : List ℕ) → Live None st' w step
+  none_from : (b : Result ℕ DecodeError) (w : List ℕ) → Decoding s at m t b w → b ≡ Err Full → (st' : List ℕ) → Live None st' w step
   none_from _ _ (too_long h) e st' = absurd (let z : ◌≡◌ {A = ℕ} 0 1 = cc e in omega (arith, z))
   none_from _ _ (too-full h o) e st' = text-stuck st m n t hn ht (decoded_at s at) h o st' m
   none_from _ _ (put-there h o) e st' = absurd (let z : ◌≡◌ {A = ℕ} 0 1 = cc e in omega (arith, z))
 
-  pub literal-none : (e : Unput) → d ≡ Err e → e ≡ Full → (st' : List ℕ) → Live None st' m' step
+  pub literal-none : (e : DecodeError) → d ≡ Err e → e ≡ Full → (st' : List ℕ) → Live None st' m' step
   literal-none e is full = none_from d m' (decodings s at m t ht d m' de) (is ∙ ap Err full)
 
-  in-from : (b : Result ℕ Unput) (w : List ℕ) → Decoding s at m t b w → (k : ℕ) → b ≡ Ok k → (r : Reached) (st' : List ℕ) → landed r st' ≡ put_at st n (t + k) (Text k) → Live r st' w step
+  in-from : (b : Result ℕ DecodeError) (w : List ℕ) → Decoding s at m t b w → (k : ℕ) → b ≡ Ok k → (r : Reached) (st' : List ℕ) → landed r st' ≡ put_at st n (t + k) (Text k) → Live r st' w step
   in-from _ _ (too_long h) k e r st' is = absurd (let z : ◌≡◌ {A = ℕ} 0 1 = cc e in omega (arith, z))
   in-from _ _ (too-full h o) k e r st' is = absurd (let z : ◌≡◌ {A = ℕ} 0 1 = cc e in omega (arith, z))
   in-from _ _ (put-there h o) k e r st' is =
@@ -186,7 +186,7 @@ module _ (s : List ℕ) (at : ℕ) (st m : List ℕ) (n t : ℕ) (hn : n ≤ len
   literal-in = in-from d m' (decodings s at m t ht d m' de)
 
   -- what was put ends in the buffer
-  room-from : (b : Result ℕ Unput) (w : List ℕ) → Decoding s at m t b w → (k : ℕ) → b ≡ Ok k → t + k ≤ length m
+  room-from : (b : Result ℕ DecodeError) (w : List ℕ) → Decoding s at m t b w → (k : ℕ) → b ≡ Ok k → t + k ≤ length m
   room-from _ _ (too_long h) k e = absurd (let z : ◌≡◌ {A = ℕ} 0 1 = cc e in omega (arith, z))
   room-from _ _ (too-full h o) k e = absurd (let z : ◌≡◌ {A = ℕ} 0 1 = cc e in omega (arith, z))
   room-from _ _ (put-there h o) k e = let ke : k ≡ length (decoded_at s at) = cc e in rw ke o
