@@ -1,5 +1,5 @@
 -- What `string_field` gives is what the string expression says. Assumes nothing.
-use Rattle.std.specs.Prelude.{◌≡◌, ℕ, ◌+◌, ◌-◌, ◌*◌, ◌<◌, ◌≤◌, eqb, ltb, leb, length, take, replicate, Err, Some}
+use Rattle.std.specs.Prelude.{◌≡◌, ℕ, ◌+◌, ◌-◌, ◌*◌, ◌<◌, ◌≤◌, eqb, ltb, leb, length, take, replicate, Ok, Err, Some}
 use Rattle.std.proofs.Math.Path.{refl}
 use Rattle.std.proofs.Common.{sym, ap, ◌∙◌, arith}
 use mathlib.Core.List.{List, [], map, append-nil}
@@ -27,6 +27,7 @@ use Rattle.conditions.specs.Parsed.{Part, part}
 use Rattle.conditions.specs.Expression.{read_expression}
 use Rattle.conditions.specs.Program.{DEPTH}
 use Rattle.conditions.specs.Working.Emit.{found, Ran, ran}
+use Rattle.conditions.specs.declared.emit.Found.{Found}
 use Rattle.conditions.specs.Working.Written.{keeps, grown, Wrote, wrote}
 use Rattle.conditions.specs.Working.Same.{PartCodes, whole, Same, same-aside, same-part}
 use Rattle.conditions.proofs.Working.TieExpression.{expression-same}
@@ -100,10 +101,13 @@ module _ {rec consts values names constants : List ℕ} {env : Environment} (sho
     not_none r p b _ (paced-aside r' p' b' h) e z = h (let q : against r' p' ≡ against r p = cc e in ap (λ (f : Fault). f.reason) q ∙ z)
     not_none r p b _ (paced-found _ _ _ _ _ _ _ _) e z = absurd (let q : ◌≡◌ {A = ℕ} 0 1 = cc e in omega (arith, q))
 
+    same-found : (a b : Found) (c d : List ℕ) → ran (Ok a) c ≡ ran (Ok b) d → a ≡ b
+    same-found a b c d e = cc e
+
     short-code : (k p u : ℕ) (n : Token) (b : List ℕ) (x : Ran) → Paced s 0 t.start t.start x → x ≡ ran (found k p u n) b → u + t.start ≤ n.start
     short-code k p u n b _ (paced-aside r' p' b' h) e = absurd (let q : ◌≡◌ {A = ℕ} 0 1 = cc e in omega (arith, q))
     short-code k p u n b _ (paced-found x' p' u' n' b' s' i j) e =
-        let q : u' ≡ u = cc e in let o : n' ≡ n = cc e in let m : n'.start ≡ n.start = ap (λ (t : Token). t.start) o in omega (arith, q, m, j)
+        let z = same-found _ _ _ _ e in let q : u' ≡ u = ap (λ (f : Found). f.top) z in let m : n'.start ≡ n.start = ap (λ (f : Found). f.next.start) z in omega (arith, q, m, j)
 
     code_of : (p u : ℕ) (e : Expr) (n : Token) (b : List ℕ) → read_expression DEPTH s 3 want-string 0 nest t ≡ ok (part (sorted a-string) e) n → length b ≡ length m → u < length m
         → Wrote m 0 b u (λ c. PartCodes s p e c (sorted a-string))
