@@ -6,18 +6,17 @@ pub mod string;
 ghost use Rattle.std.specs.Prelude.{◌≡◌, ◌≤◌, ◌%◌, replicate};
 ghost use Rattle.judge.specs.Working.Judging.{judged_in, judged_here, rank_at};
 
-use conditions::emit::Out;
 use conditions::program::{bytes_left, conditions};
 use expression::name::Scope;
 use lexical::token::Token;
 use machine::run_here;
 use syntax::fault::Fault;
 
-// The rank and the token behind the field; or the first fault: reason 0 is that of buffers that are too small.
+// The rank and the token behind the field. A fault of reason 0 is that of buffers that are too small.
 #[derive(Clone, Copy)]
-pub enum Judged {
-    On { rank: u8, next: Token },
-    Aside { fault: Fault },
+pub struct Ranked {
+    pub rank: u8,
+    pub next: Token,
 }
 
 // A rank in a byte.
@@ -39,32 +38,24 @@ fn rank_here(code: &[u32], top: usize, s: &[u8], scope: &Scope) -> u8
 }
 
 // The field with its code in the table `code`. The token behind it is built anew: a copy of the whole would wait for the stores of its parts.
-fn judge_in(s: &[u8], t: Token, scope: &Scope, code: &mut [u32]) -> Judged
+fn judge_in(s: &[u8], t: Token, scope: &Scope, code: &mut [u32]) -> Result<Ranked, Fault>
     ensures { result ≡ judged_in s.now t scope.now.query.now scope.now.consts.now scope.now.values.now scope.now.names.now scope.now.constants.now code.old 208 77824 }
 {
-    match conditions(s, code, 0, t) {
-        Out::Aside { fault } => Judged::Aside { fault },
-        Out::Found {
-            sort: _,
-            place: _,
-            top,
-            next,
-        } => {
-            let rank = rank_here(code, top, s, scope);
-            Judged::On {
-                rank,
-                next: Token {
-                    kind: next.kind,
-                    start: next.start,
-                    end: next.end,
-                },
-            }
-        }
-    }
+    let q = conditions(s, code, 0, t)?;
+    let rank = rank_here(code, q.top, s, scope);
+    let next = q.next;
+    Ok(Ranked {
+        rank,
+        next: Token {
+            kind: next.kind,
+            start: next.start,
+            end: next.end,
+        },
+    })
 }
 
 // The field with its code in a table of so many entries.
-fn judge_within<const ROOM: usize>(s: &[u8], t: Token, scope: &Scope) -> Judged
+fn judge_within<const ROOM: usize>(s: &[u8], t: Token, scope: &Scope) -> Result<Ranked, Fault>
     requires { ROOM ≤ 8194 }
     ensures { result ≡ judged_in s.now t scope.now.query.now scope.now.consts.now scope.now.values.now scope.now.names.now scope.now.constants.now (replicate ROOM 0) 208 77824 }
 {
@@ -74,7 +65,7 @@ fn judge_within<const ROOM: usize>(s: &[u8], t: Token, scope: &Scope) -> Judged
 
 // The rank of the Conditions field whose first token is t, and the token behind it; or the first fault. The tables are its own, that of the
 // code by how many bytes are left of the text.
-pub fn judge_field(s: &[u8], t: Token, scope: &Scope) -> Judged
+pub fn judge_field(s: &[u8], t: Token, scope: &Scope) -> Result<Ranked, Fault>
     ensures { result ≡ judged_here s.now t scope.now.query.now scope.now.consts.now scope.now.values.now scope.now.names.now scope.now.constants.now }
 {
     let n = bytes_left(s, t.start);

@@ -29,18 +29,11 @@ use expression::value::{
 use lexical::literal::{DecodeError, bare_end, decode_within};
 use limits::MOST_STRING;
 
-// How many numbers and bytes the stacks hold; or that the machine can't go on, the code being none or a buffer too small.
+// How many numbers and bytes the stacks hold. There is none where the machine can't go on, the code being none or a buffer too small.
 #[derive(Clone, Copy)]
-pub enum Tops {
-    At { numbers: usize, bytes: usize },
-    Stuck,
-}
-
-// How many bytes a string has that code gives; or that the machine can't go on.
-#[derive(Clone, Copy)]
-pub enum Given {
-    Bytes { count: usize },
-    Stuck,
+pub struct Tops {
+    pub numbers: usize,
+    pub bytes: usize,
 }
 
 fn wide(x: u32) -> usize
@@ -86,25 +79,25 @@ fn decimal_at(s: &[u8], at: usize) -> f32
 }
 
 // Puts an operand on a stack of n numbers; t is where its string ends.
-fn put(stack: &mut [u64], n: usize, t: usize, v: Operand) -> Tops
+fn put(stack: &mut [u64], n: usize, t: usize, v: Operand) -> Option<Tops>
     requires { n ≤ length stack.old }
     ensures { landed result stack.new ≡ put_at stack.old n t v }
 {
     if stack.len() < n + 2 {
-        return Tops::Stuck;
+        return None;
     }
     let k = kind_of(v);
     let m = size_of(v);
     stack[n] = k;
     stack[n + 1] = m;
-    Tops::At {
+    Some(Tops {
         numbers: n + 2,
         bytes: t,
-    }
+    })
 }
 
 // Puts a string on the stacks.
-fn push_text(stack: &mut [u64], n: usize, bytes: &mut [u8], t: usize, b: &[u8]) -> Tops
+fn push_text(stack: &mut [u64], n: usize, bytes: &mut [u8], t: usize, b: &[u8]) -> Option<Tops>
     requires { (n ≤ length stack.old) × (t ≤ length bytes.old) }
     ensures { Live result stack.new bytes.new (text_step (length stack.old) (length bytes.old) b.now (take n stack.old) (take t bytes.old)) }
 {
@@ -115,7 +108,7 @@ fn push_text(stack: &mut [u64], n: usize, bytes: &mut [u8], t: usize, b: &[u8]) 
     if text::copy_at(bytes, t, b) {
         return put(stack, n, t + k, Operand::Text { length: k });
     }
-    Tops::Stuck
+    None
 }
 
 // Puts what a literal gives on the stacks; one of plain bytes as it stands, which buys 6 % of an error in every one, by reference.
@@ -126,7 +119,7 @@ fn push_literal(
     n: usize,
     bytes: &mut [u8],
     t: usize,
-) -> Tops
+) -> Option<Tops>
     requires { (n ≤ length stack.old) × (t ≤ length bytes.old) }
     ensures { Live result stack.new bytes.new (text_step (length stack.old) (length bytes.old) (decoded_at s.now at) (take n stack.old) (take t bytes.old)) }
 {
@@ -136,7 +129,7 @@ fn push_literal(
     match decode_within(s, at, bytes, t, MOST_STRING) {
         Ok(length) => put(stack, n, t + length, Operand::Text { length }),
         Err(DecodeError::Long) => put(stack, n, t, Operand::Fault),
-        Err(DecodeError::Full) => Tops::Stuck,
+        Err(DecodeError::Full) => None,
     }
 }
 
@@ -152,34 +145,47 @@ fn top(stack: &[u64], n: usize) -> Operand
 }
 
 // The topmost operand gives way to what an operation makes of it.
-fn unary_step(op: u32, scope: &Scope, stack: &mut [u64], n: usize, bytes: &[u8], t: usize) -> Tops
+fn unary_step(
+    op: u32,
+    scope: &Scope,
+    stack: &mut [u64],
+    n: usize,
+    bytes: &[u8],
+    t: usize,
+) -> Option<Tops>
     requires { (n ≤ length stack.old) × (t ≤ length bytes.now) }
     ensures { Live result stack.new bytes.now (unary_step (length stack.old) (map (counted scope.now.query.now) scope.now.values.now) op (take n stack.old) (take t bytes.now)) }
 {
     if n < 2 {
-        return Tops::Stuck;
+        return None;
     }
     let x = top(stack, n);
     let w = width_of(x);
     if t < w {
-        return Tops::Stuck;
+        return None;
     }
     let v = apply(op, x, &bytes[t - w..t], scope.query, scope.values);
     put(stack, n - 2, t - w, v)
 }
 
 // The topmost string gives way to the value of the name that it is.
-fn lookup_step(scope: &Scope, stack: &mut [u64], n: usize, bytes: &mut [u8], t: usize) -> Tops
+fn lookup_step(
+    scope: &Scope,
+    stack: &mut [u64],
+    n: usize,
+    bytes: &mut [u8],
+    t: usize,
+) -> Option<Tops>
     requires { (n ≤ length stack.old) × (t ≤ length bytes.old) }
     ensures { Live result stack.new bytes.new (lookup_step (length stack.old) (length bytes.old) (lookup_in scope.now.query.now scope.now.consts.now scope.now.values.now scope.now.names.now scope.now.constants.now) (take n stack.old) (take t bytes.old)) }
 {
     if n < 2 {
-        return Tops::Stuck;
+        return None;
     }
     let x = top(stack, n);
     let w = width_of(x);
     if t < w {
-        return Tops::Stuck;
+        return None;
     }
     if is_text(x) {
         let b = scope.lookup(&bytes[t - w..t]);
@@ -189,16 +195,16 @@ fn lookup_step(scope: &Scope, stack: &mut [u64], n: usize, bytes: &mut [u8], t: 
 }
 
 // Puts an operand whose string starts at `base`, below the top t.
-fn put_below(stack: &mut [u64], n: usize, t: usize, base: usize, v: Operand) -> Tops
+fn put_below(stack: &mut [u64], n: usize, t: usize, base: usize, v: Operand) -> Option<Tops>
     requires { n ≤ length stack.old }
     ensures { landed result stack.new ≡ put_below stack.old n t base v }
 {
     let w = width_of(v);
     if t < base {
-        return Tops::Stuck;
+        return None;
     }
     if t - base < w {
-        return Tops::Stuck;
+        return None;
     }
     put(stack, n, base + w, v)
 }
@@ -213,18 +219,18 @@ fn binary_on(
     n: usize,
     bytes: &[u8],
     t: usize,
-) -> Tops
+) -> Option<Tops>
     requires { (n ≤ length stack.old) × (t ≤ length bytes.now) }
     ensures { Live result stack.new bytes.now (binary_on (length stack.old) (map (counted scope.now.query.now) scope.now.values.now) op x y (take n stack.old) (take t bytes.now)) }
 {
     let wy = width_of(y);
     let wx = width_of(x);
     if t < wy {
-        return Tops::Stuck;
+        return None;
     }
     let mid = t - wy;
     if mid < wx {
-        return Tops::Stuck;
+        return None;
     }
     let base = mid - wx;
     let v = combine(
@@ -240,16 +246,16 @@ fn binary_on(
 }
 
 // Puts a packed operand on a stack of n numbers that has room for it.
-fn land(stack: &mut [u64], n: usize, t: usize, q: Packed) -> Tops
+fn land(stack: &mut [u64], n: usize, t: usize, q: Packed) -> Option<Tops>
     requires { n + 2 ≤ length stack.old }
     ensures { landed result stack.new ≡ put_two stack.old n t q.kind q.size }
 {
     stack[n] = q.kind;
     stack[n + 1] = q.size;
-    Tops::At {
+    Some(Tops {
         numbers: n + 2,
         bytes: t,
-    }
+    })
 }
 
 // Is it an operation on integers, and are both kinds those of integers without a sign?
@@ -366,16 +372,16 @@ fn texts_step(
     n: usize,
     bytes: &[u8],
     t: usize,
-) -> Tops
+) -> Option<Tops>
     requires { (n + 2 ≤ length stack.old) × (t ≤ length bytes.now) }
     ensures { Live result stack.new bytes.now (alike_on (length stack.old) op wx wy (take n stack.old) (take t bytes.now)) }
 {
     if t < wy {
-        return Tops::Stuck;
+        return None;
     }
     let mid = t - wy;
     if mid < wx {
-        return Tops::Stuck;
+        return None;
     }
     let base = mid - wx;
     let same = text::same_long(&bytes[base..mid], &bytes[mid..t]);
@@ -397,16 +403,23 @@ fn is_joining(op: u32, x: u64, y: u64) -> bool
 }
 
 // Two strings that end the bytes give way to the one that they make where they lie; one that is too long is a fault.
-fn join_step(wx: usize, wy: usize, stack: &mut [u64], n: usize, bytes: &[u8], t: usize) -> Tops
+fn join_step(
+    wx: usize,
+    wy: usize,
+    stack: &mut [u64],
+    n: usize,
+    bytes: &[u8],
+    t: usize,
+) -> Option<Tops>
     requires { (n + 2 ≤ length stack.old) × (t ≤ length bytes.now) }
     ensures { Live result stack.new bytes.now (join_on (length stack.old) wx wy (take n stack.old) (take t bytes.now)) }
 {
     if t < wy {
-        return Tops::Stuck;
+        return None;
     }
     let mid = t - wy;
     if mid < wx {
-        return Tops::Stuck;
+        return None;
     }
     if MOST_STRING < wx + wy {
         return put(stack, n, mid - wx, Operand::Fault);
@@ -415,12 +428,19 @@ fn join_step(wx: usize, wy: usize, stack: &mut [u64], n: usize, bytes: &[u8], t:
 }
 
 // The two topmost operands give way to what an operation makes of them.
-fn binary_step(op: u32, scope: &Scope, stack: &mut [u64], n: usize, bytes: &[u8], t: usize) -> Tops
+fn binary_step(
+    op: u32,
+    scope: &Scope,
+    stack: &mut [u64],
+    n: usize,
+    bytes: &[u8],
+    t: usize,
+) -> Option<Tops>
     requires { (n ≤ length stack.old) × (t ≤ length bytes.now) }
     ensures { Live result stack.new bytes.now (binary_step (length stack.old) (map (counted scope.now.query.now) scope.now.values.now) op (take n stack.old) (take t bytes.now)) }
 {
     if n < 4 {
-        return Tops::Stuck;
+        return None;
     }
     let y = top(stack, n);
     let x = top(stack, n - 2);
@@ -436,12 +456,12 @@ fn operator_step(
     n: usize,
     bytes: &[u8],
     t: usize,
-) -> Tops
+) -> Option<Tops>
     requires { (n ≤ length stack.old) × (t ≤ length bytes.now) }
     ensures { Live result stack.new bytes.now (binary_step (length stack.old) (map (counted scope.now.query.now) scope.now.values.now) op (take n stack.old) (take t bytes.now)) }
 {
     if n < 4 {
-        return Tops::Stuck;
+        return None;
     }
     if is_natural(op, stack[n - 4], stack[n - 2]) {
         let q = of_naturals(op, stack[n - 3], stack[n - 1]);
@@ -477,12 +497,12 @@ fn greater(x: u64, y: u64) -> u64
 
 // `binary_step` of RAISE, which brings the rank on top to the one below it: by the numbers alone where both are ranks. With `plain_step`'s it
 // buys 22 % of clauses.
-fn raise_step(scope: &Scope, stack: &mut [u64], n: usize, bytes: &[u8], t: usize) -> Tops
+fn raise_step(scope: &Scope, stack: &mut [u64], n: usize, bytes: &[u8], t: usize) -> Option<Tops>
     requires { (n ≤ length stack.old) × (t ≤ length bytes.now) }
     ensures { Live result stack.new bytes.now (binary_step (length stack.old) (map (counted scope.now.query.now) scope.now.values.now) RAISE (take n stack.old) (take t bytes.now)) }
 {
     if n < 4 {
-        return Tops::Stuck;
+        return None;
     }
     if stack[n - 4] == 5 {
         if stack[n - 2] == 5 {
@@ -504,7 +524,7 @@ fn rank_told(kind: u64, values: &[usize]) -> u64
 }
 
 // Brings a clause that is a test to a rank, and that to its program's.
-fn plain_step(scope: &Scope, stack: &mut [u64], n: usize, bytes: &[u8], t: usize) -> Tops
+fn plain_step(scope: &Scope, stack: &mut [u64], n: usize, bytes: &[u8], t: usize) -> Option<Tops>
     requires { (n ≤ length stack.old) × (t ≤ length bytes.now) }
     ensures { Live result stack.new bytes.now (raised (length stack.old) (map (counted scope.now.query.now) scope.now.values.now) (unary_step (length stack.old) (map (counted scope.now.query.now) scope.now.values.now) PLAIN (take n stack.old) (take t bytes.now))) }
 {
@@ -517,10 +537,8 @@ fn plain_step(scope: &Scope, stack: &mut [u64], n: usize, bytes: &[u8], t: usize
             }
         }
     }
-    match unary_step(syntax::PLAIN, scope, stack, n, bytes, t) {
-        Tops::Stuck => Tops::Stuck,
-        Tops::At { numbers, bytes: b } => raise_step(scope, stack, numbers, bytes, b),
-    }
+    let top = unary_step(syntax::PLAIN, scope, stack, n, bytes, t)?;
+    raise_step(scope, stack, top.numbers, bytes, top.bytes)
 }
 
 fn is_true(op: u32) -> bool
@@ -539,7 +557,7 @@ fn push_step(
     n: usize,
     bytes: &mut [u8],
     t: usize,
-) -> Tops
+) -> Option<Tops>
     requires { (n ≤ length stack.old) × (t ≤ length bytes.old) }
     ensures { Live result stack.new bytes.new (push_step (length stack.old) (length bytes.old) s.now (lookup_in scope.now.query.now scope.now.consts.now scope.now.values.now scope.now.names.now scope.now.constants.now) op at (take n stack.old) (take t bytes.old)) }
 {
@@ -577,7 +595,14 @@ fn is_idle(stack: &[u64], n: usize) -> bool
 }
 
 // Brings the clause on top to a rank, and that to its program's; or a program begins.
-fn clause_step(op: u32, scope: &Scope, stack: &mut [u64], n: usize, bytes: &[u8], t: usize) -> Tops
+fn clause_step(
+    op: u32,
+    scope: &Scope,
+    stack: &mut [u64],
+    n: usize,
+    bytes: &[u8],
+    t: usize,
+) -> Option<Tops>
     requires { (n ≤ length stack.old) × (t ≤ length bytes.now) }
     ensures { Live result stack.new bytes.now (clause_step (length stack.old) (map (counted scope.now.query.now) scope.now.values.now) op (take n stack.old) (take t bytes.now)) }
 {
@@ -588,19 +613,24 @@ fn clause_step(op: u32, scope: &Scope, stack: &mut [u64], n: usize, bytes: &[u8]
         return plain_step(scope, stack, n, bytes, t);
     }
     if is_idle(stack, n) {
-        return Tops::At {
+        return Some(Tops {
             numbers: n - 2,
             bytes: t,
-        };
+        });
     }
-    match binary_step(op, scope, stack, n, bytes, t) {
-        Tops::Stuck => Tops::Stuck,
-        Tops::At { numbers, bytes: b } => raise_step(scope, stack, numbers, bytes, b),
-    }
+    let top = binary_step(op, scope, stack, n, bytes, t)?;
+    raise_step(scope, stack, top.numbers, bytes, top.bytes)
 }
 
 // An operation on what lies on the stacks.
-fn act(op: u32, scope: &Scope, stack: &mut [u64], n: usize, bytes: &mut [u8], t: usize) -> Tops
+fn act(
+    op: u32,
+    scope: &Scope,
+    stack: &mut [u64],
+    n: usize,
+    bytes: &mut [u8],
+    t: usize,
+) -> Option<Tops>
     requires { (n ≤ length stack.old) × (t ≤ length bytes.old) }
     ensures { Live result stack.new bytes.new (act_of (length stack.old) (length bytes.old) (lookup_in scope.now.query.now scope.now.consts.now scope.now.values.now scope.now.names.now scope.now.constants.now) (map (counted scope.now.query.now) scope.now.values.now) op (take n stack.old) (take t bytes.old)) }
 {
@@ -774,7 +804,13 @@ fn onward(code: &[u32], i: usize, stack: &[u64], n: usize, values: &[usize]) -> 
 
 // Runs code over the assertion's text: where its operands and their bytes end on the stacks. Where the code is none or a buffer is too small,
 // it is stuck.
-fn run_live(code: &[u32], s: &[u8], scope: &Scope, stack: &mut [u64], bytes: &mut [u8]) -> Tops
+fn run_live(
+    code: &[u32],
+    s: &[u8],
+    scope: &Scope,
+    stack: &mut [u64],
+    bytes: &mut [u8],
+) -> Option<Tops>
     ensures { Live result stack.new bytes.new (exec (length stack.old) (length bytes.old) s.now (lookup_in scope.now.query.now scope.now.consts.now scope.now.values.now scope.now.names.now scope.now.constants.now) (map (counted scope.now.query.now) scope.now.values.now) code.now (on [] [])) }
 {
     let mut n: usize = 0;
@@ -785,33 +821,21 @@ fn run_live(code: &[u32], s: &[u8], scope: &Scope, stack: &mut [u64], bytes: &mu
         let op = e / 65536;
         let at = wide(e % 65536);
         if op <= syntax::DECIMAL {
-            match push_step(op, at, s, scope, stack, n, bytes, t) {
-                Tops::Stuck => {
-                    return Tops::Stuck;
-                }
-                Tops::At { numbers, bytes: b } => {
-                    n = numbers;
-                    t = b;
-                    i += 1;
-                }
-            }
+            let top = push_step(op, at, s, scope, stack, n, bytes, t)?;
+            n = top.numbers;
+            t = top.bytes;
+            i += 1;
         } else {
-            match act(op, scope, stack, n, bytes, t) {
-                Tops::Stuck => {
-                    return Tops::Stuck;
-                }
-                Tops::At { numbers, bytes: b } => {
-                    n = numbers;
-                    t = b;
-                    i = onward(code, i + 1, stack, n, scope.values);
-                }
-            }
+            let top = act(op, scope, stack, n, bytes, t)?;
+            n = top.numbers;
+            t = top.bytes;
+            i = onward(code, i + 1, stack, n, scope.values);
         }
     }
-    Tops::At {
+    Some(Tops {
         numbers: n,
         bytes: t,
-    }
+    })
 }
 
 // Runs compiled Conditions over the assertion's text: the operand left on top, for a program its rank. Where the code is none or
@@ -820,8 +844,8 @@ fn run(code: &[u32], s: &[u8], scope: &Scope, stack: &mut [u64], bytes: &mut [u8
     ensures { result ≡ result_of (exec (length stack.old) (length bytes.old) s.now (lookup_in scope.now.query.now scope.now.consts.now scope.now.values.now scope.now.names.now scope.now.constants.now) (map (counted scope.now.query.now) scope.now.values.now) code.now (on [] [])) }
 {
     match run_live(code, s, scope, stack, bytes) {
-        Tops::Stuck => Operand::Fault,
-        Tops::At { numbers, bytes: _ } => top(stack, numbers),
+        None => Operand::Fault,
+        Some(tops) => top(stack, tops.numbers),
     }
 }
 
@@ -877,19 +901,12 @@ fn string_in(
     stack: &mut [u64],
     bytes: &mut [u8],
     out: &mut [u8],
-) -> Given
+) -> Option<usize>
     ensures { gave result out.new ≡ string_of (exec (length stack.old) (length bytes.old) s.now (lookup_in scope.now.query.now scope.now.consts.now scope.now.values.now scope.now.names.now scope.now.constants.now) (map (counted scope.now.query.now) scope.now.values.now) code.now (on [] [])) out.old }
 {
-    match run_live(code, s, scope, stack, bytes) {
-        Tops::Stuck => Given::Stuck,
-        Tops::At {
-            numbers: _,
-            bytes: t,
-        } => {
-            text::copy_at(out, 0, &bytes[..t]);
-            Given::Bytes { count: t }
-        }
-    }
+    let tops = run_live(code, s, scope, stack, bytes)?;
+    text::copy_at(out, 0, &bytes[..tops.bytes]);
+    Some(tops.bytes)
 }
 
 // The same on stacks of its own, for so many numbers and bytes.
@@ -899,7 +916,7 @@ fn string_within<const DEPTH: usize, const SPACE: usize>(
     s: &[u8],
     scope: &Scope,
     out: &mut [u8],
-) -> Given
+) -> Option<usize>
     requires { (DEPTH ≤ 208) × (SPACE ≤ 77824) }
     ensures { gave result out.new ≡ string_in DEPTH SPACE code.now s.now scope.now.query.now scope.now.consts.now scope.now.values.now scope.now.names.now scope.now.constants.now out.old }
 {
@@ -909,24 +926,20 @@ fn string_within<const DEPTH: usize, const SPACE: usize>(
 }
 
 // The same with little room first. It calls itself so that the compiler keeps the large tables apart.
-fn string_on(tier: usize, code: &[u32], s: &[u8], scope: &Scope, out: &mut [u8]) -> Given
+fn string_on(tier: usize, code: &[u32], s: &[u8], scope: &Scope, out: &mut [u8]) -> Option<usize>
     ensures { gave result out.new ≡ string_in 208 77824 code.now s.now scope.now.query.now scope.now.consts.now scope.now.values.now scope.now.names.now scope.now.constants.now out.old }
 {
     if tier == 0 {
-        match string_within::<32, 512>(code, s, scope, out) {
-            Given::Bytes { count } => {
-                return Given::Bytes { count };
-            }
-            Given::Stuck => {
-                return string_on(1, code, s, scope, out);
-            }
+        if let Some(count) = string_within::<32, 512>(code, s, scope, out) {
+            return Some(count);
         }
+        return string_on(1, code, s, scope, out);
     }
     string_within::<208, 77824>(code, s, scope, out)
 }
 
 // The string that code gives, run on stacks of its own: how many bytes it has. They are put into `out` where they fit.
-pub fn string_here(code: &[u32], s: &[u8], scope: &Scope, out: &mut [u8]) -> Given
+pub fn string_here(code: &[u32], s: &[u8], scope: &Scope, out: &mut [u8]) -> Option<usize>
     ensures { gave result out.new ≡ string_in 208 77824 code.now s.now scope.now.query.now scope.now.consts.now scope.now.values.now scope.now.names.now scope.now.constants.now out.old }
 {
     string_on(0, code, s, scope, out)

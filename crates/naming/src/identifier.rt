@@ -6,13 +6,13 @@ use crate::whole::is_whole;
 use expression::name::Scope;
 use fields::out::word;
 use index::{Index, Numbered, enter};
-use judge::string::{Said, string_field};
+use judge::string::string_field;
 use lexical::kind;
 use lexical::token::Token;
 use limits::MOST_IDENTIFIER;
 use syntax::fault::{Fault, NO_ROOM};
 
-// The principal's number, the index, and the token behind the expression; that it identifies nobody; or the first fault.
+// The principal's number, the index, and the token behind the expression; or that it identifies nobody.
 #[derive(Clone, Copy)]
 pub enum Named {
     At {
@@ -23,39 +23,40 @@ pub enum Named {
     Nobody {
         next: Token,
     },
-    Aside {
-        fault: Fault,
-    },
 }
 
 // A principal that was entered as e, before the token n.
-fn of_number(e: Numbered, n: Token) -> Named
+fn of_number(e: Option<Numbered>, n: Token) -> Result<Named, Fault>
     ensures { result ≡ of_number n e }
 {
     match e {
-        Numbered::Full => Named::Aside {
-            fault: Fault {
-                reason: NO_ROOM,
-                place: 0,
-            },
-        },
-        Numbered::At { count, number, end } => Named::At {
+        None => Err(Fault {
+            reason: NO_ROOM,
+            place: 0,
+        }),
+        Some(Numbered { count, number, end }) => Ok(Named::At {
             number,
             index: Index { count, end },
             next: n,
-        },
+        }),
     }
 }
 
 // Enters what an expression gives, before the token n.
-fn entered(pool: &mut [u8], places: &mut [usize], index: Index, id: &[u8], n: Token) -> Named
+fn entered(
+    pool: &mut [u8],
+    places: &mut [usize],
+    index: Index,
+    id: &[u8],
+    n: Token,
+) -> Result<Named, Fault>
     ensures { named result pool.new places.new ≡ entered_in pool.old places.old index.count index.end n id.now }
 {
     if id.len() == 0 {
-        return Named::Nobody { next: n };
+        return Ok(Named::Nobody { next: n });
     }
     if MOST_IDENTIFIER < id.len() {
-        return Named::Nobody { next: n };
+        return Ok(Named::Nobody { next: n });
     }
     let e = enter(pool, places, index, id);
     of_number(e, n)
@@ -70,19 +71,15 @@ pub fn string_named(
     index: Index,
     t: Token,
     nest: usize,
-) -> Named
+) -> Result<Named, Fault>
     ensures { named result pool.new places.new ≡ string_named s.now (sight scope.now.query.now scope.now.consts.now scope.now.values.now scope.now.names.now scope.now.constants.now) pool.old places.old index.count index.end nest t }
 {
     let mut id = [0u8; MOST_IDENTIFIER];
-    match string_field(s, t, nest, scope, &mut id) {
-        Said::Aside { fault } => Named::Aside { fault },
-        Said::On { count: k, next } => {
-            if MOST_IDENTIFIER < k {
-                return Named::Nobody { next };
-            }
-            entered(pool, places, index, &id[..k], next)
-        }
+    let said = string_field(s, t, nest, scope, &mut id)?;
+    if MOST_IDENTIFIER < said.count {
+        return Ok(Named::Nobody { next: said.next });
     }
+    entered(pool, places, index, &id[..said.count], said.next)
 }
 
 // Is t a name or a literal that gives its bytes as they stand?
@@ -104,7 +101,7 @@ pub(crate) fn plain_named(
     index: Index,
     t: Token,
     n: Token,
-) -> Named
+) -> Result<Named, Fault>
     requires { is_plain s.now t ≡ true }
     ensures { named result pool.new places.new ≡ plain_named s.now (sight scope.now.query.now scope.now.consts.now scope.now.values.now scope.now.names.now scope.now.constants.now) pool.old places.old index.count index.end t n }
 {

@@ -44,14 +44,14 @@ fn join_of(level: usize) -> u16
 }
 
 // Past the closing bracket t.
-fn closed(s: &[u8], st: State, t: Token) -> Licensed
+fn closed(s: &[u8], st: State, t: Token) -> Result<Licensed, Fault>
     ensures { result ≡ closed_in s.now st t }
 {
     if t.kind != kind::CLOSE {
         return refused(t);
     }
     let n = token_at(s, kind::IN_LICENSEES, t.end);
-    Licensed::On { state: st, next: n }
+    Ok(Licensed { state: st, next: n })
 }
 
 // Is an operand of that level that begins with a token of this kind a principal, if no && follows?
@@ -92,7 +92,7 @@ fn operand(
     t: Token,
     level: usize,
     left: usize,
-) -> Licensed
+) -> Result<Licensed, Fault>
     ensures { ran result pool.new places.new code.new ≡ operand_at left level s.now (sight scope.now.query.now scope.now.consts.now scope.now.values.now scope.now.names.now scope.now.constants.now) pool.old places.old code.old st t }
 {
     if level == 0 {
@@ -128,7 +128,7 @@ fn more(
     from: Token,
     level: usize,
     left: usize,
-) -> Licensed
+) -> Result<Licensed, Fault>
     ensures { ran result pool.new places.new code.new ≡ more_at left level s.now (sight scope.now.query.now scope.now.consts.now scope.now.values.now scope.now.names.now scope.now.constants.now) pool.old places.old code.old st from }
 {
     let joint = joint_of(level);
@@ -136,33 +136,26 @@ fn more(
     let mut t = from;
     while t.kind == joint {
         let n = token_at(s, kind::IN_LICENSEES, t.end);
-        match operand(s, scope, pool, places, code, state, n, level, left) {
-            Licensed::On { state: u, next } => {
-                if rest(state.listed) <= rest(u.listed) {
-                    return Licensed::Aside {
-                        fault: Fault {
-                            reason: NO_ROOM,
-                            place: 0,
-                        },
-                    };
-                }
-                let index = u.index;
-                let fault = u.fault;
-                let size = push(code, u.size, join_of(level));
-                state = State {
-                    index,
-                    size,
-                    listed: u.listed,
-                    fault,
-                };
-                t = next;
-            }
-            aside => {
-                return aside;
-            }
+        let one = operand(s, scope, pool, places, code, state, n, level, left)?;
+        let u = one.state;
+        if rest(state.listed) <= rest(u.listed) {
+            return Err(Fault {
+                reason: NO_ROOM,
+                place: 0,
+            });
         }
+        let index = u.index;
+        let fault = u.fault;
+        let size = push(code, u.size, join_of(level));
+        state = State {
+            index,
+            size,
+            listed: u.listed,
+            fault,
+        };
+        t = one.next;
     }
-    Licensed::On { state, next: t }
+    Ok(Licensed { state, next: t })
 }
 
 // Operands joined at a level, from left to right.
@@ -177,15 +170,13 @@ fn chain(
     t: Token,
     level: usize,
     left: usize,
-) -> Licensed
+) -> Result<Licensed, Fault>
     ensures { ran result pool.new places.new code.new ≡ chain_at left level s.now (sight scope.now.query.now scope.now.consts.now scope.now.values.now scope.now.names.now scope.now.constants.now) pool.old places.old code.old st t }
 {
-    match operand(s, scope, pool, places, code, st, t, level, left) {
-        Licensed::On { state, next } => {
-            more(s, scope, pool, places, code, state, next, level, left)
-        }
-        aside => aside,
-    }
+    let one = operand(s, scope, pool, places, code, st, t, level, left)?;
+    more(
+        s, scope, pool, places, code, one.state, one.next, level, left,
+    )
 }
 
 // Is what a bracket holds one licensee, and does a token of kind k behind the bracket begin a longer string?
@@ -212,7 +203,7 @@ fn primary(
     st: State,
     t: Token,
     left: usize,
-) -> Licensed
+) -> Result<Licensed, Fault>
     ensures { ran result pool.new places.new code.new ≡ primary_at left s.now (sight scope.now.query.now scope.now.consts.now scope.now.values.now scope.now.names.now scope.now.constants.now) pool.old places.old code.old st t }
 {
     if t.kind == kind::DIGITS {
@@ -222,34 +213,26 @@ fn primary(
         return licensee(s, scope, pool, places, code, st, t, left);
     }
     if left == 0 {
-        return Licensed::Aside {
-            fault: Fault {
-                reason: OVER_LIMIT,
-                place: t.start,
-            },
-        };
+        return Err(Fault {
+            reason: OVER_LIMIT,
+            place: t.start,
+        });
     }
     let n = token_at(s, kind::IN_LICENSEES, t.end);
-    match chain(s, scope, pool, places, code, st, n, ANY, left - 1) {
-        Licensed::On { state, next } => match closed(s, state, next) {
-            Licensed::On { state: u, next: v } => {
-                if is_longer(st, u, v.kind) {
-                    return licensee(s, scope, pool, places, code, st, t, left);
-                }
-                Licensed::On { state: u, next: v }
-            }
-            aside => aside,
-        },
-        aside => aside,
+    let held = chain(s, scope, pool, places, code, st, n, ANY, left - 1)?;
+    let behind = closed(s, held.state, held.next)?;
+    if is_longer(st, behind.state, behind.next.kind) {
+        return licensee(s, scope, pool, places, code, st, t, left);
     }
+    Ok(behind)
 }
 
 // The end of the field at t.
-fn finished(st: State, t: Token) -> Licensed
+fn finished(st: State, t: Token) -> Result<Licensed, Fault>
     ensures { result ≡ end_in st t }
 {
     if is_ending(t.kind) {
-        return Licensed::On { state: st, next: t };
+        return Ok(Licensed { state: st, next: t });
     }
     refused(t)
 }
@@ -264,28 +247,24 @@ pub fn licensees(
     index: Index,
     size: usize,
     t: Token,
-) -> Licensed
+) -> Result<Licensed, Fault>
     ensures { ran result pool.new places.new code.new ≡ field_in s.now (sight scope.now.query.now scope.now.consts.now scope.now.values.now scope.now.names.now scope.now.constants.now) pool.old places.old code.old index.count index.end size t }
 {
     if code.len() < size {
-        return Licensed::Aside {
-            fault: Fault {
-                reason: NO_ROOM,
-                place: 0,
-            },
-        };
+        return Err(Fault {
+            reason: NO_ROOM,
+            place: 0,
+        });
     }
     if code.len() - size < MOST_CODE {
-        return Licensed::Aside {
-            fault: Fault {
-                reason: NO_ROOM,
-                place: 0,
-            },
-        };
+        return Err(Fault {
+            reason: NO_ROOM,
+            place: 0,
+        });
     }
     if is_ending(t.kind) {
         let top = push(code, size, instruction::ZERO);
-        return Licensed::On {
+        return Ok(Licensed {
             state: State {
                 index,
                 size: top,
@@ -293,7 +272,7 @@ pub fn licensees(
                 fault: clear(),
             },
             next: t,
-        };
+        });
     }
     let st = State {
         index,
@@ -301,8 +280,6 @@ pub fn licensees(
         listed: 0,
         fault: clear(),
     };
-    match chain(s, scope, pool, places, code, st, t, ANY, MOST_BRACKETS) {
-        Licensed::On { state, next } => finished(state, next),
-        aside => aside,
-    }
+    let all = chain(s, scope, pool, places, code, st, t, ANY, MOST_BRACKETS)?;
+    finished(all.state, all.next)
 }
