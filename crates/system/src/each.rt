@@ -4,9 +4,10 @@ ghost use Rattle.text.specs.Choice.{pick};
 ghost use Rattle.system.specs.Working.Each.{fixed, store, one_by, one_in, full, went_by, each_by, each_from};
 
 use crate::note::{Ends, note};
-use assertion::{Assessment, read};
+use assertion::{Assessed, read};
 use index::Index;
 use limits::{MOST_CONSTANTS, MOST_ENTERED, MOST_LENGTHS, MOST_NAMED};
+use syntax::fault::Fault;
 
 // The byte at a place, 0 past the end.
 fn byte_at(s: &[u8], at: usize) -> u8
@@ -49,7 +50,7 @@ fn read_one(
     code: &mut [u16],
     index: Index,
     size: usize,
-) -> Assessment
+) -> Result<Assessed, Fault>
     ensures { one_by result (store consts.new pool.new places.new code.new) ≡ one_in (fixed shared.now.query.now shared.now.values.now shared.now.names.now shared.now.top shared.now.start) at (store consts.old pool.old places.old code.old) index.count index.end size }
 {
     let mut constants = [0usize; MOST_CONSTANTS];

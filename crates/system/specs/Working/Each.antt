@@ -8,8 +8,7 @@ use Rattle.limits.specs.Limits.{most_constants, most_named, most_entered, most_l
 use Rattle.text.specs.Choice.{pick, split}
 use Rattle.text.specs.Counted.{counted}
 use Rattle.assertion.specs.Working.Field.{given, tabled}
-use Rattle.assertion.specs.Working.Reading.{Result, read_by, read_in}
-use Rattle.assertion.specs.declared.Assessment.{Assessment}
+use Rattle.assertion.specs.Working.Reading.{Assessment, ReadInto, read_by, read_in}
 use Rattle.system.specs.Working.Noting.{Noted, noted, note_in}
 use Rattle.system.specs.declared.note.Ends.{Ends}
 
@@ -37,7 +36,7 @@ store consts pool places code = record { consts = consts; pool = pool; places = 
 pub data One : Type 0 where
   one_by : Assessment → Store → One
 
-abbrev pub one_of : Result → One
+abbrev pub one_of : ReadInto → One
 one_of (read_by r x) = one_by r (store x.consts x.pool x.places x.code)
 
 -- the assertion at a place, with entries for its constants
