@@ -151,6 +151,7 @@ fn fields(
 {
     let mut d = partial;
     let mut t = from;
+    // Kept: a turn goes on behind a field, so there is no range to go over.
     loop {
         if is_last(free, t.kind) {
             return last(s, free, code, d, t);

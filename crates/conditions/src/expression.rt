@@ -173,6 +173,7 @@ fn chain(
     let mut place = spot;
     let mut top = from;
     let mut t = first;
+    // Kept: a turn goes on behind an operand, so there is no range to go over.
     while t.start < s.len() {
         let o = operator_of(sort, t.kind);
         if is_loose(level, o) {

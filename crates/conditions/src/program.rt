@@ -192,6 +192,7 @@ fn clauses(
     }
     let mut top = from;
     let mut t = first;
+    // Kept: a turn goes on behind a clause, so there is no range to go over.
     while t.start < s.len() {
         if is_stop(nest, t.kind) {
             return Ok(Found {

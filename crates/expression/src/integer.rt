@@ -170,13 +170,11 @@ fn raise(x: u64, n: u64) -> u64
         return 2147483649;
     }
     let mut v: u64 = 1;
-    let mut left = n;
-    while 0 < left {
+    for _left in (0..n).rev() {
         v = v * x;
         if LEAST < v {
             return 2147483649;
         }
-        left -= 1;
     }
     v
 }

@@ -178,6 +178,7 @@ pub fn constants(
         end: start,
     };
     let mut t = from;
+    // Kept: a turn goes on behind an assignment, so there is no range to go over.
     loop {
         if is_ending(t.kind) {
             return Ok(Settings { index, next: t });

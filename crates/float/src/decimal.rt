@@ -24,6 +24,7 @@ fn under_doubled(a: u64, c: u64) -> Scaled
 {
     let mut b = c;
     let mut j: u64 = 125;
+    // Kept: how often a number doubles is not known before.
     while b <= a {
         b = b * 2;
         j += 1;
@@ -42,6 +43,7 @@ fn over_doubled(from: u64, b: u64, place: u64) -> Scaled
 {
     let mut a = from;
     let mut j = place;
+    // Kept: how often a number doubles is not known before.
     while a * 2 < b {
         a = a * 2;
         j -= 1;

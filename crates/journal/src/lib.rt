@@ -70,6 +70,7 @@ fn entries_end(page: &[u8]) -> usize
     ensures { result ≡ end_at page.now 1 }
 {
     let mut at: usize = 1;
+    // Kept: a turn goes on behind an entry, so there is no range to go over.
     while let Some(next) = next_entry(page, at) {
         at = next;
     }

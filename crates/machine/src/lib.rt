@@ -816,6 +816,7 @@ fn run_live(
     let mut n: usize = 0;
     let mut t: usize = 0;
     let mut i: usize = 0;
+    // Kept: a turn may go on far behind its entry (`onward`), so there is no range to go over.
     while i < code.len() {
         let e = code[i];
         let op = e / 65536;

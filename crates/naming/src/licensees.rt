@@ -134,6 +134,7 @@ fn more(
     let joint = joint_of(level);
     let mut state = st;
     let mut t = from;
+    // Kept: a turn goes on behind an operand, so there is no range to go over.
     while t.kind == joint {
         let n = token_at(s, kind::IN_LICENSEES, t.end);
         let one = operand(s, scope, pool, places, code, state, n, level, left)?;

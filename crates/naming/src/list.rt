@@ -71,6 +71,7 @@ pub(crate) fn plain_from(s: &[u8], first: Token, most: usize) -> Token
 {
     let mut left = most;
     let mut t = first;
+    // Kept: a turn goes on behind a token, and what is left is what the caller counts.
     while left != 0 {
         if t.kind != kind::OPEN {
             return t;
@@ -389,6 +390,7 @@ fn literals(
 {
     let mut state = st;
     let mut t = from;
+    // Kept: a turn goes on behind a literal, so there is no range to go over.
     loop {
         if !is_whole(s, t) {
             return Ok(Licensed { state, next: t });
@@ -435,6 +437,7 @@ fn list(
 {
     let mut state = st;
     let mut t = from;
+    // Kept: a turn goes on behind a licensee, so there is no range to go over.
     loop {
         let one = licensee(s, scope, pool, places, code, state, t, m.left)?;
         let u = one.state;

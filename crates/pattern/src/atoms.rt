@@ -146,6 +146,7 @@ fn set_from(p: &[u8], from: usize, c: u8) -> Option<End>
     let mut i = from;
     let mut first = true;
     let mut hit = false;
+    // Kept: a turn goes on behind an item of the set, so there is no range to go over.
     while i < p.len() {
         match item_at(p, i, first, c)? {
             Taken::Closed => {

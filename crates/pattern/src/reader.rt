@@ -98,6 +98,7 @@ fn branch_rest(p: &[u8], from: usize, known: Part, d: usize, t: &mut [u64]) -> O
     }
     let mut part = known;
     let mut i = from;
+    // Kept: a turn goes on behind a piece, so there is no range to go over.
     while i < p.len() {
         if p[i] == b'|' || p[i] == b')' {
             return Some(Parsed { part, next: i });
@@ -133,6 +134,7 @@ fn expression_rest(p: &[u8], from: usize, known: Part, d: usize, t: &mut [u64]) 
     }
     let mut part = known;
     let mut i = from;
+    // Kept: a turn goes on behind a branch, so there is no range to go over.
     while i < p.len() {
         if p[i] != b'|' {
             return Some(Parsed { part, next: i });

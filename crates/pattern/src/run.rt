@@ -62,6 +62,7 @@ impl Pattern<'_> {
         let mut l = ends;
         let mut q = base;
         let mut a = from;
+        // Kept: a turn goes on behind the word's next bit, so there is no range to go over.
         while q < end {
             if x == 0 {
                 return a;
@@ -152,6 +153,7 @@ impl Pattern<'_> {
     {
         let mut at = self.whole.fs;
         let mut i = 0;
+        // Kept: a turn goes on behind the bytes that are skipped, so there is no range to go over.
         while i < s.len() {
             let j = self.skip_from(m, s, i, at);
             if s.len() <= j {

@@ -1,6 +1,5 @@
 // The assertions of a query, one after the other.
-ghost use Rattle.std.specs.Prelude.{◌≡◌, get_or, drop, ◌+◌, ◌-◌, ltb};
-ghost use Rattle.text.specs.Choice.{pick};
+ghost use Rattle.std.specs.Prelude.{◌≡◌, get_or, drop, ◌-◌};
 ghost use Rattle.system.specs.Working.Each.{fixed, store, one_by, one_in, full, went_by, each_by, each_from};
 
 use crate::note::{Ends, note};
@@ -73,16 +72,6 @@ fn read_one(
     )
 }
 
-// The number behind i, up to n.
-fn behind(i: usize, n: usize) -> usize
-    ensures { result ≡ pick (ltb i n) (i + 1) i }
-{
-    if i < n {
-        return i + 1;
-    }
-    i
-}
-
 // Is a table too small for one assertion more: the constants of its text, and the longest identifiers?
 fn is_full(
     consts: usize,
@@ -141,8 +130,7 @@ pub fn read_each(
     ensures { went_by result.next (each_by result.ends (store consts.new pool.new places.new code.new) authors.new conds.new ends.new page.new) ≡ each_from (fixed shared.now.query.now shared.now.values.now shared.now.names.now shared.now.top shared.now.start) (drop first texts.now) first (each_by from (store consts.old pool.old places.old code.old) authors.old conds.old ends.old page.old) }
 {
     let mut e = from;
-    let mut i = first;
-    while i < texts.len() {
+    for i in first..texts.len() {
         let at = texts[i];
         let index = e.index;
         let n = text::counted_at(shared.query, at).len();
@@ -159,7 +147,9 @@ pub fn read_each(
         }
         let r = read_one(shared, at, consts, pool, places, code, index, e.size);
         e = note(authors, conds, ends, page, i, e, r);
-        i = behind(i, texts.len());
     }
-    Stretch { next: i, ends: e }
+    Stretch {
+        next: first.max(texts.len()),
+        ends: e,
+    }
 }

@@ -47,11 +47,7 @@ fn copy_places(dst: &mut [usize], at: usize, src: &[usize]) -> bool
     if dst.len() - at < src.len() {
         return false;
     }
-    let mut i: usize = 0;
-    while i < src.len() {
-        dst[at + i] = src[i];
-        i += 1;
-    }
+    dst[at..at + src.len()].copy_from_slice(src);
     true
 }
 

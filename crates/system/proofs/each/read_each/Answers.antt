@@ -1,12 +1,9 @@
 use mathlib.Core.Path.{refl, ◌∙◌}
-use Rattle.system.specs.Working.Each.{each-end, each-full, each_more, each-less}
+use Rattle.system.specs.Working.Each.{each-end, each-full, each_more}
 use Rattle.system.proofs.each.read_each.Goals as goal
 
 pub returns-then-is_full : goal.returns-then-is_full
-returns-then-is_full c = each-full _ _ _ _ _ _ _ _ _ _ _ _ _ _ c.loop-i.invariant.8 c.loop-i-test.true _ refl _ c.counted_at-n.ensures _ c.is_full.ensures c.if-is_full.true
-
-pub loop-i-smaller : goal.loop-i-smaller
-loop-i-smaller c = each-less _ _ _ c.loop-i-test.true c.behind-i.ensures
+returns-then-is_full c = each-full _ _ _ _ _ _ _ _ _ _ _ _ _ _ c.loop-i.invariant.8 c.loop-i.auto.i _ refl _ c.counted_at-n.ensures _ c.is_full.ensures c.if-is_full.true
 
 pub loop-i-preserved : goal.loop-i-preserved
 loop-i-preserved c = (
@@ -18,7 +15,7 @@ loop-i-preserved c = (
   c.note-e.auto.conds ∙ c.loop-i.invariant.5,
   c.note-e.auto.ends ∙ c.loop-i.invariant.6,
   c.note-e.auto.page ∙ c.loop-i.invariant.7,
-  each_more _ _ _ _ _ _ _ _ _ _ _ _ _ _ c.loop-i.invariant.8 c.loop-i-test.true _ refl _ c.counted_at-n.ensures _ c.is_full.ensures c.if-is_full.false _ _ c.read_one-r.ensures _ _ _ _ _ c.note-e.ensures _ c.behind-i.ensures,
+  each_more _ _ _ _ _ _ _ _ _ _ _ _ _ _ c.loop-i.invariant.8 c.loop-i.auto.i _ refl _ c.counted_at-n.ensures _ c.is_full.ensures c.if-is_full.false _ _ c.read_one-r.ensures _ _ _ _ _ c.note-e.ensures _,
 )
 
 pub returns : goal.returns
