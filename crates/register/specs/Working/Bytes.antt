@@ -1,5 +1,5 @@
 -- Working definitions and laws of the register's bytes. Assumes nothing.
-use Rattle.std.specs.Prelude.{◌≡◌, Bool, true, false, eqb, ltb, get_or, set, take, drop, replicate}
+use Rattle.std.specs.Prelude.{◌≡◌, Bool, true, false, eqb, ltb, get_or, set, take, drop, replicate, Result, Ok, Err}
 use Rattle.std.proofs.Math.Path.{refl, sym, ap, subst}
 use Rattle.std.proofs.Common.{◌∙◌, length-append, drop_at, length-take-le, take-take}
 use mathlib.Core.List.{List, [], ◌∷◌, ◌++◌, map, append_assoc, append-nil}
@@ -20,19 +20,23 @@ use Rattle.register.specs.Working.Places.{at}
 use Rattle.register.specs.Working.Ties.{entries_in, entries-map, stored_here}
 use Rattle.register.specs.declared.Place.{Place}
 use Rattle.register.specs.declared.Register.{Register}
-use Rattle.register.specs.declared.Answer.{Answer}
-use Rattle.register.specs.declared.Answer.TheVariants.{Granted, Refused}
+use Rattle.register.specs.declared.layout.Unfit.{Unfit}
+use Rattle.register.specs.declared.layout.Unfit.TheVariants.{Length, Version, Mark}
+
+-- whether bytes are a register
+abbrev pub Check : Type 0
+Check = Result (Unit {0}) Unfit
 
 -- the marks of n places from a number on
-abbrev pub marks_in : ℕ → List ℕ → ℕ → Answer
-marks_in zero s i = Granted
-marks_in (suc n) s i = pick (ltb 1 (get_or s (9 + i * 13) 0)) (Refused 6 (9 + i * 13)) (marks_in n s (i + 1))
+abbrev pub marks_in : ℕ → List ℕ → ℕ → Check
+marks_in zero s i = Ok tt
+marks_in (suc n) s i = pick (ltb 1 (get_or s (9 + i * 13) 0)) (Err (Mark (9 + i * 13))) (marks_in n s (i + 1))
 
-unfoldable pub readable_at : List ℕ → ℕ → Answer
+unfoldable pub readable_at : List ℕ → ℕ → Check
 readable_at s i = marks_in (64 - i) s i
 
-unfoldable pub readable : List ℕ → Answer
-readable s = pick (eqb (length s) 841) (pick (eqb (get_or s 0 0) 1) (readable_at s 0) (Refused 2 0)) (Refused 5 0)
+unfoldable pub readable : List ℕ → Check
+readable s = pick (eqb (length s) 841) (pick (eqb (get_or s 0 0) 1) (readable_at s 0) (Err Version)) (Err Length)
 
 -- numbers read
 pub two-read : (s : List ℕ) (i a b : ℕ) → a ≡ get_or s i 0 → b ≡ get_or s (i + 1) 0 → a * 256 + b ≡ pair_at s i
@@ -91,12 +95,12 @@ module _ (s : List ℕ) (l : List Place) (i : ℕ) (long : length l ≡ 64) (inv
 
 -- whether the bytes are a register
 module _ (s : List ℕ) where
-  pub check-length : (length s ≡ 841 → ⊥) → Refused 5 0 ≡ readable s
+  pub check-length : (length s ≡ 841 → ⊥) → Err Length ≡ readable s
   unfolding readable
   check-length h = rw (ne_eqb (length s) 841 h) refl
 
   module _ (h : length s ≡ 841) where
-    pub check-version : (get_or s 0 0 ≡ 1 → ⊥) → Refused 2 0 ≡ readable s
+    pub check-version : (get_or s 0 0 ≡ 1 → ⊥) → Err Version ≡ readable s
     unfolding readable
     check-version v = rw (eq-eqb (length s) 841 h, ne_eqb (get_or s 0 0) 1 v) refl
 
@@ -104,13 +108,13 @@ module _ (s : List ℕ) where
     unfolding readable
     check-start v = rw (eq-eqb (length s) 841 h, eq-eqb (get_or s 0 0) 1 v) refl
 
-  module _ (i : ℕ) (r : Answer) (inv : readable_at s i ≡ r) where
-    pub check-end : 64 ≤ i → Granted ≡ r
+  module _ (i : ℕ) (r : Check) (inv : readable_at s i ≡ r) where
+    pub check-end : 64 ≤ i → Ok tt ≡ r
     unfolding readable_at
     check-end h = let n : 64 - i ≡ zero = omega arith in (rw n refl) ∙ inv
 
     module _ (h : i < 64) where
-      pub check-bad : 1 < get_or s (9 + i * 13) 0 → Refused 6 (9 + i * 13) ≡ r
+      pub check-bad : 1 < get_or s (9 + i * 13) 0 → Err (Mark (9 + i * 13)) ≡ r
       unfolding readable_at
       check-bad b = let n : 64 - i ≡ suc (64 - (i + 1)) = omega arith in (rw (n, lt-ltb 1 (get_or s (9 + i * 13) 0) b) refl) ∙ inv
 
