@@ -50,19 +50,13 @@ impl Unfit {
     }
 }
 
-fn wide(b: u8) -> u64
-    ensures { (result ≡ b) × (result < 256) }
-{
-    b as u64
-}
-
+// The numbers in two, four and eight bytes, big-endian.
+// Kept: beside `text::pair_at`, which says no bound of its number.
 fn two_at(s: &[u8], at: usize) -> u64
     requires { at + 2 ≤ length s.now }
     ensures { (result ≡ pair_at s.now at) × (result < 65536) }
 {
-    let a = wide(s[at]);
-    let b = wide(s[at + 1]);
-    a * 256 + b
+    u64::from(s[at]) * 256 + u64::from(s[at + 1])
 }
 
 fn four_at(s: &[u8], at: usize) -> u64

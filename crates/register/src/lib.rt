@@ -4,13 +4,13 @@
 mod layout;
 mod places;
 
-ghost use Rattle.std.specs.Prelude.{◌≤◌, length, ◌≡◌};
+ghost use Rattle.std.specs.Prelude.{true, ◌≤◌, length, ◌≡◌};
 ghost use Rattle.register.specs.Calls.{issues, passes, spends, removes, called, number};
 ghost use Rattle.register.specs.Entries as entries;
 ghost use Rattle.register.specs.Find as finding;
 ghost use Rattle.register.specs.OnBytes.{written, settled, on_bytes, emptied, find_on};
 ghost use Rattle.register.specs.Told.{contents, told, Tells, unfit_number, unfit_place};
-ghost use Rattle.register.specs.Working.Places.{moves_at, known_place, after_of, issue_of, spend_of, pass_at, pass_of, remove_of};
+ghost use Rattle.register.specs.Working.Places.{sound, moves_at, known_place, credit_of, after_of, issue_of, spend_of, pass_at, pass_of, remove_of};
 
 use layout::{BYTES, Unfit, check, read, write};
 use places::{
@@ -121,6 +121,23 @@ fn given(register: Register, made: Result<Register, Reason>) -> After
     }
 }
 
+// The register with more moves at a principal, which is added where it isn't held.
+fn credited(register: Register, principal: u32, amount: u64) -> Result<Register, Reason>
+    requires { (sound register ≡ true) × (amount ≤ 1000000) }
+    ensures { result ≡ credit_of register principal amount }
+{
+    match place_of(register, principal) {
+        Found::At { place, .. } => {
+            let moves = moves_at(register, place);
+            Ok(with_moves(register, place, moves + amount))
+        }
+        Found::Missing { .. } => match free(register) {
+            Some(place) => Ok(with_principal(register, place, principal, amount)),
+            None => Err(Reason::NoPlace),
+        },
+    }
+}
+
 // The register in which moves are issued to a principal.
 fn issued(register: Register, principal: u32, amount: u64) -> Result<Register, Reason>
     ensures { result ≡ issue_of register principal amount }
@@ -135,21 +152,8 @@ fn issued(register: Register, principal: u32, amount: u64) -> Result<Register, R
     if MOST_MOVES < all {
         return Err(Reason::IssueLimit);
     }
-    match place_of(register, principal) {
-        Found::At { place, .. } => {
-            let moves = moves_at(register, place);
-            let more = with_moves(register, place, moves + amount);
-            Ok(with_issued(more, all))
-        }
-        Found::Missing { .. } => {
-            let place = free(register);
-            if MOST_PRINCIPALS <= place {
-                return Err(Reason::NoPlace);
-            }
-            let more = with_principal(register, place, principal, amount);
-            Ok(with_issued(more, all))
-        }
-    }
+    let more = credited(register, principal, amount)?;
+    Ok(with_issued(more, all))
 }
 
 // Issues moves to a principal, which is added where it isn't held.

@@ -15,7 +15,7 @@ use Rattle.register.specs.Told.{entry_of, contents, Tells}
 use Rattle.register.specs.Theorems.Entries.{moves-other}
 use Rattle.register.specs.Theorems.Find.{find-replaced}
 use Rattle.register.specs.Theorems.Oneself.{gained-lost}
-use Rattle.register.specs.Working.Places.{Made, after_of, known_place, nobody, at, found, free_from, sound, amount, moves_at, with_moves, with_new, with_issued, issue_of, spend_of, pass_at, pass_of, remove_of}
+use Rattle.register.specs.Working.Places.{Made, after_of, known_place, credit_of, free_place, nobody, at, found, free_from, sound, amount, moves_at, with_moves, with_new, with_issued, issue_of, spend_of, pass_at, pass_of, remove_of}
 use Rattle.register.specs.Working.Ways.{holds}
 use Rattle.register.specs.Working.Ties.{found-is, room-is, amount-is}
 use Rattle.register.specs.declared.Place.{Place}
@@ -48,7 +48,7 @@ module _ (r : Register) (e : length r.places ≡ 64) where
       (λ t. let d : damaged (contents r) ≡ true = sound-yes r e t in rw (t, d) refl)
 
   issue-says : (x n : ℕ) → Says (issues x n) (issue_of r x n)
-  unfolding issue_of called bad_amount unknown exceeding over_issue crowded holding effect contents with_issued
+  unfolding issue_of credit_of free_place called bad_amount unknown exceeding over_issue crowded holding effect contents with_issued
   issue-says x n =
       split (sound r)
       (λ t. let d : damaged (contents r) ≡ false = sound-no r e t in

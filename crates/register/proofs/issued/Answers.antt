@@ -1,4 +1,5 @@
-use Rattle.register.specs.Working.Ways.{issued-fits, moves-fit, issue-over, issue-more, issue-new, issue-full, issue-amount, issue-unsound}
+use Rattle.std.proofs.lemmas.Result.{err_from_is_err_and}
+use Rattle.register.specs.Working.Ways.{is-true, issued-fits, amount-few, issue-over, issue-more, issue-full, issue-amount, issue-unsound}
 use Rattle.register.proofs.issued.Goals as goal
 
 pub returns-then-not-is_sound : goal.returns-then-not-is_sound
@@ -13,14 +14,14 @@ overflow_add-all c = search issued-fits
 pub returns-then-all-gt-MOST_MOVES : goal.returns-then-all-gt-MOST_MOVES
 returns-then-all-gt-MOST_MOVES c = search issue-over
 
-pub overflow_add-moves : goal.overflow_add-moves
-overflow_add-moves c = search moves-fit
+pub credited-requires : goal.credited-requires
+credited-requires c = (search is-true, search amount-few)
 
-pub returns-in-At : goal.returns-in-At
-returns-in-At c = search issue-more
+pub returns-in_err-more : goal.returns-in_err-more
+returns-in_err-more c =
+    let p = err_from_is_err_and c.from_residual.result c.from_residual.ensures.1 in
+    let w = c.in_err-more.was {u = tt} in rw (p.1, p.2) (search (issue-full, w))
 
-pub returns-then-place-ge-MOST_PRINCIPALS : goal.returns-then-place-ge-MOST_PRINCIPALS
-returns-then-place-ge-MOST_PRINCIPALS c = search issue-full
-
-pub returns-else-place-ge-MOST_PRINCIPALS : goal.returns-else-place-ge-MOST_PRINCIPALS
-returns-else-place-ge-MOST_PRINCIPALS c = search issue-new
+pub returns : goal.returns
+returns c =
+    let w = c.in_ok-more.was {u = tt} in search (issue-more, w)

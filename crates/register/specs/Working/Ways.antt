@@ -1,12 +1,12 @@
 -- Working laws: the turns of the register's loops. Assumes nothing.
-use Rattle.std.specs.Prelude.{◌≡◌, Bool, true, false, List, ℕ, zero, suc, ◌+◌, ◌-◌, ◌<◌, ◌≤◌, Ok, Err, eqb, ltb, leb, get_or, set}
+use Rattle.std.specs.Prelude.{◌≡◌, Bool, true, false, List, ℕ, zero, suc, ◌+◌, ◌-◌, ◌<◌, ◌≤◌, Option, Some, None, Ok, Err, eqb, ltb, leb, get_or, set}
 use Rattle.std.proofs.Math.Path.{refl, sym}
 use Rattle.std.proofs.Common.{ap, ◌∙◌, lit<, Fits, lt_of_le_of_lt}
 use native.Mathlib.Omega.{arith}
 use Rattle.std.specs.Int.{w64}
 use borrow.Author.Tests.{leb-true, eqb-true, eqb-false, lt-ltb, le-ltb, le-leb, lt-leb, eq-eqb, ne_eqb}
 use Rattle.text.specs.Choice.{split, clash}
-use Rattle.register.specs.Working.Places.{nobody, find_in, find_from, found, free_from, worth, sum_in, sum_from, sum, distinct_from, at, sound, amount, moves_at, with_moves, with_new, with_issued, Made, granted, refused, Known, place_in, known_place, issue_of, spend_of, pass_at, pass_of, remove_of}
+use Rattle.register.specs.Working.Places.{nobody, find_in, find_from, found, free_from, free_place, worth, sum_in, sum_from, sum, distinct_from, at, sound, amount, moves_at, with_moves, with_new, with_issued, Made, granted, refused, Known, place_in, known_place, credit_of, issue_of, spend_of, pass_at, pass_of, remove_of}
 use Rattle.register.specs.declared.Place.{Place}
 use Rattle.register.specs.declared.Register.{Register}
 use Rattle.register.specs.declared.Reason.{Reason}
@@ -43,16 +43,24 @@ pub find-whole : (l : List Place) (x : ℕ) (r : Found) → r ≡ find_from l x 
 unfolding found
 find-whole l x r e = e
 
-module _ (l : List Place) (i r : ℕ) (inv : free_from l i ≡ r) where
-  pub free-end : 64 ≤ i → i ≡ r
+module _ (l : List Place) (i : ℕ) (inv : free_from l i ≡ free_from l 0) where
+  free-stop : 64 ≤ i → free_from l i ≡ i
   unfolding free_from
-  free-end h = (rw (no_more i h) refl) ∙ inv
+  free-stop h = rw (no_more i h) refl
 
-  pub free-here : i < 64 → (get_or l i nobody).held ≡ false → i ≡ r
+  free-at : i < 64 → (get_or l i nobody).held ≡ false → free_from l i ≡ i
   unfolding free_from
-  free-here h f = (rw (one_more i h, f) refl) ∙ inv
+  free-at h f = rw (one_more i h, f) refl
 
-  pub free_more : i < 64 → (get_or l i nobody).held ≡ true → free_from l (i + 1) ≡ r
+  pub free-end : 64 ≤ i → None ≡ free_place l
+  unfolding free_place
+  free-end h = simp (sym inv, free-stop h, le-ltb i 64 h)
+
+  pub free-here : i < 64 → (get_or l i nobody).held ≡ false → Some i ≡ free_place l
+  unfolding free_place
+  free-here h f = simp (sym inv, free-at h f, lt-ltb i 64 h)
+
+  pub free_more : i < 64 → (get_or l i nobody).held ≡ true → free_from l (i + 1) ≡ free_from l 0
   unfolding free_from
   free_more h f = (rw (one_more i h, f) refl) ∙ inv
 
@@ -156,19 +164,6 @@ sound-facts r h =
     (λ t. clash h (rw t refl))
 
 module _ (r : Register) where
-  pub sound-many : 1000000 < r.issued → false ≡ sound r
-  unfolding sound
-  sound-many h = simp (lt-leb _ _ h)
-
-  module _ (h : r.issued ≤ 1000000) (t : Bool) (te : t ≡ leb (sum r.places) r.issued) where
-    pub sound-over : t ≡ false → false ≡ sound r
-    unfolding sound
-    sound-over f = simp (le-leb _ _ h, sym te, f)
-
-    pub sound-rest : t ≡ true → (u : Bool) → u ≡ distinct_from r.places 0 → u ≡ sound r
-    unfolding sound
-    sound-rest f u ue = simp (le-leb _ _ h, sym te, f) ue
-
   pub moves-in : (i : ℕ) → i < 64 → (at r.places i).moves ≡ moves_at r i
   unfolding moves_at
   moves-in i h = simp (lt-ltb _ _ h)
@@ -191,6 +186,9 @@ unfolding amount
 amount-few n t te th =
     split (leb n 1000000) (λ e. leb-true _ _ e)
     (λ e. split (ltb n 1) (λ u. clash th (te ∙ (rw u refl))) (λ u. clash th (te ∙ (rw (u, e) refl))))
+
+pub is-true : (t s : Bool) → t ≡ s → t ≡ true → s ≡ true
+is-true t s e h = sym e ∙ h
 
 -- sums that fit
 module _ (r : Register) (t : Bool) (te : t ≡ sound r) (th : t ≡ true) where
@@ -218,9 +216,9 @@ module _ (r : Register) (t : Bool) (te : t ≡ sound r) (th : t ≡ true) where
   pub issued-fits : (n : ℕ) (u : Bool) → u ≡ amount n → u ≡ true → Fits w64 (r.issued + n)
   issued-fits n u ue uh = small (r.issued + n) (omega (arith, issued-few, amount-few n u ue uh))
 
-  pub moves-fit : (n : ℕ) (u : Bool) → u ≡ amount n → u ≡ true → (x : ℕ) (f : Found) → f ≡ found r.places x → (i w : ℕ) → f ≡ At i w
-      → (m : ℕ) → m ≡ moves_at r i → Fits w64 (m + n)
-  moves-fit n u ue uh x f fe i w fa m me = small (m + n) (omega (arith, moves-few x f fe i w fa m me, amount-few n u ue uh))
+pub credit-fits : (r : Register) → sound r ≡ true → (n : ℕ) → n ≤ 1000000 → (x : ℕ) (f : Found) → f ≡ found r.places x → (i w : ℕ) → f ≡ At i w
+    → (m : ℕ) → m ≡ moves_at r i → Fits w64 (m + n)
+credit-fits r h n k x f fe i w fa m me = small (m + n) (omega (arith, moves-few r (sound r) refl h x f fe i w fa m me))
 
 pub pass_fits : (r : Register) (j n k : ℕ) → moves_at r j ≤ 1000000 → n ≤ 1000000 → k ≡ moves_at r j → Fits w64 (k + n)
 pass_fits r j n k a b e = small (k + n) (omega arith)
@@ -234,6 +232,22 @@ pub known-not : (r : Register) (x : ℕ) (f : Found) → f ≡ found r.places x 
     → ◌≡◌ {A = Known} (Err UnknownPrincipal) (known_place r x)
 unfolding known_place
 known-not r x f fe w h = simp (sym fe, h)
+
+-- more moves at a principal
+module _ (r : Register) (x n : ℕ) (f : Found) (fe : f ≡ found r.places x) where
+  pub credit-held : (i w : ℕ) → f ≡ At i w → (m : ℕ) → m ≡ moves_at r i → (q : Register) → q ≡ with_moves r i (m + n) → granted q ≡ credit_of r x n
+  unfolding credit_of
+  credit-held i w fa m me q qe = simp (sym fe, fa, sym me, sym qe)
+
+  module _ (w : ℕ) (fm : f ≡ Missing w) (p : Option ℕ) (pe : p ≡ free_place r.places) where
+    pub credit-new : (i : ℕ) → p ≡ Some i → (q : Register) → q ≡ with_new r i (record { held = true; principal = x; moves = n })
+        → granted q ≡ credit_of r x n
+    unfolding credit_of
+    credit-new i h q qe = simp (sym fe, fm, sym pe, h, sym qe)
+
+    pub credit-full : p ≡ None → refused NoPlace ≡ credit_of r x n
+    unfolding credit_of
+    credit-full h = simp (sym fe, fm, sym pe, h)
 
 -- the ways out of the four operations
 module _ (r : Register) (t : Bool) (te : t ≡ sound r) where
@@ -285,21 +299,14 @@ module _ (r : Register) (t : Bool) (te : t ≡ sound r) where
       unfolding issue_of
       issue-over x h = simp (sym te, th, sym ue, uh, lt-ltb _ _ h)
 
-      module _ (x : ℕ) (f : Found) (fe : f ≡ found r.places x) (o : r.issued + n ≤ 1000000) where
-        pub issue-more : (i w : ℕ) → f ≡ At i w → (m : ℕ) → m ≡ moves_at r i → (q : Register) → q ≡ with_moves r i (m + n)
-            → (s : Register) → s ≡ with_issued q (r.issued + n) → granted s ≡ issue_of r x n
+      module _ (x : ℕ) (f : Made) (fe : f ≡ credit_of r x n) (o : r.issued + n ≤ 1000000) where
+        pub issue-more : (q : Register) → f ≡ Ok q → (s : Register) → s ≡ with_issued q (r.issued + n) → granted s ≡ issue_of r x n
         unfolding issue_of
-        issue-more i w fa m me q qe s se = simp (sym te, th, sym ue, uh, le-ltb _ _ o, sym fe, fa, sym me, sym qe, sym se)
+        issue-more q h s se = simp (sym te, th, sym ue, uh, le-ltb _ _ o, sym fe, h, sym se)
 
-        module _ (w : ℕ) (fm : f ≡ Missing w) (i : ℕ) (ie : i ≡ free_from r.places 0) where
-          pub issue-full : 64 ≤ i → refused NoPlace ≡ issue_of r x n
-          unfolding issue_of
-          issue-full h = simp (sym te, th, sym ue, uh, le-ltb _ _ o, sym fe, fm, sym ie, le-ltb _ _ h)
-
-          pub issue-new : i < 64 → (q : Register) → q ≡ with_new r i (record { held = true; principal = x; moves = n })
-              → (s : Register) → s ≡ with_issued q (r.issued + n) → granted s ≡ issue_of r x n
-          unfolding issue_of
-          issue-new h q qe s se = simp (sym te, th, sym ue, uh, le-ltb _ _ o, sym fe, fm, sym ie, lt-ltb _ _ h, sym qe, sym se)
+        pub issue-full : (k : Reason) → f ≡ Err k → refused k ≡ issue_of r x n
+        unfolding issue_of
+        issue-full k h = simp (sym te, th, sym ue, uh, le-ltb _ _ o, sym fe, h)
 
       module _ (x : ℕ) (f : Known) (fe : f ≡ known_place r x) where
         pub spend-unknown : (k : Reason) → f ≡ Err k → refused k ≡ spend_of r x n
@@ -361,11 +368,3 @@ module _ (r : Register) (i : ℕ) where
   pub new-kept : (p : Place) → 64 ≤ i → r ≡ with_new r i p
   unfolding with_new
   new-kept p h = simp (le-ltb _ _ h)
-
-pub amount-none : (n : ℕ) → n < 1 → false ≡ amount n
-unfolding amount
-amount-none n h = simp (lt-ltb _ _ h)
-
-pub amount-rest : (n : ℕ) → 1 ≤ n → leb n 1000000 ≡ amount n
-unfolding amount
-amount-rest n h = simp (le-ltb _ _ h)
