@@ -52,6 +52,7 @@ impl Reason {
 }
 
 // A place: a principal and its moves, or free. Numbers left at a free place count for nothing.
+// Kept: the mark stands beside the numbers, since a refusal gives back those of a free place too (`Tells.kept`).
 #[derive(Clone, Copy)]
 pub struct Place {
     pub held: bool,
@@ -74,6 +75,7 @@ pub struct Register {
 }
 
 // A principal's place, and how many held entries were compared.
+// Kept: no Option, since the work is told both ways (theorems `find_at`, `find-missing` and `work-most` of `Find`).
 #[derive(Clone, Copy)]
 pub enum Found {
     At { place: usize, work: usize },
@@ -102,7 +104,7 @@ pub fn empty() -> Register
 pub fn find(register: Register, principal: u32) -> Found
     ensures { result ≡ finding.find (contents register).entries principal }
 {
-    place_of(register, principal)
+    place_of(&register, principal)
 }
 
 // What a call on a register gives: the register made of it, or the reason and the register itself.
@@ -126,12 +128,12 @@ fn credited(register: Register, principal: u32, amount: u64) -> Result<Register,
     requires { (sound register ≡ true) × (amount ≤ 1000000) }
     ensures { result ≡ credit_of register principal amount }
 {
-    match place_of(register, principal) {
+    match place_of(&register, principal) {
         Found::At { place, .. } => {
-            let moves = moves_at(register, place);
+            let moves = moves_at(&register, place);
             Ok(with_moves(register, place, moves + amount))
         }
-        Found::Missing { .. } => match free(register) {
+        Found::Missing { .. } => match free(&register) {
             Some(place) => Ok(with_principal(register, place, principal, amount)),
             None => Err(Reason::NoPlace),
         },
@@ -142,7 +144,7 @@ fn credited(register: Register, principal: u32, amount: u64) -> Result<Register,
 fn issued(register: Register, principal: u32, amount: u64) -> Result<Register, Reason>
     ensures { result ≡ issue_of register principal amount }
 {
-    if !is_sound(register) {
+    if !is_sound(&register) {
         return Err(Reason::DamagedRegister);
     }
     if !is_amount(amount) {
@@ -164,8 +166,8 @@ pub fn issue(register: Register, principal: u32, amount: u64) -> After
 }
 
 // The place of a principal that has to be held.
-fn known_place(register: Register, principal: u32) -> Result<usize, Reason>
-    ensures { result ≡ known_place register principal }
+fn known_place(register: &Register, principal: u32) -> Result<usize, Reason>
+    ensures { result ≡ known_place register.now principal }
 {
     match place_of(register, principal) {
         Found::At { place, .. } => Ok(place),
@@ -177,14 +179,14 @@ fn known_place(register: Register, principal: u32) -> Result<usize, Reason>
 fn spent(register: Register, payer: u32, amount: u64) -> Result<Register, Reason>
     ensures { result ≡ spend_of register payer amount }
 {
-    if !is_sound(register) {
+    if !is_sound(&register) {
         return Err(Reason::DamagedRegister);
     }
     if !is_amount(amount) {
         return Err(Reason::AmountOutside);
     }
-    let place = known_place(register, payer)?;
-    let moves = moves_at(register, place);
+    let place = known_place(&register, payer)?;
+    let moves = moves_at(&register, place);
     if moves < amount {
         return Err(Reason::MoreThanHeld);
     }
@@ -203,14 +205,14 @@ fn passed_between(register: Register, i: usize, j: usize, amount: u64) -> Result
     requires { (moves_at register j ≤ 1000000) × (amount ≤ 1000000) }
     ensures { result ≡ pass_at register i j amount }
 {
-    let moves = moves_at(register, i);
+    let moves = moves_at(&register, i);
     if moves < amount {
         return Err(Reason::MoreThanHeld);
     }
     if i == j {
         return Ok(register);
     }
-    let others = moves_at(register, j);
+    let others = moves_at(&register, j);
     let fewer = with_moves(register, i, moves - amount);
     Ok(with_moves(fewer, j, others + amount))
 }
@@ -219,14 +221,14 @@ fn passed_between(register: Register, i: usize, j: usize, amount: u64) -> Result
 fn passed(register: Register, payer: u32, receiver: u32, amount: u64) -> Result<Register, Reason>
     ensures { result ≡ pass_of register payer receiver amount }
 {
-    if !is_sound(register) {
+    if !is_sound(&register) {
         return Err(Reason::DamagedRegister);
     }
     if !is_amount(amount) {
         return Err(Reason::AmountOutside);
     }
-    let i = known_place(register, payer)?;
-    let j = known_place(register, receiver)?;
+    let i = known_place(&register, payer)?;
+    let j = known_place(&register, receiver)?;
     passed_between(register, i, j, amount)
 }
 
@@ -241,11 +243,11 @@ pub fn pass(register: Register, payer: u32, receiver: u32, amount: u64) -> After
 fn removed(register: Register, principal: u32) -> Result<Register, Reason>
     ensures { result ≡ remove_of register principal }
 {
-    if !is_sound(register) {
+    if !is_sound(&register) {
         return Err(Reason::DamagedRegister);
     }
-    let place = known_place(register, principal)?;
-    if 0 < moves_at(register, place) {
+    let place = known_place(&register, principal)?;
+    if 0 < moves_at(&register, place) {
         return Err(Reason::MovesLeft);
     }
     Ok(with_new(register, place, NOBODY))

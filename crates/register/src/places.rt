@@ -5,8 +5,8 @@ ghost use Rattle.register.specs.Working.Places.{find_from, found, free_place, su
 use crate::{Found, MOST_MOVES, MOST_PRINCIPALS, Place, Register};
 
 // Finds a principal from a place on.
-fn find_from(r: Register, principal: u32, from: usize) -> Found
-    ensures { result ≡ find_from r.places principal from 0 }
+fn find_from(r: &Register, principal: u32, from: usize) -> Found
+    ensures { result ≡ find_from r.now.places principal from 0 }
 {
     let mut work: usize = 0;
     for i in from..MOST_PRINCIPALS {
@@ -23,15 +23,15 @@ fn find_from(r: Register, principal: u32, from: usize) -> Found
 }
 
 // Finds a principal, with the work of it.
-pub fn place_of(r: Register, principal: u32) -> Found
-    ensures { result ≡ found r.places principal }
+pub fn place_of(r: &Register, principal: u32) -> Found
+    ensures { result ≡ found r.now.places principal }
 {
     find_from(r, principal, 0)
 }
 
 // The first free place.
-pub fn free(r: Register) -> Option<usize>
-    ensures { result ≡ free_place r.places }
+pub fn free(r: &Register) -> Option<usize>
+    ensures { result ≡ free_place r.now.places }
 {
     for i in 0..MOST_PRINCIPALS {
         if !r.places[i].held {
@@ -42,8 +42,8 @@ pub fn free(r: Register) -> Option<usize>
 }
 
 // Whether the moves held are at most those issued.
-fn covered(r: Register) -> bool
-    ensures { result ≡ leb (sum r.places) r.issued }
+fn covered(r: &Register) -> bool
+    ensures { result ≡ leb (sum r.now.places) r.now.issued }
 {
     let mut total: u64 = 0;
     for i in 0..MOST_PRINCIPALS {
@@ -60,8 +60,8 @@ fn covered(r: Register) -> bool
 }
 
 // Whether no principal stands twice.
-fn all_distinct(r: Register) -> bool
-    ensures { result ≡ distinct_from r.places 0 }
+fn all_distinct(r: &Register) -> bool
+    ensures { result ≡ distinct_from r.now.places 0 }
 {
     for i in 0..MOST_PRINCIPALS {
         let p = r.places[i];
@@ -77,8 +77,8 @@ fn all_distinct(r: Register) -> bool
 
 // Whether a register may be used: number 20 is given for one that may not.
 #[tactic(auto, using(text::specs::Choice::tests), unfolding(crate::specs::Working::Places::sound))]
-pub fn is_sound(r: Register) -> bool
-    ensures { result ≡ sound r }
+pub fn is_sound(r: &Register) -> bool
+    ensures { result ≡ sound r.now }
 {
     r.issued <= MOST_MOVES && covered(r) && all_distinct(r)
 }
@@ -92,8 +92,8 @@ pub fn is_amount(n: u64) -> bool
 }
 
 // The moves at a place.
-pub fn moves_at(r: Register, i: usize) -> u64
-    ensures { result ≡ moves_at r i }
+pub fn moves_at(r: &Register, i: usize) -> u64
+    ensures { result ≡ moves_at r.now i }
 {
     if i < MOST_PRINCIPALS {
         return r.places[i].moves;
