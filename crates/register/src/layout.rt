@@ -131,24 +131,9 @@ fn place_bytes(p: Place) -> [u8; PLACE]
     ensures { result ≡ entry_bytes (entry_of p) }
 {
     if p.held {
-        let x = p.principal;
-        let a = p.moves / 4294967296;
-        let b = p.moves % 4294967296;
-        return [
-            1,
-            (x / 65536 / 256 % 256) as u8,
-            (x / 65536 % 256) as u8,
-            (x % 65536 / 256 % 256) as u8,
-            (x % 65536 % 256) as u8,
-            (a / 65536 / 256 % 256) as u8,
-            (a / 65536 % 256) as u8,
-            (a % 65536 / 256 % 256) as u8,
-            (a % 65536 % 256) as u8,
-            (b / 65536 / 256 % 256) as u8,
-            (b / 65536 % 256) as u8,
-            (b % 65536 / 256 % 256) as u8,
-            (b % 65536 % 256) as u8,
-        ];
+        let [a, b, c, d] = p.principal.to_be_bytes();
+        let [e, f, g, h, i, j, k, l] = p.moves.to_be_bytes();
+        return [1, a, b, c, d, e, f, g, h, i, j, k, l];
     }
     [0; PLACE]
 }
@@ -156,19 +141,8 @@ fn place_bytes(p: Place) -> [u8; PLACE]
 fn head_bytes(issued: u64) -> [u8; HEAD]
     ensures { result ≡ head issued }
 {
-    let a = issued / 4294967296;
-    let b = issued % 4294967296;
-    [
-        VERSION,
-        (a / 65536 / 256 % 256) as u8,
-        (a / 65536 % 256) as u8,
-        (a % 65536 / 256 % 256) as u8,
-        (a % 65536 % 256) as u8,
-        (b / 65536 / 256 % 256) as u8,
-        (b / 65536 % 256) as u8,
-        (b % 65536 / 256 % 256) as u8,
-        (b % 65536 % 256) as u8,
-    ]
+    let [a, b, c, d, e, f, g, h] = issued.to_be_bytes();
+    [VERSION, a, b, c, d, e, f, g, h]
 }
 
 // Writes a place's bytes.

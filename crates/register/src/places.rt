@@ -46,8 +46,7 @@ fn covered(r: &Register) -> bool
     ensures { result ≡ leb (sum r.now.places) r.now.issued }
 {
     let mut total: u64 = 0;
-    for i in 0..MOST_PRINCIPALS {
-        let p = r.places[i];
+    for p in &r.places {
         if !p.held {
             continue;
         }
@@ -63,8 +62,7 @@ fn covered(r: &Register) -> bool
 fn all_distinct(r: &Register) -> bool
     ensures { result ≡ distinct_from r.now.places 0 }
 {
-    for i in 0..MOST_PRINCIPALS {
-        let p = r.places[i];
+    for (i, p) in r.places.iter().enumerate() {
         if !p.held {
             continue;
         }
