@@ -1,5 +1,5 @@
 use Rattle.register.specs.Working.Ways.{pass-over, pass-self, pass-done}
-use Rattle.register.proofs.pass_between.Goals as goal
+use Rattle.register.proofs.passed_between.Goals as goal
 
 pub returns-then-moves-amount : goal.returns-then-moves-amount
 returns-then-moves-amount c = search pass-over
