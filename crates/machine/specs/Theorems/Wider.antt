@@ -128,7 +128,7 @@ left-wider depth depth' room room' code s rec consts values names constants d h 
     kept_result _ _
     (exec_kept depth depth' d room room' h (lookup_in rec consts values names constants) s (map (counted rec) values) 0 code (on [] []) (on [] []) same) f
 
--- the ways out of `run_narrow`, `run_middle`, `run_wide` and `run_on`
+-- the ways out of `run_within` and `run_on`
 module _ (code s rec consts values names constants : List ℕ) where
   pub run-left : (depth room : ℕ) (v : Operand)
       → v ≡ result_of (exec depth room s (lookup_in rec consts values names constants) (map (counted rec) values) code (on [] []))

@@ -28,7 +28,7 @@ module _ (st m : List ℕ) (x : State) (r : Reached) (l : Live r st m x) (out : 
       let c : to ≡ buffer_of (copy_at out 0 b) = ap buffer_of ce in
       rw (i.1.1, length-take-le w.bytes m i.1.0, ← be) (ap (gave (Some w.bytes)) c)
 
--- `string_narrow`, `string_wide` and `string_on`
+-- `string_within` and `string_on`
 module _ (code s rec consts values names constants out : List ℕ) (r : Option ℕ) (to : List ℕ) where
   pub string-left : (depth room : ℕ)
       → gave r to ≡ string_of (exec depth room s (lookup_in rec consts values names constants) (map (counted rec) values) code (on [] [])) out

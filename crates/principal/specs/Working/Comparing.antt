@@ -46,7 +46,7 @@ module _ (p : Principal) (i r : ℕ) (inv : front_from p i ≡ r) where
         let w : i + suc (length (front (drop (suc i) p))) ≡ r = rw (ne_eqb _ _ n) at z in
         rw (add-one i) (omega (arith, w))
 
--- `fold_byte`
+-- a byte without case
 module _ (b : ℕ) where
   pub fold-capital : 65 ≤ b → b ≤ 90 → b + 32 ≡ fold b
   unfolding fold
@@ -105,7 +105,7 @@ pub no-rest : (l : List ℕ) → length l ≡ 0 → l ≡ []
 no-rest [] e = refl
 no-rest (x ∷ l) e = let no : ⊥ = omega (arith, e) in absurd no
 
--- `front_to`, `rest_from`
+-- a front and what is behind it
 pub take_whole : (l : List ℕ) (k : ℕ) → length l ≤ k → l ≡ take k l
 take_whole l k h = sym (take_all k l h)
 

@@ -1,4 +1,4 @@
--- Equality tested from the last bytes on, and the ways out of `same_few`, `same_above` and `same_bytes`. Assumes nothing.
+-- Equality tested from the last bytes on, and the ways out of `same_above` and `same_bytes`. Assumes nothing.
 use Rattle.std.specs.Prelude.{◌≡◌, refl, Bool, false, ◌&&◌, List, [], ◌∷◌, ◌++◌, ℕ, zero, suc, ◌+◌, ◌-◌, ◌*◌, ◌/◌, ◌%◌, ◌<◌, ◌≤◌, eqb, length, get_or, take, drop}
 use Rattle.std.proofs.Math.Path.{sym}
 use Rattle.std.proofs.Common.{ap, ◌∙◌, arith, zero-add, suc-add, take_all, take-suc, eq-eqb, take-take, drop-drop, length-take-le}
@@ -15,7 +15,7 @@ same-apart a b h = split (equal a b) (λ e. absurd (h (ap length (equal-true a b
 pub same_start : (a b : List ℕ) → length a ≡ length b → equal (take (length a) a) (take (length a) b) ≡ equal a b
 same_start a b h = rw (take_all (length a) a (omega arith), take_all (length a) b (omega (arith, h)))
 
--- `same_few`: one byte less
+-- one byte less
 module _ (a b : List ℕ) (i : ℕ) (r : Bool) (inv : equal (take i a) (take i b) ≡ r) (more : 0 < i) (inside : i ≤ length a) (long : length a ≡ length b) where
   last : (c : List ℕ) → i ≤ length c → take i c ≡ take (i - 1) c ++ (get_or c (i - 1) 0 ∷ [])
   last c h = let z : suc (i - 1) ≡ i = omega (arith, more) in ap (λ (n : ℕ). take n c) (sym z) ∙ take-suc c (i - 1) 0 (omega (arith, more, h))

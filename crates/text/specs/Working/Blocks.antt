@@ -81,7 +81,7 @@ module _ (a b : List ℕ) (i j n : ℕ) (ha : i + n ≤ length a) (hb : i + n �
       (sym (equal-append (take j (drop i a)) (take j (drop i b)) (get_or a (i + j) 0 ∷ []) (get_or b (i + j) 0 ∷ []) same_length
       ∙ ap (λ (x : Bool). equal (take j (drop i a)) (take j (drop i b)) && x) (equal-byte (get_or a (i + j) 0) (get_or b (i + j) 0))))
 
--- the ways out of `same_blocks`
+-- a common front, and the blocks behind it
 common-front : (x u v : List ℕ) → common (x ++ u) (x ++ v) ≡ length x + common u v
 unfolding common
 common-front [] u v = sym (zero-add (common u v))

@@ -1,4 +1,4 @@
--- Working laws: the ways out of `is_word` and `in_class`. Assumes nothing.
+-- Working laws: what a byte of a class is, and words from a place on. Assumes nothing.
 use Rattle.std.specs.Prelude.{◌≡◌, Bool, false, not, List, ℕ, ◌+◌, ◌<◌, ◌≤◌, eqb, leb, ◌-◌, length, take, drop}
 use Rattle.std.proofs.Math.Path.{refl, ap}
 use Rattle.std.proofs.Common.{sym, ◌∙◌, arith, take_all, length-drop}

@@ -43,7 +43,7 @@ module _ (dst : List ℕ) (at : ℕ) (src : List ℕ) where
       pub paste-done : (v : List ℕ) (i : ℕ) → v ≡ pasted dst at src i → i ≤ length src → length src ≤ i → copied true v ≡ copy_at dst at src
       paste-done v i e l h = copy_done v (paste-put v i e l h)
 
--- by way of a table: its front, and the ways out of `transfer`
+-- a string that stands at the front of a longer one
 pub front_long : (b : List ℕ) (k n : ℕ) → k ≤ n → length b ≡ n → k ≡ length (take k b)
 front_long b k n h l = sym (length-take-le k b (omega arith))
 
