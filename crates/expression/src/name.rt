@@ -25,12 +25,18 @@ fn is_name(a: &[u8], name: &[u8]) -> bool
 pub fn find(s: &[u8], places: &[usize], name: &[u8]) -> usize
     ensures { result ≡ first_from s.now name.now 0 places.now }
 {
-    for (i, p) in places.iter().enumerate() {
-        if is_name(text::counted_at(s, *p), name) {
-            return i;
+    let mut i: usize = 0;
+    // Kept: the project names this form here, a loop that yields the place by `break`.
+    loop {
+        if places.len() <= i {
+            break i;
         }
+        let p = places[i];
+        if is_name(text::counted_at(s, p), name) {
+            break i;
+        }
+        i += 1;
     }
-    places.len()
 }
 
 // The string behind the one of n bytes that starts at p.

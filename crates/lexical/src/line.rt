@@ -8,7 +8,7 @@ ghost use Rattle.lexical.specs.Working.Open.{completed, below_of};
 use crate::class::{is_break, is_hash, is_indent, is_newline};
 use crate::kind;
 use crate::label::label_kind;
-use crate::scan::{Run, byte_at, skip};
+use crate::scan::{Run, byte_at};
 use crate::token::{Token, completed, literal_from, token_from, width};
 
 // What comes behind the rest of a line that is hidden or free text.
@@ -16,7 +16,7 @@ use crate::token::{Token, completed, literal_from, token_from, width};
 fn rest_of_line(s: &[u8], i: usize) -> Token
     ensures { result ≡ rest_of_line s.now i }
 {
-    let e = skip(s, i, Run::Free);
+    let e = Run::Free.end(s, i);
     if s.len() <= e {
         return Token::empty(kind::END, s.len());
     }
@@ -52,7 +52,7 @@ fn in_line(s: &[u8], mode: u8, i: usize) -> Token
     if mode == kind::IN_COMMENT {
         return rest_of_line(s, i);
     }
-    let e = skip(s, i, Run::Blanks);
+    let e = Run::Blanks.end(s, i);
     visible_at(s, mode, e)
 }
 
@@ -96,7 +96,7 @@ fn line_at(s: &[u8], mode: u8, i: usize) -> Token
     if s.len() <= i {
         return Token::empty(kind::END, s.len());
     }
-    let e = skip(s, i, Run::Blanks);
+    let e = Run::Blanks.end(s, i);
     if is_blank_to(s, e) {
         return Token::empty(kind::BAD_LINE, i);
     }

@@ -37,6 +37,13 @@ impl Run {
             Run::Numerals => begins_number(b),
         }
     }
+
+    // The end of the run of it that starts at `at`.
+    pub fn end(self, s: &[u8], at: usize) -> usize
+        ensures { result ≡ past (in_run self) s.now at }
+    {
+        end_of(s, at, |b| self.has(b))
+    }
 }
 
 // The end of the bytes from `at` on that pass a test.
@@ -50,11 +57,4 @@ pub fn end_of<F: Fn(u8) -> bool>(s: &[u8], at: usize, passes: F) -> usize
         }
     }
     at.max(s.len())
-}
-
-// The end of the run that starts at `at`.
-pub fn skip(s: &[u8], at: usize, run: Run) -> usize
-    ensures { result ≡ past (in_run run) s.now at }
-{
-    end_of(s, at, |b| run.has(b))
 }

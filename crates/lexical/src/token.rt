@@ -10,7 +10,7 @@ use crate::fast::mark_token;
 use crate::kind;
 use crate::literal::{closes_at, plain_end, units_end};
 use crate::operator::operator_kind;
-use crate::scan::{Run, byte_at, skip};
+use crate::scan::{Run, byte_at};
 
 // A token of the text: its kind, its first byte, and the place behind its last byte. At the end and at a fault the two places are one.
 #[derive(Clone, Copy)]
@@ -116,7 +116,7 @@ fn float_end(s: &[u8], e: usize) -> usize
     if s.len() <= e || s[e] != b'.' {
         return e;
     }
-    let f = skip(s, e + 1, Run::Numerals);
+    let f = Run::Numerals.end(s, e + 1);
     if f <= e + 1 { e } else { f }
 }
 
@@ -126,7 +126,7 @@ fn number_token(s: &[u8], i: usize) -> Token
     requires { class_of (get_or s.now i 0) ≡ DIGIT }
     ensures { result ≡ number_token s.now i }
 {
-    let e = skip(s, i + 1, Run::Numerals);
+    let e = Run::Numerals.end(s, i + 1);
     let f = float_end(s, e);
     if f == e {
         return Token::new(kind::DIGITS, i, e);

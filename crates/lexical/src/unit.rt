@@ -4,7 +4,7 @@ ghost use Rattle.lexical.specs.Unit.{octal, control, coded, octal_unit, escape_u
 ghost use Rattle.lexical.specs.Found.{found};
 
 use crate::number::digit;
-use crate::scan::{Run, byte_at, skip};
+use crate::scan::{Run, byte_at};
 
 // What it does and how many bytes it takes: it gives no byte, or one; it is the closing quote; no literal can hold it.
 #[derive(Clone, Copy)]
@@ -99,7 +99,7 @@ fn escaped_at(s: &[u8], i: usize) -> Unit
 {
     let b = byte_at(s, i, 1);
     if b == b'\n' {
-        let width = skip(s, i + 2, Run::White) - i;
+        let width = Run::White.end(s, i + 2) - i;
         return Unit::Drops { width };
     }
     escape_unit(b, byte_at(s, i, 2), byte_at(s, i, 3))
