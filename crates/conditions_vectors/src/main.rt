@@ -1,7 +1,6 @@
 // Reads the Conditions field of each text of a file and prints `kept`, or the reason and the place of its first fault. The byte 30 ends a text.
 #![tactic(auto)]
 
-use conditions::emit::Out;
 use conditions::program::conditions;
 use input::{large_buffer, read_full};
 use lexical::kind;
@@ -32,8 +31,8 @@ fn field_start(s: &[u8]) -> usize {
 fn read<W: Write>(out: &mut W, s: &[u8], code: &mut [u32]) -> io::Result<()> {
     let t = token_at(s, kind::IN_FIELD, field_start(s));
     match conditions(s, code, 0, t) {
-        Out::Found { .. } => out.write_all(b"kept\n"),
-        Out::Aside { fault } => put_fault(out, fault),
+        Ok(_) => out.write_all(b"kept\n"),
+        Err(fault) => put_fault(out, fault),
     }
 }
 
