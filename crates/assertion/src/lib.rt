@@ -13,7 +13,7 @@ ghost use Rattle.assertion.specs.Working.Reading.{read_by, finished_by, kept_in,
 use crate::field::{Partial, Went, field};
 use crate::label::{is_free, use_label};
 use compliance::machine::TOP;
-use fields::out::{Out, is_ending};
+use fields::out::is_ending;
 use fields::signature::signature;
 use index::Index;
 use lexical::kind;
@@ -23,111 +23,83 @@ use naming::code::push;
 use naming::fault::{clear, earlier};
 use syntax::fault::{Fault, UNVERIFIED, WRONG_LINE, misplaced};
 
-// A kept assertion: its authorizer's number, the ends of the index and of the code, and the rank of its Conditions; or what is against it.
+// What is kept of an assertion: its authorizer's number, the ends of the index and of the code, and the rank of its Conditions.
 #[derive(Clone, Copy)]
-pub enum Assessment {
-    Kept {
-        author: usize,
-        index: Index,
-        size: usize,
-        rank: u8,
-    },
-    Dropped {
-        fault: Fault,
-    },
+pub struct Assessed {
+    pub author: usize,
+    pub index: Index,
+    pub size: usize,
+    pub rank: u8,
 }
 
 // A kept assertion. Missing Licensees are an instruction of their own.
-fn kept(code: &mut [u16], d: Partial) -> Assessment
+fn kept(code: &mut [u16], d: Partial) -> Result<Assessed, Fault>
     ensures { finished_by result code.new ≡ kept_in code.old d }
 {
-    let index = d.index;
-    if d.licensed {
-        return Assessment::Kept {
-            author: d.author,
-            rank: d.rank,
-            index,
-            size: d.size,
-        };
-    }
-    let size = push(code, d.size, TOP);
-    Assessment::Kept {
+    let size = if d.licensed {
+        d.size
+    } else {
+        push(code, d.size, TOP)
+    };
+    Ok(Assessed {
         author: d.author,
-        rank: d.rank,
-        index,
+        index: d.index,
         size,
-    }
+        rank: d.rank,
+    })
 }
 
 // The end of what is read. What is against the identifiers counts only here, in a text that is otherwise well formed.
-fn finished(code: &mut [u16], d: Partial, end: usize) -> Assessment
+fn finished(code: &mut [u16], d: Partial, end: usize) -> Result<Assessed, Fault>
     ensures { finished_by result code.new ≡ finished_in code.old d end }
 {
-    if d.authored {
-        let against = d.against;
-        let besides = d.besides;
-        let f = earlier(against, besides);
-        if f.reason != 0 {
-            return Assessment::Dropped { fault: f };
-        }
-        return kept(code, d);
-    }
-    Assessment::Dropped {
-        fault: Fault {
+    if !d.authored {
+        return Err(Fault {
             reason: WRONG_LINE,
             place: end,
-        },
+        });
     }
+    let f = earlier(d.against, d.besides);
+    if f.reason != 0 {
+        return Err(f);
+    }
+    kept(code, d)
 }
 
 // Signature, whose first token is t: nothing is read behind it.
-fn signed(s: &[u8], code: &mut [u16], d: Partial, t: Token) -> Assessment
+fn signed(s: &[u8], code: &mut [u16], d: Partial, t: Token) -> Result<Assessed, Fault>
     ensures { finished_by result code.new ≡ signed_in s.now code.old d t }
 {
-    match signature(s, t) {
-        Out::Aside { fault } => Assessment::Dropped { fault },
-        Out::On { next } => finished(code, d, next.end),
-    }
+    let next = signature(s, t)?;
+    finished(code, d, next.end)
 }
 
 // Is t's field none that is read on from: the end, no label, a label that may not stand here, or Signature?
+#[tactic(auto, using(text::specs::Choice::tests), unfolding(crate::specs::Working::Reading::last_at))]
 fn is_last(free: &[u8], k: usize) -> bool
     ensures { result ≡ last_at free.now k }
 {
-    if k == kind::END {
-        return true;
-    }
-    if is_ending(k) {
-        if is_free(free, k) {
-            return k == kind::SIGNATURE;
-        }
-        return true;
-    }
-    true
+    k == kind::END || !is_ending(k) || !is_free(free, k) || k == kind::SIGNATURE
 }
 
 // What comes of an assertion where t is the last to be looked at.
-fn last(s: &[u8], free: &[u8], code: &mut [u16], d: Partial, t: Token) -> Assessment
+fn last(s: &[u8], free: &[u8], code: &mut [u16], d: Partial, t: Token) -> Result<Assessed, Fault>
     ensures { finished_by result code.new ≡ last_in s.now free.now code.old d t }
 {
     if t.kind == kind::END {
         return finished(code, d, t.start);
     }
-    if is_ending(t.kind) {
-        if is_free(free, t.kind) {
-            let n = token_at(s, kind::mode_of(t.kind), t.end);
-            return signed(s, code, d, n);
-        }
-        return Assessment::Dropped {
-            fault: Fault {
-                reason: WRONG_LINE,
-                place: t.start,
-            },
-        };
+    if !is_ending(t.kind) {
+        return Err(misplaced(t));
     }
-    Assessment::Dropped {
-        fault: misplaced(t),
+    if !is_free(free, t.kind) {
+        return Err(Fault {
+            reason: WRONG_LINE,
+            place: t.start,
+        });
     }
+    let n = token_at(s, kind::mode_of(t.kind), t.end);
+    signed(s, code, d, n)
 }
 
 // The field behind the label t.
@@ -146,7 +118,7 @@ fn next_field(
     code: &mut [u16],
     d: Partial,
     t: Token,
-) -> Went
+) -> Result<Went, Fault>
     ensures code_after { moved result (tabled consts.new constants.new pool.new places.new code.new) ≡ field_at (given s.now standing query.now values.now names.now start) t.kind (tabled consts.old constants.old pool.old places.old code.old) d (first s.now t) }
     ensures free_after { free.new ≡ without free.old t.kind }
 {
@@ -174,27 +146,22 @@ fn fields(
     code: &mut [u16],
     partial: Partial,
     from: Token,
-) -> Assessment
+) -> Result<Assessed, Fault>
     ensures { read_by result (tabled consts.new constants.new pool.new places.new code.new) ≡ fields_in (given s.now standing query.now values.now names.now start) free.old (tabled consts.old constants.old pool.old places.old code.old) partial from }
 {
     let mut d = partial;
     let mut t = from;
+    // Kept: a turn goes on behind a field, so there is no range to go over.
     loop {
         if is_last(free, t.kind) {
             return last(s, free, code, d, t);
         }
-        match next_field(
+        let more = next_field(
             free, s, standing, query, values, names, consts, start, constants, pool, places, code,
             d, t,
-        ) {
-            Went::Aside { fault } => {
-                return Assessment::Dropped { fault };
-            }
-            Went::On { partial: u, next } => {
-                d = u;
-                t = next;
-            }
-        }
+        )?;
+        d = more.partial;
+        t = more.next;
     }
 }
 
@@ -215,16 +182,14 @@ pub fn read(
     index: Index,
     code: &mut [u16],
     size: usize,
-) -> Assessment
+) -> Result<Assessed, Fault>
     ensures { read_by result (tabled consts.new constants.new pool.new places.new code.new) ≡ read_in (given s.now standing query.now values.now names.now start) top (tabled consts.old constants.old pool.old places.old code.old) index.count index.end size }
 {
     if standing == 0 {
-        return Assessment::Dropped {
-            fault: Fault {
-                reason: UNVERIFIED,
-                place: 0,
-            },
-        };
+        return Err(Fault {
+            reason: UNVERIFIED,
+            place: 0,
+        });
     }
     let mut free = [0u8, 0, 0, 0, 1, 1, 1, 1, 1, 1, 1];
     let d = Partial {

@@ -1,5 +1,5 @@
 // The rank of licensees: a short postfix program over the ranks of principals, run on a stack.
-ghost use Rattle.std.specs.Prelude.{◌≡◌, ◌+◌, ◌-◌, ◌*◌, ◌≤◌, length, get_or, take};
+ghost use Rattle.std.specs.Prelude.{◌≡◌, ◌≤◌, length, get_or, take};
 ghost use Rattle.compliance.specs.Codes.{k_of_code};
 ghost use Rattle.compliance.specs.Working.Machine.{Live, pushed, combined, stepped, worth, last_of};
 
@@ -23,46 +23,25 @@ pub const ZERO: u16 = K_OF + SPAN * 1;
 pub fn k_of(k: u8, n: u8) -> u16
     ensures { result ≡ k_of_code k n }
 {
-    K_OF + SPAN * (k as u16) + (n as u16)
+    K_OF + SPAN * u16::from(k) + u16::from(n)
 }
 
-pub(crate) fn wide(x: u16) -> usize
-    ensures { result ≡ x }
+// The item at i, and `none` past the end.
+pub(crate) fn item_or<T: Copy>(s: &[T], i: usize, none: T) -> T
+    ensures { result ≡ get_or s.now i none }
 {
-    x as usize
-}
-
-// The value at i, and 0 past the end.
-pub(crate) fn value_at(s: &[u8], i: usize) -> u8
-    ensures { result ≡ get_or s.now i 0 }
-{
-    if i < s.len() {
-        return s[i];
-    }
-    0
+    s.get(i).copied().unwrap_or(none)
 }
 
 // The index at i, and 0 past the end.
 pub(crate) fn index_at(s: &[u16], i: usize) -> usize
     ensures { result ≡ get_or s.now i 0 }
 {
-    if i < s.len() {
-        return wide(s[i]);
-    }
-    0
-}
-
-// a less b, and 0 where b is more.
-fn minus(a: usize, b: usize) -> usize
-    ensures { result ≡ a - b }
-{
-    if b < a {
-        return a - b;
-    }
-    0
+    usize::from(item_or(s, i, 0))
 }
 
 // Puts v on a stack of sp numbers, unless it is full; how many it has then.
+// Kept: a slice with its length beside, since there is no heap and the caller lends the memory.
 fn push(stack: &mut [u8], sp: usize, v: u8) -> usize
     requires { sp ≤ length stack.old }
     ensures { Live stack.new result (pushed (length stack.old) (take sp stack.old) v) }
@@ -79,24 +58,25 @@ fn combine(stack: &mut [u8], sp: usize, k: usize, n: usize) -> usize
     requires { sp ≤ length stack.old }
     ensures { Live stack.new result (combined (length stack.old) k n (take sp stack.old)) }
 {
-    let base = minus(sp, n);
+    let base = sp.saturating_sub(n);
     let v = kth_highest(&stack[base..sp], k);
     push(stack, base, v)
 }
 
 // One instruction.
+// Kept: a number and no enum, since `solve` is lent a table of such numbers and its clause speaks of them (specs/Codes).
 fn step(op: u16, ranks: &[u8], top: u8, stack: &mut [u8], sp: usize) -> usize
     requires { sp ≤ length stack.old }
     ensures { Live stack.new result (stepped ranks.now top (length stack.old) op (take sp stack.old)) }
 {
     if op < TOP {
-        return push(stack, sp, value_at(ranks, wide(op)));
+        return push(stack, sp, item_or(ranks, usize::from(op), 0));
     }
     if op == TOP {
         return push(stack, sp, top);
     }
     let x = op - K_OF;
-    combine(stack, sp, wide(x / SPAN), wide(x % SPAN))
+    combine(stack, sp, usize::from(x / SPAN), usize::from(x % SPAN))
 }
 
 // The topmost of sp numbers, and 0 where there is none.
@@ -104,21 +84,16 @@ fn last(stack: &[u8], sp: usize) -> u8
     requires { sp ≤ length stack.now }
     ensures { result ≡ last_of (take sp stack.now) }
 {
-    if sp == 0 {
-        return 0;
-    }
-    stack[sp - 1]
+    stack[..sp].last().copied().unwrap_or(0)
 }
 
-// What the program leaves on top of an empty stack, instruction by instruction.
+// What the program leaves on top of an empty stack, instruction by instruction, and 0 where it leaves none.
 pub(crate) fn run(code: &[u16], ranks: &[u8], top: u8, stack: &mut [u8]) -> u8
     ensures { result ≡ worth ranks.now top (length stack.old) code.now }
 {
-    let mut sp: usize = 0;
-    let mut i: usize = 0;
-    while i < code.len() {
-        sp = step(code[i], ranks, top, stack, sp);
-        i += 1;
+    let mut sp = 0;
+    for op in code {
+        sp = step(*op, ranks, top, stack, sp);
     }
     last(stack, sp)
 }

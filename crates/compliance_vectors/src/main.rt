@@ -6,18 +6,12 @@ use compliance::{Solution, solve};
 use std::io;
 use std::io::Write;
 
-fn number<W: Write>(out: &mut W, n: u64) -> io::Result<()> {
-    write!(out, "{n}")
-}
-
 fn show<W: Write>(out: &mut W, s: Solution) -> io::Result<()> {
-    out.write_all(b"rank ")?;
-    number(out, s.rank as u64)?;
-    out.write_all(b" rounds ")?;
-    number(out, s.rounds as u64)?;
-    out.write_all(b" reached ")?;
-    number(out, s.reached as u64)?;
-    out.write_all(b"\n")
+    writeln!(
+        out,
+        "rank {} rounds {} reached {}",
+        s.rank, s.rounds, s.reached
+    )
 }
 
 // POLICY to 1, 1 to 2, 2 to 3, and 3 asks.

@@ -13,11 +13,10 @@ use Rattle.syntax.specs.Code.{entry}
 use Rattle.conditions.specs.Working.Numbered.{TEST, TEXT, TRUE, fits}
 use Rattle.conditions.specs.Working.Numbered.{operand_of, result_of, prefix_of}
 use Rattle.conditions.specs.Word.{next_at}
-use Rattle.conditions.specs.Working.Emit.{slot_of, above, put, word_top, word_written, Ran, ran, refused, finish_at, ended_at, valued_at, closed_at}
-use Rattle.conditions.specs.declared.emit.Out.{Out}
-use Rattle.conditions.specs.declared.emit.Out.TheVariants.{Found, Aside}
+use Rattle.conditions.specs.Working.Emit.{found, Out, slot_of, above, put, word_top, word_written, Ran, ran, refused, finish_at, ended_at, valued_at, closed_at}
 use Rattle.syntax.specs.Working.Faults.{misplaced_at}
 use Rattle.syntax.specs.declared.fault.Fault.{Fault}
+use Rattle.std.specs.Prelude.{Err}
 
 module _ (op at : ℕ) where
   pub slot-far : 65536 ≤ at → 0 ≡ slot_of op at
@@ -80,14 +79,14 @@ module _ (m : List ℕ) (top wanted sort place : ℕ) where
 pub write-word-needed : (m : List ℕ) (top op sort place w : ℕ) (b : List ℕ) → w ≡ operand_of op → b ≡ word_written m top w sort place → b ≡ word_written m top (operand_of op) sort place
 write-word-needed m top op sort place w b we be = be ∙ ap (λ (y : ℕ). word_written m top y sort place) we
 
-pub unexpected-made : (t : Token) (f : Fault) → f ≡ misplaced_at t → Aside f ≡ refused t
+pub unexpected-made : (t : Token) (f : Fault) → f ≡ misplaced_at t → Err f ≡ refused t
 unfolding refused
 unexpected-made t f e = simp e
 
 module _ (m : List ℕ) (top op sort place : ℕ) (next : Token) (w : ℕ) (we : w ≡ operand_of op) (f : Bool) (fe : f ≡ fits w sort) where
   pub finish-made : f ≡ true → (u : ℕ) (b : List ℕ) → u ≡ word_top m top sort → b ≡ word_written m top (operand_of op) sort place
       → (v x : ℕ) (c : List ℕ) → v ≡ above b u → c ≡ put b u op 0 → x ≡ result_of op
-      → ran (Found x 0 v next) c ≡ finish_at m top op sort place next
+      → ran (found x 0 v next) c ≡ finish_at m top op sort place next
   unfolding finish_at
   finish-made h u b ue be v x c ve ce xe = simp (ap (λ (y : ℕ). fits y sort) (sym we), sym fe, h, sym ue, sym be, sym ve, sym ce, sym xe)
 
@@ -101,7 +100,7 @@ module _ (m : List ℕ) (top op sort place : ℕ) (next : Token) (h : sort < TRU
   finish-wrong n r e = simp (sym we, ne_eqb _ _ n, lt-ltb _ _ h, e)
 
   pub finish-quick : sort ≡ w → (v x : ℕ) (c : List ℕ) → v ≡ above m top → c ≡ put m top op 0 → x ≡ result_of op
-      → ran (Found x 0 v (token next.kind next.start next.end)) c ≡ finish_at m top op sort place next
+      → ran (found x 0 v (token next.kind next.start next.end)) c ≡ finish_at m top op sort place next
   unfolding finish_at fits word_written word_top
   finish-quick e v x c ve ce xe = simp (sym we, eq-eqb _ _ e, lt-ltb _ _ h, sym ve, sym ce, sym xe)
 
@@ -111,7 +110,7 @@ module _ (s m : List ℕ) (top op : ℕ) (t : Token) where
   ended-not h r e = simp (ne_eqb _ _ h, e)
 
   pub ended-made : t.kind ≡ Kind.SEMICOLON → (u : ℕ) (b : List ℕ) (n : Token) → u ≡ above m top → b ≡ put m top op 0 → n ≡ next_at s t.end
-      → ran (Found TEST 0 u n) b ≡ ended_at s m top op t
+      → ran (found TEST 0 u n) b ≡ ended_at s m top op t
   unfolding ended_at
   ended-made h u b n ue be ne = simp (eq-eqb _ _ h, sym ue, sym be, sym ne)
 
@@ -130,7 +129,7 @@ module _ (s : List ℕ) (sort place top : ℕ) (t : Token) where
   unfolding closed_at
   closed-not h r e = simp (ne_eqb _ _ h) e
 
-  pub closed-made : t.kind ≡ Kind.CLOSE → (n : Token) → n ≡ next_at s t.end → Found sort place top n ≡ closed_at s sort place top t
+  pub closed-made : t.kind ≡ Kind.CLOSE → (n : Token) → n ≡ next_at s t.end → found sort place top n ≡ closed_at s sort place top t
   unfolding closed_at
   closed-made h n e = simp (eq-eqb _ _ h, sym e)
 

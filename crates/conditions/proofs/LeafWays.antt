@@ -15,11 +15,11 @@ use Rattle.lexical.specs.declared.token.Token.{Token}
 use Rattle.syntax.specs.Op
 use Rattle.conditions.specs.Working.Numbered.{ANY, TEXT, INTEGER, FLOAT, TRUE, FALSE, word_sort}
 use Rattle.conditions.specs.Word.{next_at}
-use Rattle.conditions.specs.Working.Emit.{Ran, ran, above, put}
+use Rattle.conditions.specs.Working.Emit.{found, Ran, ran, above, put}
 use Rattle.conditions.specs.Working.Leaf.{literal_read, name_read, digits_read, float_read, leaf_read}
-use Rattle.conditions.specs.declared.emit.Out.TheVariants.{Found, Aside}
 use Rattle.syntax.specs.Working.Faults.{against}
 use Rattle.limits.specs.Limits.{most_float, most_literal}
+use Rattle.std.specs.Prelude.{Err}
 
 module _ (s : List ℕ) (want start end : ℕ) where
   pub word-settled : (want ≡ ANY → ⊥) → TEXT ≡ word_sort s want start end
@@ -43,30 +43,30 @@ module _ (s : List ℕ) (want start end : ℕ) where
 module _ (s m : List ℕ) (top : ℕ) (t : Token) where
   module _ (f : Bool) (fe : f ≡ leb (length (decoded_at s t.start)) most_literal) where
     pub literal-made : f ≡ true → (u : ℕ) (b : List ℕ) (x : Token) → u ≡ above m top → b ≡ put m top Op.LITERAL t.start → x ≡ next_at s t.end
-        → ran (Found TEXT 0 u x) b ≡ literal_read s m top t
+        → ran (found TEXT 0 u x) b ≡ literal_read s m top t
     unfolding literal_read
     literal-made h u b x ue be xe = simp (le-ltb _ _ (leb-true (length (decoded_at s t.start)) most_literal (sym fe ∙ h)), sym ue, sym be, sym xe)
 
-    pub literal-long : f ≡ false → ran (Aside (against 7 t.start)) m ≡ literal_read s m top t
+    pub literal-long : f ≡ false → ran (Err (against 7 t.start)) m ≡ literal_read s m top t
     unfolding literal_read
     literal-long h = simp (lt-ltb _ _ (leb-false (length (decoded_at s t.start)) most_literal (sym fe ∙ h)))
 
   module _ (v : Bool) (ve : v ≡ leb LIMIT (number_at s t.start t.end)) where
-    pub digits-large : v ≡ true → ran (Aside (against 5 t.start)) m ≡ digits_read s m top t
+    pub digits-large : v ≡ true → ran (Err (against 5 t.start)) m ≡ digits_read s m top t
     unfolding digits_read
     digits-large h = simp (sym ve, h)
 
     pub digits-made : v ≡ false → (u : ℕ) (b : List ℕ) (x : Token) → u ≡ above m top → b ≡ put m top Op.NUMBER t.start → x ≡ next_at s t.end
-        → ran (Found INTEGER 0 u x) b ≡ digits_read s m top t
+        → ran (found INTEGER 0 u x) b ≡ digits_read s m top t
     unfolding digits_read
     digits-made h u b x ue be xe = simp (sym ve, h, sym ue, sym be, sym xe)
 
   module _ (want w : ℕ) (we : w ≡ word_sort s want t.start t.end) (x : Token) (xe : x ≡ next_at s t.end) where
-    pub name-bare : (w ≡ TEXT → ⊥) → ran (Found w t.start top x) m ≡ name_read s m top want t
+    pub name-bare : (w ≡ TEXT → ⊥) → ran (found w t.start top x) m ≡ name_read s m top want t
     unfolding name_read
     name-bare h = simp (sym we, ne_eqb _ _ h, sym xe)
 
-    pub name-made : w ≡ TEXT → (u : ℕ) (b : List ℕ) → u ≡ above m top → b ≡ put m top Op.NAME t.start → ran (Found TEXT 0 u x) b ≡ name_read s m top want t
+    pub name-made : w ≡ TEXT → (u : ℕ) (b : List ℕ) → u ≡ above m top → b ≡ put m top Op.NAME t.start → ran (found TEXT 0 u x) b ≡ name_read s m top want t
     unfolding name_read
     name-made h u b ue be = simp (sym we, eq-eqb _ _ h, sym ue, sym be, sym xe)
 
@@ -74,11 +74,11 @@ pub wide-none : (start end : ℕ) → end ≤ start → false ≡ ltb most_float
 wide-none start end h = sym (le-ltb most_float (end - start) (omega (arith, h)))
 
 module _ (s m : List ℕ) (top : ℕ) (t : Token) (v : Bool) (ve : v ≡ ltb most_float (t.end - t.start)) where
-  pub float-wide : v ≡ true → ran (Aside (against 7 t.start)) m ≡ float_read s m top t
+  pub float-wide : v ≡ true → ran (Err (against 7 t.start)) m ≡ float_read s m top t
   unfolding float_read
   float-wide h = simp (sym ve, h)
 
-  pub float-made : v ≡ false → (u : ℕ) (b : List ℕ) (x : Token) → u ≡ above m top → b ≡ put m top Op.DECIMAL t.start → x ≡ next_at s t.end → ran (Found FLOAT 0 u x) b ≡ float_read s m top t
+  pub float-made : v ≡ false → (u : ℕ) (b : List ℕ) (x : Token) → u ≡ above m top → b ≡ put m top Op.DECIMAL t.start → x ≡ next_at s t.end → ran (found FLOAT 0 u x) b ≡ float_read s m top t
   unfolding float_read
   float-made h u b x ue be xe = simp (sym ve, h, sym ue, sym be, sym xe)
 

@@ -10,19 +10,14 @@ use lexical::token::Token;
 use syntax;
 use syntax::fault::{Fault, misplaced};
 
-// What was read: its sort, the place of a bare word that is not settled yet, the end of the code, and the token behind it. Or the
-// first fault: reason 0 is that of a reader that was given too little.
+// What was read: its sort, the place of a bare word that is not settled yet, the end of the code, and the token behind it. A fault of
+// reason 0 is that of a reader that was given too little.
 #[derive(Clone, Copy)]
-pub enum Out {
-    Found {
-        sort: u8,
-        place: usize,
-        top: usize,
-        next: Token,
-    },
-    Aside {
-        fault: Fault,
-    },
+pub struct Found {
+    pub sort: u8,
+    pub place: usize,
+    pub top: usize,
+    pub next: Token,
 }
 
 // A place of the text in an entry.
@@ -88,28 +83,33 @@ pub fn write_word_for(code: &mut [u32], top: usize, op: u32, sort: u8, place: us
 }
 
 // A token that may not stand where it stands.
-pub fn unexpected(t: Token) -> Out
+pub fn unexpected(t: Token) -> Result<Found, Fault>
     ensures { result ≡ refused t }
 {
-    Out::Aside {
-        fault: misplaced(t),
-    }
+    Err(misplaced(t))
 }
 
 // Writes an operator behind its last operand.
-pub fn finish_any(code: &mut [u32], top: usize, op: u32, sort: u8, place: usize, next: Token) -> Out
+pub fn finish_any(
+    code: &mut [u32],
+    top: usize,
+    op: u32,
+    sort: u8,
+    place: usize,
+    next: Token,
+) -> Result<Found, Fault>
     ensures { ran result code.new ≡ finish_at code.old top op sort place next }
 {
     let w = operand_of(op);
     if is_fit(w, sort) {
         let u = write_word_for(code, top, op, sort, place);
         let v = push(code, u, op, 0);
-        return Out::Found {
+        return Ok(Found {
             sort: result_of(op),
             place: 0,
             top: v,
             next,
-        };
+        });
     }
     unexpected(next)
 }
@@ -122,7 +122,7 @@ pub fn finish_prefix(
     sort: u8,
     place: usize,
     next: Token,
-) -> Out
+) -> Result<Found, Fault>
     ensures { ran result code.new ≡ finish_at code.old top (prefix_of op sort) sort place next }
 {
     let p = prefix_of(op, sort);
@@ -130,7 +130,14 @@ pub fn finish_prefix(
 }
 
 // `finish_any`, at once where the operand is no bare word. It buys 8 % of powers.
-pub fn finish(code: &mut [u32], top: usize, op: u32, sort: u8, place: usize, next: Token) -> Out
+pub fn finish(
+    code: &mut [u32],
+    top: usize,
+    op: u32,
+    sort: u8,
+    place: usize,
+    next: Token,
+) -> Result<Found, Fault>
     ensures { ran result code.new ≡ finish_at code.old top op sort place next }
 {
     if TRUE <= sort {
@@ -140,7 +147,7 @@ pub fn finish(code: &mut [u32], top: usize, op: u32, sort: u8, place: usize, nex
         return unexpected(next);
     }
     let v = push(code, top, op, 0);
-    Out::Found {
+    Ok(Found {
         sort: result_of(op),
         place: 0,
         top: v,
@@ -149,11 +156,11 @@ pub fn finish(code: &mut [u32], top: usize, op: u32, sort: u8, place: usize, nex
             start: next.start,
             end: next.end,
         },
-    }
+    })
 }
 
 // Writes the end of a clause, before the token t, which ends it.
-pub fn ended(s: &[u8], code: &mut [u32], top: usize, op: u32, t: Token) -> Out
+pub fn ended(s: &[u8], code: &mut [u32], top: usize, op: u32, t: Token) -> Result<Found, Fault>
     ensures { ran result code.new ≡ ended_at s.now code.old top op t }
 {
     if t.kind != kind::SEMICOLON {
@@ -161,16 +168,23 @@ pub fn ended(s: &[u8], code: &mut [u32], top: usize, op: u32, t: Token) -> Out
     }
     let u = push(code, top, op, 0);
     let n = token_at(s, kind::IN_FIELD, t.end);
-    Out::Found {
+    Ok(Found {
         sort: TEST,
         place: 0,
         top: u,
         next: n,
-    }
+    })
 }
 
 // Writes the end of a clause whose value is a string, before the token t, which ends it.
-pub fn valued(s: &[u8], code: &mut [u32], top: usize, sort: u8, place: usize, t: Token) -> Out
+pub fn valued(
+    s: &[u8],
+    code: &mut [u32],
+    top: usize,
+    sort: u8,
+    place: usize,
+    t: Token,
+) -> Result<Found, Fault>
     ensures { ran result code.new ≡ valued_at s.now code.old top sort place t }
 {
     if is_fit(TEXT, sort) {
@@ -181,17 +195,17 @@ pub fn valued(s: &[u8], code: &mut [u32], top: usize, sort: u8, place: usize, t:
 }
 
 // Past the closing bracket t.
-pub fn closed(s: &[u8], sort: u8, place: usize, top: usize, t: Token) -> Out
+pub fn closed(s: &[u8], sort: u8, place: usize, top: usize, t: Token) -> Result<Found, Fault>
     ensures { result ≡ closed_at s.now sort place top t }
 {
     if t.kind != kind::CLOSE {
         return unexpected(t);
     }
     let n = token_at(s, kind::IN_FIELD, t.end);
-    Out::Found {
+    Ok(Found {
         sort,
         place,
         top,
         next: n,
-    }
+    })
 }

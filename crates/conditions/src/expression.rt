@@ -3,7 +3,7 @@ ghost use Rattle.std.specs.Prelude.{◌≡◌};
 ghost use Rattle.conditions.specs.Working.Emit.{ran};
 ghost use Rattle.conditions.specs.Working.Expression.{expr_at, operand_at, prefixed_at, bracketed_at, chain_at, joined_at};
 
-use crate::emit::{Out, closed, finish, finish_prefix, unexpected, write_word_for};
+use crate::emit::{Found, closed, finish, finish_prefix, unexpected, write_word_for};
 use crate::leaf::leaf;
 use crate::table::{
     NONE, inside_level, is_allowed, is_loose, operand_level, operand_want, operator_of,
@@ -27,26 +27,17 @@ pub fn expression(
     nest: usize,
     t: Token,
     d: usize,
-) -> Out
+) -> Result<Found, Fault>
     ensures { ran result code.new ≡ expr_at d s.now code.old top level want row nest t }
 {
     if d == 0 {
-        return Out::Aside {
-            fault: Fault {
-                reason: NO_ROOM,
-                place: t.start,
-            },
-        };
+        return Err(Fault {
+            reason: NO_ROOM,
+            place: t.start,
+        });
     }
-    match operand(s, code, top, want, row, nest, t, d - 1) {
-        Out::Found {
-            sort,
-            place,
-            top: u,
-            next,
-        } => chain(s, code, u, level, nest, sort, place, next, d - 1),
-        Out::Aside { fault } => Out::Aside { fault },
-    }
+    let q = operand(s, code, top, want, row, nest, t, d - 1)?;
+    chain(s, code, q.top, level, nest, q.sort, q.place, q.next, d - 1)
 }
 
 // One operand.
@@ -60,16 +51,14 @@ fn operand(
     nest: usize,
     t: Token,
     d: usize,
-) -> Out
+) -> Result<Found, Fault>
     ensures { ran result code.new ≡ operand_at d s.now code.old top want row nest t }
 {
     if d == 0 {
-        return Out::Aside {
-            fault: Fault {
-                reason: NO_ROOM,
-                place: t.start,
-            },
-        };
+        return Err(Fault {
+            reason: NO_ROOM,
+            place: t.start,
+        });
     }
     if is_allowed(want, t.kind) {
         let o = prefix_operator(t.kind);
@@ -96,24 +85,20 @@ fn prefixed(
     nest: usize,
     t: Token,
     d: usize,
-) -> Out
+) -> Result<Found, Fault>
     ensures { ran result code.new ≡ prefixed_at d s.now code.old top op want row nest t }
 {
     if d == 0 {
-        return Out::Aside {
-            fault: Fault {
-                reason: NO_ROOM,
-                place: t.start,
-            },
-        };
+        return Err(Fault {
+            reason: NO_ROOM,
+            place: t.start,
+        });
     }
     if MOST_PREFIXES <= row {
-        return Out::Aside {
-            fault: Fault {
-                reason: OVER_LIMIT,
-                place: t.start,
-            },
-        };
+        return Err(Fault {
+            reason: OVER_LIMIT,
+            place: t.start,
+        });
     }
     let n = token_at(s, kind::IN_FIELD, t.end);
     let l = operand_level(op);
@@ -123,15 +108,8 @@ fn prefixed(
         start: n.start,
         end: n.end,
     };
-    match expression(s, code, top, l, w, row + 1, nest, first, d - 1) {
-        Out::Found {
-            sort,
-            place,
-            top: u,
-            next,
-        } => finish_prefix(code, u, op, sort, place, next),
-        Out::Aside { fault } => Out::Aside { fault },
-    }
+    let q = expression(s, code, top, l, w, row + 1, nest, first, d - 1)?;
+    finish_prefix(code, q.top, op, q.sort, q.place, q.next)
 }
 
 // The bracket t with what it holds.
@@ -144,24 +122,20 @@ fn bracketed(
     nest: usize,
     t: Token,
     d: usize,
-) -> Out
+) -> Result<Found, Fault>
     ensures { ran result code.new ≡ bracketed_at d s.now code.old top want nest t }
 {
     if d == 0 {
-        return Out::Aside {
-            fault: Fault {
-                reason: NO_ROOM,
-                place: t.start,
-            },
-        };
+        return Err(Fault {
+            reason: NO_ROOM,
+            place: t.start,
+        });
     }
     if MOST_BRACKETS <= nest {
-        return Out::Aside {
-            fault: Fault {
-                reason: OVER_LIMIT,
-                place: t.start,
-            },
-        };
+        return Err(Fault {
+            reason: OVER_LIMIT,
+            place: t.start,
+        });
     }
     let n = token_at(s, kind::IN_FIELD, t.end);
     let l = inside_level(want);
@@ -170,15 +144,8 @@ fn bracketed(
         start: n.start,
         end: n.end,
     };
-    match expression(s, code, top, l, want, 0, nest + 1, first, d - 1) {
-        Out::Found {
-            sort,
-            place,
-            top: u,
-            next,
-        } => closed(s, sort, place, u, next),
-        Out::Aside { fault } => Out::Aside { fault },
-    }
+    let q = expression(s, code, top, l, want, 0, nest + 1, first, d - 1)?;
+    closed(s, q.sort, q.place, q.top, q.next)
 }
 
 // What operators of this level or above join to an operand, from left to right.
@@ -193,62 +160,48 @@ fn chain(
     spot: usize,
     first: Token,
     d: usize,
-) -> Out
+) -> Result<Found, Fault>
     ensures { ran result code.new ≡ chain_at d s.now code.old from level nest before spot first }
 {
     if d == 0 {
-        return Out::Aside {
-            fault: Fault {
-                reason: NO_ROOM,
-                place: first.start,
-            },
-        };
+        return Err(Fault {
+            reason: NO_ROOM,
+            place: first.start,
+        });
     }
     let mut sort = before;
     let mut place = spot;
     let mut top = from;
     let mut t = first;
+    // Kept: a turn goes on behind an operand, so there is no range to go over.
     while t.start < s.len() {
         let o = operator_of(sort, t.kind);
         if is_loose(level, o) {
-            return Out::Found {
+            return Ok(Found {
                 sort,
                 place,
                 top,
                 next: t,
-            };
+            });
         }
-        match joined(s, code, top, o, nest, sort, place, t.end, d - 1) {
-            Out::Found {
-                sort: x,
-                place: p,
-                top: u,
-                next,
-            } => {
-                if next.start <= t.start {
-                    return Out::Aside {
-                        fault: Fault {
-                            reason: NO_ROOM,
-                            place: t.start,
-                        },
-                    };
-                }
-                sort = x;
-                place = p;
-                top = u;
-                t = next;
-            }
-            Out::Aside { fault } => {
-                return Out::Aside { fault };
-            }
+        let q = joined(s, code, top, o, nest, sort, place, t.end, d - 1)?;
+        if q.next.start <= t.start {
+            return Err(Fault {
+                reason: NO_ROOM,
+                place: t.start,
+            });
         }
+        sort = q.sort;
+        place = q.place;
+        top = q.top;
+        t = q.next;
     }
-    Out::Found {
+    Ok(Found {
         sort,
         place,
         top,
         next: t,
-    }
+    })
 }
 
 // The right operand of an operator that ends at `at`, and the operator. Its first token is built anew: a copy of the whole would wait for
@@ -264,16 +217,14 @@ fn joined(
     place: usize,
     at: usize,
     d: usize,
-) -> Out
+) -> Result<Found, Fault>
     ensures { ran result code.new ≡ joined_at d s.now code.old top op nest sort place at }
 {
     if d == 0 {
-        return Out::Aside {
-            fault: Fault {
-                reason: NO_ROOM,
-                place: at,
-            },
-        };
+        return Err(Fault {
+            reason: NO_ROOM,
+            place: at,
+        });
     }
     let u = write_word_for(code, top, op, sort, place);
     let n = token_at(s, kind::IN_FIELD, at);
@@ -284,13 +235,6 @@ fn joined(
         start: n.start,
         end: n.end,
     };
-    match expression(s, code, u, l, v, 0, nest, right, d - 1) {
-        Out::Found {
-            sort: x,
-            place: p,
-            top: q,
-            next,
-        } => finish(code, q, op, x, p, next),
-        Out::Aside { fault } => Out::Aside { fault },
-    }
+    let q = expression(s, code, u, l, v, 0, nest, right, d - 1)?;
+    finish(code, q.top, op, q.sort, q.place, q.next)
 }

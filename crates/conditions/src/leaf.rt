@@ -5,7 +5,7 @@ ghost use Rattle.conditions.specs.Working.Numbered.{word_sort};
 ghost use Rattle.conditions.specs.Working.Emit.{ran};
 ghost use Rattle.conditions.specs.Working.Leaf.{literal_read, name_read, digits_read, float_read, leaf_read};
 
-use crate::emit::{Out, push};
+use crate::emit::{Found, push};
 use crate::table::{ANY, FALSE, FLOAT, INTEGER, TEXT, TRUE};
 use lexical::kind;
 use lexical::line::token_at;
@@ -18,25 +18,23 @@ use syntax;
 use syntax::fault::{Fault, OUT_OF_RANGE, OVER_LIMIT};
 
 // A literal.
-fn literal(s: &[u8], code: &mut [u32], top: usize, t: Token) -> Out
+fn literal(s: &[u8], code: &mut [u32], top: usize, t: Token) -> Result<Found, Fault>
     ensures { ran result code.new ≡ literal_read s.now code.old top t }
 {
     if is_short(s, t.start, t.end, MOST_LITERAL) {
         let u = push(code, top, syntax::LITERAL, t.start);
         let next = token_at(s, kind::IN_FIELD, t.end);
-        return Out::Found {
+        return Ok(Found {
             sort: TEXT,
             place: 0,
             top: u,
             next,
-        };
+        });
     }
-    Out::Aside {
-        fault: Fault {
-            reason: OVER_LIMIT,
-            place: t.start,
-        },
-    }
+    Err(Fault {
+        reason: OVER_LIMIT,
+        place: t.start,
+    })
 }
 
 // The sort of a name: the bare words true and false are not settled yet.
@@ -56,48 +54,46 @@ fn sort_of_name(s: &[u8], want: u8, start: usize, end: usize) -> u8
 }
 
 // A name.
-fn name(s: &[u8], code: &mut [u32], top: usize, want: u8, t: Token) -> Out
+fn name(s: &[u8], code: &mut [u32], top: usize, want: u8, t: Token) -> Result<Found, Fault>
     ensures { ran result code.new ≡ name_read s.now code.old top want t }
 {
     let w = sort_of_name(s, want, t.start, t.end);
     let next = token_at(s, kind::IN_FIELD, t.end);
     if w != TEXT {
-        return Out::Found {
+        return Ok(Found {
             sort: w,
             place: t.start,
             top,
             next,
-        };
+        });
     }
     let u = push(code, top, syntax::NAME, t.start);
-    Out::Found {
+    Ok(Found {
         sort: TEXT,
         place: 0,
         top: u,
         next,
-    }
+    })
 }
 
 // An integer literal.
-fn digits(s: &[u8], code: &mut [u32], top: usize, t: Token) -> Out
+fn digits(s: &[u8], code: &mut [u32], top: usize, t: Token) -> Result<Found, Fault>
     ensures { ran result code.new ≡ digits_read s.now code.old top t }
 {
     if is_large(s, t.start, t.end) {
-        return Out::Aside {
-            fault: Fault {
-                reason: OUT_OF_RANGE,
-                place: t.start,
-            },
-        };
+        return Err(Fault {
+            reason: OUT_OF_RANGE,
+            place: t.start,
+        });
     }
     let u = push(code, top, syntax::NUMBER, t.start);
     let next = token_at(s, kind::IN_FIELD, t.end);
-    Out::Found {
+    Ok(Found {
         sort: INTEGER,
         place: 0,
         top: u,
         next,
-    }
+    })
 }
 
 // Are there more bytes than a float literal may have?
@@ -111,29 +107,27 @@ fn is_wide(start: usize, end: usize) -> bool
 }
 
 // A float literal.
-fn float(s: &[u8], code: &mut [u32], top: usize, t: Token) -> Out
+fn float(s: &[u8], code: &mut [u32], top: usize, t: Token) -> Result<Found, Fault>
     ensures { ran result code.new ≡ float_read s.now code.old top t }
 {
     if is_wide(t.start, t.end) {
-        return Out::Aside {
-            fault: Fault {
-                reason: OVER_LIMIT,
-                place: t.start,
-            },
-        };
+        return Err(Fault {
+            reason: OVER_LIMIT,
+            place: t.start,
+        });
     }
     let u = push(code, top, syntax::DECIMAL, t.start);
     let next = token_at(s, kind::IN_FIELD, t.end);
-    Out::Found {
+    Ok(Found {
         sort: FLOAT,
         place: 0,
         top: u,
         next,
-    }
+    })
 }
 
 // A token that may stand as an operand and is neither a prefix operator nor a bracket.
-pub fn leaf(s: &[u8], code: &mut [u32], top: usize, want: u8, t: Token) -> Out
+pub fn leaf(s: &[u8], code: &mut [u32], top: usize, want: u8, t: Token) -> Result<Found, Fault>
     ensures { ran result code.new ≡ leaf_read s.now code.old top want t }
 {
     if t.kind == kind::LITERAL {

@@ -3,7 +3,7 @@ ghost use Rattle.std.specs.Prelude.{◌≡◌, ◌-◌, length};
 ghost use Rattle.conditions.specs.Working.Emit.{ran};
 ghost use Rattle.conditions.specs.Working.Program.{clause_at, tested_at, value_at, nested_at, program_at, clauses_at, last_at, conditions_at};
 
-use crate::emit::{Out, ended, push, unexpected, valued, write_word};
+use crate::emit::{Found, ended, push, unexpected, valued, write_word};
 use crate::expression::expression;
 use crate::table::{ANY, TEST, TEXT, is_fit, is_stop};
 use lexical::kind;
@@ -19,31 +19,29 @@ pub const DEPTH: usize = 10
 
 // A clause.
 #[cycle(clause_clauses_nested_program_tested_value)]
-fn clause(s: &[u8], code: &mut [u32], top: usize, nest: usize, t: Token, d: usize) -> Out
+fn clause(
+    s: &[u8],
+    code: &mut [u32],
+    top: usize,
+    nest: usize,
+    t: Token,
+    d: usize,
+) -> Result<Found, Fault>
     ensures { ran result code.new ≡ clause_at d s.now code.old top nest t }
 {
     if d == 0 {
-        return Out::Aside {
-            fault: Fault {
-                reason: NO_ROOM,
-                place: t.start,
-            },
-        };
+        return Err(Fault {
+            reason: NO_ROOM,
+            place: t.start,
+        });
     }
     let first = Token {
         kind: t.kind,
         start: t.start,
         end: t.end,
     };
-    match expression(s, code, top, 0, ANY, 0, nest, first, d - 1) {
-        Out::Found {
-            sort,
-            place,
-            top: u,
-            next,
-        } => tested(s, code, u, nest, sort, place, next, d - 1),
-        Out::Aside { fault } => Out::Aside { fault },
-    }
+    let q = expression(s, code, top, 0, ANY, 0, nest, first, d - 1)?;
+    tested(s, code, q.top, nest, q.sort, q.place, q.next, d - 1)
 }
 
 // The rest of a clause behind its test.
@@ -57,16 +55,14 @@ fn tested(
     place: usize,
     t: Token,
     d: usize,
-) -> Out
+) -> Result<Found, Fault>
     ensures { ran result code.new ≡ tested_at d s.now code.old top nest sort place t }
 {
     if d == 0 {
-        return Out::Aside {
-            fault: Fault {
-                reason: NO_ROOM,
-                place: t.start,
-            },
-        };
+        return Err(Fault {
+            reason: NO_ROOM,
+            place: t.start,
+        });
     }
     if is_fit(TEST, sort) {
         let u = write_word(code, top, TEST, sort, place);
@@ -81,16 +77,21 @@ fn tested(
 
 // A clause's value.
 #[cycle(clause_clauses_nested_program_tested_value)]
-fn value(s: &[u8], code: &mut [u32], top: usize, nest: usize, t: Token, d: usize) -> Out
+fn value(
+    s: &[u8],
+    code: &mut [u32],
+    top: usize,
+    nest: usize,
+    t: Token,
+    d: usize,
+) -> Result<Found, Fault>
     ensures { ran result code.new ≡ value_at d s.now code.old top nest t }
 {
     if d == 0 {
-        return Out::Aside {
-            fault: Fault {
-                reason: NO_ROOM,
-                place: t.start,
-            },
-        };
+        return Err(Fault {
+            reason: NO_ROOM,
+            place: t.start,
+        });
     }
     if t.kind == kind::OPEN_BRACE {
         return nested(s, code, top, nest, t, d - 1);
@@ -100,80 +101,72 @@ fn value(s: &[u8], code: &mut [u32], top: usize, nest: usize, t: Token, d: usize
         start: t.start,
         end: t.end,
     };
-    match expression(s, code, top, 3, TEXT, 0, nest, first, d - 1) {
-        Out::Found {
-            sort,
-            place,
-            top: u,
-            next,
-        } => valued(s, code, u, sort, place, next),
-        Out::Aside { fault } => Out::Aside { fault },
-    }
+    let q = expression(s, code, top, 3, TEXT, 0, nest, first, d - 1)?;
+    valued(s, code, q.top, q.sort, q.place, q.next)
 }
 
 // The bracket t with the program that it holds, and the end of the clause.
 #[cycle(clause_clauses_nested_program_tested_value)]
-fn nested(s: &[u8], code: &mut [u32], top: usize, nest: usize, t: Token, d: usize) -> Out
+fn nested(
+    s: &[u8],
+    code: &mut [u32],
+    top: usize,
+    nest: usize,
+    t: Token,
+    d: usize,
+) -> Result<Found, Fault>
     ensures { ran result code.new ≡ nested_at d s.now code.old top nest t }
 {
     if d == 0 {
-        return Out::Aside {
-            fault: Fault {
-                reason: NO_ROOM,
-                place: t.start,
-            },
-        };
+        return Err(Fault {
+            reason: NO_ROOM,
+            place: t.start,
+        });
     }
     if MOST_BRACKETS <= nest {
-        return Out::Aside {
-            fault: Fault {
-                reason: OVER_LIMIT,
-                place: t.start,
-            },
-        };
+        return Err(Fault {
+            reason: OVER_LIMIT,
+            place: t.start,
+        });
     }
     let n = token_at(s, kind::IN_FIELD, t.end);
-    match program(s, code, top, nest + 1, n, d - 1) {
-        Out::Found {
-            sort: _,
-            place: _,
-            top: u,
-            next,
-        } => {
-            let e = token_at(s, kind::IN_FIELD, next.end);
-            ended(s, code, u, syntax::NESTED, e)
-        }
-        Out::Aside { fault } => Out::Aside { fault },
-    }
+    let q = program(s, code, top, nest + 1, n, d - 1)?;
+    let e = token_at(s, kind::IN_FIELD, q.next.end);
+    ended(s, code, q.top, syntax::NESTED, e)
 }
 
 // A program whose code ends at `top`, with the token t behind it.
-fn last(nest: usize, top: usize, t: Token) -> Out
+fn last(nest: usize, top: usize, t: Token) -> Result<Found, Fault>
     ensures { result ≡ last_at nest top t }
 {
     if is_stop(nest, t.kind) {
-        return Out::Found {
+        return Ok(Found {
             sort: TEST,
             place: 0,
             top,
             next: t,
-        };
+        });
     }
     unexpected(t)
 }
 
 // A program that begins with the token t.
 #[cycle(clause_clauses_nested_program_tested_value)]
-fn program(s: &[u8], code: &mut [u32], top: usize, nest: usize, t: Token, d: usize) -> Out
+fn program(
+    s: &[u8],
+    code: &mut [u32],
+    top: usize,
+    nest: usize,
+    t: Token,
+    d: usize,
+) -> Result<Found, Fault>
     ensures { ran result code.new ≡ program_at d s.now code.old top nest t }
 {
     if d == 0 {
-        return Out::Aside {
-            fault: Fault {
-                reason: NO_ROOM,
-                place: t.start,
-            },
-        };
+        return Err(Fault {
+            reason: NO_ROOM,
+            place: t.start,
+        });
     }
     let u = push(code, top, syntax::BEGIN, 0);
     clauses(s, code, u, nest, t, d - 1)
@@ -181,50 +174,43 @@ fn program(s: &[u8], code: &mut [u32], top: usize, nest: usize, t: Token, d: usi
 
 // Clauses up to the end of the program.
 #[cycle(clause_clauses_nested_program_tested_value)]
-fn clauses(s: &[u8], code: &mut [u32], from: usize, nest: usize, first: Token, d: usize) -> Out
+fn clauses(
+    s: &[u8],
+    code: &mut [u32],
+    from: usize,
+    nest: usize,
+    first: Token,
+    d: usize,
+) -> Result<Found, Fault>
     ensures { ran result code.new ≡ clauses_at d s.now code.old from nest first }
 {
     if d == 0 {
-        return Out::Aside {
-            fault: Fault {
-                reason: NO_ROOM,
-                place: first.start,
-            },
-        };
+        return Err(Fault {
+            reason: NO_ROOM,
+            place: first.start,
+        });
     }
     let mut top = from;
     let mut t = first;
+    // Kept: a turn goes on behind a clause, so there is no range to go over.
     while t.start < s.len() {
         if is_stop(nest, t.kind) {
-            return Out::Found {
+            return Ok(Found {
                 sort: TEST,
                 place: 0,
                 top,
                 next: t,
-            };
+            });
         }
-        match clause(s, code, top, nest, t, d - 1) {
-            Out::Found {
-                sort: _,
-                place: _,
-                top: u,
-                next,
-            } => {
-                if next.start <= t.start {
-                    return Out::Aside {
-                        fault: Fault {
-                            reason: NO_ROOM,
-                            place: t.start,
-                        },
-                    };
-                }
-                top = u;
-                t = next;
-            }
-            Out::Aside { fault } => {
-                return Out::Aside { fault };
-            }
+        let q = clause(s, code, top, nest, t, d - 1)?;
+        if q.next.start <= t.start {
+            return Err(Fault {
+                reason: NO_ROOM,
+                place: t.start,
+            });
         }
+        top = q.top;
+        t = q.next;
     }
     last(nest, top, t)
 }
@@ -241,24 +227,20 @@ pub fn bytes_left(s: &[u8], at: usize) -> usize
 
 // Reads a Conditions field from the token behind its label on, and writes its code from `top` on. It asks for room for an entry for each
 // byte from that token on, and writes nothing where there is less.
-pub fn conditions(s: &[u8], code: &mut [u32], top: usize, t: Token) -> Out
+pub fn conditions(s: &[u8], code: &mut [u32], top: usize, t: Token) -> Result<Found, Fault>
     ensures { ran result code.new ≡ conditions_at s.now code.old top t }
 {
     if code.len() < top {
-        return Out::Aside {
-            fault: Fault {
-                reason: NO_ROOM,
-                place: t.start,
-            },
-        };
+        return Err(Fault {
+            reason: NO_ROOM,
+            place: t.start,
+        });
     }
     if code.len() - top < bytes_left(s, t.start) {
-        return Out::Aside {
-            fault: Fault {
-                reason: NO_ROOM,
-                place: t.start,
-            },
-        };
+        return Err(Fault {
+            reason: NO_ROOM,
+            place: t.start,
+        });
     }
     program(s, code, top, 0, t, DEPTH)
 }

@@ -1,7 +1,6 @@
 // Reads the Conditions field of each text of a file and prints `kept`, or the reason and the place of its first fault. The byte 30 ends a text.
 #![tactic(auto)]
 
-use conditions::emit::Out;
 use conditions::program::conditions;
 use input::{large_buffer, read_full};
 use lexical::kind;
@@ -15,26 +14,16 @@ use syntax::fault::Fault;
 // The longest text.
 const MOST: usize = 8192;
 
-fn put<W: Write>(out: &mut W, b: &[u8]) -> io::Result<()> {
-    out.write_all(b)
-}
-
 fn put_fault<W: Write>(out: &mut W, fault: Fault) -> io::Result<()> {
-    put(out, b"reason ")?;
-    write!(out, "{}", fault.reason)?;
-    put(out, b" at ")?;
-    write!(out, "{}", fault.place)?;
-    put(out, b"\n")
+    write!(out, "reason {} at {}\n", fault.reason, fault.place)
 }
 
-// The place behind the label of the Conditions field, or 0.
+// The place behind the label of the Conditions field, or the text's start where there is none.
 fn field_start(s: &[u8]) -> usize {
-    let mut i: usize = 0;
-    while i < s.len() {
+    for i in 0..s.len() {
         if label_kind(s, i) == kind::CONDITIONS {
             return i + 11;
         }
-        i += 1;
     }
     0
 }
@@ -42,28 +31,19 @@ fn field_start(s: &[u8]) -> usize {
 fn read<W: Write>(out: &mut W, s: &[u8], code: &mut [u32]) -> io::Result<()> {
     let t = token_at(s, kind::IN_FIELD, field_start(s));
     match conditions(s, code, 0, t) {
-        Out::Found {
-            sort: _,
-            place: _,
-            top: _,
-            next: _,
-        } => put(out, b"kept\n"),
-        Out::Aside { fault } => put_fault(out, fault),
+        Ok(_) => out.write_all(b"kept\n"),
+        Err(fault) => put_fault(out, fault),
     }
 }
 
 // Reads each text of d.
 fn read_all<W: Write>(out: &mut W, d: &[u8], code: &mut [u32]) -> io::Result<()> {
     let mut from: usize = 0;
-    let mut i: usize = 0;
-    while i < d.len() {
-        if d[i] == 30 {
+    for (i, b) in d.iter().enumerate() {
+        if *b == 30 {
             read(out, &d[from..i], code)?;
-            i += 1;
-            from = i;
-            continue;
+            from = i + 1;
         }
-        i += 1;
     }
     Ok(())
 }

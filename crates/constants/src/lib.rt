@@ -22,11 +22,9 @@ fn joined_length(s: &[u8], places: &[usize]) -> usize
     ensures { result ≡ min (length (joined (map (counted s.now) places.now))) 65536 }
 {
     let mut n: usize = 0;
-    let mut i: usize = 0;
-    while i < places.len() {
+    for (i, p) in places.iter().enumerate() {
         let c = comma(i);
-        let p = places[i];
-        let k = text::counted_at(s, p).len();
+        let k = text::counted_at(s, *p).len();
         if 65535 - n < c {
             return 65536;
         }
@@ -34,7 +32,6 @@ fn joined_length(s: &[u8], places: &[usize]) -> usize
             return 65536;
         }
         n = n + c + k;
-        i += 1;
     }
     n
 }

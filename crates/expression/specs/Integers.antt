@@ -3,8 +3,8 @@ use Rattle.std.specs.Prelude.{Bool, true, false, not, ℕ, zero, suc, ◌+◌, �
 use Rattle.text.specs.Choice.{pick}
 use Rattle.text.specs.Decimal.{integer as signed}
 use Rattle.text.specs.declared.Integer.{Integer}
-use Rattle.text.specs.declared.Order.{Order}
-use Rattle.text.specs.declared.Order.TheVariants.{Less, Equal, Greater}
+use Rattle.std.specs.declared.cmp.Ordering.{Ordering as Order}
+use Rattle.std.specs.declared.cmp.Ordering.TheVariants.{Less, Equal, Greater}
 use Rattle.expression.specs.Value.{Value, integer, fault}
 
 -- an integer by sign and size; "outside the range" is a fault, and 0 has no sign

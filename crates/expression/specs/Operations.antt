@@ -1,19 +1,17 @@
 -- What the operators give. Assumes nothing.
-use Rattle.std.specs.Prelude.{Bool, true, false, not, List, ◌++◌, ℕ, ltb, length, Float}
+use Rattle.std.specs.Prelude.{Bool, true, false, not, List, ◌++◌, ℕ, ltb, length, Float, Some, None}
 use Rattle.std.specs.Float.Ieee.{lt, le}
 use Rattle.text.specs.Choice.{pick}
 use Rattle.text.specs.Order.{order}
 use Rattle.text.specs.Decimal.{decimal}
 use Rattle.text.specs.declared.Integer.{Integer}
-use Rattle.text.specs.declared.Order.{Order}
-use Rattle.text.specs.declared.Order.TheVariants.{Less, Equal, Greater}
+use Rattle.std.specs.declared.cmp.Ordering.{Ordering as Order}
+use Rattle.std.specs.declared.cmp.Ordering.TheVariants.{Less, Equal, Greater}
 use Rattle.pattern.specs.Test.{test_of}
-use Rattle.pattern.specs.declared.Answer.{Answer}
-use Rattle.pattern.specs.declared.Answer.TheVariants.{Yes, No, Error}
+use Rattle.pattern.specs.Verdict.{Answer}
 use Rattle.float.specs.Written.{float_of}
+use Rattle.float.specs.Operations.{Computed}
 use Rattle.float.specs.Operations as Floats
-use Rattle.float.specs.declared.operation.Computed.{Computed}
-use Rattle.float.specs.declared.operation.Computed.TheVariants as computed
 use Rattle.syntax.specs.Operator.{Unary, Binary, Relation, Ordering}
 use Rattle.syntax.specs.Operator as Operator
 use Rattle.expression.specs.Value.{Value, text, integer, test, float, fault, on_text, on_integer, on_test, on_float}
@@ -50,9 +48,8 @@ relates Operator.at_least o = not (is_less o)
 
 -- "A match anywhere in the string is a yes"; what is no pattern is "an error in the test"
 abbrev pub answered : Answer → Value
-answered Yes = test true
-answered No = test false
-answered Error = fault
+answered (Some t) = test t
+answered None = fault
 
 -- the string a, the pattern b
 unfoldable pub matched : List ℕ → List ℕ → Value
@@ -60,8 +57,8 @@ matched a b = answered (test_of b a)
 
 -- "An infinite or not-a-number result is an error"
 abbrev pub valued : Computed → Value
-valued (computed.Finite x) = float x
-valued computed.Error = fault
+valued (Some x) = float x
+valued None = fault
 
 -- comparisons of floats
 unfoldable pub ordered : Ordering → Float → Float → Bool

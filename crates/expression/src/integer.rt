@@ -4,7 +4,8 @@ ghost use Rattle.expression.specs.Value.{operand};
 ghost use Rattle.expression.specs.Integers.{differ, odd, sign_of_power, raised_to, ranged, apart, plus, minus, times, over, remainder, power, negated, sizes, compared};
 
 use crate::value::Operand;
-use text::{Integer, Order};
+use std::cmp::Ordering;
+use text::Integer;
 
 // The size of the least integer.
 const LEAST: u64 = 2147483648;
@@ -169,13 +170,11 @@ fn raise(x: u64, n: u64) -> u64
         return 2147483649;
     }
     let mut v: u64 = 1;
-    let mut left = n;
-    while 0 < left {
+    for _left in (0..n).rev() {
         v = v * x;
         if LEAST < v {
             return 2147483649;
         }
-        left -= 1;
     }
     v
 }
@@ -207,29 +206,13 @@ pub fn raise_to(a: Integer, b: Integer) -> Operand
     in_range(n, m)
 }
 
-fn order_of_sizes(x: u64, y: u64) -> Order
-    ensures { result ≡ sizes x y }
-{
-    if x < y {
-        return Order::Less;
-    }
-    if y < x {
-        return Order::Greater;
-    }
-    Order::Equal
-}
-
-pub fn order_of(a: Integer, b: Integer) -> Order
+pub fn order_of(a: Integer, b: Integer) -> Ordering
     ensures { result ≡ compared a b }
 {
-    if a.negative {
-        if b.negative {
-            return order_of_sizes(b.size, a.size);
-        }
-        return Order::Less;
+    match (a.negative, b.negative) {
+        (true, true) => b.size.cmp(&a.size),
+        (true, false) => Ordering::Less,
+        (false, true) => Ordering::Greater,
+        (false, false) => a.size.cmp(&b.size),
     }
-    if b.negative {
-        return Order::Greater;
-    }
-    order_of_sizes(a.size, b.size)
 }

@@ -26,6 +26,7 @@ pub fn find(s: &[u8], places: &[usize], name: &[u8]) -> usize
     ensures { result ≡ first_from s.now name.now 0 places.now }
 {
     let mut i: usize = 0;
+    // Kept: the project names this form here, a loop that yields the place by `break`.
     loop {
         if places.len() <= i {
             break i;
@@ -105,66 +106,60 @@ fn is_marked(name: &[u8]) -> bool
     name[0] == b'_'
 }
 
-// What the query gives a name: the four reserved ones, then its attributes.
-fn from_reserved<'a>(
-    query: &'a [u8],
-    consts: &'a [u8],
-    values: &[usize],
-    names: &[usize],
-    name: &[u8],
-) -> &'a [u8]
-    ensures { result.now ≡ query_in query.now consts.now values.now names.now name.now }
-{
-    if text::same_bytes(name, b"_MIN_TRUST") {
-        return string_at(query, values, 0);
-    }
-    if text::same_bytes(name, b"_MAX_TRUST") {
-        return last(query, values);
-    }
-    if text::same_bytes(name, b"_VALUES") {
-        return text::counted_at(consts, 2);
-    }
-    if text::same_bytes(name, b"_ACTION_AUTHORIZERS") {
-        let n = text::counted_at(consts, 2).len();
-        return behind(consts, 2, n);
-    }
-    attribute(query, names, name)
+// Where the names of an assertion's text are looked up: the query's record with the places of its compliance values and of its attributes' names, and
+// the decoded constants with the places of their names.
+#[derive(Clone, Copy)]
+pub struct Scope<'a> {
+    pub query: &'a [u8],
+    pub consts: &'a [u8],
+    pub values: &'a [usize],
+    pub names: &'a [usize],
+    pub constants: &'a [usize],
 }
 
-// `from_reserved`, at once for a name that begins otherwise, which is none of the four. It buys 12 % of long literals joined.
-fn from_query<'a>(
-    query: &'a [u8],
-    consts: &'a [u8],
-    values: &[usize],
-    names: &[usize],
-    name: &[u8],
-) -> &'a [u8]
-    ensures { result.now ≡ query_in query.now consts.now values.now names.now name.now }
-{
-    if is_marked(name) {
-        return from_reserved(query, consts, values, names, name);
+impl<'a> Scope<'a> {
+    // What the query gives a name: the four reserved ones, then its attributes.
+    fn from_reserved(&self, name: &[u8]) -> &'a [u8]
+        ensures { result.now ≡ query_in self.now.query.now self.now.consts.now self.now.values.now self.now.names.now name.now }
+    {
+        if text::same_bytes(name, b"_MIN_TRUST") {
+            return string_at(self.query, self.values, 0);
+        }
+        if text::same_bytes(name, b"_MAX_TRUST") {
+            return last(self.query, self.values);
+        }
+        if text::same_bytes(name, b"_VALUES") {
+            return text::counted_at(self.consts, 2);
+        }
+        if text::same_bytes(name, b"_ACTION_AUTHORIZERS") {
+            let n = text::counted_at(self.consts, 2).len();
+            return behind(self.consts, 2, n);
+        }
+        attribute(self.query, self.names, name)
     }
-    let i = find(query, names, name);
-    setting(query, names, name, i)
-}
 
-// A name's value where it lies: a part of the constants or of the record; an unset name shows an empty part.
-pub fn lookup<'a>(
-    query: &'a [u8],
-    consts: &'a [u8],
-    values: &[usize],
-    names: &[usize],
-    constants: &[usize],
-    name: &[u8],
-) -> &'a [u8]
-    ensures { result.now ≡ lookup_in query.now consts.now values.now names.now constants.now name.now }
-{
-    let i = find(consts, constants, name);
-    if constants.len() <= i {
-        return from_query(query, consts, values, names, name);
+    // `from_reserved`, at once for a name that begins otherwise, which is none of the four. It buys 12 % of long literals joined.
+    fn from_query(&self, name: &[u8]) -> &'a [u8]
+        ensures { result.now ≡ query_in self.now.query.now self.now.consts.now self.now.values.now self.now.names.now name.now }
+    {
+        if is_marked(name) {
+            return self.from_reserved(name);
+        }
+        let i = find(self.query, self.names, name);
+        setting(self.query, self.names, name, i)
     }
-    let p = constants[i];
-    behind(consts, p, name.len())
+
+    // A name's value where it lies: a part of the constants or of the record; an unset name shows an empty part.
+    pub fn lookup(&self, name: &[u8]) -> &'a [u8]
+        ensures { result.now ≡ lookup_in self.now.query.now self.now.consts.now self.now.values.now self.now.names.now self.now.constants.now name.now }
+    {
+        let i = find(self.consts, self.constants, name);
+        if self.constants.len() <= i {
+            return self.from_query(name);
+        }
+        let p = self.constants[i];
+        behind(self.consts, p, name.len())
+    }
 }
 
 // The index of a string among the compliance values, 0 where it is none of them.

@@ -6,7 +6,7 @@ ghost use Rattle.text.specs.Decimal.{integer as signed};
 ghost use Rattle.expression.specs.Value.{operand, rank};
 ghost use Rattle.expression.specs.Operands.{pack, value_of, holds_in, test_in};
 ghost use Rattle.expression.specs.Integers.{ranged, apart};
-ghost use Rattle.expression.specs.Operations.{is_less, is_equal, is_greater, answered, matched, valued, held, converted, negative, opposite as not-of, to_float, float_negative};
+ghost use Rattle.expression.specs.Operations.{answered, matched, valued, held, converted, negative, opposite as not-of, to_float, float_negative};
 ghost use Rattle.expression.specs.Working.Numbered.{relates_by, arithmetic, textual, logical, ordered_by, floating, of_texts, of_integers, of_floats, of_tests, is_textual, binary_by};
 ghost use Rattle.expression.specs.Conditions.{rank_of};
 ghost use Rattle.expression.specs.Working.Clauses.{applied, combined};
@@ -17,61 +17,23 @@ use crate::value::{
     Operand, Packed, float_in, holds_in, integer_in, is_float, is_number, is_test, is_text,
     pack_operand, rank_in, told,
 };
-use float::operation::Computed;
 use limits::MOST_STRING;
-use pattern::Answer;
-use text::{Integer, Order};
-
-fn is_less(o: Order) -> bool
-    ensures { result ≡ is_less o }
-{
-    match o {
-        Order::Less => true,
-        Order::Equal => false,
-        Order::Greater => false,
-    }
-}
-
-fn is_equal(o: Order) -> bool
-    ensures { result ≡ is_equal o }
-{
-    match o {
-        Order::Less => false,
-        Order::Equal => true,
-        Order::Greater => false,
-    }
-}
-
-fn is_greater(o: Order) -> bool
-    ensures { result ≡ is_greater o }
-{
-    match o {
-        Order::Less => false,
-        Order::Equal => false,
-        Order::Greater => true,
-    }
-}
+use std::cmp::Ordering;
+use text::Integer;
 
 // Does the comparison k hold of sides that stand so?
-fn relation(k: u32, o: Order) -> bool
+#[tactic(auto, using(crate::specs::Working::Operating::orders), unfolding(crate::specs::Working::Numbered::relates_by))]
+fn relation(k: u32, o: Ordering) -> bool
     ensures { result ≡ relates_by k o }
 {
-    if k == 0 {
-        return is_equal(o);
+    match k {
+        0 => o.is_eq(),
+        1 => o.is_ne(),
+        2 => o.is_lt(),
+        3 => o.is_gt(),
+        4 => o.is_le(),
+        _ => o.is_ge(),
     }
-    if k == 1 {
-        return opposite(is_equal(o));
-    }
-    if k == 2 {
-        return is_less(o);
-    }
-    if k == 3 {
-        return is_greater(o);
-    }
-    if k == 4 {
-        return opposite(is_greater(o));
-    }
-    opposite(is_less(o))
 }
 
 // op less k, and 0 where k is more.
@@ -194,13 +156,12 @@ fn join(a: &[u8], b: &[u8]) -> Operand
 }
 
 // What a pattern test gives: what is no pattern is a fault.
-fn answer(x: Answer) -> Operand
+fn answer(x: Option<bool>) -> Operand
     ensures { result ≡ operand (answered x) }
 {
     match x {
-        Answer::Yes => Operand::Test { holds: true },
-        Answer::No => Operand::Test { holds: false },
-        Answer::Error => Operand::Fault,
+        Some(holds) => Operand::Test { holds },
+        None => Operand::Fault,
     }
 }
 
@@ -263,12 +224,12 @@ fn integers(op: u32, x: Operand, y: Operand, a: &[u8], b: &[u8]) -> Operand
 }
 
 // What an operation on floats gives: an error is a fault.
-fn value_of(x: Computed) -> Operand
+fn value_of(x: Option<f32>) -> Operand
     ensures { result ≡ operand (valued x) }
 {
     match x {
-        Computed::Finite { value } => Operand::Float { value },
-        Computed::Error => Operand::Fault,
+        Some(value) => Operand::Float { value },
+        None => Operand::Fault,
     }
 }
 

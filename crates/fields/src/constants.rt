@@ -10,7 +10,7 @@ ghost use Rattle.fields.specs.Working.Setting.{taken_in, constant_fault_in, refu
 use crate::out::{is_ending, word};
 use crate::signature::is_fitting;
 use expression::name::find;
-use index::{Entered, Index};
+use index::Index;
 use lexical::kind;
 use lexical::line::token_at;
 use lexical::literal::{decode_into, literal_length};
@@ -18,19 +18,17 @@ use lexical::token::Token;
 use limits::MOST_CONSTANTS;
 use syntax::fault::{Fault, NO_ROOM, OVER_LIMIT, WRONG_NAME, misplaced, refusal_of};
 
-// The index of the constants and the token behind them; or the first fault.
+// The index of the constants and the token behind them.
 #[derive(Clone, Copy)]
-pub enum Settings {
-    On { index: Index, next: Token },
-    Aside { fault: Fault },
+pub struct Settings {
+    pub index: Index,
+    pub next: Token,
 }
 
-fn refused(t: Token) -> Settings
+fn refused(t: Token) -> Result<Settings, Fault>
     ensures { result ≡ refused_settings t }
 {
-    Settings::Aside {
-        fault: misplaced(t),
-    }
+    Err(misplaced(t))
 }
 
 // Does the name start with "_"?
@@ -100,24 +98,18 @@ fn store(
     index: Index,
     name: &[u8],
     start: usize,
-) -> Entered
+) -> Option<Index>
     ensures { entered result consts.new places.new ≡ store_in consts.old places.old index.count index.end name.now (decoded_at s.now start) }
 {
-    match index::append(consts, places, index, name) {
-        Entered::Full => Entered::Full,
-        Entered::Now { index: named } => {
-            let n = literal_length(s, start);
-            if put_literal(s, start, n, consts, named.end) {
-                return Entered::Now {
-                    index: Index {
-                        count: named.count,
-                        end: named.end + 2 + n,
-                    },
-                };
-            }
-            Entered::Full
-        }
+    let named = index::append(consts, places, index, name)?;
+    let n = literal_length(s, start);
+    if put_literal(s, start, n, consts, named.end) {
+        return Some(Index {
+            count: named.count,
+            end: named.end + 2 + n,
+        });
     }
+    None
 }
 
 // The value v of the constant whose name is t.
@@ -128,37 +120,39 @@ fn valued(
     index: Index,
     t: Token,
     v: Token,
-) -> Settings
+) -> Result<Settings, Fault>
     ensures { stored result consts.new places.new ≡ value_in s.now consts.old places.old index.count index.end t v }
 {
     if v.kind != kind::LITERAL {
         return refused(v);
     }
     if !is_fitting(s, v) {
-        return Settings::Aside {
-            fault: Fault {
-                reason: OVER_LIMIT,
-                place: v.start,
-            },
-        };
+        return Err(Fault {
+            reason: OVER_LIMIT,
+            place: v.start,
+        });
     }
     let name = word(s, t);
     match store(s, consts, places, index, name, v.start) {
-        Entered::Full => Settings::Aside {
-            fault: Fault {
-                reason: NO_ROOM,
-                place: 0,
-            },
-        },
-        Entered::Now { index: next } => Settings::On {
-            index: next,
+        None => Err(Fault {
+            reason: NO_ROOM,
+            place: 0,
+        }),
+        Some(index) => Ok(Settings {
+            index,
             next: token_at(s, kind::IN_FIELD, v.end),
-        },
+        }),
     }
 }
 
 // The constant whose name is t, behind that name.
-fn assigned(s: &[u8], consts: &mut [u8], places: &mut [usize], index: Index, t: Token) -> Settings
+fn assigned(
+    s: &[u8],
+    consts: &mut [u8],
+    places: &mut [usize],
+    index: Index,
+    t: Token,
+) -> Result<Settings, Fault>
     ensures { stored result consts.new places.new ≡ assigned_in s.now consts.old places.old index.count index.end t }
 {
     let a = token_at(s, kind::IN_FIELD, t.end);
@@ -176,7 +170,7 @@ pub fn constants(
     places: &mut [usize],
     start: usize,
     from: Token,
-) -> Settings
+) -> Result<Settings, Fault>
     ensures { stored result consts.new places.new ≡ constants_in s.now consts.old places.old 0 start from }
 {
     let mut index = Index {
@@ -184,38 +178,29 @@ pub fn constants(
         end: start,
     };
     let mut t = from;
+    // Kept: a turn goes on behind an assignment, so there is no range to go over.
     loop {
         if is_ending(t.kind) {
-            return Settings::On { index, next: t };
+            return Ok(Settings { index, next: t });
         }
         let f = name_fault(s, consts, places, index.count, t);
         if f != 0 {
-            return Settings::Aside {
-                fault: Fault {
-                    reason: f,
-                    place: t.start,
-                },
-            };
+            return Err(Fault {
+                reason: f,
+                place: t.start,
+            });
         }
         if MOST_CONSTANTS <= index.count {
-            return Settings::Aside {
-                fault: Fault {
-                    reason: OVER_LIMIT,
-                    place: t.start,
-                },
-            };
+            return Err(Fault {
+                reason: OVER_LIMIT,
+                place: t.start,
+            });
         }
-        match assigned(s, consts, places, index, t) {
-            Settings::On { index: u, next } => {
-                index = Index {
-                    count: index.count + 1,
-                    end: u.end,
-                };
-                t = next;
-            }
-            aside => {
-                return aside;
-            }
-        }
+        let set = assigned(s, consts, places, index, t)?;
+        index = Index {
+            count: index.count + 1,
+            end: set.index.end,
+        };
+        t = set.next;
     }
 }

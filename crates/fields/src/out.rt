@@ -1,4 +1,4 @@
-// What a reader answers, and the tokens with which fields go on and end.
+// What a reader answers: the token behind what was read, or the first fault; and the tokens with which fields go on and end.
 ghost use Rattle.std.specs.Prelude.{◌≡◌};
 ghost use Rattle.syntax.specs.Parsed.{refusal};
 ghost use Rattle.lexical.specs.Kind.{ending};
@@ -8,13 +8,6 @@ ghost use Rattle.fields.specs.Working.Outs.{ended_out, refused_out};
 use lexical::kind;
 use lexical::token::Token;
 use syntax::fault::{Fault, misplaced};
-
-// The token behind what was read, or the first fault.
-#[derive(Clone, Copy)]
-pub enum Out {
-    On { next: Token },
-    Aside { fault: Fault },
-}
 
 // Does a token of this kind end the field before it?
 pub fn is_ending(k: usize) -> bool
@@ -30,20 +23,18 @@ pub fn is_ending(k: usize) -> bool
 }
 
 // A token that may not stand where it stands.
-pub fn unexpected(t: Token) -> Out
+pub fn unexpected(t: Token) -> Result<Token, Fault>
     ensures { result ≡ refused_out t }
 {
-    Out::Aside {
-        fault: misplaced(t),
-    }
+    Err(misplaced(t))
 }
 
 // The end of a field at t.
-pub fn ended(t: Token) -> Out
+pub fn ended(t: Token) -> Result<Token, Fault>
     ensures { result ≡ ended_out t }
 {
     if is_ending(t.kind) {
-        return Out::On { next: t };
+        return Ok(t);
     }
     unexpected(t)
 }

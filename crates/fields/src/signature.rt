@@ -5,7 +5,7 @@ ghost use Rattle.limits.specs.Limits.{most_literal};
 ghost use Rattle.fields.specs.Signature.{signature};
 ghost use Rattle.fields.specs.Working.Outs.{out_of};
 
-use crate::out::{Out, unexpected};
+use crate::out::unexpected;
 use lexical::kind;
 use lexical::literal::{is_sized, literal_length};
 use lexical::token::Token;
@@ -23,19 +23,17 @@ pub fn is_fitting(s: &[u8], t: Token) -> bool
 }
 
 // The field whose first token is t. What is read ends where the token handed back ends.
-pub fn signature(s: &[u8], t: Token) -> Out
+pub fn signature(s: &[u8], t: Token) -> Result<Token, Fault>
     ensures { result ≡ out_of (signature s.now t) }
 {
     if t.kind != kind::LITERAL {
         return unexpected(t);
     }
     if !is_fitting(s, t) {
-        return Out::Aside {
-            fault: Fault {
-                reason: OVER_LIMIT,
-                place: t.start,
-            },
-        };
+        return Err(Fault {
+            reason: OVER_LIMIT,
+            place: t.start,
+        });
     }
-    Out::On { next: t }
+    Ok(t)
 }

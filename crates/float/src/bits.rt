@@ -8,23 +8,20 @@ ghost use Rattle.float.specs.Bits.{float_at};
 pub fn bits_of(x: f32) -> u64
     ensures { result ≡ to_bits binary32 x }
 {
-    if x == x {
-        return f32::to_bits(x) as u64;
+    if x.is_nan() {
+        return 0x7fc0_0000;
     }
-    2143289344
+    u64::from(x.to_bits())
 }
 
 // The float of a number: a NaN where it is no float's pattern.
 pub fn float_of(n: u64) -> f32
     ensures { result ≡ float_at n }
 {
-    if n <= 2139095040 {
+    if n <= 0x7f80_0000 {
         return f32::from_bits(n as u32);
     }
-    if n < 2147483648 {
-        return 0.0 / 0.0;
-    }
-    if n <= 4286578688 {
+    if 0x8000_0000 <= n && n <= 0xff80_0000 {
         return f32::from_bits(n as u32);
     }
     0.0 / 0.0

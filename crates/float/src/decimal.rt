@@ -1,25 +1,13 @@
 // The nearest 32-bit float to digits / 10 ^ scale, ties to even, in 64-bit integers.
-ghost use Rattle.std.specs.Prelude.{◌≡◌, cond};
-ghost use Prim.Native.Nat.{◌+◌, ◌*◌, ◌^◌, ◌<◌, ◌≤◌, compare};
+ghost use Rattle.std.specs.Prelude.{◌≡◌};
+ghost use Prim.Native.Nat.{◌*◌, ◌<◌, ◌≤◌, compare};
 ghost use Rattle.std.specs.Float.{binary32};
 ghost use Rattle.std.specs.Float.Ieee.{round, nearest};
 ghost use Rattle.float.specs.Nearest.{Nearest};
 ghost use Rattle.float.specs.Decimal.{decimal};
 ghost use Rattle.float.specs.Working.Converting.{Under, Over, Divided, Found};
 
-// 10 ^ k.
-fn ten_to(k: u64) -> u64
-    requires { k ≤ 18 }
-    ensures { result ≡ 10 ^ k }
-{
-    let mut p: u64 = 1;
-    let mut i: u64 = 0;
-    while i < k {
-        p = p * 10;
-        i += 1;
-    }
-    p
-}
+use std::cmp::Ordering;
 
 // A fraction below 1 and the place of its leading digit.
 #[derive(Clone, Copy)]
@@ -36,6 +24,7 @@ fn under_doubled(a: u64, c: u64) -> Scaled
 {
     let mut b = c;
     let mut j: u64 = 125;
+    // Kept: how often a number doubles is not known before.
     while b <= a {
         b = b * 2;
         j += 1;
@@ -54,6 +43,7 @@ fn over_doubled(from: u64, b: u64, place: u64) -> Scaled
 {
     let mut a = from;
     let mut j = place;
+    // Kept: how often a number doubles is not known before.
     while a * 2 < b {
         a = a * 2;
         j -= 1;
@@ -76,14 +66,12 @@ fn divided(a: u64, b: u64) -> Cut
     requires { (a < b) × (b ≤ 2000000000000000000) }
     ensures { Divided a b result }
 {
-    let mut q: u64 = 0;
+    let mut q = 0;
     let mut r = a;
-    let mut i: u64 = 0;
-    while i < 8 {
+    for _ in 0..8u8 {
         let t = r * 8;
         q = q * 8 + t / b;
         r = t % b;
-        i += 1;
     }
     Cut { digits: q, rest: r }
 }
@@ -93,13 +81,11 @@ fn rounded(q: u64, r: u64, b: u64) -> u64
     requires { (q < 16777216) × (r < b) × (b ≤ 2000000000000000000) }
     ensures { result ≡ nearest q (compare (r * 2) b) }
 {
-    if r * 2 < b {
-        return q;
+    match (r * 2).cmp(&b) {
+        Ordering::Less => q,
+        Ordering::Greater => q + 1,
+        Ordering::Equal => q + q % 2,
     }
-    if b < r * 2 {
-        return q + 1;
-    }
-    q + q % 2
 }
 
 // The bit pattern of the float nearest to a / c.
@@ -122,11 +108,7 @@ pub(crate) fn nearest_to(negative: bool, digits: u64, scale: u64) -> f32
     requires { (digits < 1000000000000000000) × (scale ≤ 18) }
     ensures { result ≡ decimal negative digits scale }
 {
-    let c = ten_to(scale);
-    let p = pattern(digits, c);
-    let x = f32::from_bits(p);
-    if negative {
-        return -x;
-    }
-    x
+    let c = 10u64.pow(scale as u32);
+    let x = f32::from_bits(pattern(digits, c));
+    if negative { -x } else { x }
 }

@@ -8,26 +8,15 @@ ghost use Rattle.float.specs.Working.Reading.{AllDigits, More};
 
 use crate::decimal::nearest_to;
 
-fn digit_of(b: u8) -> u64
-    ensures { (result ≡ b - 48) × (result < 256) }
-{
-    if b < 48 {
-        return 0;
-    }
-    (b - 48) as u64
-}
-
 // The number of the digits behind v, which has `count` digits.
 fn more(v: u64, count: usize, digits: &[u8]) -> u64
     requires { (v < 10 ^ count) × (count + length digits.now ≤ 18) × AllDigits digits.now }
     ensures { More v count digits.now result }
 {
     let mut n = v;
-    let mut i: usize = 0;
-    while i < digits.len() {
-        let d = digit_of(digits[i]);
+    for b in digits {
+        let d = u64::from(b.saturating_sub(b'0'));
         n = n * 10 + d;
-        i += 1;
     }
     n
 }
@@ -37,31 +26,20 @@ fn amount(negative: bool, whole: &[u8], fraction: &[u8]) -> f32
     requires { AllDigits whole.now × AllDigits fraction.now }
     ensures { result ≡ amount_of negative whole.now fraction.now }
 {
-    let k = whole.len();
-    let j = fraction.len();
-    if 18 < k {
-        return 0.0;
-    }
-    if 18 < j {
-        return 0.0;
-    }
-    if 18 < k + j {
+    if 18 < whole.len().saturating_add(fraction.len()) {
         return 0.0;
     }
     let v = more(0, 0, whole);
-    let w = more(v, k, fraction);
-    nearest_to(negative, w, j as u64)
+    let w = more(v, whole.len(), fraction);
+    nearest_to(negative, w, fraction.len() as u64)
 }
 
 fn with_fraction(negative: bool, whole: &[u8], digits: &[u8]) -> f32
     requires { AllDigits whole.now }
     ensures { result ≡ with_fraction negative whole.now digits.now }
 {
-    let j = text::front(digits, text::DIGIT);
-    if j == 0 {
-        return 0.0;
-    }
-    if j < digits.len() {
+    let j = text::front(digits, text::Class::Digit);
+    if j == 0 || j < digits.len() {
         return 0.0;
     }
     amount(negative, whole, digits)
@@ -70,15 +48,14 @@ fn with_fraction(negative: bool, whole: &[u8], digits: &[u8]) -> f32
 fn without_sign(negative: bool, s: &[u8]) -> f32
     ensures { result ≡ unsigned negative s.now }
 {
-    let k = text::front(s, text::DIGIT);
+    let k = text::front(s, text::Class::Digit);
     if k == 0 {
         return 0.0;
     }
     if s.len() <= k {
-        let e = s.len();
-        return amount(negative, s, &s[e..]);
+        return amount(negative, s, &[]);
     }
-    if s[k] != 46 {
+    if s[k] != b'.' {
         return 0.0;
     }
     with_fraction(negative, &s[..k], &s[k + 1..])
@@ -88,10 +65,7 @@ fn without_sign(negative: bool, s: &[u8]) -> f32
 pub fn to_float(s: &[u8]) -> f32
     ensures { result ≡ float_of s.now }
 {
-    if s.len() <= 0 {
-        return 0.0;
-    }
-    if s[0] == 45 {
+    if 0 < s.len() && s[0] == b'-' {
         return without_sign(true, &s[1..]);
     }
     without_sign(false, s)

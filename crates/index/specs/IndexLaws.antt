@@ -23,11 +23,9 @@ use Rattle.index.specs.Index.{Holds}
 use Rattle.index.specs.Tree.{Reaches, Tree, Ends, ends_low, tree-first, tree-fewer, tree-more}
 use Rattle.index.specs.Entry.{packed, plain, identifier_at, is_at, linked, entries_from, plain_at_lem, plain-name, plain-none, at_tag, linked-plain, packed-place, packed-tag, packed-plain, packed-is}
 use Rattle.index.specs.EnterLaws.{place_same, place-below}
-use Rattle.index.specs.Working.Walking.{walked, walk-found, Stops, walk-stops}
+use Rattle.index.specs.Working.Walking.{walked, walk-found, Stops, walk-stops, found}
 use Rattle.index.specs.Working.Adding.{counted_into, append_into, principal_into}
-use Rattle.index.specs.Working.Entering.{numbered, link_into, enter_new, on_walked, enter_in}
-use Rattle.index.specs.declared.Walk.TheVariants.{Found}
-use Rattle.index.specs.declared.Numbered.TheVariants.{At}
+use Rattle.index.specs.Working.Entering.{numbered, link_into, enter_new, on_walked, enter_in, known}
 
 string-length : (id : List ℕ) → length (string_bytes id) ≡ 2 + length id
 unfolding string_bytes
@@ -100,7 +98,7 @@ module _ {pool places : List ℕ} {count end : ℕ} {names : List Principal} (ho
       sym (plain_at_lem pool id (get_or places j 0)) ∙ rw g (entry_at pool id names 0 end holds.near stands j (omega (arith, h, holds.counted)))
 
   -- a principal that is there is found at its place among the names
-  pub walk-known : (id : Principal) → member id names ≡ true → walked pool places count id count 0 (tag id) ≡ Found (place names id)
+  pub walk-known : (id : Principal) → member id names ≡ true → walked pool places count id count 0 (tag id) ≡ found (place names id)
   walk-known id m =
       let j = place names id in
       let l : place names id < count = omega (arith, place-below names id m, holds.counted) in
@@ -155,7 +153,7 @@ module _ {pool places : List ℕ} {count end : ℕ} {names : List Principal} (ho
 
   -- where there is room, an identifier is entered behind the others
   add-gives : (last rest : ℕ) → enter_new pool places count end id last rest
-      ≡ numbered (At (count + 1) count (end + 2 + length id)) (put pool end (string_bytes id)) (after last rest)
+      ≡ numbered (known (count + 1) count (end + 2 + length id)) (put pool end (string_bytes id)) (after last rest)
   unfolding enter_new principal_into append_into counted_into copy_at
   add-gives last rest =
       rw (
@@ -217,7 +215,7 @@ module _ {pool places : List ℕ} {count end : ℕ} {names : List Principal} (ho
   -- a principal that isn't there is entered behind the others
   pub record Fresh : Type 0 where
     pub table : List ℕ
-    pub gives : enter_in pool places count end id ≡ numbered (At (count + 1) count (end + 2 + length id)) (put pool end (string_bytes id)) table
+    pub gives : enter_in pool places count end id ≡ numbered (known (count + 1) count (end + 2 + length id)) (put pool end (string_bytes id)) table
     pub held : Holds (put pool end (string_bytes id)) table (count + 1) (end + 2 + length id) (names ++ (id ∷ []))
     pub long : length table ≡ length places
 

@@ -17,10 +17,7 @@ fn is_entry(pool: &[u8], e: usize, id: &[u8], t: usize) -> bool
     requires { t ≡ tag id.now }
     ensures { result ≡ is_at pool.now id.now e }
 {
-    if e % 1048576 == t {
-        return principal::same_principal(id, identifier_at(pool, e));
-    }
-    false
+    e % 1048576 == t && principal::same_principal(id, identifier_at(pool, e))
 }
 
 // The further entry for tags whose next bit is t's.
@@ -47,45 +44,39 @@ fn with_child(e: usize, t: usize, c: usize) -> usize
 fn is_between(a: usize, b: usize, c: usize) -> bool
     ensures { result ≡ ltb a b && ltb b c }
 {
-    if a < b {
-        return b < c;
-    }
-    false
+    a < b && b < c
 }
 
-// Where a search ends: at the identifier's entry, or at the entry that it would follow by the rest of its tag.
+// Where the search for an identifier that isn't there ends: at the entry that it would follow by the rest of its tag.
 #[derive(Clone, Copy)]
-enum Walk {
-    Found { number: usize },
-    Missing { last: usize, rest: usize },
+struct Missing {
+    last: usize,
+    rest: usize,
 }
 
-// The search for an identifier, whose tag is t, among the first n entries.
-fn walk_tree(pool: &[u8], places: &[usize], n: usize, id: &[u8], t: usize) -> Walk
+// The search for an identifier, whose tag is t, among the first n entries: its entry's number.
+fn walk_tree(pool: &[u8], places: &[usize], n: usize, id: &[u8], t: usize) -> Result<usize, Missing>
     requires { t ≡ tag id.now }
     ensures { result ≡ walked pool.now places.now n id.now n 0 t }
 {
-    let mut left = n;
-    let mut i: usize = 0;
+    let mut last: usize = 0;
     let mut rest = t;
-    while 0 < left {
-        if places.len() <= i {
-            return Walk::Missing { last: i, rest };
+    for _ in 0..n {
+        if places.len() <= last {
+            return Err(Missing { last, rest });
         }
-        let e = places[i];
+        let e = places[last];
         if is_entry(pool, e, id, t) {
-            return Walk::Found { number: i };
+            return Ok(last);
         }
         let c = child_of(e, rest);
-        if is_between(i, c, n) {
-            i = c;
-            rest = rest / 2;
-            left -= 1;
-        } else {
-            return Walk::Missing { last: i, rest };
+        if !is_between(last, c, n) {
+            return Err(Missing { last, rest });
         }
+        last = c;
+        rest = rest / 2;
     }
-    Walk::Missing { last: i, rest }
+    Err(Missing { last, rest })
 }
 
 // The identifier of an entry.
@@ -102,31 +93,22 @@ pub struct Index {
     pub end: usize,
 }
 
-// What entering gives: the index then, or no room.
-#[derive(Clone, Copy)]
-pub enum Entered {
-    Now { index: Index },
-    Full,
-}
-
-// Appends a string behind the others, and its place to the table.
-pub fn append(pool: &mut [u8], places: &mut [usize], index: Index, id: &[u8]) -> Entered
+// Appends a string behind the others, and its place to the table, if there is room; the index then.
+pub fn append(pool: &mut [u8], places: &mut [usize], index: Index, id: &[u8]) -> Option<Index>
     ensures { entered result pool.new places.new ≡ append_into pool.old places.old index.count index.end id.now }
 {
     if places.len() <= index.count {
-        return Entered::Full;
+        return None;
     }
     if text::put_counted(pool, index.end, id) {
         let i = index.count;
         places[i] = index.end + 2;
-        return Entered::Now {
-            index: Index {
-                count: index.count + 1,
-                end: index.end + 2 + id.len(),
-            },
-        };
+        return Some(Index {
+            count: index.count + 1,
+            end: index.end + 2 + id.len(),
+        });
     }
-    Entered::Full
+    None
 }
 
 fn put_entry(places: &mut [usize], i: usize, e: usize)
@@ -145,20 +127,16 @@ fn add_principal(
     index: Index,
     id: &[u8],
     t: usize,
-) -> Entered
+) -> Option<Index>
     requires { (t ≡ tag id.now) × (t < 1048576) }
     ensures { entered result pool.new places.new ≡ principal_into pool.old places.old index.count index.end id.now }
 {
     if 1048574 <= index.end {
-        return Entered::Full;
+        return None;
     }
-    match append(pool, places, index, id) {
-        Entered::Full => Entered::Full,
-        Entered::Now { index: next } => {
-            put_entry(places, index.count, (index.end + 2) * 1048576 + t);
-            Entered::Now { index: next }
-        }
-    }
+    let next = append(pool, places, index, id)?;
+    put_entry(places, index.count, (index.end + 2) * 1048576 + t);
+    Some(next)
 }
 
 // Lets entry c follow entry i for tags whose next bit is t's.
@@ -172,16 +150,13 @@ fn link(places: &mut [usize], i: usize, t: usize, c: usize)
     places[i] = with_child(places[i], t, c);
 }
 
-// A principal's number in the index, with the index's count and end; or no room for it. They are not an `Index`, and the number stands between them: a copy
-// of both at once would wait for the stores of each, which costs 5 % of names that are all distinct.
+// A principal's number in the index, with the index's count and end. They are not an `Index`, and the number stands between them: a copy of both at once
+// would wait for the stores of each, which costs 5 % of names that are all distinct.
 #[derive(Clone, Copy)]
-pub enum Numbered {
-    At {
-        count: usize,
-        number: usize,
-        end: usize,
-    },
-    Full,
+pub struct Numbered {
+    pub count: usize,
+    pub number: usize,
+    pub end: usize,
 }
 
 // Enters an identifier that isn't there, behind the others; by the rest of its tag it follows entry `last`.
@@ -193,37 +168,33 @@ fn enter_new(
     t: usize,
     last: usize,
     rest: usize,
-) -> Numbered
+) -> Option<Numbered>
     requires { (t ≡ tag id.now) × (t < 1048576) }
     ensures { numbered result pool.new places.new ≡ enter_new pool.old places.old index.count index.end id.now last rest }
 {
     if MOST_NUMBERED <= index.count {
-        return Numbered::Full;
+        return None;
     }
-    match add_principal(pool, places, index, id, t) {
-        Entered::Full => Numbered::Full,
-        Entered::Now { index: next } => {
-            link(places, last, rest, index.count);
-            Numbered::At {
-                count: next.count,
-                number: index.count,
-                end: next.end,
-            }
-        }
-    }
+    let next = add_principal(pool, places, index, id, t)?;
+    link(places, last, rest, index.count);
+    Some(Numbered {
+        count: next.count,
+        number: index.count,
+        end: next.end,
+    })
 }
 
 // Enters an identifier into the index, unless it is there already.
-pub fn enter(pool: &mut [u8], places: &mut [usize], index: Index, id: &[u8]) -> Numbered
+pub fn enter(pool: &mut [u8], places: &mut [usize], index: Index, id: &[u8]) -> Option<Numbered>
     ensures { numbered result pool.new places.new ≡ enter_in pool.old places.old index.count index.end id.now }
 {
     let t = principal::tag_of(id);
     match walk_tree(pool, places, index.count, id, t) {
-        Walk::Found { number } => Numbered::At {
+        Ok(number) => Some(Numbered {
             count: index.count,
             number,
             end: index.end,
-        },
-        Walk::Missing { last, rest } => enter_new(pool, places, index, id, t, last, rest),
+        }),
+        Err(stop) => enter_new(pool, places, index, id, t, stop.last, stop.rest),
     }
 }

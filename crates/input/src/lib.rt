@@ -26,6 +26,7 @@ pub fn read_full<R: Read>(input: &mut R, buf: &mut [u8]) -> io::Result<usize>
     // What was read before the error stands at the front.
     ensures failed { IfErr result (λ _. (n : ℕ) × (n ≤ length buf.new) × Consumes (R.remaining input.old) (R.remaining input.new) (take n buf.new)) }
 {
+    // Kept: what each read gives moves this place, no count does; and `read_exact` says nothing of what was read before an error.
     let mut done = 0;
     while done < buf.len() {
         let n = input.read(&mut buf[done..])?;

@@ -4,20 +4,16 @@ use Rattle.text.specs.Choice.{pick}
 use Rattle.journal.specs.Page.{least_page, most_page, version, closing, Content, zeros, size_bytes, entry}
 use Rattle.journal.specs.Stores.{Store, stored, placed, cleared}
 use Rattle.journal.specs.declared.Outcome.{Outcome}
+use Rattle.journal.specs.declared.Refusal.{Refusal}
+use Rattle.journal.specs.declared.Refusal.TheVariants.{WrongSize, WrongVersion, Unclean, NoRoom}
 
--- why a request is refused: a page outside 16 to 65,535 bytes or an empty answer, another version byte, a page that isn't finished entries and
--- zeros, an entry over the room left
-pub data Refusal : Type 0 where
-  wrong_size : Refusal
-  wrong_version : Refusal
-  unclean : Refusal
-  no_room : Refusal
-
+-- the numbers: 5 for a page outside 16 to 65,535 bytes or an empty answer, 2 for another version byte, 3 for a page that isn't finished entries and
+-- zeros, 9 for an entry over the room left
 abbrev pub number : Refusal → ℕ
-number wrong_size = 5
-number wrong_version = 2
-number unclean = 3
-number no_room = 9
+number WrongSize = 5
+number WrongVersion = 2
+number Unclean = 3
+number NoRoom = 9
 
 pub data Verdict : Type 0 where
   granted : Verdict
@@ -26,8 +22,8 @@ pub data Verdict : Type 0 where
 -- "a page outside 16 to 65,535 bytes .. with 5, then another version byte with 2", then what is asked further
 abbrev pub page_verdict : List ℕ → Verdict → Verdict
 page_verdict p further =
-    pick (ltb (length p) least_page) (refused wrong_size)
-    (pick (ltb most_page (length p)) (refused wrong_size) (pick (eqb (get_or p 0 0) version) further (refused wrong_version)))
+    pick (ltb (length p) least_page) (refused WrongSize)
+    (pick (ltb most_page (length p)) (refused WrongSize) (pick (eqb (get_or p 0 0) version) further (refused WrongVersion)))
 
 unfoldable pub recover_verdict : List ℕ → Verdict
 recover_verdict p = page_verdict p granted
@@ -35,8 +31,8 @@ recover_verdict p = page_verdict p granted
 -- "or an empty answer with 5, .. then in appending a page that isn't finished entries and zeros with 3, then an entry over the room left with 9"
 unfoldable pub append_verdict : List ℕ → List ℕ → List ℕ → Verdict
 append_verdict p rest a =
-    pick (eqb (length a) 0) (refused wrong_size)
-    (page_verdict p (pick (zeros rest) (pick (ltb (length rest) (length (entry a))) (refused no_room) granted) (refused unclean)))
+    pick (eqb (length a) 0) (refused WrongSize)
+    (page_verdict p (pick (zeros rest) (pick (ltb (length rest) (length (entry a))) (refused NoRoom) granted) (refused Unclean)))
 
 -- "Refused at 0"
 abbrev pub outcome : ℕ → Outcome

@@ -1,11 +1,11 @@
 // A journal of answers on a lent page, in an order of stores that survives a power cut.
 #![tactic(auto)]
 
-ghost use Rattle.std.specs.Prelude.{◌≡◌, ◌+◌, ◌-◌, ◌<◌, ◌≤◌, min, length, take, drop};
+ghost use Rattle.std.specs.Prelude.{◌≡◌, ◌+◌, ◌-◌, ◌<◌, ◌≤◌, length, take};
 ghost use Rattle.journal.specs.Page.{zeros, entry};
 ghost use Rattle.journal.specs.Stores.{stored, placed, cleared};
-ghost use Rattle.journal.specs.Journal.{AppendCut, Appended, RecoverCut, Recovered};
-ghost use Rattle.journal.specs.Working.Walk.{next_at, end_at};
+ghost use Rattle.journal.specs.Journal.{number, AppendCut, Appended, RecoverCut, Recovered};
+ghost use Rattle.journal.specs.Working.Walk.{entry_behind, end_at};
 ghost use Rattle.journal.specs.Working.Rooms.{opened, room, room_at};
 
 use text::pair_at;
@@ -17,14 +17,30 @@ pub const MOST_PAGE: usize = 65535;
 pub const VERSION: u8 = 1;
 
 pub const CLOSING: u8 = 1;
-// The numbers of the refusals.
-pub const WRONG_SIZE: u8 = 5;
 
-pub const WRONG_VERSION: u8 = 2;
+// Why a request is refused: a page outside 16 to 65,535 bytes or an empty answer, another version byte, a page that isn't finished entries and zeros,
+// an entry over the room left.
+#[derive(Clone, Copy, PartialEq, Eq)]
+pub enum Refusal {
+    WrongSize,
+    WrongVersion,
+    Unclean,
+    NoRoom,
+}
 
-pub const UNCLEAN: u8 = 3;
-
-pub const NO_ROOM: u8 = 9;
+impl Refusal {
+    // Its number.
+    fn number(self) -> u8
+        ensures { result ≡ number self }
+    {
+        match self {
+            Refusal::WrongSize => 5,
+            Refusal::WrongVersion => 2,
+            Refusal::Unclean => 3,
+            Refusal::NoRoom => 9,
+        }
+    }
+}
 
 // The number and the place of a refusal, 0 and 0 where the request was granted.
 #[repr(C)]
@@ -34,35 +50,19 @@ pub struct Outcome {
     pub place: usize,
 }
 
-// Where the stores of a request go, or the number it is refused with.
-#[derive(Clone, Copy)]
-pub enum Room {
-    At { place: usize },
-    Not { number: u8 },
-}
-
-// The place behind the finished entry at a place, or the place itself where none stands.
-fn next_entry(page: &[u8], at: usize) -> usize
-    ensures { result ≡ next_at page.now at }
+// The place behind the finished entry at a place, if one stands there.
+fn next_entry(page: &[u8], at: usize) -> Option<usize>
+    ensures { result ≡ entry_behind page.now at }
 {
-    let size = page.len();
-    if size <= at {
-        return at;
-    }
+    let left = page.len().saturating_sub(at);
     let n = pair_at(page, at);
-    if n == 0 {
-        return at;
-    }
-    if size - at < 3 {
-        return at;
-    }
-    if size - at - 3 < n {
-        return at;
+    if n == 0 || left < 3 || left - 3 < n {
+        return None;
     }
     if page[at + n + 2] != CLOSING {
-        return at;
+        return None;
     }
-    at + n + 3
+    Some(at + n + 3)
 }
 
 // The place behind the last finished entry.
@@ -70,89 +70,69 @@ fn entries_end(page: &[u8]) -> usize
     ensures { result ≡ end_at page.now 1 }
 {
     let mut at: usize = 1;
-    while at < page.len() {
-        let next = next_entry(page, at);
-        if next == at {
-            return at;
-        }
+    // Kept: a turn goes on behind an entry, so there is no range to go over.
+    while let Some(next) = next_entry(page, at) {
         at = next;
     }
     at
 }
 
-// Are all bytes from a place on 0? The loop has no early end, so that many bytes are tested at once.
-fn zeros_from(page: &[u8], from: usize) -> bool
-    ensures { result ≡ zeros (drop from page.now) }
+// Are all bytes 0? The loop has no early end, so that many bytes are tested at once.
+fn is_clear(rest: &[u8]) -> bool
+    ensures { result ≡ zeros rest.now }
 {
     let mut clear = true;
-    let mut at = from;
-    while at < page.len() {
-        clear = clear & (page[at] == 0);
-        at += 1;
+    for b in rest {
+        clear &= *b == 0;
     }
     clear
 }
 
-// Where the rest of a page begins, or the number it is refused with.
-fn page_end(page: &[u8]) -> Room
+// Where the rest of a page begins, or why it is refused.
+fn page_end(page: &[u8]) -> Result<usize, Refusal>
     ensures { result ≡ opened page.now }
 {
     let size = page.len();
     if size < LEAST_PAGE {
-        return Room::Not { number: WRONG_SIZE };
+        return Err(Refusal::WrongSize);
     }
     if MOST_PAGE < size {
-        return Room::Not { number: WRONG_SIZE };
+        return Err(Refusal::WrongSize);
     }
     if page[0] != VERSION {
-        return Room::Not {
-            number: WRONG_VERSION,
-        };
+        return Err(Refusal::WrongVersion);
     }
-    Room::At {
-        place: entries_end(page),
-    }
+    Ok(entries_end(page))
 }
 
 // The room for an answer of n bytes, where the rest of a page begins at a place.
-fn room_at(page: &[u8], at: usize, n: usize) -> Room
+fn room_at(page: &[u8], at: usize, n: usize) -> Result<usize, Refusal>
     requires { at ≤ length page.now }
     ensures { result ≡ room_at page.now at n }
 {
-    if zeros_from(page, at) {
-        let left = page.len() - at;
-        if left < 3 {
-            return Room::Not { number: NO_ROOM };
-        }
-        if left - 3 < n {
-            return Room::Not { number: NO_ROOM };
-        }
-        return Room::At { place: at };
+    let rest = &page[at..];
+    if !is_clear(rest) {
+        return Err(Refusal::Unclean);
     }
-    Room::Not { number: UNCLEAN }
+    let left = rest.len();
+    if left < 3 {
+        return Err(Refusal::NoRoom);
+    }
+    if left - 3 < n {
+        return Err(Refusal::NoRoom);
+    }
+    Ok(at)
 }
 
-// Where an answer's entry goes, or the number it is refused with.
-fn room_for(page: &[u8], answer: &[u8]) -> Room
+// Where an answer's entry goes, or why it is refused.
+fn room_for(page: &[u8], answer: &[u8]) -> Result<usize, Refusal>
     ensures { result ≡ room page.now answer.now }
 {
     if answer.len() == 0 {
-        return Room::Not { number: WRONG_SIZE };
+        return Err(Refusal::WrongSize);
     }
-    match page_end(page) {
-        Room::Not { number } => Room::Not { number },
-        Room::At { place } => room_at(page, place, answer.len()),
-    }
-}
-
-// The lesser of two numbers.
-fn lesser(a: usize, b: usize) -> usize
-    ensures { result ≡ min a b }
-{
-    if b < a {
-        return b;
-    }
-    a
+    let at = page_end(page)?;
+    room_at(page, at, answer.len())
 }
 
 // Makes the first `count` stores of an answer from a place on.
@@ -160,10 +140,9 @@ fn write_answer(page: &mut [u8], at: usize, answer: &[u8], count: usize)
     requires { (at + count ≤ length page.old) × (count ≤ length answer.now) }
     ensures { page.new ≡ stored page.old (take count (placed at answer.now)) }
 {
-    let mut j: usize = 0;
-    while j < count {
+    // Kept: the bytes are stored one after the other, in an order that a copy of all at once doesn't promise.
+    for j in 0..count {
         page[at + j] = answer[j];
-        j += 1;
     }
 }
 
@@ -181,7 +160,7 @@ fn write_entry(page: &mut [u8], at: usize, answer: &[u8], count: usize)
         return;
     }
     page[at + 1] = (n % 256) as u8;
-    let bytes = lesser(count - 2, n);
+    let bytes = (count - 2).min(n);
     write_answer(page, at + 2, answer, bytes);
     if count - 2 <= n {
         return;
@@ -194,13 +173,12 @@ fn clear_back(page: &mut [u8], at: usize, count: usize)
     requires { (at ≤ length page.old) × (count ≤ length page.old - at) }
     ensures { page.new ≡ stored page.old (take count (cleared (length page.old - at) at)) }
 {
-    let mut j: usize = 0;
-    while j < count {
+    for j in 0..count {
         page[page.len() - 1 - j] = 0;
-        j += 1;
     }
 }
 
+// Kept: C is told the refusal by its number, 0 where there is none.
 fn numbered(number: u8) -> Outcome
     ensures { result ≡ record { number = number; place = 0 } }
 {
@@ -217,11 +195,10 @@ pub extern "C" fn lampsickle_journal_append_cut(
     ensures { AppendCut budget page.old answer.now result page.new }
 {
     match room_for(page, answer) {
-        Room::Not { number } => numbered(number),
-        Room::At { place } => {
+        Err(refusal) => numbered(refusal.number()),
+        Ok(place) => {
             let total = answer.len() + 3;
-            let count = lesser(budget, total);
-            write_entry(page, place, answer, count);
+            write_entry(page, place, answer, budget.min(total));
             numbered(0)
         }
     }
@@ -242,11 +219,10 @@ pub extern "C" fn lampsickle_journal_recover_cut(page: &mut [u8], budget: usize)
     ensures { RecoverCut budget page.old result page.new }
 {
     match page_end(page) {
-        Room::Not { number } => numbered(number),
-        Room::At { place } => {
+        Err(refusal) => numbered(refusal.number()),
+        Ok(place) => {
             let total = page.len() - place;
-            let count = lesser(budget, total);
-            clear_back(page, place, count);
+            clear_back(page, place, budget.min(total));
             numbered(0)
         }
     }

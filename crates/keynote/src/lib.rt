@@ -7,7 +7,7 @@ ghost use Rattle.keynote.specs.Working.Answering.{given_by, answered_in};
 
 use compliance::Solution;
 use limits::MOST_ITEMS;
-use record::{Reading, read};
+use record::read;
 use system::solved::solved;
 
 // The number and the place of a refusal, 0 and 0 for an answer; then the class (0 is weakest), the rounds and how many principals are
@@ -94,14 +94,15 @@ pub extern "C" fn lampsickle_answer(query: &[u8], page: &mut [u8]) -> Outcome
 {
     let mut table = [0usize; MOST_ITEMS];
     match read(query, &mut table) {
-        Reading::Refused { number, at } => refused(number, at),
-        Reading::Accepted {
-            values,
-            requesters,
-            attributes,
-            assertions,
-        } => answered(
-            query, &table, values, requesters, attributes, assertions, page,
+        Err(refusal) => refused(refusal.number, refusal.at),
+        Ok(ends) => answered(
+            query,
+            &table,
+            ends.values,
+            ends.requesters,
+            ends.attributes,
+            ends.assertions,
+            page,
         ),
     }
 }

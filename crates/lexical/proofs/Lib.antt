@@ -2,7 +2,6 @@ pub mod ClassWays
 pub mod ScanWays
 pub mod WordWays
 pub mod LabelWays
-pub mod OperatorWays
 pub mod UnitWays
 pub mod LiteralWays
 pub mod TokenWays

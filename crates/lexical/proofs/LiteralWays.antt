@@ -11,84 +11,110 @@ use native.Mathlib.Numerals.{add-one}
 use lib.Dec.{eqb, leb}
 use lib.ListN.{length, get_or, set, length-set, get_or-eq_default}
 use lib.Seq.{sets}
-use borrow.Author.Tests.{eqb-true, eqb-false, lt-ltb, le-ltb, le-leb, eq-eqb, ne_eqb}
-use Rattle.text.specs.Choice.{split}
+use borrow.Author.Tests.{eqb-true, lt-ltb, le-ltb, le-leb}
 use Rattle.lexical.specs.declared.unit.Unit.{Unit}
-use Rattle.lexical.specs.Unit.{GIVES, CLOSES, barred, unit_at}
-use Rattle.lexical.specs.Theorems.UnitLaws.{unit-moves}
+use Rattle.lexical.specs.Unit.{GIVES, kind, width, unit_at}
+use Rattle.lexical.specs.declared.unit.Unit.TheVariants.{Drops, Gives, Closes, Spoils}
+use Rattle.lexical.specs.Found.{found}
+use Rattle.lexical.specs.Theorems.UnitLaws.{unit-moves, unit-closing}
 use Rattle.lexical.specs.Literal.{units_at, given, literal_end, decoded_at}
 use Rattle.lexical.specs.Theorems.LiteralLaws.{units-more, units-last, units-end}
 use Rattle.lexical.specs.Decode.{ran, decode_into, within, decode_within}
-use Rattle.lexical.specs.declared.literal.Decoded.TheVariants.{Put, Long, Full}
+use Rattle.lexical.specs.declared.literal.DecodeError.TheVariants.{Long, Full}
+use Rattle.std.proofs.Common.{inl, inr}
+use Rattle.std.specs.Prelude.{◌⊎◌, Some, None, Ok, Err}
 use Rattle.text.specs.Scan.{past, past_end}
-use Rattle.lexical.specs.Working.Short.{near, near-short, sized}
-use Rattle.lexical.specs.Working.Plain.{plain, bare_end, end-plain, quote-within, quote-units, end-quote}
+use Rattle.lexical.specs.Working.Short.{near, near-short}
+use Rattle.lexical.specs.Working.Plain.{plain, bare_end, end-plain, quote-within, end-quote}
 
 module _ (s : List ℕ) (i : ℕ) (u : Unit) (ue : u ≡ unit_at s i) where
   -- the units from here, by the unit at hand
-  first_more : u.kind ≤ GIVES → units_at s i ≡ u ∷ units_at s (i + u.width)
+  first_more : kind u ≤ GIVES → units_at s i ≡ u ∷ units_at s (i + width u)
   first_more h = rw ue (units-more s i (rw (sym ue) h))
 
-  first-last : GIVES < u.kind → units_at s i ≡ u ∷ []
+  first-last : GIVES < kind u → units_at s i ≡ u ∷ []
   first-last h = rw ue (units-last s i (rw (sym ue) h))
 
-  module _ (h : u.kind ≤ GIVES) where
-    pub unit-on : 1 ≤ u.width
-    unit-on = rw ue (unit-moves s i (rw (sym ue) h)).0
+  moves : kind u ≤ GIVES → (1 ≤ width u) × (i + width u ≤ length s)
+  moves h = rw ue (unit-moves s i (rw (sym ue) h))
 
-    pub unit-within : i + u.width ≤ length s
-    unit-within = rw ue (unit-moves s i (rw (sym ue) h)).1
+-- a place within the text
+within-fits : (s : List ℕ) (n : ℕ) → n ≤ length s → length s < 2 ^ 64 → Fits w64 n
+within-fits s n h l = record { fits = lt_of_le_of_lt h l }
 
-    pub width_fits : length s < 2 ^ 64 → Fits w64 (i + u.width)
-    width_fits l = record { fits = lt_of_le_of_lt unit-within l }
+-- behind a unit that gives no byte
+module _ (s : List ℕ) (i w : ℕ) (e : Drops w ≡ unit_at s i) where
+  drops-units : units_at s i ≡ Drops w ∷ units_at s (i + w)
+  drops-units = first_more s i (Drops w) e (omega arith)
 
-    pub width-less : i < length s → length s - (i + u.width) < length s - i
-    width-less l = omega (arith, unit-on)
+  pub drops-moves : (1 ≤ w) × (i + w ≤ length s)
+  drops-moves = moves s i (Drops w) e (omega arith)
 
-  module _ (r : ℕ) (inv : literal_end s i ≡ r) where
-    pub end-closes : u.kind ≡ CLOSES → i + 1 ≡ r
+  pub drops-fits : length s < 2 ^ 64 → Fits w64 (i + w)
+  drops-fits l = within-fits s (i + w) drops-moves.1 l
+
+  pub drops-less : length s - (i + w) < length s - i
+  drops-less = omega (arith, drops-moves.0, drops-moves.1)
+
+  pub drops-end : (r : ℕ) → literal_end s i ≡ r → literal_end s (i + w) ≡ r
+  unfolding literal_end
+  drops-end r inv = rw drops-units at inv
+
+  pub drops-given : given (units_at s i) ≡ given (units_at s (i + w))
+  drops-given = rw drops-units refl
+
+-- behind one that gives a byte
+module _ (s : List ℕ) (i w b : ℕ) (e : Gives w b ≡ unit_at s i) where
+  gives-units : units_at s i ≡ Gives w b ∷ units_at s (i + w)
+  gives-units = first_more s i (Gives w b) e (omega arith)
+
+  pub gives-moves : (1 ≤ w) × (i + w ≤ length s)
+  gives-moves = moves s i (Gives w b) e (omega arith)
+
+  pub gives-fits : length s < 2 ^ 64 → Fits w64 (i + w)
+  gives-fits l = within-fits s (i + w) gives-moves.1 l
+
+  pub gives-less : length s - (i + w) < length s - i
+  gives-less = omega (arith, gives-moves.0, gives-moves.1)
+
+  pub gives-end : (r : ℕ) → literal_end s i ≡ r → literal_end s (i + w) ≡ r
+  unfolding literal_end
+  gives-end r inv = rw gives-units at inv
+
+  pub gives-given : given (units_at s i) ≡ b ∷ given (units_at s (i + w))
+  gives-given = rw gives-units refl
+
+-- at the last unit
+module _ (s : List ℕ) (i : ℕ) where
+  module _ (e : Closes ≡ unit_at s i) where
+    pub closes-fits : length s < 2 ^ 64 → Fits w64 (i + 1)
+    closes-fits l = let h : i < length s = (unit-closing s i (rw (sym e) refl)).0 in within-fits s (i + 1) (omega arith) l
+
+    pub closes-end : (r : ℕ) → literal_end s i ≡ r → Some (i + 1) ≡ found r
     unfolding literal_end
-    end-closes h = rw (first-last (omega (arith, h)), eq-eqb _ _ h) at inv
+    closes-end r inv = let z : i + 1 ≡ r = rw (first-last s i Closes e (omega arith)) at inv in rw (sym z, add-one i) refl
 
-    module _ (n : u.kind ≡ CLOSES → ⊥) where
-      pub end-spoils : GIVES < u.kind → 0 ≡ r
-      unfolding literal_end
-      end-spoils h = rw (first-last h, ne_eqb _ _ n) at inv
+    pub closes-given : given (units_at s i) ≡ []
+    closes-given = rw (first-last s i Closes e (omega arith)) refl
 
-      pub end_more : u.kind ≤ GIVES → literal_end s (i + u.width) ≡ r
-      unfolding literal_end
-      end_more h = rw (first_more h, ne_eqb _ _ n) at inv
+  module _ (e : Spoils ≡ unit_at s i) where
+    pub spoils-end : (r : ℕ) → literal_end s i ≡ r → None ≡ found r
+    unfolding literal_end
+    spoils-end r inv = let z : 0 ≡ r = rw (first-last s i Spoils e (omega arith)) at inv in rw (sym z) refl
 
-pub end-here : (s : List ℕ) (i r : ℕ) → literal_end s i ≡ r → get_or s i 0 ≡ 34 → i + 1 ≡ r
-end-here s i r inv q = sym (end-quote s i q) ∙ inv
+    pub spoils-given : given (units_at s i) ≡ []
+    spoils-given = rw (first-last s i Spoils e (omega arith)) refl
 
-pub end-end : (s : List ℕ) (i r : ℕ) → literal_end s i ≡ r → length s ≤ i → 0 ≡ r
-unfolding literal_end
-end-end s i r inv h = rw (units-end s i h) at inv
-
--- what the units from here give, by the unit at hand
-module _ (s : List ℕ) (i : ℕ) (u : Unit) (ue : u ≡ unit_at s i) where
-  given-one : u.kind ≡ GIVES → given (units_at s i) ≡ u.byte ∷ given (units_at s (i + u.width))
-  given-one h = rw (first_more s i u ue (omega (arith, h)), eq-eqb _ _ h) refl
-
-  given-none : (u.kind ≡ GIVES → ⊥) → u.kind ≤ GIVES → given (units_at s i) ≡ given (units_at s (i + u.width))
-  given-none n h = rw (first_more s i u ue h, ne_eqb _ _ n) refl
-
-  given-last : GIVES < u.kind → given (units_at s i) ≡ []
-  given-last h = rw (first-last s i u ue h, ne_eqb u.kind GIVES (λ e. let no : ⊥ = omega (arith, h, e) in no)) refl
-
-  given-count : u.kind ≤ GIVES → length (given (units_at s i)) ≡ u.kind + length (given (units_at s (i + u.width)))
-  given-count h =
-      split (eqb u.kind GIVES)
-      (λ e. let z : u.kind ≡ 1 = eqb-true _ _ e in omega (arith, ap length (given-one z), z))
-      (λ e. let n : u.kind ≡ GIVES → ⊥ = eqb-false _ _ e in let z : u.kind ≡ 0 = omega (arith, h, n) in omega (arith, ap length (given-none n h), z))
+last-given : (s : List ℕ) (i : ℕ) (u : Unit) → u ≡ unit_at s i → (u ≡ Closes) ⊎ (u ≡ Spoils) → given (units_at s i) ≡ []
+last-given s i u e (inl c) = closes-given s i (sym c ∙ e)
+last-given s i u e (inr c) = spoils-given s i (sym c ∙ e)
 
 given-end : (s : List ℕ) (i : ℕ) → length s ≤ i → given (units_at s i) ≡ []
 given-end s i h = rw (units-end s i h) refl
 
-given-quote : (s : List ℕ) (i : ℕ) → get_or s i 0 ≡ 34 → given (units_at s i) ≡ []
-given-quote s i q = rw (quote-units s i q) refl
+pub ruleset ending = (drops-fits, drops-less, drops-end, gives-fits, gives-less, gives-end, closes-fits, closes-end, spoils-end)
 
+-- a turn of `literal_length`, where n bytes were given before i
 module _ (s : List ℕ) (start : ℕ) where
   pub length_none : length s ≤ start → 0 ≡ length (decoded_at s start)
   unfolding decoded_at
@@ -99,63 +125,49 @@ module _ (s : List ℕ) (start : ℕ) where
   length-start = omega arith
 
 module _ (s : List ℕ) (i n r : ℕ) (inv : n + length (given (units_at s i)) ≡ r) where
-  pub length-end : length s ≤ i → n ≡ r
-  length-end h = omega (arith, inv, ap length (given-end s i h))
+  pub length-last : (u : Unit) → u ≡ unit_at s i → (u ≡ Closes) ⊎ (u ≡ Spoils) → n ≡ r
+  length-last u e h = omega (arith, inv, ap length (last-given s i u e h))
 
-  pub length-quote : get_or s i 0 ≡ 34 → n ≡ r
-  length-quote q = omega (arith, inv, ap length (given-quote s i q))
+  pub length-drops : (w : ℕ) → Drops w ≡ unit_at s i → n + length (given (units_at s (i + w))) ≡ r
+  length-drops w e = rw (drops-given s i w e) at inv
 
-  module _ (u : Unit) (ue : u ≡ unit_at s i) where
-    pub length_last : GIVES < u.kind → n ≡ r
-    length_last h = omega (arith, inv, ap length (given-last s i u ue h))
+  pub length-gives : (w b : ℕ) → Gives w b ≡ unit_at s i → n + 1 + length (given (units_at s (i + w))) ≡ r
+  length-gives w b e = omega (arith, inv, ap length (gives-given s i w b e))
 
-    module _ (h : u.kind ≤ GIVES) (k : ℕ) (ke : k ≡ u.kind) where
-      pub length_more : n + k + length (given (units_at s (i + u.width))) ≡ r
-      length_more = omega (arith, inv, given-count s i u ue h, ke)
+module _ (s : List ℕ) (i n : ℕ) (low : n ≤ i) where
+  module _ (w b : ℕ) (e : Gives w b ≡ unit_at s i) where
+    pub low-gives : n + 1 ≤ i + w
+    low-gives = omega (arith, low, (gives-moves s i w b e).0)
 
-      pub length-low : n ≤ i → n + k ≤ i + u.width
-      length-low l = omega (arith, h, ke, l, unit-on s i u ue h)
+    pub low-fits : length s < 2 ^ 64 → Fits w64 (n + 1)
+    low-fits l = within-fits s (n + 1) (omega (arith, low-gives, (gives-moves s i w b e).1)) l
 
--- a turn of `write`, with the invariant that what is left to store is what was to store, and fits
-module _ (s : List ℕ) (i : ℕ) (m : List ℕ) (top : ℕ) (r : List ℕ) (inv : sets m top (given (units_at s i)) ≡ r) where
-  pub write-end : length s ≤ i → m ≡ r
-  write-end h = rw (given-end s i h) at inv
+pub ruleset counting = (length_none, length-start, length-last, low-fits, drops-fits, drops-less, gives-fits, gives-less)
 
-  pub write-quote : get_or s i 0 ≡ 34 → m ≡ r
-  write-quote q = rw (given-quote s i q) at inv
+-- a turn of `write`: what is left to store is what was to store, and fits
+module _ (s : List ℕ) (i : ℕ) (m : List ℕ) (top : ℕ) where
+  module _ (r : List ℕ) (inv : sets m top (given (units_at s i)) ≡ r) where
+    pub write-last : (u : Unit) → u ≡ unit_at s i → (u ≡ Closes) ⊎ (u ≡ Spoils) → m ≡ r
+    write-last u e h = rw (last-given s i u e h) at inv
 
-  module _ (u : Unit) (ue : u ≡ unit_at s i) where
-    pub write-last : GIVES < u.kind → m ≡ r
-    write-last h = rw (given-last s i u ue h) at inv
+    pub write-drops : (w : ℕ) → Drops w ≡ unit_at s i → sets m top (given (units_at s (i + w))) ≡ r
+    write-drops w e = rw (drops-given s i w e) at inv
 
-    module _ (m' : List ℕ) (top' : ℕ) where
-      pub write-none : (u.kind ≡ GIVES → ⊥) → u.kind ≤ GIVES → m' ≡ m → top' ≡ top → sets m' top' (given (units_at s (i + u.width))) ≡ r
-      write-none n h me te = rw (me, te) (rw (given-none s i u ue n h) at inv)
+    pub write-gives : (w b : ℕ) → Gives w b ≡ unit_at s i → sets (set m top b) (top + 1) (given (units_at s (i + w))) ≡ r
+    write-gives w b e = rw (add-one top) (rw (gives-given s i w b e) at inv)
 
-      pub write-one : u.kind ≡ GIVES → m' ≡ set m top u.byte → top' ≡ top + 1 → sets m' top' (given (units_at s (i + u.width))) ≡ r
-      write-one h me te = rw (me, te, add-one top) (rw (given-one s i u ue h) at inv)
+  module _ (room : top + length (given (units_at s i)) ≤ length m) where
+    pub room-drops : (w : ℕ) → Drops w ≡ unit_at s i → top + length (given (units_at s (i + w))) ≤ length m
+    room-drops w e = rw (drops-given s i w e) at room
 
-module _ (s : List ℕ) (i : ℕ) (m : List ℕ) (top : ℕ) (room : top + length (given (units_at s i)) ≤ length m) (u : Unit) (ue : u ≡ unit_at s i) where
-  pub room-none : (m' : List ℕ) (top' : ℕ) → (u.kind ≡ GIVES → ⊥) → u.kind ≤ GIVES → m' ≡ m → top' ≡ top → top' + length (given (units_at s (i + u.width))) ≤ length m'
-  room-none m' top' n h me te = omega (arith, room, ap length (given-none s i u ue n h), ap length me, te)
+    module _ (w b : ℕ) (e : Gives w b ≡ unit_at s i) where
+      pub room-here : top < length m
+      room-here = omega (arith, room, ap length (gives-given s i w b e))
 
-  module _ (h : u.kind ≡ GIVES) where
-    pub room-here : top < length m
-    room-here = omega (arith, room, ap length (given-one s i u ue h))
+      pub room-gives : top + 1 + length (given (units_at s (i + w))) ≤ length (set m top b)
+      room-gives = omega (arith, room, ap length (gives-given s i w b e), length-set m top b)
 
-    pub room_fits : (m₀ : List ℕ) → length m ≡ length m₀ → length m₀ < 2 ^ 64 → Fits w64 (top + 1)
-    room_fits m₀ e l = let k : top + 1 ≤ length m₀ = omega (arith, room-here, e) in record { fits = lt_of_le_of_lt k l }
-
-    pub room-one : (m' : List ℕ) (top' : ℕ) → m' ≡ set m top u.byte → top' ≡ top + 1 → top' + length (given (units_at s (i + u.width))) ≤ length m'
-    room-one m' top' me te = omega (arith, room, ap length (given-one s i u ue h), ap length me, length-set m top u.byte, te)
-
--- a store keeps the length
-module _ (m m₀ m' : List ℕ) (e : length m ≡ length m₀) where
-  pub kept-none : m' ≡ m → length m' ≡ length m₀
-  kept-none h = ap length h ∙ e
-
-  pub kept-one : (i b : ℕ) → m' ≡ set m i b → length m' ≡ length m₀
-  kept-one i b h = ap length h ∙ length-set m i b ∙ e
+pub ruleset writing = (write-last, write-gives, room-here, room-gives, drops-fits, drops-less, gives-fits, gives-less)
 
 module _ (s : List ℕ) (start : ℕ) (m : List ℕ) (at n : ℕ) (ne : n ≡ length (decoded_at s start)) where
   pub into-none : length m < at → ran false m ≡ decode_into s start m at
@@ -184,55 +196,18 @@ module _ (s : List ℕ) (start : ℕ) (m : List ℕ) (at n : ℕ) (ne : n ≡ le
 
 -- `decode_within`
 module _ (s : List ℕ) (start : ℕ) (m : List ℕ) (at most n : ℕ) (ne : n ≡ length (decoded_at s start)) where
-  pub within-long : most < n → within Long m ≡ decode_within s start m at most
+  pub within-long : most < n → within (Err Long) m ≡ decode_within s start m at most
   unfolding decode_within
   within-long h = rw (← ne, lt-ltb _ _ h)
 
   module _ (h : n ≤ most) (c : Bool) (b : List ℕ) (ce : ran c b ≡ decode_into s start m at) where
-    pub within-put : c ≡ true → within (Put n) b ≡ decode_within s start m at most
+    pub within-put : c ≡ true → within (Ok n) b ≡ decode_within s start m at most
     unfolding decode_within
     within-put y = rw (← ne, le-ltb _ _ h, ← ce, y)
 
-    pub within-full : c ≡ false → within Full b ≡ decode_within s start m at most
+    pub within-full : c ≡ false → within (Err Full) b ≡ decode_within s start m at most
     unfolding decode_within
     within-full y = rw (← ne, le-ltb _ _ h, ← ce, y)
-
--- whether a byte stands as it is in a literal
-module _ (b : ℕ) where
-  pub plain-slash : b ≡ 92 → false ≡ plain b
-  unfolding plain
-  plain-slash h = rw h refl
-
-  pub plain-quote : b ≡ 34 → false ≡ plain b
-  unfolding plain
-  plain-quote h = rw h refl
-
-  module _ (n : b ≡ 92 → ⊥) where
-    module _ (q : b ≡ 34 → ⊥) where
-      pub plain-bar : (t : Bool) → t ≡ barred b → t ≡ true → false ≡ plain b
-      unfolding plain
-      plain-bar t te h = simp (ne_eqb _ _ q, ne_eqb _ _ n, sym te, h)
-
-      pub plain-low : (t : Bool) → t ≡ barred b → t ≡ false → true ≡ plain b
-      unfolding plain
-      plain-low t te h = simp (ne_eqb _ _ q, ne_eqb _ _ n, sym te, h)
-
-      pub plain-middle : 13 < b → true ≡ plain b
-      unfolding barred
-      plain-middle h =
-          let z : b ≡ 0 → ⊥ = λ e. let no : ⊥ = omega (arith, h, e) in no in
-          let l : b ≡ 10 → ⊥ = λ e. let no : ⊥ = omega (arith, h, e) in no in
-          let r : b ≡ 13 → ⊥ = λ e. let no : ⊥ = omega (arith, h, e) in no in
-          plain-low false (simp (ne_eqb _ _ z, ne_eqb _ _ l, ne_eqb _ _ r)) refl
-
-    pub plain-high : 34 < b → true ≡ plain b
-    plain-high h = plain-middle (λ e. let no : ⊥ = omega (arith, h, e) in no) (omega (arith, h))
-
-  pub plain-above : 92 < b → true ≡ plain b
-  plain-above h = plain-high (λ e. let no : ⊥ = omega (arith, h, e) in no) (omega (arith, h))
-
-pub closes-not : (s : List ℕ) (i : ℕ) → length s ≤ i → false ≡ eqb (get_or s i 0) 34
-closes-not s i h = rw (get_or-eq_default s 0 h) refl
 
 -- a literal whose plain bytes from i on end at e
 module _ (s : List ℕ) (i e : ℕ) (ee : e ≡ past plain s i) (t : Bool) (te : t ≡ eqb (get_or s e 0) 34) where
@@ -250,36 +225,21 @@ module _ (s : List ℕ) (i e : ℕ) (ee : e ≡ past plain s i) (t : Bool) (te :
     end-found = end-units (e + 1) (sym (end-quote s e at-quote))
 
 -- whether a literal is short
-module _ (s : List ℕ) (start end most : ℕ) where
-  module _ (t : Bool) (te : t ≡ near s start end most) where
-    pub short-near : t ≡ true → true ≡ leb (length (decoded_at s start)) most
-    short-near h = sym (le-leb _ _ (near-short s start end most (sym te ∙ h)))
-
-    pub sized-near : (b : ℕ) (r : Bool) → t ≡ true → b ≡ get_or s (start + 1) 0 → r ≡ plain b → r ≡ sized s start end most
-    unfolding sized
-    sized-near b r h be re = simp (sym te, h, sym be) re
-
-    pub sized-far : t ≡ false → false ≡ sized s start end most
-    unfolding sized
-    sized-far h = simp (sym te, h)
-
-  pub short-counted : (n : ℕ) → n ≡ length (decoded_at s start) → leb n most ≡ leb (length (decoded_at s start)) most
-  short-counted n e = ap (λ (k : ℕ). leb k most) e
+pub short-near : (s : List ℕ) (start end most : ℕ) (t : Bool) → t ≡ near s start end most → t ≡ true → true ≡ leb (length (decoded_at s start)) most
+short-near s start end most t te h = sym (le-leb _ _ (near-short s start end most (sym te ∙ h)))
 
 -- where a literal of plain bytes closes
-module _ (s : List ℕ) (start : ℕ) where
-  pub bare-past : length s ≤ start → 0 ≡ bare_end s start
-  unfolding bare_end
-  bare-past h =
-      let p : past plain s (start + 1) ≡ start + 1 = past_end plain s (start + 1) (omega (arith, h)) in
-      let z : get_or s (start + 1) 0 ≡ 0 = get_or-eq_default s 0 (omega (arith, h)) in
-      simp (p, z)
+pub bare-past : (s : List ℕ) (start : ℕ) → length s ≤ start → None ≡ bare_end s start
+unfolding bare_end
+bare-past s start h =
+    let p : past plain s (start + 1) ≡ start + 1 = past_end plain s (start + 1) (omega (arith, h)) in
+    let z : get_or s (start + 1) 0 ≡ 0 = get_or-eq_default s 0 (omega (arith, h)) in
+    simp (p, z)
 
-  module _ (e : ℕ) (ee : e ≡ past plain s (start + 1)) (t : Bool) (te : t ≡ eqb (get_or s e 0) 34) where
-    pub bare-closed : t ≡ true → e ≡ bare_end s start
-    unfolding bare_end
-    bare-closed h = simp (sym ee, sym te, h)
+pub ruleset short = (short-near)
 
-    pub bare-open : t ≡ false → 0 ≡ bare_end s start
-    unfolding bare_end
-    bare-open h = simp (sym ee, sym te, h)
+pub ruleset bare = (bare-past)
+
+pub ruleset into = (into-none, into-full, into-past, into-room, into-all)
+
+pub ruleset inside = (within-long, within-put, within-full)

@@ -1,6 +1,5 @@
 -- The ways out of the functions of `number`. Assumes nothing.
 use mathlib.Core.Path.{◌≡◌, refl, sym, ◌∙◌}
-use mathlib.Core.Bool.{false}
 use mathlib.Core.List.{List, [], ◌∷◌}
 use Prim.Native.Nat.{ℕ, zero, suc, ◌+◌, ◌-◌, ◌*◌, ◌≤◌, ◌<◌, min}
 use native.Mathlib.Omega.{arith}
@@ -10,8 +9,7 @@ use lib.ListN.{length, get_or, take, drop_of_length-le, length-drop}
 use lib.Seq.{slice, drop-cons, get_or-take, get_or-drop}
 use mir.Syntax.{w8}
 use mir.Val.{Fits}
-use borrow.Author.Tests.{le-leb, lt-leb, leb-true, leb-false}
-use Rattle.text.specs.Choice.{split}
+use borrow.Author.Tests.{lt-leb}
 use Rattle.text.specs.Digits.{value_from, value}
 use Rattle.lexical.specs.Theorems.UnitLaws.{Bytes}
 use Rattle.lexical.specs.Number.{LIMIT, number_at}
@@ -45,30 +43,22 @@ unfolding number_rest number_at value
 number-start s start end = refl
 
 module _ (s : List ℕ) (i end v r : ℕ) (inv : number_rest s i end v ≡ r) where
-  module _ (low : v ≤ LIMIT) where
-    pub number-end : end ≤ i → v ≡ r
-    unfolding number_rest value_from
-    number-end h = within v low ∙ (rw (drop_of_length-le (take end s) {i = i} (omega (arith, h, (take_short end s).0))) at inv)
+  pub number-end : v ≤ LIMIT → (n : ℕ) → n ≡ min end (length s) → n ≤ i → v ≡ r
+  unfolding number_rest value_from
+  number-end low n ne h =
+      let l : length (take end s) ≤ i = omega (arith, h, (take_short end s).0, (take_short end s).1) in
+      within v low ∙ (rw (drop_of_length-le (take end s) {i = i} l) at inv)
 
-    pub number_past : length s ≤ i → v ≡ r
-    unfolding number_rest value_from
-    number_past h = within v low ∙ (rw (drop_of_length-le (take end s) {i = i} (omega (arith, h, (take_short end s).1))) at inv)
-
-  module _ (h : i < end) (l : i < length s) (d : ℕ) (de : d ≡ get_or s i 0 - 48) (w : ℕ) (we : w ≡ min (v * 10 + d) LIMIT) where
+  module _ (n : ℕ) (ne : n ≡ min end (length s)) (h : i < n) (d : ℕ) (de : d ≡ get_or s i 0 - 48) (w : ℕ) (we : w ≡ min LIMIT (v * 10 + d)) where
     pub number_more : number_rest s (i + 1) end w ≡ r
     unfolding number_rest value_from
     number_more =
-        rw (add-one i, we, de)
+        let l : i < end = omega arith in
+        let k : i < length s = omega arith in
+        let e : w ≡ min (v * 10 + d) LIMIT = omega arith in
+        rw (add-one i, e, de)
         (held_same (slice (suc i) end s) (min (v * 10 + (get_or s i 0 - 48)) LIMIT) (v * 10 + (get_or s i 0 - 48)) (omega arith)
-        ∙ (rw (drop-cons (take end s) i 0 (take_long end s i h l), get_or-take end s i 0 h) at inv))
-
-    pub number-low : w ≤ LIMIT
-    number-low = omega (arith, we)
-
--- no digit
-module _ (s : List ℕ) (start end : ℕ) where
-  number-none : end ≤ start → number_at s start end ≡ 0
-  number-none h = omega (arith, number-end s start end 0 (min (number_at s start end) LIMIT) (number-start s start end) (omega arith) h)
+        ∙ (rw (drop-cons (take end s) i 0 (take_long end s i l k), get_or-take end s i 0 l) at inv))
 
 -- a front of bytes
 bytes_take : (n : ℕ) (s : List ℕ) → Bytes s → Bytes (take n s)
@@ -90,21 +80,13 @@ value-top (suc n) [] v w f l h = value-top n [] v (w * 10 + 207) f (omega arith)
 value-top (suc n) (b ∷ bs) v w f l h =
     value-top n bs (v * 10 + (b - 48)) (w * 10 + 207) (λ i. f (suc i)) (omega (arith, l)) (omega (arith, h, f 0))
 
--- the ways out of `is_large`; seven bytes write at most 207 * 1111111
-module _ (s : List ℕ) (start end : ℕ) where
-  pub large-none : end ≤ start → false ≡ leb LIMIT (number_at s start end)
-  large-none h = rw (number-none s start end h) refl
+-- seven bytes write at most 207 * 1111111
+pub large-few : (s : List ℕ) (start end : ℕ) → ((i : ℕ) → Fits w8 (get_or s i 0)) → (d : ℕ) → d ≡ end - start → d < 8 → leb 8 d ≡ leb LIMIT (number_at s start end)
+unfolding number_at value top
+large-few s start end f d e h =
+    let b : Bytes (slice start end s) = λ i. rw (get_or-drop start (take end s) i 0) (bytes_take end s (λ j. (f j).fits) (start + i)) in
+    let l : length (slice start end s) ≤ 7 = rw length-drop (omega (arith, h, e, (take_short end s).0)) in
+    let v : value_from 0 (slice start end s) ≤ 229999977 = value-top 7 (slice start end s) 0 0 b l (omega arith) in
+    lt-leb 8 d h ∙ sym (lt-leb LIMIT (value_from 0 (slice start end s)) (omega (arith, v)))
 
-  pub large-few : ((i : ℕ) → Fits w8 (get_or s i 0)) → end - start < 8 → false ≡ leb LIMIT (number_at s start end)
-  unfolding number_at value top
-  large-few f h =
-      let b : Bytes (slice start end s) = λ i. rw (get_or-drop start (take end s) i 0) (bytes_take end s (λ j. (f j).fits) (start + i)) in
-      let l : length (slice start end s) ≤ 7 = rw length-drop (omega (arith, h, (take_short end s).0)) in
-      let d : value_from 0 (slice start end s) ≤ 229999977 = value-top 7 (slice start end s) 0 0 b l (omega arith) in
-      sym (lt-leb LIMIT (value_from 0 (slice start end s)) (omega (arith, d)))
-
-  pub large-tested : (v : ℕ) → v ≡ min (number_at s start end) LIMIT → leb LIMIT v ≡ leb LIMIT (number_at s start end)
-  large-tested v e =
-      split (leb LIMIT (number_at s start end))
-      (λ t. let h : LIMIT ≤ v = omega (arith, e, leb-true LIMIT (number_at s start end) t) in le-leb LIMIT v h ∙ sym t)
-      (λ t. let h : v < LIMIT = omega (arith, e, leb-false LIMIT (number_at s start end) t) in lt-leb LIMIT v h ∙ sym t)
+pub ruleset large = (large-few)

@@ -1,3 +1,5 @@
+pub mod Found
+pub mod Tests
 pub mod Kind
 pub mod Class
 pub mod Run

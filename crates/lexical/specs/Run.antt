@@ -2,36 +2,37 @@
 use Rattle.std.specs.Prelude.{Bool, false, not, ℕ, eqb}
 use Rattle.text.specs.Choice.{pick}
 use Rattle.lexical.specs.Class.{class_of, or, BLANK, NEWLINE, LETTER, DIGIT, NUL}
+use Rattle.lexical.specs.declared.scan.Run.{Run}
+use Rattle.lexical.specs.declared.scan.Run.TheVariants.{Blanks, White, Free, Word, Numerals}
 
 -- spaces and tabs
-abbrev pub BLANKS : ℕ
-BLANKS = 0
+abbrev pub BLANKS : Run
+BLANKS = Blanks
 
 -- "Whitespace is space, tab, newline"
-abbrev pub WHITE : ℕ
-WHITE = 1
+abbrev pub WHITE : Run
+WHITE = White
 
 -- the rest of a line that is hidden or free text: all but newline and NUL
-abbrev pub FREE : ℕ
-FREE = 2
+abbrev pub FREE : Run
+FREE = Free
 
 -- letters, digits and underscores
-abbrev pub WORD : ℕ
-WORD = 3
+abbrev pub WORD : Run
+WORD = Word
 
 -- "digits"
-abbrev pub NUMERALS : ℕ
-NUMERALS = 4
+abbrev pub NUMERALS : Run
+NUMERALS = Numerals
 
 -- does a class belong to the run k?
-unfoldable pub has_class : ℕ → ℕ → Bool
-has_class k c =
-    pick (eqb k BLANKS) (eqb c BLANK)
-    (pick (eqb k WHITE) (or (eqb c BLANK) (eqb c NEWLINE))
-    (pick (eqb k FREE) (pick (eqb c NEWLINE) false (not (eqb c NUL)))
-    (pick (eqb k WORD) (or (eqb c LETTER) (eqb c DIGIT))
-    (eqb c DIGIT))))
+unfoldable pub has_class : Run → ℕ → Bool
+has_class Blanks c = eqb c BLANK
+has_class White c = or (eqb c BLANK) (eqb c NEWLINE)
+has_class Free c = pick (eqb c NEWLINE) false (not (eqb c NUL))
+has_class Word c = or (eqb c LETTER) (eqb c DIGIT)
+has_class Numerals c = eqb c DIGIT
 
 -- does a byte?
-unfoldable pub in_run : ℕ → ℕ → Bool
+unfoldable pub in_run : Run → ℕ → Bool
 in_run k b = has_class k (class_of b)

@@ -5,6 +5,7 @@ use Rattle.text.specs.Scan.{past}
 use Rattle.lexical.specs.Class.{or, within}
 use Rattle.lexical.specs.Run.{in_run, WHITE}
 use Rattle.lexical.specs.declared.unit.Unit.{Unit}
+use Rattle.lexical.specs.declared.unit.Unit.TheVariants.{Drops, Gives, Closes, Spoils}
 
 -- gives no byte
 abbrev pub DROPS : ℕ
@@ -24,19 +25,40 @@ SPOILS = 3
 
 -- w bytes that give the byte b
 abbrev pub gives : ℕ → ℕ → Unit
-gives w b = record { kind = GIVES; width = w; byte = b }
+gives w b = Gives w b
 
 -- w bytes that give none
 abbrev pub drops : ℕ → Unit
-drops w = record { kind = DROPS; width = w; byte = 0 }
+drops w = Drops w
 
 -- the closing quote
 abbrev pub closes : Unit
-closes = record { kind = CLOSES; width = 1; byte = 0 }
+closes = Closes
 
 -- what no literal can hold
 abbrev pub spoils : Unit
-spoils = record { kind = SPOILS; width = 0; byte = 0 }
+spoils = Spoils
+
+-- what a unit does
+abbrev pub kind : Unit → ℕ
+kind (Drops w) = DROPS
+kind (Gives w b) = GIVES
+kind Closes = CLOSES
+kind Spoils = SPOILS
+
+-- how many bytes it takes
+abbrev pub width : Unit → ℕ
+width (Drops w) = w
+width (Gives w b) = w
+width Closes = 1
+width Spoils = 0
+
+-- the byte that it gives; 0 for one that gives none
+abbrev pub byte : Unit → ℕ
+byte (Drops w) = 0
+byte (Gives w b) = b
+byte Closes = 0
+byte Spoils = 0
 
 -- an octal digit
 unfoldable pub octal : ℕ → Bool

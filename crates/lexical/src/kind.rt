@@ -2,6 +2,7 @@
 ghost use Rattle.std.specs.Prelude.{◌≡◌};
 ghost use Rattle.lexical.specs.Kind.{opened, mode_after};
 ghost use Rattle.lexical.specs.Reason.{reason_of};
+ghost use Rattle.lexical.specs.Found.{found};
 
 pub const END: usize = 0;
 
@@ -100,40 +101,36 @@ pub const IN_COMMENT: u8 = 2;
 pub const IN_FIELD: u8 = 3;
 
 // Where the text goes on behind a label of this kind.
+#[tactic(auto, unfolding(crate::specs::Kind::opened))]
 pub fn mode_of(kind: usize) -> u8
     ensures { result ≡ opened kind }
 {
-    if kind == LICENSEES {
-        return IN_LICENSEES;
+    match kind {
+        LICENSEES => IN_LICENSEES,
+        COMMENT => IN_COMMENT,
+        _ => IN_FIELD,
     }
-    if kind == COMMENT {
-        return IN_COMMENT;
-    }
-    IN_FIELD
 }
 
 // Where it goes on behind any token.
+#[tactic(auto, unfolding(crate::specs::Kind::mode_after))]
 pub fn mode_after(mode: u8, kind: usize) -> u8
     ensures { result ≡ mode_after mode kind }
 {
-    if kind < KEYNOTE_VERSION {
-        return mode;
+    match kind {
+        KEYNOTE_VERSION..=SIGNATURE => mode_of(kind),
+        _ => mode,
     }
-    if SIGNATURE < kind {
-        return mode;
-    }
-    mode_of(kind)
 }
 
-// The reason for a fault of this kind, or 0; its place is the token's start.
-pub fn reason_of(kind: usize) -> u8
-    ensures { result ≡ reason_of kind }
+// The reason for a fault of this kind; its place is the token's start.
+#[tactic(auto, unfolding(crate::specs::Reason::reason_of))]
+pub fn reason_of(kind: usize) -> Option<u8>
+    ensures { result ≡ found (reason_of kind) }
 {
-    if kind == ILLEGAL {
-        return 1;
+    match kind {
+        ILLEGAL => Some(1),
+        BAD_LINE => Some(3),
+        _ => None,
     }
-    if kind == BAD_LINE {
-        return 3;
-    }
-    0
 }

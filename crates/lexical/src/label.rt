@@ -6,29 +6,25 @@ use crate::kind;
 use crate::word::stands_at;
 
 // The kind of the label that stands at i, or BAD_LINE where none does.
+#[tactic(auto, unfolding(crate::specs::Label::label_kind))]
 pub fn label_kind(s: &[u8], i: usize) -> usize
     ensures { result ≡ label_kind s.now i }
 {
     if stands_at(s, i, b"keynote-version:") {
-        return kind::KEYNOTE_VERSION;
+        kind::KEYNOTE_VERSION
+    } else if stands_at(s, i, b"local-constants:") {
+        kind::LOCAL_CONSTANTS
+    } else if stands_at(s, i, b"authorizer:") {
+        kind::AUTHORIZER
+    } else if stands_at(s, i, b"licensees:") {
+        kind::LICENSEES
+    } else if stands_at(s, i, b"conditions:") {
+        kind::CONDITIONS
+    } else if stands_at(s, i, b"comment:") {
+        kind::COMMENT
+    } else if stands_at(s, i, b"signature:") {
+        kind::SIGNATURE
+    } else {
+        kind::BAD_LINE
     }
-    if stands_at(s, i, b"local-constants:") {
-        return kind::LOCAL_CONSTANTS;
-    }
-    if stands_at(s, i, b"authorizer:") {
-        return kind::AUTHORIZER;
-    }
-    if stands_at(s, i, b"licensees:") {
-        return kind::LICENSEES;
-    }
-    if stands_at(s, i, b"conditions:") {
-        return kind::CONDITIONS;
-    }
-    if stands_at(s, i, b"comment:") {
-        return kind::COMMENT;
-    }
-    if stands_at(s, i, b"signature:") {
-        return kind::SIGNATURE;
-    }
-    kind::BAD_LINE
 }

@@ -8,54 +8,36 @@ ghost use Rattle.lexical.specs.Working.Open.{completed, below_of};
 use crate::class::{is_break, is_hash, is_indent, is_newline};
 use crate::kind;
 use crate::label::label_kind;
-use crate::scan::{BLANKS, FREE, byte_at, skip};
+use crate::scan::{Run, byte_at};
 use crate::token::{Token, completed, literal_from, token_from, width};
 
 // What comes behind the rest of a line that is hidden or free text.
+#[tactic(auto, unfolding(crate::specs::Line::rest_of_line))]
 fn rest_of_line(s: &[u8], i: usize) -> Token
     ensures { result ≡ rest_of_line s.now i }
 {
-    let e = skip(s, i, FREE);
+    let e = Run::Free.end(s, i);
     if s.len() <= e {
-        return Token {
-            kind: kind::END,
-            start: s.len(),
-            end: s.len(),
-        };
+        return Token::empty(kind::END, s.len());
     }
     if s[e] == 0 {
-        return Token {
-            kind: kind::ILLEGAL,
-            start: e,
-            end: e,
-        };
+        return Token::empty(kind::ILLEGAL, e);
     }
-    Token {
-        kind: kind::NEXT,
-        start: e + 1,
-        end: e + 1,
-    }
+    Token::empty(kind::NEXT, e + 1)
 }
 
 // What stands at i, behind the blanks; a literal may be left open.
+#[tactic(auto, using(crate::proofs::LineWays::seen))]
 fn visible_at(s: &[u8], mode: u8, i: usize) -> Token
     ensures { completed s.now result ≡ visible s.now mode i }
 {
     if s.len() <= i {
-        return Token {
-            kind: kind::END,
-            start: s.len(),
-            end: s.len(),
-        };
+        return Token::empty(kind::END, s.len());
     }
     let b = s[i];
     if is_break(b) {
         if is_newline(b) {
-            return Token {
-                kind: kind::NEXT,
-                start: i + 1,
-                end: i + 1,
-            };
+            return Token::empty(kind::NEXT, i + 1);
         }
         return rest_of_line(s, i);
     }
@@ -63,27 +45,27 @@ fn visible_at(s: &[u8], mode: u8, i: usize) -> Token
 }
 
 // What comes next inside a line; a literal may be left open.
+#[tactic(auto, using(crate::proofs::LineWays::inside))]
 fn in_line(s: &[u8], mode: u8, i: usize) -> Token
     ensures { completed s.now result ≡ in_line s.now mode i }
 {
     if mode == kind::IN_COMMENT {
         return rest_of_line(s, i);
     }
-    let e = skip(s, i, BLANKS);
+    let e = Run::Blanks.end(s, i);
     visible_at(s, mode, e)
 }
 
 // Does the line whose blanks end at e hold nothing else?
+#[tactic(auto, unfolding(crate::specs::Line::blank_to))]
 fn is_blank_to(s: &[u8], e: usize) -> bool
     ensures { result ≡ blank_to s.now e }
 {
-    if s.len() <= e {
-        return true;
-    }
-    is_newline(s[e])
+    s.len() <= e || is_newline(s[e])
 }
 
 // A line that begins with blanks, which end at e.
+#[tactic(auto, unfolding(crate::specs::Line::indented))]
 fn indented_line(s: &[u8], mode: u8, i: usize, e: usize) -> Token
     ensures { result ≡ indented s.now mode i e }
 {
@@ -91,47 +73,32 @@ fn indented_line(s: &[u8], mode: u8, i: usize, e: usize) -> Token
         let t = in_line(s, mode, i);
         return completed(s, t);
     }
-    let b = byte_at(s, e, 0);
-    if is_hash(b) {
+    if is_hash(byte_at(s, e, 0)) {
         return rest_of_line(s, e);
     }
-    Token {
-        kind: kind::BAD_LINE,
-        start: i,
-        end: i,
-    }
+    Token::empty(kind::BAD_LINE, i)
 }
 
 // The label at i, or a bad line where none stands there.
+#[tactic(auto, using(crate::proofs::LineWays::label))]
 fn label_token(s: &[u8], i: usize) -> Token
     ensures { result ≡ fixed (label_kind s.now i) i }
 {
     let k = label_kind(s, i);
-    Token {
-        kind: k,
-        start: i,
-        end: i + width(k),
-    }
+    Token::new(k, i, i + width(k))
 }
 
 // What a line that begins at i gives.
+#[tactic(auto, unfolding(crate::specs::Line::line_at))]
 fn line_at(s: &[u8], mode: u8, i: usize) -> Token
     ensures { result ≡ line_at s.now mode i }
 {
     if s.len() <= i {
-        return Token {
-            kind: kind::END,
-            start: s.len(),
-            end: s.len(),
-        };
+        return Token::empty(kind::END, s.len());
     }
-    let e = skip(s, i, BLANKS);
+    let e = Run::Blanks.end(s, i);
     if is_blank_to(s, e) {
-        return Token {
-            kind: kind::BAD_LINE,
-            start: i,
-            end: i,
-        };
+        return Token::empty(kind::BAD_LINE, i);
     }
     let b = s[i];
     if is_hash(b) {
@@ -144,25 +111,23 @@ fn line_at(s: &[u8], mode: u8, i: usize) -> Token
 }
 
 // What the lines from i on give.
+#[tactic(auto, using(crate::proofs::LineWays::lines))]
 fn lines_from(s: &[u8], mode: u8, from: usize) -> Token
     ensures { result ≡ lines_from s.now mode from }
 {
+    // Kept: a turn goes on behind a line, so there is no range to go over.
     let mut i = from;
-    while i < s.len() {
+    loop {
         let t = line_at(s, mode, i);
         if t.kind != kind::NEXT {
             return t;
         }
         i = t.end;
     }
-    Token {
-        kind: kind::END,
-        start: s.len(),
-        end: s.len(),
-    }
 }
 
 // What comes behind an open literal's plain bytes, or in the lines from `end` on.
+#[tactic(auto, unfolding(crate::specs::Working::Open::below_of))]
 fn below(s: &[u8], mode: u8, start: usize, end: usize) -> Token
     ensures { result ≡ below_of s.now mode start end }
 {
@@ -173,6 +138,7 @@ fn below(s: &[u8], mode: u8, start: usize, end: usize) -> Token
 }
 
 // The token that comes next where the one before ended at `at`, which is 0 at the text's start.
+#[tactic(auto, using(crate::proofs::LineWays::next))]
 pub fn token_at(s: &[u8], mode: u8, at: usize) -> Token
     ensures { result ≡ token_at s.now mode at }
 {

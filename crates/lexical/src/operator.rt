@@ -5,91 +5,60 @@ ghost use Rattle.lexical.specs.Operator.{equal_pair, pair_of, mark_kind, is_of, 
 use crate::{class, kind};
 
 // == != <= >= ~=, by the first byte's class.
+#[tactic(auto, unfolding(crate::specs::Operator::equal_pair))]
 fn equal_pair(c: usize) -> usize
     ensures { result ≡ equal_pair c }
 {
-    if c == kind::ASSIGN {
-        return kind::EQUAL;
+    match c {
+        kind::ASSIGN => kind::EQUAL,
+        kind::NOT => kind::UNEQUAL,
+        kind::LESS => kind::AT_MOST,
+        kind::GREATER => kind::AT_LEAST,
+        class::TILDE => kind::MATCHES,
+        _ => kind::ILLEGAL,
     }
-    if c == kind::NOT {
-        return kind::UNEQUAL;
-    }
-    if c == kind::LESS {
-        return kind::AT_MOST;
-    }
-    if c == kind::GREATER {
-        return kind::AT_LEAST;
-    }
-    if c == class::TILDE {
-        return kind::MATCHES;
-    }
-    kind::ILLEGAL
 }
 
 // An operator of two bytes, by the first one's class and the second.
+#[tactic(auto, unfolding(crate::specs::Operator::pair_of))]
 fn pair_of(c: usize, b: u8) -> usize
     ensures { result ≡ pair_of c b }
 {
-    if b == b'=' {
-        return equal_pair(c);
+    match b {
+        b'=' => equal_pair(c),
+        b'>' if c == kind::MINUS => kind::ARROW,
+        b'&' if c == kind::AMPERSAND => kind::AND,
+        b'|' if c == class::BAR => kind::OR,
+        _ => kind::ILLEGAL,
     }
-    if b == b'>' {
-        if c == kind::MINUS {
-            return kind::ARROW;
-        }
-        return kind::ILLEGAL;
-    }
-    if b == b'&' {
-        if c == kind::AMPERSAND {
-            return kind::AND;
-        }
-        return kind::ILLEGAL;
-    }
-    if b == b'|' {
-        if c == class::BAR {
-            return kind::OR;
-        }
-        return kind::ILLEGAL;
-    }
-    kind::ILLEGAL
 }
 
 // An operator of one byte: the class is its kind.
+#[tactic(auto, unfolding(crate::specs::Operator::mark_kind))]
 fn mark_kind(c: usize) -> usize
     ensures { result ≡ mark_kind c }
 {
-    if c < kind::OPEN {
-        return kind::ILLEGAL;
-    }
-    c
+    if c < kind::OPEN { kind::ILLEGAL } else { c }
 }
 
 // Is it "-of", in Licensees?
+#[tactic(auto, unfolding(crate::specs::Operator::is_of))]
 fn is_of(mode: u8, c: usize, b: u8, d: u8) -> bool
     ensures { result ≡ is_of mode c b d }
 {
-    if mode != kind::IN_LICENSEES {
-        return false;
-    }
-    if c != kind::MINUS {
-        return false;
-    }
-    if b != b'o' {
-        return false;
-    }
-    d == b'f'
+    mode == kind::IN_LICENSEES && c == kind::MINUS && b == b'o' && d == b'f'
 }
 
 // The operator that begins with a byte of class c, then b and d; ILLEGAL where none does.
+#[tactic(auto, unfolding(crate::specs::Operator::operator_kind))]
 pub fn operator_kind(mode: u8, c: usize, b: u8, d: u8) -> usize
     ensures { result ≡ operator_kind mode c b d }
 {
     if is_of(mode, c, b, d) {
         return kind::OF;
     }
-    let k = pair_of(c, b);
-    if k == kind::ILLEGAL {
-        return mark_kind(c);
+    match pair_of(c, b) {
+        kind::ILLEGAL => mark_kind(c),
+        k => k,
     }
-    k
 }

@@ -1,94 +1,60 @@
 // Scanning by an index: the byte some way on, and the end of a run of bytes.
-ghost use Rattle.std.specs.Prelude.{◌≡◌, ◌+◌, get_or};
+ghost use Rattle.std.specs.Prelude.{◌≡◌, ◌+◌, Bool, ℕ, get_or};
 ghost use Rattle.text.specs.Scan.{past};
 ghost use Rattle.lexical.specs.Run.{in_run};
-ghost use Rattle.lexical.specs.Working.Runs.{white, free, wordly};
+ghost use Rattle.lexical.specs.Tests.{Tests};
 
-use crate::class::{is_blank, is_name_letter, is_numeral};
+use crate::class::{begins_name, begins_number, is_indent, is_newline};
 
-pub const BLANKS: u8 = 0;
-
-pub const WHITE: u8 = 1;
-
-pub const FREE: u8 = 2;
-
-pub const WORD: u8 = 3;
-
-pub const NUMERALS: u8 = 4;
+// What a run is made of: spaces and tabs; these and newlines; all but newline and NUL; letters, digits and underscores; digits.
+#[derive(Clone, Copy)]
+pub enum Run {
+    Blanks,
+    White,
+    Free,
+    Word,
+    Numerals,
+}
 
 // The byte k places on, or 0 behind the end.
 pub fn byte_at(s: &[u8], i: usize, k: usize) -> u8
     ensures { result ≡ get_or s.now (i + k) 0 }
 {
-    if s.len() <= i {
-        return 0;
-    }
-    if s.len() - i <= k {
-        return 0;
-    }
-    s[i + k]
+    s.get(i.saturating_add(k)).copied().unwrap_or(0)
 }
 
-// Is it a space, a tab or a newline?
-fn is_white(b: u8) -> bool
-    ensures { result ≡ white b }
-{
-    if is_blank(b) {
-        return true;
+impl Run {
+    // Does a byte belong to it?
+    #[tactic(auto, using(crate::proofs::ClassWays::runs), unfolding(crate::specs::Run::in_run, crate::specs::Run::has_class))]
+    pub fn has(self, b: u8) -> bool
+        ensures { result ≡ in_run self b }
+    {
+        match self {
+            Run::Blanks => is_indent(b),
+            Run::White => is_indent(b) || is_newline(b),
+            Run::Free => !is_newline(b) && b != 0,
+            Run::Word => begins_name(b) || begins_number(b),
+            Run::Numerals => begins_number(b),
+        }
     }
-    b == b'\n'
+
+    // The end of the run of it that starts at `at`.
+    pub fn end(self, s: &[u8], at: usize) -> usize
+        ensures { result ≡ past (in_run self) s.now at }
+    {
+        end_of(s, at, |b| self.has(b))
+    }
 }
 
-// Is it neither newline nor NUL?
-fn is_free(b: u8) -> bool
-    ensures { result ≡ free b }
+// The end of the bytes from `at` on that pass a test.
+pub fn end_of<F: Fn(u8) -> bool>(s: &[u8], at: usize, passes: F) -> usize
+    requires { F.IsAlwaysCallable passes }
+    ensures { (p : ℕ → Bool) → Tests (F.post passes) p → result ≡ past p s.now at }
 {
-    if b == b'\n' {
-        return false;
-    }
-    b != 0
-}
-
-// Is it a letter, a digit or the underscore?
-fn is_wordly(b: u8) -> bool
-    ensures { result ≡ wordly b }
-{
-    if is_name_letter(b) {
-        return true;
-    }
-    is_numeral(b)
-}
-
-// Does a byte belong to the run k?
-pub fn in_run(k: u8, b: u8) -> bool
-    ensures { result ≡ in_run k b }
-{
-    if k == BLANKS {
-        return is_blank(b);
-    }
-    if k == WHITE {
-        return is_white(b);
-    }
-    if k == FREE {
-        return is_free(b);
-    }
-    if k == WORD {
-        return is_wordly(b);
-    }
-    is_numeral(b)
-}
-
-// The end of the run k that starts at `at`.
-pub fn skip(s: &[u8], at: usize, k: u8) -> usize
-    ensures { result ≡ past (in_run k) s.now at }
-{
-    let mut i = at;
-    while i < s.len() {
-        if in_run(k, s[i]) {
-            i += 1;
-        } else {
+    for i in at..s.len() {
+        if !passes(s[i]) {
             return i;
         }
     }
-    i
+    at.max(s.len())
 }

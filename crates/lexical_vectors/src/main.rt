@@ -16,36 +16,19 @@ use std::io::Write;
 use std::rt::{Env, Files};
 use std::{env, fs, io};
 
-fn put<W: Write>(out: &mut W, b: &[u8]) -> io::Result<()> {
-    out.write_all(b)
-}
-
-fn put_number<W: Write>(out: &mut W, n: usize) -> io::Result<()> {
-    write!(out, "{n}")
-}
-
-fn put_byte<W: Write>(out: &mut W, b: u8) -> io::Result<()> {
-    write!(out, "{b:02x}")
-}
-
-// The first n bytes of b.
-fn put_hex<W: Write>(out: &mut W, b: &[u8], n: usize) -> io::Result<()> {
-    let mut i: usize = 0;
-    while i < n {
-        if b.len() <= i {
-            return Ok(());
-        }
-        put_byte(out, b[i])?;
-        i += 1;
+fn put_hex<W: Write>(out: &mut W, bytes: &[u8]) -> io::Result<()> {
+    for b in bytes {
+        write!(out, "{b:02x}")?;
     }
     Ok(())
 }
 
 // What a literal gives, where buf has room for it.
 fn put_decoded<W: Write>(out: &mut W, s: &[u8], start: usize, buf: &mut [u8]) -> io::Result<()> {
-    put(out, b"=")?;
+    out.write_all(b"=")?;
     if decode_into(s, start, buf, 0) {
-        put_hex(out, buf, literal_length(s, start))?;
+        let n = literal_length(s, start).min(buf.len());
+        put_hex(out, &buf[..n])?;
     }
     Ok(())
 }
@@ -55,100 +38,74 @@ fn put_literal<W: Write>(out: &mut W, s: &[u8], start: usize) -> io::Result<()> 
     put_decoded(out, s, start, &mut buf)
 }
 
-fn put_value<W: Write>(out: &mut W, s: &[u8], t: Token) -> io::Result<()> {
-    if t.kind == kind::LITERAL {
-        return put_literal(out, s, t.start);
-    }
-    if t.kind == kind::DIGITS {
-        put(out, b"=")?;
-        let value = number_at(s, t.start, t.end);
-        return write!(out, "{value}");
-    }
-    if t.kind != kind::NAME {
-        return Ok(());
-    }
+// The keyword that a name is.
+fn put_name<W: Write>(out: &mut W, s: &[u8], t: Token) -> io::Result<()> {
     if is_true(s, t.start, t.end) {
-        put(out, b"=true")?;
+        out.write_all(b"=true")?;
     }
     if is_false(s, t.start, t.end) {
-        put(out, b"=false")?;
+        out.write_all(b"=false")?;
     }
     Ok(())
 }
 
+fn put_value<W: Write>(out: &mut W, s: &[u8], t: Token) -> io::Result<()> {
+    match t.kind {
+        kind::LITERAL => put_literal(out, s, t.start),
+        kind::DIGITS => write!(out, "={}", number_at(s, t.start, t.end)),
+        kind::NAME => put_name(out, s, t),
+        _ => Ok(()),
+    }
+}
+
 fn put_token<W: Write>(out: &mut W, s: &[u8], t: Token) -> io::Result<()> {
-    put_number(out, t.kind as usize)?;
-    put(out, b"@")?;
-    put_number(out, t.start)?;
-    put(out, b"-")?;
-    put_number(out, t.end)?;
+    write!(out, "{}@{}-{}", t.kind, t.start, t.end)?;
     put_value(out, s, t)
 }
 
 fn show<W: Write>(out: &mut W, s: &[u8]) -> io::Result<()> {
+    // Kept: a turn goes on behind a token, so there is no range to go over.
     let mut mode = kind::BEFORE;
     let mut at: usize = 0;
     while at <= s.len() {
         let t = token_at(s, mode, at);
         put_token(out, s, t)?;
-        if t.end <= at {
+        if t.end <= at || t.kind <= kind::BAD_LINE {
             break;
         }
-        if t.kind <= kind::BAD_LINE {
-            break;
-        }
-        put(out, b" ")?;
+        out.write_all(b" ")?;
         mode = kind::mode_after(mode, t.kind);
         at = t.end;
     }
-    put(out, b"\n")
+    out.write_all(b"\n")
 }
 
 fn hex_value(b: u8) -> u8
     ensures { result < 16 }
 {
-    if b < b'0' {
-        return 0;
+    match b {
+        b'0'..=b'9' => b - b'0',
+        b'a'..=b'f' => b - b'a' + 10,
+        _ => 0,
     }
-    if b <= b'9' {
-        return b - b'0';
-    }
-    if b < b'a' {
-        return 0;
-    }
-    if b'f' < b {
-        return 0;
-    }
-    b - b'a' + 10
 }
 
 // The byte that a backslash and b stand for; \xHH has its digits in c and d.
 fn escaped(b: u8, c: u8, d: u8) -> u8 {
-    if b == b'n' {
-        return 10;
+    match b {
+        b'n' => b'\n',
+        b'r' => b'\r',
+        b't' => b'\t',
+        b'0' => 0,
+        b'x' => hex_value(c) * 16 + hex_value(d),
+        _ => b,
     }
-    if b == b'r' {
-        return 13;
-    }
-    if b == b't' {
-        return 9;
-    }
-    if b == b'0' {
-        return 0;
-    }
-    if b == b'x' {
-        return hex_value(c) * 16 + hex_value(d);
-    }
-    b
 }
 
 fn escape_width(b: u8) -> usize
     ensures { result ≤ 4 }
 {
-    if b == b'x' {
-        return 4;
-    }
-    2
+    if b == b'x' { 4 } else { 2 }
 }
 
 #[derive(Clone, Copy)]
@@ -178,10 +135,11 @@ fn piece_at(d: &[u8], i: usize) -> Piece {
 
 // Shows each line of d; `text` holds a line's bytes.
 fn show_all<W: Write>(out: &mut W, d: &[u8], text: &mut [u8]) -> io::Result<()> {
+    // Kept: a turn goes on behind a piece, and one buffer of fixed size holds each line in turn.
     let mut i: usize = 0;
     let mut n: usize = 0;
     while i < d.len() {
-        if d[i] == 10 {
+        if d[i] == b'\n' {
             show(out, &text[..n])?;
             n = 0;
             i += 1;

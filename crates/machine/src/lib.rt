@@ -21,26 +21,19 @@ ghost use Rattle.machine.specs.Working.Alike.{is_alike, agrees, alike_on};
 ghost use Rattle.machine.specs.Working.Joining.{is_joining, join_on};
 
 use expression::integer::in_range;
-use expression::name::lookup;
+use expression::name::Scope;
 use expression::operator::{apply, combine, of_naturals, top_rank};
 use expression::value::{
     Operand, Packed, is_fault, is_text, kind_of, rank_in, size_of, told, unpack, width_of,
 };
-use lexical::literal::{Decoded, bare_end, decode_within};
+use lexical::literal::{DecodeError, bare_end, decode_within};
 use limits::MOST_STRING;
 
-// How many numbers and bytes the stacks hold; or that the machine can't go on, the code being none or a buffer too small.
+// How many numbers and bytes the stacks hold. There is none where the machine can't go on, the code being none or a buffer too small.
 #[derive(Clone, Copy)]
-pub enum Tops {
-    At { numbers: usize, bytes: usize },
-    Stuck,
-}
-
-// How many bytes a string has that code gives; or that the machine can't go on.
-#[derive(Clone, Copy)]
-pub enum Given {
-    Bytes { count: usize },
-    Stuck,
+pub struct Tops {
+    pub numbers: usize,
+    pub bytes: usize,
 }
 
 fn wide(x: u32) -> usize
@@ -67,7 +60,7 @@ fn digits_end(s: &[u8], at: usize) -> usize
     if s.len() <= at {
         return at;
     }
-    at + text::front(&s[at..], text::DIGIT)
+    at + text::front(&s[at..], text::Class::Digit)
 }
 
 // The float that the literal from a place on writes.
@@ -86,25 +79,25 @@ fn decimal_at(s: &[u8], at: usize) -> f32
 }
 
 // Puts an operand on a stack of n numbers; t is where its string ends.
-fn put(stack: &mut [u64], n: usize, t: usize, v: Operand) -> Tops
+fn put(stack: &mut [u64], n: usize, t: usize, v: Operand) -> Option<Tops>
     requires { n ≤ length stack.old }
     ensures { landed result stack.new ≡ put_at stack.old n t v }
 {
     if stack.len() < n + 2 {
-        return Tops::Stuck;
+        return None;
     }
     let k = kind_of(v);
     let m = size_of(v);
     stack[n] = k;
     stack[n + 1] = m;
-    Tops::At {
+    Some(Tops {
         numbers: n + 2,
         bytes: t,
-    }
+    })
 }
 
 // Puts a string on the stacks.
-fn push_text(stack: &mut [u64], n: usize, bytes: &mut [u8], t: usize, b: &[u8]) -> Tops
+fn push_text(stack: &mut [u64], n: usize, bytes: &mut [u8], t: usize, b: &[u8]) -> Option<Tops>
     requires { (n ≤ length stack.old) × (t ≤ length bytes.old) }
     ensures { Live result stack.new bytes.new (text_step (length stack.old) (length bytes.old) b.now (take n stack.old) (take t bytes.old)) }
 {
@@ -112,10 +105,10 @@ fn push_text(stack: &mut [u64], n: usize, bytes: &mut [u8], t: usize, b: &[u8]) 
     if MOST_STRING < k {
         return put(stack, n, t, Operand::Fault);
     }
-    if text::copy_long(bytes, t, b) {
+    if text::copy_at(bytes, t, b) {
         return put(stack, n, t + k, Operand::Text { length: k });
     }
-    Tops::Stuck
+    None
 }
 
 // Puts what a literal gives on the stacks; one of plain bytes as it stands, which buys 6 % of an error in every one, by reference.
@@ -126,18 +119,17 @@ fn push_literal(
     n: usize,
     bytes: &mut [u8],
     t: usize,
-) -> Tops
+) -> Option<Tops>
     requires { (n ≤ length stack.old) × (t ≤ length bytes.old) }
     ensures { Live result stack.new bytes.new (text_step (length stack.old) (length bytes.old) (decoded_at s.now at) (take n stack.old) (take t bytes.old)) }
 {
-    let e = bare_end(s, at);
-    if e != 0 {
-        return push_text(stack, n, bytes, t, &s[at + 1..e]);
+    if let Some(end) = bare_end(s, at) {
+        return push_text(stack, n, bytes, t, &s[at + 1..end]);
     }
     match decode_within(s, at, bytes, t, MOST_STRING) {
-        Decoded::Long => put(stack, n, t, Operand::Fault),
-        Decoded::Full => Tops::Stuck,
-        Decoded::Put { count } => put(stack, n, t + count, Operand::Text { length: count }),
+        Ok(length) => put(stack, n, t + length, Operand::Text { length }),
+        Err(DecodeError::Long) => put(stack, n, t, Operand::Fault),
+        Err(DecodeError::Full) => None,
     }
 }
 
@@ -155,69 +147,64 @@ fn top(stack: &[u64], n: usize) -> Operand
 // The topmost operand gives way to what an operation makes of it.
 fn unary_step(
     op: u32,
-    query: &[u8],
-    values: &[usize],
+    scope: &Scope,
     stack: &mut [u64],
     n: usize,
     bytes: &[u8],
     t: usize,
-) -> Tops
+) -> Option<Tops>
     requires { (n ≤ length stack.old) × (t ≤ length bytes.now) }
-    ensures { Live result stack.new bytes.now (unary_step (length stack.old) (map (counted query.now) values.now) op (take n stack.old) (take t bytes.now)) }
+    ensures { Live result stack.new bytes.now (unary_step (length stack.old) (map (counted scope.now.query.now) scope.now.values.now) op (take n stack.old) (take t bytes.now)) }
 {
     if n < 2 {
-        return Tops::Stuck;
+        return None;
     }
     let x = top(stack, n);
     let w = width_of(x);
     if t < w {
-        return Tops::Stuck;
+        return None;
     }
-    let v = apply(op, x, &bytes[t - w..t], query, values);
+    let v = apply(op, x, &bytes[t - w..t], scope.query, scope.values);
     put(stack, n - 2, t - w, v)
 }
 
 // The topmost string gives way to the value of the name that it is.
-fn lookup_step<'a>(
-    query: &'a [u8],
-    consts: &'a [u8],
-    values: &[usize],
-    names: &[usize],
-    constants: &[usize],
+fn lookup_step(
+    scope: &Scope,
     stack: &mut [u64],
     n: usize,
     bytes: &mut [u8],
     t: usize,
-) -> Tops
+) -> Option<Tops>
     requires { (n ≤ length stack.old) × (t ≤ length bytes.old) }
-    ensures { Live result stack.new bytes.new (lookup_step (length stack.old) (length bytes.old) (lookup_in query.now consts.now values.now names.now constants.now) (take n stack.old) (take t bytes.old)) }
+    ensures { Live result stack.new bytes.new (lookup_step (length stack.old) (length bytes.old) (lookup_in scope.now.query.now scope.now.consts.now scope.now.values.now scope.now.names.now scope.now.constants.now) (take n stack.old) (take t bytes.old)) }
 {
     if n < 2 {
-        return Tops::Stuck;
+        return None;
     }
     let x = top(stack, n);
     let w = width_of(x);
     if t < w {
-        return Tops::Stuck;
+        return None;
     }
     if is_text(x) {
-        let b = lookup(query, consts, values, names, constants, &bytes[t - w..t]);
+        let b = scope.lookup(&bytes[t - w..t]);
         return push_text(stack, n - 2, bytes, t - w, b);
     }
     put(stack, n - 2, t - w, Operand::Fault)
 }
 
 // Puts an operand whose string starts at `base`, below the top t.
-fn put_below(stack: &mut [u64], n: usize, t: usize, base: usize, v: Operand) -> Tops
+fn put_below(stack: &mut [u64], n: usize, t: usize, base: usize, v: Operand) -> Option<Tops>
     requires { n ≤ length stack.old }
     ensures { landed result stack.new ≡ put_below stack.old n t base v }
 {
     let w = width_of(v);
     if t < base {
-        return Tops::Stuck;
+        return None;
     }
     if t - base < w {
-        return Tops::Stuck;
+        return None;
     }
     put(stack, n, base + w, v)
 }
@@ -227,41 +214,48 @@ fn binary_on(
     op: u32,
     x: Operand,
     y: Operand,
-    query: &[u8],
-    values: &[usize],
+    scope: &Scope,
     stack: &mut [u64],
     n: usize,
     bytes: &[u8],
     t: usize,
-) -> Tops
+) -> Option<Tops>
     requires { (n ≤ length stack.old) × (t ≤ length bytes.now) }
-    ensures { Live result stack.new bytes.now (binary_on (length stack.old) (map (counted query.now) values.now) op x y (take n stack.old) (take t bytes.now)) }
+    ensures { Live result stack.new bytes.now (binary_on (length stack.old) (map (counted scope.now.query.now) scope.now.values.now) op x y (take n stack.old) (take t bytes.now)) }
 {
     let wy = width_of(y);
     let wx = width_of(x);
     if t < wy {
-        return Tops::Stuck;
+        return None;
     }
     let mid = t - wy;
     if mid < wx {
-        return Tops::Stuck;
+        return None;
     }
     let base = mid - wx;
-    let v = combine(op, x, y, &bytes[base..mid], &bytes[mid..t], query, values);
+    let v = combine(
+        op,
+        x,
+        y,
+        &bytes[base..mid],
+        &bytes[mid..t],
+        scope.query,
+        scope.values,
+    );
     put_below(stack, n, t, base, v)
 }
 
 // Puts a packed operand on a stack of n numbers that has room for it.
-fn land(stack: &mut [u64], n: usize, t: usize, q: Packed) -> Tops
+fn land(stack: &mut [u64], n: usize, t: usize, q: Packed) -> Option<Tops>
     requires { n + 2 ≤ length stack.old }
     ensures { landed result stack.new ≡ put_two stack.old n t q.kind q.size }
 {
     stack[n] = q.kind;
     stack[n + 1] = q.size;
-    Tops::At {
+    Some(Tops {
         numbers: n + 2,
         bytes: t,
-    }
+    })
 }
 
 // Is it an operation on integers, and are both kinds those of integers without a sign?
@@ -378,16 +372,16 @@ fn texts_step(
     n: usize,
     bytes: &[u8],
     t: usize,
-) -> Tops
+) -> Option<Tops>
     requires { (n + 2 ≤ length stack.old) × (t ≤ length bytes.now) }
     ensures { Live result stack.new bytes.now (alike_on (length stack.old) op wx wy (take n stack.old) (take t bytes.now)) }
 {
     if t < wy {
-        return Tops::Stuck;
+        return None;
     }
     let mid = t - wy;
     if mid < wx {
-        return Tops::Stuck;
+        return None;
     }
     let base = mid - wx;
     let same = text::same_long(&bytes[base..mid], &bytes[mid..t]);
@@ -409,16 +403,23 @@ fn is_joining(op: u32, x: u64, y: u64) -> bool
 }
 
 // Two strings that end the bytes give way to the one that they make where they lie; one that is too long is a fault.
-fn join_step(wx: usize, wy: usize, stack: &mut [u64], n: usize, bytes: &[u8], t: usize) -> Tops
+fn join_step(
+    wx: usize,
+    wy: usize,
+    stack: &mut [u64],
+    n: usize,
+    bytes: &[u8],
+    t: usize,
+) -> Option<Tops>
     requires { (n + 2 ≤ length stack.old) × (t ≤ length bytes.now) }
     ensures { Live result stack.new bytes.now (join_on (length stack.old) wx wy (take n stack.old) (take t bytes.now)) }
 {
     if t < wy {
-        return Tops::Stuck;
+        return None;
     }
     let mid = t - wy;
     if mid < wx {
-        return Tops::Stuck;
+        return None;
     }
     if MOST_STRING < wx + wy {
         return put(stack, n, mid - wx, Operand::Fault);
@@ -429,40 +430,38 @@ fn join_step(wx: usize, wy: usize, stack: &mut [u64], n: usize, bytes: &[u8], t:
 // The two topmost operands give way to what an operation makes of them.
 fn binary_step(
     op: u32,
-    query: &[u8],
-    values: &[usize],
+    scope: &Scope,
     stack: &mut [u64],
     n: usize,
     bytes: &[u8],
     t: usize,
-) -> Tops
+) -> Option<Tops>
     requires { (n ≤ length stack.old) × (t ≤ length bytes.now) }
-    ensures { Live result stack.new bytes.now (binary_step (length stack.old) (map (counted query.now) values.now) op (take n stack.old) (take t bytes.now)) }
+    ensures { Live result stack.new bytes.now (binary_step (length stack.old) (map (counted scope.now.query.now) scope.now.values.now) op (take n stack.old) (take t bytes.now)) }
 {
     if n < 4 {
-        return Tops::Stuck;
+        return None;
     }
     let y = top(stack, n);
     let x = top(stack, n - 2);
-    binary_on(op, x, y, query, values, stack, n - 4, bytes, t)
+    binary_on(op, x, y, scope, stack, n - 4, bytes, t)
 }
 
 // `binary_step` of an operator of expressions, by the numbers alone where the operands are integers without a sign (it buys 33 % of integers),
 // tests (23 % of tests) or strings to be compared (9 % of escapes) or joined (11 % of long literals joined).
 fn operator_step(
     op: u32,
-    query: &[u8],
-    values: &[usize],
+    scope: &Scope,
     stack: &mut [u64],
     n: usize,
     bytes: &[u8],
     t: usize,
-) -> Tops
+) -> Option<Tops>
     requires { (n ≤ length stack.old) × (t ≤ length bytes.now) }
-    ensures { Live result stack.new bytes.now (binary_step (length stack.old) (map (counted query.now) values.now) op (take n stack.old) (take t bytes.now)) }
+    ensures { Live result stack.new bytes.now (binary_step (length stack.old) (map (counted scope.now.query.now) scope.now.values.now) op (take n stack.old) (take t bytes.now)) }
 {
     if n < 4 {
-        return Tops::Stuck;
+        return None;
     }
     if is_natural(op, stack[n - 4], stack[n - 2]) {
         let q = of_naturals(op, stack[n - 3], stack[n - 1]);
@@ -484,7 +483,7 @@ fn operator_step(
         let wy = count_of(stack[n - 1]);
         return join_step(wx, wy, stack, n - 4, bytes, t);
     }
-    binary_step(op, query, values, stack, n, bytes, t)
+    binary_step(op, scope, stack, n, bytes, t)
 }
 
 fn greater(x: u64, y: u64) -> u64
@@ -498,19 +497,12 @@ fn greater(x: u64, y: u64) -> u64
 
 // `binary_step` of RAISE, which brings the rank on top to the one below it: by the numbers alone where both are ranks. With `plain_step`'s it
 // buys 22 % of clauses.
-fn raise_step(
-    query: &[u8],
-    values: &[usize],
-    stack: &mut [u64],
-    n: usize,
-    bytes: &[u8],
-    t: usize,
-) -> Tops
+fn raise_step(scope: &Scope, stack: &mut [u64], n: usize, bytes: &[u8], t: usize) -> Option<Tops>
     requires { (n ≤ length stack.old) × (t ≤ length bytes.now) }
-    ensures { Live result stack.new bytes.now (binary_step (length stack.old) (map (counted query.now) values.now) RAISE (take n stack.old) (take t bytes.now)) }
+    ensures { Live result stack.new bytes.now (binary_step (length stack.old) (map (counted scope.now.query.now) scope.now.values.now) RAISE (take n stack.old) (take t bytes.now)) }
 {
     if n < 4 {
-        return Tops::Stuck;
+        return None;
     }
     if stack[n - 4] == 5 {
         if stack[n - 2] == 5 {
@@ -518,7 +510,7 @@ fn raise_step(
             return land(stack, n - 4, t, Packed { kind: 5, size: m });
         }
     }
-    binary_step(syntax::RAISE, query, values, stack, n, bytes, t)
+    binary_step(syntax::RAISE, scope, stack, n, bytes, t)
 }
 
 // The rank of a clause that is a test of that kind.
@@ -532,30 +524,21 @@ fn rank_told(kind: u64, values: &[usize]) -> u64
 }
 
 // Brings a clause that is a test to a rank, and that to its program's.
-fn plain_step(
-    query: &[u8],
-    values: &[usize],
-    stack: &mut [u64],
-    n: usize,
-    bytes: &[u8],
-    t: usize,
-) -> Tops
+fn plain_step(scope: &Scope, stack: &mut [u64], n: usize, bytes: &[u8], t: usize) -> Option<Tops>
     requires { (n ≤ length stack.old) × (t ≤ length bytes.now) }
-    ensures { Live result stack.new bytes.now (raised (length stack.old) (map (counted query.now) values.now) (unary_step (length stack.old) (map (counted query.now) values.now) PLAIN (take n stack.old) (take t bytes.now))) }
+    ensures { Live result stack.new bytes.now (raised (length stack.old) (map (counted scope.now.query.now) scope.now.values.now) (unary_step (length stack.old) (map (counted scope.now.query.now) scope.now.values.now) PLAIN (take n stack.old) (take t bytes.now))) }
 {
     if 4 <= n {
         if stack[n - 4] == 5 {
             if is_told(stack[n - 2]) {
-                let m = rank_told(stack[n - 2], values);
+                let m = rank_told(stack[n - 2], scope.values);
                 let k = greater(stack[n - 3], m);
                 return land(stack, n - 4, t, Packed { kind: 5, size: k });
             }
         }
     }
-    match unary_step(syntax::PLAIN, query, values, stack, n, bytes, t) {
-        Tops::Stuck => Tops::Stuck,
-        Tops::At { numbers, bytes: b } => raise_step(query, values, stack, numbers, bytes, b),
-    }
+    let top = unary_step(syntax::PLAIN, scope, stack, n, bytes, t)?;
+    raise_step(scope, stack, top.numbers, bytes, top.bytes)
 }
 
 fn is_true(op: u32) -> bool
@@ -565,28 +548,24 @@ fn is_true(op: u32) -> bool
 }
 
 // Puts a literal, a name's value, a number, a float or a test on the stacks.
-fn push_step<'a>(
+fn push_step(
     op: u32,
     at: usize,
     s: &[u8],
-    query: &'a [u8],
-    consts: &'a [u8],
-    values: &[usize],
-    names: &[usize],
-    constants: &[usize],
+    scope: &Scope,
     stack: &mut [u64],
     n: usize,
     bytes: &mut [u8],
     t: usize,
-) -> Tops
+) -> Option<Tops>
     requires { (n ≤ length stack.old) × (t ≤ length bytes.old) }
-    ensures { Live result stack.new bytes.new (push_step (length stack.old) (length bytes.old) s.now (lookup_in query.now consts.now values.now names.now constants.now) op at (take n stack.old) (take t bytes.old)) }
+    ensures { Live result stack.new bytes.new (push_step (length stack.old) (length bytes.old) s.now (lookup_in scope.now.query.now scope.now.consts.now scope.now.values.now scope.now.names.now scope.now.constants.now) op at (take n stack.old) (take t bytes.old)) }
 {
     if op == syntax::LITERAL {
         return push_literal(s, at, stack, n, bytes, t);
     }
     if op == syntax::NAME {
-        let b = lookup(query, consts, values, names, constants, word_at(s, at));
+        let b = scope.lookup(word_at(s, at));
         return push_text(stack, n, bytes, t, b);
     }
     if op == syntax::NUMBER {
@@ -618,60 +597,53 @@ fn is_idle(stack: &[u64], n: usize) -> bool
 // Brings the clause on top to a rank, and that to its program's; or a program begins.
 fn clause_step(
     op: u32,
-    query: &[u8],
-    values: &[usize],
+    scope: &Scope,
     stack: &mut [u64],
     n: usize,
     bytes: &[u8],
     t: usize,
-) -> Tops
+) -> Option<Tops>
     requires { (n ≤ length stack.old) × (t ≤ length bytes.now) }
-    ensures { Live result stack.new bytes.now (clause_step (length stack.old) (map (counted query.now) values.now) op (take n stack.old) (take t bytes.now)) }
+    ensures { Live result stack.new bytes.now (clause_step (length stack.old) (map (counted scope.now.query.now) scope.now.values.now) op (take n stack.old) (take t bytes.now)) }
 {
     if op == syntax::BEGIN {
         return put(stack, n, t, Operand::Rank { rank: 0 });
     }
     if op == syntax::PLAIN {
-        return plain_step(query, values, stack, n, bytes, t);
+        return plain_step(scope, stack, n, bytes, t);
     }
     if is_idle(stack, n) {
-        return Tops::At {
+        return Some(Tops {
             numbers: n - 2,
             bytes: t,
-        };
+        });
     }
-    match binary_step(op, query, values, stack, n, bytes, t) {
-        Tops::Stuck => Tops::Stuck,
-        Tops::At { numbers, bytes: b } => raise_step(query, values, stack, numbers, bytes, b),
-    }
+    let top = binary_step(op, scope, stack, n, bytes, t)?;
+    raise_step(scope, stack, top.numbers, bytes, top.bytes)
 }
 
 // An operation on what lies on the stacks.
-fn act<'a>(
+fn act(
     op: u32,
-    query: &'a [u8],
-    consts: &'a [u8],
-    values: &[usize],
-    names: &[usize],
-    constants: &[usize],
+    scope: &Scope,
     stack: &mut [u64],
     n: usize,
     bytes: &mut [u8],
     t: usize,
-) -> Tops
+) -> Option<Tops>
     requires { (n ≤ length stack.old) × (t ≤ length bytes.old) }
-    ensures { Live result stack.new bytes.new (act_of (length stack.old) (length bytes.old) (lookup_in query.now consts.now values.now names.now constants.now) (map (counted query.now) values.now) op (take n stack.old) (take t bytes.old)) }
+    ensures { Live result stack.new bytes.new (act_of (length stack.old) (length bytes.old) (lookup_in scope.now.query.now scope.now.consts.now scope.now.values.now scope.now.names.now scope.now.constants.now) (map (counted scope.now.query.now) scope.now.values.now) op (take n stack.old) (take t bytes.old)) }
 {
     if op == syntax::LOOKUP {
-        return lookup_step(query, consts, values, names, constants, stack, n, bytes, t);
+        return lookup_step(scope, stack, n, bytes, t);
     }
     if op <= syntax::FLOAT_NEGATE {
-        return unary_step(op, query, values, stack, n, bytes, t);
+        return unary_step(op, scope, stack, n, bytes, t);
     }
     if op <= syntax::EITHER {
-        return operator_step(op, query, values, stack, n, bytes, t);
+        return operator_step(op, scope, stack, n, bytes, t);
     }
-    clause_step(op, query, values, stack, n, bytes, t)
+    clause_step(op, scope, stack, n, bytes, t)
 }
 
 // A test that doesn't hold lies below k operands when an operation comes: is it no left side of "&&" any more?
@@ -832,296 +804,144 @@ fn onward(code: &[u32], i: usize, stack: &[u64], n: usize, values: &[usize]) -> 
 
 // Runs code over the assertion's text: where its operands and their bytes end on the stacks. Where the code is none or a buffer is too small,
 // it is stuck.
-fn run_live<'a>(
+fn run_live(
     code: &[u32],
     s: &[u8],
-    query: &'a [u8],
-    consts: &'a [u8],
-    values: &[usize],
-    names: &[usize],
-    constants: &[usize],
+    scope: &Scope,
     stack: &mut [u64],
     bytes: &mut [u8],
-) -> Tops
-    ensures { Live result stack.new bytes.new (exec (length stack.old) (length bytes.old) s.now (lookup_in query.now consts.now values.now names.now constants.now) (map (counted query.now) values.now) code.now (on [] [])) }
+) -> Option<Tops>
+    ensures { Live result stack.new bytes.new (exec (length stack.old) (length bytes.old) s.now (lookup_in scope.now.query.now scope.now.consts.now scope.now.values.now scope.now.names.now scope.now.constants.now) (map (counted scope.now.query.now) scope.now.values.now) code.now (on [] [])) }
 {
     let mut n: usize = 0;
     let mut t: usize = 0;
     let mut i: usize = 0;
+    // Kept: a turn may go on far behind its entry (`onward`), so there is no range to go over.
     while i < code.len() {
         let e = code[i];
         let op = e / 65536;
         let at = wide(e % 65536);
         if op <= syntax::DECIMAL {
-            match push_step(
-                op, at, s, query, consts, values, names, constants, stack, n, bytes, t,
-            ) {
-                Tops::Stuck => {
-                    return Tops::Stuck;
-                }
-                Tops::At { numbers, bytes: b } => {
-                    n = numbers;
-                    t = b;
-                    i += 1;
-                }
-            }
+            let top = push_step(op, at, s, scope, stack, n, bytes, t)?;
+            n = top.numbers;
+            t = top.bytes;
+            i += 1;
         } else {
-            match act(
-                op, query, consts, values, names, constants, stack, n, bytes, t,
-            ) {
-                Tops::Stuck => {
-                    return Tops::Stuck;
-                }
-                Tops::At { numbers, bytes: b } => {
-                    n = numbers;
-                    t = b;
-                    i = onward(code, i + 1, stack, n, values);
-                }
-            }
+            let top = act(op, scope, stack, n, bytes, t)?;
+            n = top.numbers;
+            t = top.bytes;
+            i = onward(code, i + 1, stack, n, scope.values);
         }
     }
-    Tops::At {
+    Some(Tops {
         numbers: n,
         bytes: t,
-    }
+    })
 }
 
 // Runs compiled Conditions over the assertion's text: the operand left on top, for a program its rank. Where the code is none or
 // a buffer is too small, a fault.
-fn run<'a>(
-    code: &[u32],
-    s: &[u8],
-    query: &'a [u8],
-    consts: &'a [u8],
-    values: &[usize],
-    names: &[usize],
-    constants: &[usize],
-    stack: &mut [u64],
-    bytes: &mut [u8],
-) -> Operand
-    ensures { result ≡ result_of (exec (length stack.old) (length bytes.old) s.now (lookup_in query.now consts.now values.now names.now constants.now) (map (counted query.now) values.now) code.now (on [] [])) }
+fn run(code: &[u32], s: &[u8], scope: &Scope, stack: &mut [u64], bytes: &mut [u8]) -> Operand
+    ensures { result ≡ result_of (exec (length stack.old) (length bytes.old) s.now (lookup_in scope.now.query.now scope.now.consts.now scope.now.values.now scope.now.names.now scope.now.constants.now) (map (counted scope.now.query.now) scope.now.values.now) code.now (on [] [])) }
 {
-    match run_live(
-        code, s, query, consts, values, names, constants, stack, bytes,
-    ) {
-        Tops::Stuck => Operand::Fault,
-        Tops::At { numbers, bytes: _ } => top(stack, numbers),
+    match run_live(code, s, scope, stack, bytes) {
+        None => Operand::Fault,
+        Some(tops) => top(stack, tops.numbers),
     }
 }
 
-// The machine on stacks of its own, with little room. It buys 20 % of licences.
-fn run_narrow<'a>(
-    code: &[u32],
-    s: &[u8],
-    query: &'a [u8],
-    consts: &'a [u8],
-    values: &[usize],
-    names: &[usize],
-    constants: &[usize],
-) -> Operand
-    ensures { result ≡ left_in 32 256 code.now s.now query.now consts.now values.now names.now constants.now }
-{
-    let mut stack = [0u64; 32];
-    let mut bytes = [0u8; 256];
-    run(
-        code, s, query, consts, values, names, constants, &mut stack, &mut bytes,
-    )
-}
-
-// The same with room for some strings. It buys 11 % of the pattern "stars".
-fn run_middle<'a>(
-    code: &[u32],
-    s: &[u8],
-    query: &'a [u8],
-    consts: &'a [u8],
-    values: &[usize],
-    names: &[usize],
-    constants: &[usize],
-) -> Operand
-    ensures { result ≡ left_in 208 8192 code.now s.now query.now consts.now values.now names.now constants.now }
-{
-    let mut stack = [0u64; 208];
-    let mut bytes = [0u8; 8192];
-    run(
-        code, s, query, consts, values, names, constants, &mut stack, &mut bytes,
-    )
-}
-
-// The same with all the room that Conditions may need.
+// The machine on stacks of its own, for so many numbers and bytes.
 #[inline(never)]
-fn run_wide<'a>(
+fn run_within<const DEPTH: usize, const SPACE: usize>(
     code: &[u32],
     s: &[u8],
-    query: &'a [u8],
-    consts: &'a [u8],
-    values: &[usize],
-    names: &[usize],
-    constants: &[usize],
+    scope: &Scope,
 ) -> Operand
-    ensures { result ≡ left_in 208 77824 code.now s.now query.now consts.now values.now names.now constants.now }
+    requires { (DEPTH ≤ 208) × (SPACE ≤ 77824) }
+    ensures { result ≡ left_in DEPTH SPACE code.now s.now scope.now.query.now scope.now.consts.now scope.now.values.now scope.now.names.now scope.now.constants.now }
 {
-    let mut stack = [0u64; 208];
-    let mut bytes = [0u8; 77824];
-    run(
-        code, s, query, consts, values, names, constants, &mut stack, &mut bytes,
-    )
+    let mut stack = [0u64; DEPTH];
+    let mut bytes = [0u8; SPACE];
+    run(code, s, scope, &mut stack, &mut bytes)
 }
 
 // The rank that compiled Conditions leave, run on stacks of its own, with more and more room. It calls itself so that the compiler keeps the
 // large tables apart.
-fn run_on<'a>(
-    tier: usize,
-    code: &[u32],
-    s: &[u8],
-    query: &'a [u8],
-    consts: &'a [u8],
-    values: &[usize],
-    names: &[usize],
-    constants: &[usize],
-) -> usize
-    ensures { result ≡ rank_in (left_in 208 77824 code.now s.now query.now consts.now values.now names.now constants.now) }
+fn run_on(tier: usize, code: &[u32], s: &[u8], scope: &Scope) -> usize
+    ensures { result ≡ rank_in (left_in 208 77824 code.now s.now scope.now.query.now scope.now.consts.now scope.now.values.now scope.now.names.now scope.now.constants.now) }
 {
     if tier == 0 {
-        let v = run_narrow(code, s, query, consts, values, names, constants);
+        let v = run_within::<32, 256>(code, s, scope);
         if is_fault(v) {
-            return run_on(1, code, s, query, consts, values, names, constants);
+            return run_on(1, code, s, scope);
         }
         return rank_in(v);
     }
     if tier == 1 {
-        let v = run_middle(code, s, query, consts, values, names, constants);
+        let v = run_within::<208, 8192>(code, s, scope);
         if is_fault(v) {
-            return run_on(2, code, s, query, consts, values, names, constants);
+            return run_on(2, code, s, scope);
         }
         return rank_in(v);
     }
-    rank_in(run_wide(code, s, query, consts, values, names, constants))
+    rank_in(run_within::<208, 77824>(code, s, scope))
 }
 
 // The rank that compiled Conditions leave, run on stacks of its own: with little room first, which most need no more than.
-pub fn run_here<'a>(
-    code: &[u32],
-    s: &[u8],
-    query: &'a [u8],
-    consts: &'a [u8],
-    values: &[usize],
-    names: &[usize],
-    constants: &[usize],
-) -> usize
-    ensures { result ≡ rank_in (left_in 208 77824 code.now s.now query.now consts.now values.now names.now constants.now) }
+pub fn run_here(code: &[u32], s: &[u8], scope: &Scope) -> usize
+    ensures { result ≡ rank_in (left_in 208 77824 code.now s.now scope.now.query.now scope.now.consts.now scope.now.values.now scope.now.names.now scope.now.constants.now) }
 {
-    run_on(0, code, s, query, consts, values, names, constants)
+    run_on(0, code, s, scope)
 }
 
 // The string that code gives, run on the stacks lent: how many bytes it has. They are put into `out` where they fit.
-fn string_in<'a>(
+fn string_in(
     code: &[u32],
     s: &[u8],
-    query: &'a [u8],
-    consts: &'a [u8],
-    values: &[usize],
-    names: &[usize],
-    constants: &[usize],
+    scope: &Scope,
     stack: &mut [u64],
     bytes: &mut [u8],
     out: &mut [u8],
-) -> Given
-    ensures { gave result out.new ≡ string_of (exec (length stack.old) (length bytes.old) s.now (lookup_in query.now consts.now values.now names.now constants.now) (map (counted query.now) values.now) code.now (on [] [])) out.old }
+) -> Option<usize>
+    ensures { gave result out.new ≡ string_of (exec (length stack.old) (length bytes.old) s.now (lookup_in scope.now.query.now scope.now.consts.now scope.now.values.now scope.now.names.now scope.now.constants.now) (map (counted scope.now.query.now) scope.now.values.now) code.now (on [] [])) out.old }
 {
-    match run_live(
-        code, s, query, consts, values, names, constants, stack, bytes,
-    ) {
-        Tops::Stuck => Given::Stuck,
-        Tops::At {
-            numbers: _,
-            bytes: t,
-        } => {
-            text::copy_at(out, 0, &bytes[..t]);
-            Given::Bytes { count: t }
-        }
-    }
+    let tops = run_live(code, s, scope, stack, bytes)?;
+    text::copy_at(out, 0, &bytes[..tops.bytes]);
+    Some(tops.bytes)
 }
 
-// The same on stacks of its own, with little room. Without it an error in every one, by reference, takes 4 times as long.
-fn string_narrow<'a>(
-    code: &[u32],
-    s: &[u8],
-    query: &'a [u8],
-    consts: &'a [u8],
-    values: &[usize],
-    names: &[usize],
-    constants: &[usize],
-    out: &mut [u8],
-) -> Given
-    ensures { gave result out.new ≡ string_in 32 512 code.now s.now query.now consts.now values.now names.now constants.now out.old }
-{
-    let mut stack = [0u64; 32];
-    let mut bytes = [0u8; 512];
-    string_in(
-        code, s, query, consts, values, names, constants, &mut stack, &mut bytes, out,
-    )
-}
-
-// The same with all the room that a string may need.
+// The same on stacks of its own, for so many numbers and bytes.
 #[inline(never)]
-fn string_wide<'a>(
+fn string_within<const DEPTH: usize, const SPACE: usize>(
     code: &[u32],
     s: &[u8],
-    query: &'a [u8],
-    consts: &'a [u8],
-    values: &[usize],
-    names: &[usize],
-    constants: &[usize],
+    scope: &Scope,
     out: &mut [u8],
-) -> Given
-    ensures { gave result out.new ≡ string_in 208 77824 code.now s.now query.now consts.now values.now names.now constants.now out.old }
+) -> Option<usize>
+    requires { (DEPTH ≤ 208) × (SPACE ≤ 77824) }
+    ensures { gave result out.new ≡ string_in DEPTH SPACE code.now s.now scope.now.query.now scope.now.consts.now scope.now.values.now scope.now.names.now scope.now.constants.now out.old }
 {
-    let mut stack = [0u64; 208];
-    let mut bytes = [0u8; 77824];
-    string_in(
-        code, s, query, consts, values, names, constants, &mut stack, &mut bytes, out,
-    )
+    let mut stack = [0u64; DEPTH];
+    let mut bytes = [0u8; SPACE];
+    string_in(code, s, scope, &mut stack, &mut bytes, out)
 }
 
 // The same with little room first. It calls itself so that the compiler keeps the large tables apart.
-fn string_on<'a>(
-    tier: usize,
-    code: &[u32],
-    s: &[u8],
-    query: &'a [u8],
-    consts: &'a [u8],
-    values: &[usize],
-    names: &[usize],
-    constants: &[usize],
-    out: &mut [u8],
-) -> Given
-    ensures { gave result out.new ≡ string_in 208 77824 code.now s.now query.now consts.now values.now names.now constants.now out.old }
+fn string_on(tier: usize, code: &[u32], s: &[u8], scope: &Scope, out: &mut [u8]) -> Option<usize>
+    ensures { gave result out.new ≡ string_in 208 77824 code.now s.now scope.now.query.now scope.now.consts.now scope.now.values.now scope.now.names.now scope.now.constants.now out.old }
 {
     if tier == 0 {
-        match string_narrow(code, s, query, consts, values, names, constants, out) {
-            Given::Bytes { count } => {
-                return Given::Bytes { count };
-            }
-            Given::Stuck => {
-                return string_on(1, code, s, query, consts, values, names, constants, out);
-            }
+        if let Some(count) = string_within::<32, 512>(code, s, scope, out) {
+            return Some(count);
         }
+        return string_on(1, code, s, scope, out);
     }
-    string_wide(code, s, query, consts, values, names, constants, out)
+    string_within::<208, 77824>(code, s, scope, out)
 }
 
 // The string that code gives, run on stacks of its own: how many bytes it has. They are put into `out` where they fit.
-pub fn string_here<'a>(
-    code: &[u32],
-    s: &[u8],
-    query: &'a [u8],
-    consts: &'a [u8],
-    values: &[usize],
-    names: &[usize],
-    constants: &[usize],
-    out: &mut [u8],
-) -> Given
-    ensures { gave result out.new ≡ string_in 208 77824 code.now s.now query.now consts.now values.now names.now constants.now out.old }
+pub fn string_here(code: &[u32], s: &[u8], scope: &Scope, out: &mut [u8]) -> Option<usize>
+    ensures { gave result out.new ≡ string_in 208 77824 code.now s.now scope.now.query.now scope.now.consts.now scope.now.values.now scope.now.names.now scope.now.constants.now out.old }
 {
-    string_on(0, code, s, query, consts, values, names, constants, out)
+    string_on(0, code, s, scope, out)
 }

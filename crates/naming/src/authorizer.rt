@@ -6,6 +6,7 @@ ghost use Rattle.naming.specs.Working.Authorizing.{policy_at, barred_at, bar_fau
 use crate::fault::{clear, fault_at};
 use crate::identifier::{Named, is_plain, plain_named, string_named};
 use crate::list::plain_from;
+use expression::name::Scope;
 use fields::out::is_ending;
 use index::Index;
 use lexical::kind;
@@ -17,18 +18,13 @@ use syntax::fault::{Fault, UNIDENTIFIED, UNVERIFIED, misplaced};
 // The standing of a verified credential.
 pub const VERIFIED: u8 = 2;
 
-// The authorizer's number, the index, what is against the identifier, and the token that ends the field; or the first fault of the text.
+// The authorizer's number, the index, what is against the identifier, and the token that ends the field.
 #[derive(Clone, Copy)]
-pub enum Author {
-    On {
-        number: usize,
-        index: Index,
-        fault: Fault,
-        next: Token,
-    },
-    Aside {
-        fault: Fault,
-    },
+pub struct Author {
+    pub number: usize,
+    pub index: Index,
+    pub fault: Fault,
+    pub next: Token,
 }
 
 // Is the principal of that number POLICY?
@@ -63,20 +59,18 @@ fn bar_fault(standing: u8, pool: &[u8], places: &[usize], number: usize, place: 
 }
 
 // The end of the field at t.
-fn finished(number: usize, index: Index, fault: Fault, t: Token) -> Author
+fn finished(number: usize, index: Index, fault: Fault, t: Token) -> Result<Author, Fault>
     ensures { result ≡ authorizer_end number index fault t }
 {
     if is_ending(t.kind) {
-        return Author::On {
+        return Ok(Author {
             number,
             index,
             fault,
             next: t,
-        };
+        });
     }
-    Author::Aside {
-        fault: misplaced(t),
-    }
+    Err(misplaced(t))
 }
 
 // The field whose expression, at that place, is named as e. POLICY stands in for nobody.
@@ -86,12 +80,11 @@ fn authored(
     places: &[usize],
     index: Index,
     place: usize,
-    e: Named,
-) -> Author
+    e: Result<Named, Fault>,
+) -> Result<Author, Fault>
     ensures { result ≡ authored_in standing pool.now places.now index.count index.end place e }
 {
-    match e {
-        Named::Aside { fault } => Author::Aside { fault },
+    match e? {
         Named::Nobody { next } => {
             let f = fault_at(UNIDENTIFIED, place);
             finished(0, index, f, next)
@@ -108,55 +101,39 @@ fn authored(
 }
 
 // The expression whose first token is t, outside any bracket.
-fn author_named<'a>(
+fn author_named(
     s: &[u8],
-    query: &'a [u8],
-    consts: &'a [u8],
-    values: &[usize],
-    names: &[usize],
-    constants: &[usize],
+    scope: &Scope,
     pool: &mut [u8],
     places: &mut [usize],
     index: Index,
     t: Token,
-) -> Named
-    ensures { named result pool.new places.new ≡ author_named s.now (sight query.now consts.now values.now names.now constants.now) pool.old places.old index.count index.end t }
+) -> Result<Named, Fault>
+    ensures { named result pool.new places.new ≡ author_named s.now (sight scope.now.query.now scope.now.consts.now scope.now.values.now scope.now.names.now scope.now.constants.now) pool.old places.old index.count index.end t }
 {
     if is_plain(s, t) {
         let n = token_at(s, kind::IN_FIELD, t.end);
         if n.kind == kind::DOT {
-            return string_named(
-                s, query, consts, values, names, constants, pool, places, index, t, 0,
-            );
+            return string_named(s, scope, pool, places, index, t, 0);
         }
-        return plain_named(
-            s, query, consts, values, names, constants, pool, places, index, t, n,
-        );
+        return plain_named(s, scope, pool, places, index, t, n);
     }
-    string_named(
-        s, query, consts, values, names, constants, pool, places, index, t, 0,
-    )
+    string_named(s, scope, pool, places, index, t, 0)
 }
 
 // The field whose first token is t, of an assertion of that standing.
-pub fn authorizer<'a>(
+pub fn authorizer(
     s: &[u8],
     standing: u8,
-    query: &'a [u8],
-    consts: &'a [u8],
-    values: &[usize],
-    names: &[usize],
-    constants: &[usize],
+    scope: &Scope,
     pool: &mut [u8],
     places: &mut [usize],
     index: Index,
     t: Token,
-) -> Author
-    ensures { made result pool.new places.new ≡ authorizer_in s.now standing (sight query.now consts.now values.now names.now constants.now) pool.old places.old index.count index.end t }
+) -> Result<Author, Fault>
+    ensures { made result pool.new places.new ≡ authorizer_in s.now standing (sight scope.now.query.now scope.now.consts.now scope.now.values.now scope.now.names.now scope.now.constants.now) pool.old places.old index.count index.end t }
 {
     let p = plain_from(s, t, MOST_BRACKETS);
-    let e = author_named(
-        s, query, consts, values, names, constants, pool, places, index, t,
-    );
+    let e = author_named(s, scope, pool, places, index, t);
     authored(standing, pool, places, index, p.start, e)
 }

@@ -9,6 +9,7 @@ use crate::fault::clear;
 use crate::identifier::is_plain;
 use crate::list::{Licensed, State, licensee, literal_before, name_before, refused, threshold};
 use compliance::machine as instruction;
+use expression::name::Scope;
 use fields::out::is_ending;
 use index::Index;
 use lexical::kind;
@@ -43,14 +44,14 @@ fn join_of(level: usize) -> u16
 }
 
 // Past the closing bracket t.
-fn closed(s: &[u8], st: State, t: Token) -> Licensed
+fn closed(s: &[u8], st: State, t: Token) -> Result<Licensed, Fault>
     ensures { result ≡ closed_in s.now st t }
 {
     if t.kind != kind::CLOSE {
         return refused(t);
     }
     let n = token_at(s, kind::IN_LICENSEES, t.end);
-    Licensed::On { state: st, next: n }
+    Ok(Licensed { state: st, next: n })
 }
 
 // Is an operand of that level that begins with a token of this kind a principal, if no && follows?
@@ -81,13 +82,9 @@ fn is_lone(k: usize) -> bool
 
 // An operand of a chain of that level; `left` more brackets may be opened.
 #[cycle(chain_more_operand_primary)]
-fn operand<'a>(
+fn operand(
     s: &[u8],
-    query: &'a [u8],
-    consts: &'a [u8],
-    values: &[usize],
-    names: &[usize],
-    constants: &[usize],
+    scope: &Scope,
     pool: &mut [u8],
     places: &mut [usize],
     code: &mut [u16],
@@ -95,13 +92,11 @@ fn operand<'a>(
     t: Token,
     level: usize,
     left: usize,
-) -> Licensed
-    ensures { ran result pool.new places.new code.new ≡ operand_at left level s.now (sight query.now consts.now values.now names.now constants.now) pool.old places.old code.old st t }
+) -> Result<Licensed, Fault>
+    ensures { ran result pool.new places.new code.new ≡ operand_at left level s.now (sight scope.now.query.now scope.now.consts.now scope.now.values.now scope.now.names.now scope.now.constants.now) pool.old places.old code.old st t }
 {
     if level == 0 {
-        return primary(
-            s, query, consts, values, names, constants, pool, places, code, st, t, left,
-        );
+        return primary(s, scope, pool, places, code, st, t, left);
     }
     if is_single(level, t.kind) {
         let n = token_at(s, kind::IN_FIELD, t.end);
@@ -113,38 +108,19 @@ fn operand<'a>(
                     );
                 }
                 return name_before(
-                    s, query, consts, values, names, constants, pool, places, code, st, t.start,
-                    t.end, n.kind, n.start, n.end,
+                    s, scope, pool, places, code, st, t.start, t.end, n.kind, n.start, n.end,
                 );
             }
         }
     }
-    chain(
-        s,
-        query,
-        consts,
-        values,
-        names,
-        constants,
-        pool,
-        places,
-        code,
-        st,
-        t,
-        level - 1,
-        left,
-    )
+    chain(s, scope, pool, places, code, st, t, level - 1, left)
 }
 
 // The rest of a chain behind its first operand.
 #[cycle(chain_more_operand_primary)]
-fn more<'a>(
+fn more(
     s: &[u8],
-    query: &'a [u8],
-    consts: &'a [u8],
-    values: &[usize],
-    names: &[usize],
-    constants: &[usize],
+    scope: &Scope,
     pool: &mut [u8],
     places: &mut [usize],
     code: &mut [u16],
@@ -152,54 +128,42 @@ fn more<'a>(
     from: Token,
     level: usize,
     left: usize,
-) -> Licensed
-    ensures { ran result pool.new places.new code.new ≡ more_at left level s.now (sight query.now consts.now values.now names.now constants.now) pool.old places.old code.old st from }
+) -> Result<Licensed, Fault>
+    ensures { ran result pool.new places.new code.new ≡ more_at left level s.now (sight scope.now.query.now scope.now.consts.now scope.now.values.now scope.now.names.now scope.now.constants.now) pool.old places.old code.old st from }
 {
     let joint = joint_of(level);
     let mut state = st;
     let mut t = from;
+    // Kept: a turn goes on behind an operand, so there is no range to go over.
     while t.kind == joint {
         let n = token_at(s, kind::IN_LICENSEES, t.end);
-        match operand(
-            s, query, consts, values, names, constants, pool, places, code, state, n, level, left,
-        ) {
-            Licensed::On { state: u, next } => {
-                if rest(state.listed) <= rest(u.listed) {
-                    return Licensed::Aside {
-                        fault: Fault {
-                            reason: NO_ROOM,
-                            place: 0,
-                        },
-                    };
-                }
-                let index = u.index;
-                let fault = u.fault;
-                let size = push(code, u.size, join_of(level));
-                state = State {
-                    index,
-                    size,
-                    listed: u.listed,
-                    fault,
-                };
-                t = next;
-            }
-            aside => {
-                return aside;
-            }
+        let one = operand(s, scope, pool, places, code, state, n, level, left)?;
+        let u = one.state;
+        if rest(state.listed) <= rest(u.listed) {
+            return Err(Fault {
+                reason: NO_ROOM,
+                place: 0,
+            });
         }
+        let index = u.index;
+        let fault = u.fault;
+        let size = push(code, u.size, join_of(level));
+        state = State {
+            index,
+            size,
+            listed: u.listed,
+            fault,
+        };
+        t = one.next;
     }
-    Licensed::On { state, next: t }
+    Ok(Licensed { state, next: t })
 }
 
 // Operands joined at a level, from left to right.
 #[cycle(chain_more_operand_primary)]
-fn chain<'a>(
+fn chain(
     s: &[u8],
-    query: &'a [u8],
-    consts: &'a [u8],
-    values: &[usize],
-    names: &[usize],
-    constants: &[usize],
+    scope: &Scope,
     pool: &mut [u8],
     places: &mut [usize],
     code: &mut [u16],
@@ -207,20 +171,13 @@ fn chain<'a>(
     t: Token,
     level: usize,
     left: usize,
-) -> Licensed
-    ensures { ran result pool.new places.new code.new ≡ chain_at left level s.now (sight query.now consts.now values.now names.now constants.now) pool.old places.old code.old st t }
+) -> Result<Licensed, Fault>
+    ensures { ran result pool.new places.new code.new ≡ chain_at left level s.now (sight scope.now.query.now scope.now.consts.now scope.now.values.now scope.now.names.now scope.now.constants.now) pool.old places.old code.old st t }
 {
-    match operand(
-        s, query, consts, values, names, constants, pool, places, code, st, t, level, left,
-    ) {
-        Licensed::On { state, next } => {
-            more(
-                s, query, consts, values, names, constants, pool, places, code, state, next, level,
-                left,
-            )
-        }
-        aside => aside,
-    }
+    let one = operand(s, scope, pool, places, code, st, t, level, left)?;
+    more(
+        s, scope, pool, places, code, one.state, one.next, level, left,
+    )
 }
 
 // Is what a bracket holds one licensee, and does a token of kind k behind the bracket begin a longer string?
@@ -238,117 +195,77 @@ fn is_longer(st: State, u: State, k: usize) -> bool
 
 // A string, a K-of or a bracket. A bracket that holds one string, a "." behind it, begins a longer string.
 #[cycle(chain_more_operand_primary)]
-fn primary<'a>(
+fn primary(
     s: &[u8],
-    query: &'a [u8],
-    consts: &'a [u8],
-    values: &[usize],
-    names: &[usize],
-    constants: &[usize],
+    scope: &Scope,
     pool: &mut [u8],
     places: &mut [usize],
     code: &mut [u16],
     st: State,
     t: Token,
     left: usize,
-) -> Licensed
-    ensures { ran result pool.new places.new code.new ≡ primary_at left s.now (sight query.now consts.now values.now names.now constants.now) pool.old places.old code.old st t }
+) -> Result<Licensed, Fault>
+    ensures { ran result pool.new places.new code.new ≡ primary_at left s.now (sight scope.now.query.now scope.now.consts.now scope.now.values.now scope.now.names.now scope.now.constants.now) pool.old places.old code.old st t }
 {
     if t.kind == kind::DIGITS {
-        return threshold(
-            s, query, consts, values, names, constants, pool, places, code, st, t, left,
-        );
+        return threshold(s, scope, pool, places, code, st, t, left);
     }
     if t.kind != kind::OPEN {
-        return licensee(
-            s, query, consts, values, names, constants, pool, places, code, st, t, left,
-        );
+        return licensee(s, scope, pool, places, code, st, t, left);
     }
     if left == 0 {
-        return Licensed::Aside {
-            fault: Fault {
-                reason: OVER_LIMIT,
-                place: t.start,
-            },
-        };
+        return Err(Fault {
+            reason: OVER_LIMIT,
+            place: t.start,
+        });
     }
     let n = token_at(s, kind::IN_LICENSEES, t.end);
-    match chain(
-        s,
-        query,
-        consts,
-        values,
-        names,
-        constants,
-        pool,
-        places,
-        code,
-        st,
-        n,
-        ANY,
-        left - 1,
-    ) {
-        Licensed::On { state, next } => match closed(s, state, next) {
-            Licensed::On { state: u, next: v } => {
-                if is_longer(st, u, v.kind) {
-                    return licensee(
-                        s, query, consts, values, names, constants, pool, places, code, st, t, left,
-                    );
-                }
-                Licensed::On { state: u, next: v }
-            }
-            aside => aside,
-        },
-        aside => aside,
+    let held = chain(s, scope, pool, places, code, st, n, ANY, left - 1)?;
+    let behind = closed(s, held.state, held.next)?;
+    if is_longer(st, behind.state, behind.next.kind) {
+        return licensee(s, scope, pool, places, code, st, t, left);
     }
+    Ok(behind)
 }
 
 // The end of the field at t.
-fn finished(st: State, t: Token) -> Licensed
+fn finished(st: State, t: Token) -> Result<Licensed, Fault>
     ensures { result ≡ end_in st t }
 {
     if is_ending(t.kind) {
-        return Licensed::On { state: st, next: t };
+        return Ok(Licensed { state: st, next: t });
     }
     refused(t)
 }
 
 // The field whose first token is t: its program goes into `code` from `size` on.
-pub fn licensees<'a>(
+pub fn licensees(
     s: &[u8],
-    query: &'a [u8],
-    consts: &'a [u8],
-    values: &[usize],
-    names: &[usize],
-    constants: &[usize],
+    scope: &Scope,
     pool: &mut [u8],
     places: &mut [usize],
     code: &mut [u16],
     index: Index,
     size: usize,
     t: Token,
-) -> Licensed
-    ensures { ran result pool.new places.new code.new ≡ field_in s.now (sight query.now consts.now values.now names.now constants.now) pool.old places.old code.old index.count index.end size t }
+) -> Result<Licensed, Fault>
+    ensures { ran result pool.new places.new code.new ≡ field_in s.now (sight scope.now.query.now scope.now.consts.now scope.now.values.now scope.now.names.now scope.now.constants.now) pool.old places.old code.old index.count index.end size t }
 {
     if code.len() < size {
-        return Licensed::Aside {
-            fault: Fault {
-                reason: NO_ROOM,
-                place: 0,
-            },
-        };
+        return Err(Fault {
+            reason: NO_ROOM,
+            place: 0,
+        });
     }
     if code.len() - size < MOST_CODE {
-        return Licensed::Aside {
-            fault: Fault {
-                reason: NO_ROOM,
-                place: 0,
-            },
-        };
+        return Err(Fault {
+            reason: NO_ROOM,
+            place: 0,
+        });
     }
     if is_ending(t.kind) {
         let top = push(code, size, instruction::ZERO);
-        return Licensed::On {
+        return Ok(Licensed {
             state: State {
                 index,
                 size: top,
@@ -356,7 +273,7 @@ pub fn licensees<'a>(
                 fault: clear(),
             },
             next: t,
-        };
+        });
     }
     let st = State {
         index,
@@ -364,22 +281,6 @@ pub fn licensees<'a>(
         listed: 0,
         fault: clear(),
     };
-    match chain(
-        s,
-        query,
-        consts,
-        values,
-        names,
-        constants,
-        pool,
-        places,
-        code,
-        st,
-        t,
-        ANY,
-        MOST_BRACKETS,
-    ) {
-        Licensed::On { state, next } => finished(state, next),
-        aside => aside,
-    }
+    let all = chain(s, scope, pool, places, code, st, t, ANY, MOST_BRACKETS)?;
+    finished(all.state, all.next)
 }

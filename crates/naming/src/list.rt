@@ -13,6 +13,7 @@ use crate::identifier::{Named, is_plain, plain_named, string_named};
 use crate::whole::is_whole;
 use compliance::machine as instruction;
 use conditions::table::is_string;
+use expression::name::Scope;
 use index::{Index, Numbered, enter};
 use lexical::kind;
 use lexical::line::token_at;
@@ -30,19 +31,17 @@ pub struct State {
     pub fault: Fault,
 }
 
-// The state and the token behind what was read, or the first fault.
+// The state and the token behind what was read.
 #[derive(Clone, Copy)]
-pub enum Licensed {
-    On { state: State, next: Token },
-    Aside { fault: Fault },
+pub struct Licensed {
+    pub state: State,
+    pub next: Token,
 }
 
-pub fn refused(t: Token) -> Licensed
+pub fn refused(t: Token) -> Result<Licensed, Fault>
     ensures { result ≡ refused_licensed t }
 {
-    Licensed::Aside {
-        fault: misplaced(t),
-    }
+    Err(misplaced(t))
 }
 
 fn narrow(n: usize) -> u16
@@ -72,6 +71,7 @@ pub(crate) fn plain_from(s: &[u8], first: Token, most: usize) -> Token
 {
     let mut left = most;
     let mut t = first;
+    // Kept: a turn goes on behind a token, and what is left is what the caller counts.
     while left != 0 {
         if t.kind != kind::OPEN {
             return t;
@@ -103,25 +103,27 @@ fn is_over(listed: usize, k: usize) -> bool
 }
 
 // Writes a licensee named as e, whose first token that is no bracket stands at that place. POLICY stands in for one that is nobody.
-fn placed(code: &mut [u16], st: State, place: usize, e: Named) -> Licensed
+fn placed(
+    code: &mut [u16],
+    st: State,
+    place: usize,
+    e: Result<Named, Fault>,
+) -> Result<Licensed, Fault>
     ensures { wrote result code.new ≡ placed_in code.old st place e }
 {
-    match e {
-        Named::Aside { fault } => Licensed::Aside { fault },
+    match e? {
         Named::Nobody { next } => {
             if MOST_LICENSEES <= st.listed {
-                return Licensed::Aside {
-                    fault: Fault {
-                        reason: NO_ROOM,
-                        place: 0,
-                    },
-                };
+                return Err(Fault {
+                    reason: NO_ROOM,
+                    place: 0,
+                });
             }
             let index = st.index;
             let first = st.fault;
             let fault = earlier(first, fault_at(UNIDENTIFIED, place));
             let size = push(code, st.size, 0);
-            Licensed::On {
+            Ok(Licensed {
                 state: State {
                     index,
                     size,
@@ -129,7 +131,7 @@ fn placed(code: &mut [u16], st: State, place: usize, e: Named) -> Licensed
                     fault,
                 },
                 next,
-            }
+            })
         }
         Named::At {
             number,
@@ -137,24 +139,20 @@ fn placed(code: &mut [u16], st: State, place: usize, e: Named) -> Licensed
             next,
         } => {
             if MOST_LICENSEES <= st.listed {
-                return Licensed::Aside {
-                    fault: Fault {
-                        reason: NO_ROOM,
-                        place: 0,
-                    },
-                };
+                return Err(Fault {
+                    reason: NO_ROOM,
+                    place: 0,
+                });
             }
             if 32768 <= number {
-                return Licensed::Aside {
-                    fault: Fault {
-                        reason: NO_ROOM,
-                        place: 0,
-                    },
-                };
+                return Err(Fault {
+                    reason: NO_ROOM,
+                    place: 0,
+                });
             }
             let fault = st.fault;
             let size = push(code, st.size, narrow(number));
-            Licensed::On {
+            Ok(Licensed {
                 state: State {
                     index,
                     size,
@@ -162,35 +160,36 @@ fn placed(code: &mut [u16], st: State, place: usize, e: Named) -> Licensed
                     fault,
                 },
                 next,
-            }
+            })
         }
     }
 }
 
 // The same of a principal entered as e, before the token n. That is built anew: a copy of the whole would wait for the stores of its parts.
-fn placed_number(code: &mut [u16], st: State, n: Token, e: Numbered) -> Licensed
+fn placed_number(
+    code: &mut [u16],
+    st: State,
+    n: Token,
+    e: Option<Numbered>,
+) -> Result<Licensed, Fault>
     requires { st.listed < 16 }
     ensures { wrote result code.new ≡ placed_in code.old st 0 (of_number n e) }
 {
     match e {
-        Numbered::Full => Licensed::Aside {
-            fault: Fault {
-                reason: NO_ROOM,
-                place: 0,
-            },
-        },
-        Numbered::At { count, number, end } => {
+        None => Err(Fault {
+            reason: NO_ROOM,
+            place: 0,
+        }),
+        Some(Numbered { count, number, end }) => {
             if 32768 <= number {
-                return Licensed::Aside {
-                    fault: Fault {
-                        reason: NO_ROOM,
-                        place: 0,
-                    },
-                };
+                return Err(Fault {
+                    reason: NO_ROOM,
+                    place: 0,
+                });
             }
             let fault = st.fault;
             let size = push(code, st.size, narrow(number));
-            Licensed::On {
+            Ok(Licensed {
                 state: State {
                     index: Index { count, end },
                     size,
@@ -202,20 +201,16 @@ fn placed_number(code: &mut [u16], st: State, n: Token, e: Numbered) -> Licensed
                     start: n.start,
                     end: n.end,
                 },
-            }
+            })
         }
     }
 }
 
 // The licensee that is the name from `start` to `stop` alone, before a token. Both are handed over in parts: a copy of a whole one would wait for the
 // stores of its parts.
-pub(crate) fn name_before<'a>(
+pub(crate) fn name_before(
     s: &[u8],
-    query: &'a [u8],
-    consts: &'a [u8],
-    values: &[usize],
-    names: &[usize],
-    constants: &[usize],
+    scope: &Scope,
     pool: &mut [u8],
     places: &mut [usize],
     code: &mut [u16],
@@ -225,16 +220,14 @@ pub(crate) fn name_before<'a>(
     then: usize,
     from: usize,
     to: usize,
-) -> Licensed
-    ensures { ran result pool.new places.new code.new ≡ before_in s.now (sight query.now consts.now values.now names.now constants.now) pool.old places.old code.old st (token Kind.NAME start stop) (token then from to) }
+) -> Result<Licensed, Fault>
+    ensures { ran result pool.new places.new code.new ≡ before_in s.now (sight scope.now.query.now scope.now.consts.now scope.now.values.now scope.now.names.now scope.now.constants.now) pool.old places.old code.old st (token Kind.NAME start stop) (token then from to) }
 {
     if MOST_LICENSEES <= st.listed {
-        return Licensed::Aside {
-            fault: Fault {
-                reason: OVER_LIMIT,
-                place: start,
-            },
-        };
+        return Err(Fault {
+            reason: OVER_LIMIT,
+            place: start,
+        });
     }
     let t = Token {
         kind: kind::NAME,
@@ -246,9 +239,7 @@ pub(crate) fn name_before<'a>(
         start: from,
         end: to,
     };
-    let e = plain_named(
-        s, query, consts, values, names, constants, pool, places, st.index, t, n,
-    );
+    let e = plain_named(s, scope, pool, places, st.index, t, n);
     placed(code, st, start, e)
 }
 
@@ -264,17 +255,15 @@ pub(crate) fn literal_before(
     then: usize,
     from: usize,
     to: usize,
-) -> Licensed
+) -> Result<Licensed, Fault>
     requires { whole_at s.now start stop ≡ true }
     ensures { ran result pool.new places.new code.new ≡ literal_in s.now pool.old places.old code.old st start stop (token then from to) }
 {
     if MOST_LICENSEES <= st.listed {
-        return Licensed::Aside {
-            fault: Fault {
-                reason: OVER_LIMIT,
-                place: start,
-            },
-        };
+        return Err(Fault {
+            reason: OVER_LIMIT,
+            place: start,
+        });
     }
     let n = Token {
         kind: then,
@@ -286,61 +275,47 @@ pub(crate) fn literal_before(
 }
 
 // The licensee whose first token is t, any string; `left` more brackets may be opened.
-fn string_licensee<'a>(
+fn string_licensee(
     s: &[u8],
-    query: &'a [u8],
-    consts: &'a [u8],
-    values: &[usize],
-    names: &[usize],
-    constants: &[usize],
+    scope: &Scope,
     pool: &mut [u8],
     places: &mut [usize],
     code: &mut [u16],
     st: State,
     t: Token,
     left: usize,
-) -> Licensed
-    ensures { ran result pool.new places.new code.new ≡ string_in s.now (sight query.now consts.now values.now names.now constants.now) pool.old places.old code.old st left t }
+) -> Result<Licensed, Fault>
+    ensures { ran result pool.new places.new code.new ≡ string_in s.now (sight scope.now.query.now scope.now.consts.now scope.now.values.now scope.now.names.now scope.now.constants.now) pool.old places.old code.old st left t }
 {
     let p = plain_from(s, t, left);
     if is_over(st.listed, p.kind) {
-        return Licensed::Aside {
-            fault: Fault {
-                reason: OVER_LIMIT,
-                place: p.start,
-            },
-        };
+        return Err(Fault {
+            reason: OVER_LIMIT,
+            place: p.start,
+        });
     }
     let nest = nest_of(left);
-    let e = string_named(
-        s, query, consts, values, names, constants, pool, places, st.index, t, nest,
-    );
+    let e = string_named(s, scope, pool, places, st.index, t, nest);
     placed(code, st, p.start, e)
 }
 
 // The licensee whose first token is t; `left` more brackets may be opened.
-pub fn licensee<'a>(
+pub fn licensee(
     s: &[u8],
-    query: &'a [u8],
-    consts: &'a [u8],
-    values: &[usize],
-    names: &[usize],
-    constants: &[usize],
+    scope: &Scope,
     pool: &mut [u8],
     places: &mut [usize],
     code: &mut [u16],
     st: State,
     t: Token,
     left: usize,
-) -> Licensed
-    ensures { ran result pool.new places.new code.new ≡ licensee_in s.now (sight query.now consts.now values.now names.now constants.now) pool.old places.old code.old st left t }
+) -> Result<Licensed, Fault>
+    ensures { ran result pool.new places.new code.new ≡ licensee_in s.now (sight scope.now.query.now scope.now.consts.now scope.now.values.now scope.now.names.now scope.now.constants.now) pool.old places.old code.old st left t }
 {
     if is_plain(s, t) {
         let n = token_at(s, kind::IN_FIELD, t.end);
         if n.kind == kind::DOT {
-            return string_licensee(
-                s, query, consts, values, names, constants, pool, places, code, st, t, left,
-            );
+            return string_licensee(s, scope, pool, places, code, st, t, left);
         }
         if t.kind != kind::NAME {
             return literal_before(
@@ -348,13 +323,10 @@ pub fn licensee<'a>(
             );
         }
         return name_before(
-            s, query, consts, values, names, constants, pool, places, code, st, t.start, t.end,
-            n.kind, n.start, n.end,
+            s, scope, pool, places, code, st, t.start, t.end, n.kind, n.start, n.end,
         );
     }
-    string_licensee(
-        s, query, consts, values, names, constants, pool, places, code, st, t, left,
-    )
+    string_licensee(s, scope, pool, places, code, st, t, left)
 }
 
 // How many licensees were read since there were `before`; 0 where that is no list's length.
@@ -372,23 +344,28 @@ fn items(before: usize, listed: usize) -> usize
 }
 
 // The end of the list of a K-of at the closing bracket t; there were `before` licensees before it.
-fn list_end(s: &[u8], code: &mut [u16], k: u8, before: usize, st: State, t: Token) -> Licensed
+fn list_end(
+    s: &[u8],
+    code: &mut [u16],
+    k: u8,
+    before: usize,
+    st: State,
+    t: Token,
+) -> Result<Licensed, Fault>
     ensures { wrote result code.new ≡ listed_in s.now code.old k before st t }
 {
     let n = byte(items(before, st.listed));
     if n < k {
-        return Licensed::Aside {
-            fault: Fault {
-                reason: OUT_OF_RANGE,
-                place: t.start,
-            },
-        };
+        return Err(Fault {
+            reason: OUT_OF_RANGE,
+            place: t.start,
+        });
     }
     let index = st.index;
     let fault = st.fault;
     let size = push(code, st.size, instruction::k_of(k, n));
     let next = token_at(s, kind::IN_LICENSEES, t.end);
-    Licensed::On {
+    Ok(Licensed {
         state: State {
             index,
             size,
@@ -396,7 +373,7 @@ fn list_end(s: &[u8], code: &mut [u16], k: u8, before: usize, st: State, t: Toke
             fault,
         },
         next,
-    }
+    })
 }
 
 // Reads on past the clear literals from `from` on that have a comma behind them: the rest of the list gives what all of it gives. It looks nothing up, so
@@ -408,39 +385,32 @@ fn literals(
     code: &mut [u16],
     st: State,
     from: Token,
-) -> Licensed
+) -> Result<Licensed, Fault>
     ensures { Leads s.now pool.old places.old code.old st from (ran result pool.new places.new code.new) }
 {
     let mut state = st;
     let mut t = from;
+    // Kept: a turn goes on behind a literal, so there is no range to go over.
     loop {
-        if is_whole(s, t) {
-            let n = token_at(s, kind::IN_FIELD, t.end);
-            if n.kind != kind::COMMA {
-                return Licensed::On { state, next: t };
-            }
-            match literal_before(
-                s, pool, places, code, state, t.start, t.end, n.kind, n.start, n.end,
-            ) {
-                Licensed::On { state: u, next: _ } => {
-                    if rest(state.listed) <= rest(u.listed) {
-                        return Licensed::Aside {
-                            fault: Fault {
-                                reason: NO_ROOM,
-                                place: 0,
-                            },
-                        };
-                    }
-                    state = u;
-                    t = token_at(s, kind::IN_LICENSEES, n.end);
-                }
-                aside => {
-                    return aside;
-                }
-            }
-        } else {
-            return Licensed::On { state, next: t };
+        if !is_whole(s, t) {
+            return Ok(Licensed { state, next: t });
         }
+        let n = token_at(s, kind::IN_FIELD, t.end);
+        if n.kind != kind::COMMA {
+            return Ok(Licensed { state, next: t });
+        }
+        let one = literal_before(
+            s, pool, places, code, state, t.start, t.end, n.kind, n.start, n.end,
+        )?;
+        let u = one.state;
+        if rest(state.listed) <= rest(u.listed) {
+            return Err(Fault {
+                reason: NO_ROOM,
+                place: 0,
+            });
+        }
+        state = u;
+        t = token_at(s, kind::IN_LICENSEES, n.end);
     }
 }
 
@@ -453,61 +423,46 @@ struct Listing {
 }
 
 // The list of a K-of, from a licensee on.
-fn list<'a>(
+fn list(
     s: &[u8],
-    query: &'a [u8],
-    consts: &'a [u8],
-    values: &[usize],
-    names: &[usize],
-    constants: &[usize],
+    scope: &Scope,
     pool: &mut [u8],
     places: &mut [usize],
     code: &mut [u16],
     m: Listing,
     st: State,
     from: Token,
-) -> Licensed
-    ensures { ran result pool.new places.new code.new ≡ list_in s.now (sight query.now consts.now values.now names.now constants.now) m.left m.k m.before pool.old places.old code.old st from }
+) -> Result<Licensed, Fault>
+    ensures { ran result pool.new places.new code.new ≡ list_in s.now (sight scope.now.query.now scope.now.consts.now scope.now.values.now scope.now.names.now scope.now.constants.now) m.left m.k m.before pool.old places.old code.old st from }
 {
     let mut state = st;
     let mut t = from;
+    // Kept: a turn goes on behind a licensee, so there is no range to go over.
     loop {
-        match licensee(
-            s, query, consts, values, names, constants, pool, places, code, state, t, m.left,
-        ) {
-            Licensed::On { state: u, next } => {
-                if next.kind == kind::CLOSE {
-                    return list_end(s, code, m.k, m.before, u, next);
-                }
-                if next.kind != kind::COMMA {
-                    return refused(next);
-                }
-                if rest(state.listed) <= rest(u.listed) {
-                    return Licensed::Aside {
-                        fault: Fault {
-                            reason: NO_ROOM,
-                            place: 0,
-                        },
-                    };
-                }
-                state = u;
-                t = token_at(s, kind::IN_LICENSEES, next.end);
-            }
-            aside => {
-                return aside;
-            }
+        let one = licensee(s, scope, pool, places, code, state, t, m.left)?;
+        let u = one.state;
+        let next = one.next;
+        if next.kind == kind::CLOSE {
+            return list_end(s, code, m.k, m.before, u, next);
         }
+        if next.kind != kind::COMMA {
+            return refused(next);
+        }
+        if rest(state.listed) <= rest(u.listed) {
+            return Err(Fault {
+                reason: NO_ROOM,
+                place: 0,
+            });
+        }
+        state = u;
+        t = token_at(s, kind::IN_LICENSEES, next.end);
     }
 }
 
 // The bracket t of a K-of; `left` more brackets may be opened.
-fn opened<'a>(
+fn opened(
     s: &[u8],
-    query: &'a [u8],
-    consts: &'a [u8],
-    values: &[usize],
-    names: &[usize],
-    constants: &[usize],
+    scope: &Scope,
     pool: &mut [u8],
     places: &mut [usize],
     code: &mut [u16],
@@ -515,96 +470,66 @@ fn opened<'a>(
     st: State,
     t: Token,
     left: usize,
-) -> Licensed
-    ensures { ran result pool.new places.new code.new ≡ opened_in left s.now (sight query.now consts.now values.now names.now constants.now) k pool.old places.old code.old st t }
+) -> Result<Licensed, Fault>
+    ensures { ran result pool.new places.new code.new ≡ opened_in left s.now (sight scope.now.query.now scope.now.consts.now scope.now.values.now scope.now.names.now scope.now.constants.now) k pool.old places.old code.old st t }
 {
     if t.kind != kind::OPEN {
         return refused(t);
     }
     if left == 0 {
-        return Licensed::Aside {
-            fault: Fault {
-                reason: OVER_LIMIT,
-                place: t.start,
-            },
-        };
+        return Err(Fault {
+            reason: OVER_LIMIT,
+            place: t.start,
+        });
     }
     let n = token_at(s, kind::IN_LICENSEES, t.end);
-    match literals(s, pool, places, code, st, n) {
-        Licensed::On { state, next } => list(
-            s,
-            query,
-            consts,
-            values,
-            names,
-            constants,
-            pool,
-            places,
-            code,
-            Listing {
-                k,
-                before: st.listed,
-                left: left - 1,
-            },
-            state,
-            next,
-        ),
-        aside => aside,
-    }
+    let first = literals(s, pool, places, code, st, n)?;
+    list(
+        s,
+        scope,
+        pool,
+        places,
+        code,
+        Listing {
+            k,
+            before: st.listed,
+            left: left - 1,
+        },
+        first.state,
+        first.next,
+    )
 }
 
 // A K-of, from its number t on.
-pub fn threshold<'a>(
+pub fn threshold(
     s: &[u8],
-    query: &'a [u8],
-    consts: &'a [u8],
-    values: &[usize],
-    names: &[usize],
-    constants: &[usize],
+    scope: &Scope,
     pool: &mut [u8],
     places: &mut [usize],
     code: &mut [u16],
     st: State,
     t: Token,
     left: usize,
-) -> Licensed
-    ensures { ran result pool.new places.new code.new ≡ threshold_in left s.now (sight query.now consts.now values.now names.now constants.now) pool.old places.old code.old st t }
+) -> Result<Licensed, Fault>
+    ensures { ran result pool.new places.new code.new ≡ threshold_in left s.now (sight scope.now.query.now scope.now.consts.now scope.now.values.now scope.now.names.now scope.now.constants.now) pool.old places.old code.old st t }
 {
     let k = number_at(s, t.start, t.end);
     if k == 0 {
-        return Licensed::Aside {
-            fault: Fault {
-                reason: OUT_OF_RANGE,
-                place: t.start,
-            },
-        };
+        return Err(Fault {
+            reason: OUT_OF_RANGE,
+            place: t.start,
+        });
     }
     if 16 < k {
-        return Licensed::Aside {
-            fault: Fault {
-                reason: OUT_OF_RANGE,
-                place: t.start,
-            },
-        };
+        return Err(Fault {
+            reason: OUT_OF_RANGE,
+            place: t.start,
+        });
     }
     let o = token_at(s, kind::IN_LICENSEES, t.end);
     if o.kind != kind::OF {
         return refused(o);
     }
     let n = token_at(s, kind::IN_LICENSEES, o.end);
-    opened(
-        s,
-        query,
-        consts,
-        values,
-        names,
-        constants,
-        pool,
-        places,
-        code,
-        small(k),
-        st,
-        n,
-        left,
-    )
+    opened(s, scope, pool, places, code, small(k), st, n, left)
 }

@@ -13,12 +13,10 @@ fn is_without(s: &[u8], i: usize, n: usize, b: u8) -> bool
     ensures { result ≡ all (other b) (take n (drop i s.now)) }
 {
     let mut none = true;
-    let mut j: usize = 0;
-    while j < n {
+    for j in 0..n {
         if s[i + j] == b {
             none = false;
         }
-        j += 1;
     }
     none
 }
@@ -29,12 +27,10 @@ fn is_printed(s: &[u8], i: usize, n: usize) -> bool
     ensures { result ≡ all printed (take n (drop i s.now)) }
 {
     let mut held = true;
-    let mut j: usize = 0;
-    while j < n {
+    for j in 0..n {
         if s[i + j] < 32 {
             held = false;
         }
-        j += 1;
     }
     held
 }
@@ -62,6 +58,7 @@ fn is_clear_long(s: &[u8], i: usize, e: usize) -> bool
     ensures { result ≡ all clear (take (e - i) (drop i s.now)) }
 {
     let mut a = i;
+    // Kept: a turn steps by 16 and the last block may begin anywhere, so there is no range to go over.
     while 16 < e - a {
         if is_clear(s, a, 16) {
             a += 16;
@@ -89,11 +86,8 @@ fn is_clear_short(s: &[u8], i: usize, e: usize) -> bool
     requires { (i ≤ e) × (e ≤ length s.now) }
     ensures { result ≡ all clear (take (e - i) (drop i s.now)) }
 {
-    let mut a = i;
-    while a < e {
-        if is_clear_byte(s[a]) {
-            a += 1;
-        } else {
+    for a in i..e {
+        if !is_clear_byte(s[a]) {
             return false;
         }
     }

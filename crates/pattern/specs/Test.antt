@@ -1,10 +1,9 @@
 -- The answer of a pattern test as a function of the two strings. `Tested` says what the answer is; the matcher is only how it is found.
 -- Assumes nothing.
 use Rattle.std.specs.Prelude.{◌≡◌, refl, List, ℕ}
-use Rattle.pattern.specs.Verdict.{Verdict}
+use Rattle.pattern.specs.Verdict.{Answer, Verdict}
 use Rattle.pattern.specs.Working.Sim.{test_with}
 use Rattle.pattern.specs.Working.Verdicts.{zeros, zeros-verdict}
-use Rattle.pattern.specs.declared.Answer.{Answer}
 
 -- an answer that is the verdict
 pub record Tested (p s : List ℕ) : Type 0 where

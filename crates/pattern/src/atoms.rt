@@ -3,273 +3,178 @@ ghost use Rattle.std.specs.Prelude.{◌≡◌, true, false};
 ghost use Rattle.pattern.specs.Bytes as B;
 ghost use Rattle.pattern.specs.Working.Scan as S;
 
-use crate::places::or;
-
-// An item of a set: none can stand here, the set is closed here, or the item ends before `next`, and holds the byte or not.
+// An item of a set: the set is closed here, or the item ends before `next`, and holds the byte or not.
 #[derive(Clone, Copy)]
 pub enum Taken {
-    Wrong,
     Closed,
     Item { next: usize, hit: bool },
 }
 
 // Where an atom ends, and whether it accepts the byte.
 #[derive(Clone, Copy)]
-pub enum Scan {
-    Unfit,
-    End { at: usize, hit: bool },
+pub struct End {
+    pub at: usize,
+    pub hit: bool,
 }
 
 fn special(b: u8) -> bool
     ensures { result ≡ B.special b }
 {
-    if b == 94 {
-        return true;
-    }
-    if b == 46 {
-        return true;
-    }
-    if b == 91 {
-        return true;
-    }
-    if b == 36 {
-        return true;
-    }
-    if b == 40 {
-        return true;
-    }
-    if b == 41 {
-        return true;
-    }
-    if b == 124 {
-        return true;
-    }
-    if b == 42 {
-        return true;
-    }
-    if b == 43 {
-        return true;
-    }
-    if b == 63 {
-        return true;
-    }
-    if b == 123 {
-        return true;
-    }
-    b == 92
+    b"^.[$()|*+?{\\".contains(&b)
 }
 
 // The byte b stands at i.
+#[tactic(auto, using(text::specs::Choice::tests), unfolding(crate::specs::Bytes::stands))]
 fn stands(p: &[u8], i: usize, b: u8) -> bool
     ensures { result ≡ B.stands p.now i b }
 {
-    if i < p.len() {
-        return p[i] == b;
-    }
-    false
+    i < p.len() && p[i] == b
 }
 
 // A "[" before . = : stands at i.
 fn opens_name(p: &[u8], i: usize) -> bool
     ensures { result ≡ B.opens_name p.now i }
 {
-    if p.len() <= i {
+    if p.len() <= i || p[i] != b'[' {
         return false;
     }
-    if p[i] == 91 {
-        if stands(p, i + 1, 46) {
-            return true;
-        }
-        if stands(p, i + 1, 61) {
-            return true;
-        }
-        return stands(p, i + 1, 58);
+    if stands(p, i + 1, b'.') || stands(p, i + 1, b'=') {
+        return true;
     }
-    false
+    stands(p, i + 1, b':')
 }
 
 // The byte at i can end a range.
 fn ends_range(p: &[u8], i: usize) -> bool
     ensures { result ≡ S.ends_range p.now i }
 {
-    if p.len() <= i {
+    if p.len() <= i || p[i] == b'-' || p[i] == b']' {
         return false;
     }
-    if p[i] == 45 {
-        return false;
-    }
-    if p[i] == 93 {
-        return false;
-    }
-    if opens_name(p, i) {
-        return false;
-    }
-    true
+    !opens_name(p, i)
 }
 
 // The byte at i begins a range.
 fn ranges(p: &[u8], i: usize) -> bool
     ensures { result ≡ S.ranges p.now i }
 {
-    if p.len() <= i {
+    if p.len() <= i || p.len() <= i + 1 || p[i + 1] != b'-' {
         return false;
     }
-    if p.len() <= i + 1 {
-        return false;
-    }
-    if p[i + 1] == 45 {
-        if stands(p, i + 2, 93) {
-            return false;
-        }
-        return true;
-    }
-    false
+    !stands(p, i + 2, b']')
 }
 
+#[tactic(auto, using(text::specs::Choice::tests), unfolding(crate::specs::Working::Scan::within))]
 fn within(low: u8, high: u8, c: u8) -> bool
     ensures { result ≡ S.within low high c }
 {
-    if low <= c {
-        return c <= high;
-    }
-    false
+    low <= c && c <= high
 }
 
-fn range_at(p: &[u8], i: usize, c: u8) -> Taken
+fn range_at(p: &[u8], i: usize, c: u8) -> Option<Taken>
     ensures { result ≡ S.range_at p.now i c }
 {
-    if p.len() <= i {
-        return Taken::Wrong;
+    if p.len() <= i || p.len() - i <= 2 || !ends_range(p, i + 2) {
+        return None;
     }
-    if p.len() - i <= 2 {
-        return Taken::Wrong;
+    if p[i + 2] < p[i] {
+        return None;
     }
-    if ends_range(p, i + 2) {
-        if p[i + 2] < p[i] {
-            return Taken::Wrong;
-        }
-        return Taken::Item {
-            next: i + 3,
-            hit: within(p[i], p[i + 2], c),
-        };
-    }
-    Taken::Wrong
+    Some(Taken::Item {
+        next: i + 3,
+        hit: within(p[i], p[i + 2], c),
+    })
 }
 
-fn byte_at(p: &[u8], i: usize, c: u8) -> Taken
+fn byte_at(p: &[u8], i: usize, c: u8) -> Option<Taken>
     ensures { result ≡ S.byte_at p.now i c }
 {
     if p.len() <= i {
-        return Taken::Wrong;
+        return None;
     }
     if ranges(p, i) {
         return range_at(p, i, c);
     }
-    Taken::Item {
+    Some(Taken::Item {
         next: i + 1,
         hit: p[i] == c,
-    }
+    })
 }
 
-fn dash_at(p: &[u8], i: usize, first: bool, c: u8) -> Taken
+fn dash_at(p: &[u8], i: usize, first: bool, c: u8) -> Option<Taken>
     ensures { result ≡ S.dash_at p.now i first c }
 {
     if p.len() <= i {
-        return Taken::Wrong;
+        return None;
     }
-    if first {
-        return Taken::Item {
+    if first || stands(p, i + 1, b']') {
+        return Some(Taken::Item {
             next: i + 1,
-            hit: 45 == c,
-        };
+            hit: b'-' == c,
+        });
     }
-    if stands(p, i + 1, 93) {
-        return Taken::Item {
-            next: i + 1,
-            hit: 45 == c,
-        };
-    }
-    Taken::Wrong
+    None
 }
 
-fn item_at(p: &[u8], i: usize, first: bool, c: u8) -> Taken
+// None: no item can stand at i.
+fn item_at(p: &[u8], i: usize, first: bool, c: u8) -> Option<Taken>
     ensures { result ≡ S.item_at p.now i first c }
 {
     if p.len() <= i {
-        return Taken::Wrong;
+        return None;
     }
-    if p[i] == 93 {
-        if first {
-            return byte_at(p, i, c);
+    match p[i] {
+        b']' => {
+            if first {
+                return byte_at(p, i, c);
+            }
+            Some(Taken::Closed)
         }
-        return Taken::Closed;
+        b'-' => dash_at(p, i, first, c),
+        _ => {
+            if opens_name(p, i) {
+                return None;
+            }
+            byte_at(p, i, c)
+        }
     }
-    if p[i] == 45 {
-        return dash_at(p, i, first, c);
-    }
-    if opens_name(p, i) {
-        return Taken::Wrong;
-    }
-    byte_at(p, i, c)
 }
 
-fn set_from(p: &[u8], from: usize, c: u8) -> Scan
+fn set_from(p: &[u8], from: usize, c: u8) -> Option<End>
     ensures { result ≡ S.set_rest p.now c from true false }
 {
     let mut i = from;
     let mut first = true;
     let mut hit = false;
+    // Kept: a turn goes on behind an item of the set, so there is no range to go over.
     while i < p.len() {
-        match item_at(p, i, first, c) {
-            Taken::Wrong => {
-                return Scan::Unfit;
-            }
+        match item_at(p, i, first, c)? {
             Taken::Closed => {
-                return Scan::End { at: i + 1, hit };
+                return Some(End { at: i + 1, hit });
             }
             Taken::Item { next, hit: h } => {
                 if next <= i {
-                    return Scan::Unfit;
+                    return None;
                 }
-                hit = or(hit, h);
+                hit |= h;
                 first = false;
                 i = next;
             }
         }
     }
-    Scan::Unfit
-}
-
-fn negated(x: Scan) -> Scan
-    ensures { result ≡ S.negated x }
-{
-    match x {
-        Scan::Unfit => Scan::Unfit,
-        Scan::End { at, hit } => Scan::End { at, hit: !hit },
-    }
-}
-
-fn hit_of(x: Scan) -> bool
-    ensures { result ≡ S.hit_of x }
-{
-    match x {
-        Scan::Unfit => false,
-        Scan::End { at, hit } => hit,
-    }
+    None
 }
 
 // The set whose "[" stands at q.
-fn set_at(p: &[u8], q: usize, c: u8) -> Scan
+fn set_at(p: &[u8], q: usize, c: u8) -> Option<End>
     ensures { result ≡ S.set_at p.now q c }
 {
-    if p.len() <= q {
-        return Scan::Unfit;
+    if p.len() <= q || p.len() <= q + 1 {
+        return None;
     }
-    if p.len() <= q + 1 {
-        return Scan::Unfit;
-    }
-    if p[q + 1] == 94 {
-        return negated(set_from(p, q + 2, c));
+    if p[q + 1] == b'^' {
+        let End { at, hit } = set_from(p, q + 2, c)?;
+        return Some(End { at, hit: !hit });
     }
     set_from(p, q + 1, c)
 }
@@ -281,51 +186,47 @@ pub fn accepts_at(p: &[u8], q: usize, c: u8) -> bool
     if p.len() <= q {
         return false;
     }
-    if p[q] == 46 {
-        return true;
+    match p[q] {
+        b'.' => true,
+        b'\\' => stands(p, q + 1, c),
+        b'[' => match set_at(p, q, c) {
+            Some(end) => end.hit,
+            None => false,
+        },
+        b => b == c,
     }
-    if p[q] == 92 {
-        return stands(p, q + 1, c);
-    }
-    if p[q] == 91 {
-        return hit_of(set_at(p, q, c));
-    }
-    p[q] == c
 }
 
 // Where the atom of one byte at i ends.
-pub fn one_end(p: &[u8], i: usize) -> Scan
+pub fn one_end(p: &[u8], i: usize) -> Option<End>
     ensures { result ≡ S.one_end p.now i }
 {
     if p.len() <= i {
-        return Scan::Unfit;
+        return None;
     }
-    if p[i] == 46 {
-        return Scan::End {
+    match p[i] {
+        b'.' => Some(End {
             at: i + 1,
             hit: true,
-        };
-    }
-    if p[i] == 92 {
-        if p.len() <= i + 1 {
-            return Scan::Unfit;
-        }
-        if special(p[i + 1]) {
-            return Scan::End {
+        }),
+        b'\\' => {
+            if p.len() <= i + 1 || !special(p[i + 1]) {
+                return None;
+            }
+            Some(End {
                 at: i + 2,
                 hit: true,
-            };
+            })
         }
-        return Scan::Unfit;
-    }
-    if p[i] == 91 {
-        return set_at(p, i, 0);
-    }
-    if special(p[i]) {
-        return Scan::Unfit;
-    }
-    Scan::End {
-        at: i + 1,
-        hit: true,
+        b'[' => set_at(p, i, 0),
+        b => {
+            if special(b) {
+                return None;
+            }
+            Some(End {
+                at: i + 1,
+                hit: true,
+            })
+        }
     }
 }

@@ -21,42 +21,21 @@ const MOST_PATTERN: usize = 256;
 // More calls than a pattern's reader makes within each other: six for a byte, and five.
 const DEPTH: usize = 2000;
 
-// What a test answers: Error where the bytes are no pattern.
-#[derive(Clone, Copy)]
-pub enum Answer {
-    Yes,
-    No,
-    Error,
-}
-
-fn answered(b: bool) -> Answer
-    ensures { result ≡ M.answered b }
-{
-    if b {
-        return Answer::Yes;
-    }
-    Answer::No
-}
-
-fn test_with(t: &mut [u64], p: &[u8], s: &[u8]) -> Answer
+fn test_with(t: &mut [u64], p: &[u8], s: &[u8]) -> Option<bool>
     ensures { result ≡ M.test_with t.old p.now s.now }
 {
     if MOST_PATTERN < p.len() {
-        return Answer::Error;
+        return None;
     }
-    match expression(p, 0, DEPTH, t) {
-        Parsed::Bad => Answer::Error,
-        Parsed::Got { part, next } => {
-            if next == p.len() {
-                return answered(runs(p, s, t, part));
-            }
-            Answer::Error
-        }
+    let Parsed { part, next } = expression(p, 0, DEPTH, t)?;
+    if next == p.len() {
+        return Some(runs(p, s, t, part));
     }
+    None
 }
 
-// Whether the pattern p matches anywhere in s, or is no pattern.
-pub fn pattern_test(p: &[u8], s: &[u8]) -> Answer
+// Whether the pattern p matches anywhere in s. None where the bytes are no pattern.
+pub fn pattern_test(p: &[u8], s: &[u8]) -> Option<bool>
     ensures verdict { Verdict p.now s.now result }
     ensures value { result ≡ test_of p.now s.now }
 {

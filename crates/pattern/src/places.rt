@@ -1,10 +1,10 @@
 // Sets of places of a pattern, and what is known of a part of one.
-ghost use Rattle.std.specs.Prelude.{◌≡◌, true, false, ◌&&◌, ◌||◌};
+ghost use Rattle.std.specs.Prelude.{◌≡◌};
 ghost use Rattle.pattern.specs.Working.Places as P;
-ghost use Rattle.pattern.specs.Working.Skip as K;
 
 // A set of places of a pattern: 256 bits.
-#[derive(Clone, Copy)]
+// Kept: four fields and no array, since each word goes with constant bounds of its own (`link`, `step`), which a loop would compute.
+#[derive(Clone, Copy, PartialEq, Eq)]
 pub struct Places {
     pub a: u64,
     pub b: u64,
@@ -26,24 +26,6 @@ pub struct Part {
     pub le: Places,
 }
 
-pub fn or(x: bool, y: bool) -> bool
-    ensures { result ≡ x || y }
-{
-    if x {
-        return true;
-    }
-    y
-}
-
-fn and(x: bool, y: bool) -> bool
-    ensures { result ≡ x && y }
-{
-    if x {
-        return y;
-    }
-    false
-}
-
 pub fn nowhere() -> Places
     ensures { result ≡ P.nowhere }
 {
@@ -58,39 +40,29 @@ pub fn nowhere() -> Places
 fn only_at(q: usize) -> Places
     ensures { result ≡ P.only_at q }
 {
+    let none = nowhere();
     if q < 64 {
-        return Places {
-            a: 1 << q,
-            b: 0,
-            c: 0,
-            d: 0,
-        };
+        return Places { a: 1 << q, ..none };
     }
     if q < 128 {
         return Places {
-            a: 0,
             b: 1 << (q - 64),
-            c: 0,
-            d: 0,
+            ..none
         };
     }
     if q < 192 {
         return Places {
-            a: 0,
-            b: 0,
             c: 1 << (q - 128),
-            d: 0,
+            ..none
         };
     }
     if q < 256 {
         return Places {
-            a: 0,
-            b: 0,
-            c: 0,
             d: 1 << (q - 192),
+            ..none
         };
     }
-    nowhere()
+    none
 }
 
 pub fn join(x: Places, y: Places) -> Places
@@ -107,10 +79,7 @@ pub fn join(x: Places, y: Places) -> Places
 fn gated(t: bool, x: Places) -> Places
     ensures { result ≡ P.gated t x }
 {
-    if t {
-        return x;
-    }
-    nowhere()
+    if t { x } else { nowhere() }
 }
 
 pub fn start_part() -> Part
@@ -169,10 +138,10 @@ pub fn sequence(f: Part, g: Part) -> Part
     let lm = join(g.lm, gated(g.nm, f.lm));
     let le = join(g.le, gated(g.ne, f.le));
     Part {
-        nb: and(f.nb, g.nb),
-        ns: and(f.ns, g.ns),
-        nm: and(f.nm, g.nm),
-        ne: and(f.ne, g.ne),
+        nb: f.nb & g.nb,
+        ns: f.ns & g.ns,
+        nm: f.nm & g.nm,
+        ne: f.ne & g.ne,
         fs,
         fm,
         lm,
@@ -188,10 +157,10 @@ pub fn choice(f: Part, g: Part) -> Part
     let lm = join(f.lm, g.lm);
     let le = join(f.le, g.le);
     Part {
-        nb: or(f.nb, g.nb),
-        ns: or(f.ns, g.ns),
-        nm: or(f.nm, g.nm),
-        ne: or(f.ne, g.ne),
+        nb: f.nb | g.nb,
+        ns: f.ns | g.ns,
+        nm: f.nm | g.nm,
+        ne: f.ne | g.ne,
         fs,
         fm,
         lm,
@@ -202,33 +171,11 @@ pub fn choice(f: Part, g: Part) -> Part
 pub fn or_empty(f: Part) -> Part
     ensures { result ≡ P.or_empty f }
 {
-    let fs = f.fs;
-    let fm = f.fm;
-    let lm = f.lm;
-    let le = f.le;
     Part {
         nb: true,
         ns: true,
         nm: true,
         ne: true,
-        fs,
-        fm,
-        lm,
-        le,
+        ..f
     }
-}
-
-pub fn same_places(x: Places, y: Places) -> bool
-    ensures { result ≡ K.same_places x y }
-{
-    if x.a == y.a {
-        if x.b == y.b {
-            if x.c == y.c {
-                return x.d == y.d;
-            }
-            return false;
-        }
-        return false;
-    }
-    false
 }

@@ -2,202 +2,160 @@
 ghost use Rattle.std.specs.Prelude.{◌≡◌};
 ghost use Rattle.pattern.specs.Working.Parse as R;
 
-use crate::atoms::{Scan, one_end};
+use crate::atoms::{End, one_end};
 use crate::places::{Part, byte_part, choice, end_part, or_empty, sequence, start_part};
 use crate::rows::link;
 
 // What is known of the part that was parsed, and where it ends.
 #[derive(Clone, Copy)]
-pub enum Parsed {
-    Bad,
-    Got { part: Part, next: usize },
+pub struct Parsed {
+    pub part: Part,
+    pub next: usize,
 }
 
-// Past the byte b, or where it was.
-fn eat(p: &[u8], i: usize, b: u8) -> usize
-    ensures { result ≡ R.eat_at p.now i b }
+// Past the byte b, where it stands at i.
+fn eat(p: &[u8], i: usize, b: u8) -> Option<usize>
+    ensures { R.Ate p.now i b result }
 {
-    if i < p.len() {
-        if p[i] == b {
-            return i + 1;
-        }
+    if i < p.len() && p[i] == b {
+        return Some(i + 1);
     }
-    i
+    None
 }
 
 // * + ? behind an atom
-fn repeated(p: &[u8], part: Part, next: usize, t: &mut [u64]) -> Parsed
+fn repeated(p: &[u8], part: Part, next: usize, t: &mut [u64]) -> Option<Parsed>
     ensures { R.ran result t.new ≡ R.repeated p.now part next t.old }
 {
-    let lm = part.lm;
-    let fm = part.fm;
-    let x = eat(p, next, 42);
-    if x != next {
-        link(t, lm, fm);
-        return Parsed::Got {
+    if let Some(next) = eat(p, next, b'*') {
+        link(t, part.lm, part.fm);
+        return Some(Parsed {
             part: or_empty(part),
-            next: x,
-        };
+            next,
+        });
     }
-    let y = eat(p, next, 43);
-    if y != next {
-        link(t, lm, fm);
-        return Parsed::Got { part, next: y };
+    if let Some(next) = eat(p, next, b'+') {
+        link(t, part.lm, part.fm);
+        return Some(Parsed { part, next });
     }
-    let z = eat(p, next, 63);
-    if z != next {
-        return Parsed::Got {
+    if let Some(next) = eat(p, next, b'?') {
+        return Some(Parsed {
             part: or_empty(part),
-            next: z,
-        };
+            next,
+        });
     }
-    Parsed::Got { part, next }
+    Some(Parsed { part, next })
 }
 
 #[cycle(atom_branch_branch_rest_expression_expression_rest_piece)]
-fn atom(p: &[u8], i: usize, d: usize, t: &mut [u64]) -> Parsed
+fn atom(p: &[u8], i: usize, d: usize, t: &mut [u64]) -> Option<Parsed>
     ensures { R.ran result t.new ≡ R.atom_at d p.now i t.old }
 {
     if d == 0 {
-        return Parsed::Bad;
+        return None;
     }
-    let o = eat(p, i, 40);
-    if o != i {
-        match expression(p, o, d - 1, t) {
-            Parsed::Bad => {
-                return Parsed::Bad;
-            }
-            Parsed::Got { part, next } => {
-                let e = eat(p, next, 41);
-                if e == next {
-                    return Parsed::Bad;
-                }
-                return Parsed::Got { part, next: e };
-            }
-        }
+    if let Some(inner) = eat(p, i, b'(') {
+        let Parsed { part, next } = expression(p, inner, d - 1, t)?;
+        let next = eat(p, next, b')')?;
+        return Some(Parsed { part, next });
     }
-    match one_end(p, i) {
-        Scan::Unfit => Parsed::Bad,
-        Scan::End { at, hit } => Parsed::Got {
-            part: byte_part(i),
-            next: at,
-        },
-    }
+    let end = one_end(p, i)?;
+    Some(Parsed {
+        part: byte_part(i),
+        next: end.at,
+    })
 }
 
 #[cycle(atom_branch_branch_rest_expression_expression_rest_piece)]
-fn piece(p: &[u8], i: usize, d: usize, t: &mut [u64]) -> Parsed
+fn piece(p: &[u8], i: usize, d: usize, t: &mut [u64]) -> Option<Parsed>
     ensures { R.ran result t.new ≡ R.piece_at d p.now i t.old }
 {
     if d == 0 {
-        return Parsed::Bad;
+        return None;
     }
-    let o = eat(p, i, 94);
-    if o != i {
-        return Parsed::Got {
+    if let Some(next) = eat(p, i, b'^') {
+        return Some(Parsed {
             part: start_part(),
-            next: o,
-        };
+            next,
+        });
     }
-    let v = eat(p, i, 36);
-    if v != i {
-        return Parsed::Got {
+    if let Some(next) = eat(p, i, b'$') {
+        return Some(Parsed {
             part: end_part(),
-            next: v,
-        };
+            next,
+        });
     }
-    match atom(p, i, d - 1, t) {
-        Parsed::Bad => Parsed::Bad,
-        Parsed::Got { part, next } => repeated(p, part, next, t),
-    }
+    let Parsed { part, next } = atom(p, i, d - 1, t)?;
+    repeated(p, part, next, t)
 }
 
 #[cycle(atom_branch_branch_rest_expression_expression_rest_piece)]
-fn branch_rest(p: &[u8], from: usize, known: Part, d: usize, t: &mut [u64]) -> Parsed
+fn branch_rest(p: &[u8], from: usize, known: Part, d: usize, t: &mut [u64]) -> Option<Parsed>
     ensures { R.ran result t.new ≡ R.branch_rest_at d p.now known from t.old }
 {
     if d == 0 {
-        return Parsed::Bad;
+        return None;
     }
     let mut part = known;
     let mut i = from;
+    // Kept: a turn goes on behind a piece, so there is no range to go over.
     while i < p.len() {
-        if p[i] == 124 {
-            return Parsed::Got { part, next: i };
+        if p[i] == b'|' || p[i] == b')' {
+            return Some(Parsed { part, next: i });
         }
-        if p[i] == 41 {
-            return Parsed::Got { part, next: i };
+        let Parsed { part: g, next } = piece(p, i, d - 1, t)?;
+        if next <= i {
+            return None;
         }
-        match piece(p, i, d - 1, t) {
-            Parsed::Bad => {
-                return Parsed::Bad;
-            }
-            Parsed::Got { part: g, next: x } => {
-                if x <= i {
-                    return Parsed::Bad;
-                }
-                let lm = part.lm;
-                let fm = g.fm;
-                link(t, lm, fm);
-                part = sequence(part, g);
-                i = x;
-            }
-        }
+        link(t, part.lm, g.fm);
+        part = sequence(part, g);
+        i = next;
     }
-    Parsed::Got { part, next: i }
+    Some(Parsed { part, next: i })
 }
 
 #[cycle(atom_branch_branch_rest_expression_expression_rest_piece)]
-fn branch(p: &[u8], i: usize, d: usize, t: &mut [u64]) -> Parsed
+fn branch(p: &[u8], i: usize, d: usize, t: &mut [u64]) -> Option<Parsed>
     ensures { R.ran result t.new ≡ R.branch_at d p.now i t.old }
 {
     if d == 0 {
-        return Parsed::Bad;
+        return None;
     }
-    match piece(p, i, d - 1, t) {
-        Parsed::Bad => Parsed::Bad,
-        Parsed::Got { part, next } => branch_rest(p, next, part, d - 1, t),
-    }
+    let Parsed { part, next } = piece(p, i, d - 1, t)?;
+    branch_rest(p, next, part, d - 1, t)
 }
 
 #[cycle(atom_branch_branch_rest_expression_expression_rest_piece)]
-fn expression_rest(p: &[u8], from: usize, known: Part, d: usize, t: &mut [u64]) -> Parsed
+fn expression_rest(p: &[u8], from: usize, known: Part, d: usize, t: &mut [u64]) -> Option<Parsed>
     ensures { R.ran result t.new ≡ R.expr_rest_at d p.now known from t.old }
 {
     if d == 0 {
-        return Parsed::Bad;
+        return None;
     }
     let mut part = known;
     let mut i = from;
+    // Kept: a turn goes on behind a branch, so there is no range to go over.
     while i < p.len() {
-        if p[i] != 124 {
-            return Parsed::Got { part, next: i };
+        if p[i] != b'|' {
+            return Some(Parsed { part, next: i });
         }
-        match branch(p, i + 1, d - 1, t) {
-            Parsed::Bad => {
-                return Parsed::Bad;
-            }
-            Parsed::Got { part: g, next: x } => {
-                if x <= i {
-                    return Parsed::Bad;
-                }
-                part = choice(part, g);
-                i = x;
-            }
+        let Parsed { part: g, next } = branch(p, i + 1, d - 1, t)?;
+        if next <= i {
+            return None;
         }
+        part = choice(part, g);
+        i = next;
     }
-    Parsed::Got { part, next: i }
+    Some(Parsed { part, next: i })
 }
 
 #[cycle(atom_branch_branch_rest_expression_expression_rest_piece)]
-pub fn expression(p: &[u8], i: usize, d: usize, t: &mut [u64]) -> Parsed
+pub fn expression(p: &[u8], i: usize, d: usize, t: &mut [u64]) -> Option<Parsed>
     ensures { R.ran result t.new ≡ R.expr_at d p.now i t.old }
 {
     if d == 0 {
-        return Parsed::Bad;
+        return None;
     }
-    match branch(p, i, d - 1, t) {
-        Parsed::Bad => Parsed::Bad,
-        Parsed::Got { part, next } => expression_rest(p, next, part, d - 1, t),
-    }
+    let Parsed { part, next } = branch(p, i, d - 1, t)?;
+    expression_rest(p, next, part, d - 1, t)
 }

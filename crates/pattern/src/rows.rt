@@ -8,17 +8,14 @@ fn or_at(t: &mut [u64], i: usize, x: u64)
     ensures { t.new ≡ P.or_at t.old i x }
 {
     if i < t.len() {
-        t[i] = t[i] | x;
+        t[i] |= x;
     }
 }
 
 fn word_at(t: &[u64], i: usize) -> u64
     ensures { result ≡ P.word_at t.now i }
 {
-    if i < t.len() {
-        return t[i];
-    }
-    0
+    t.get(i).copied().unwrap_or(0)
 }
 
 // The row q of the table is at 4 q.
@@ -59,14 +56,12 @@ fn link_word(t: &mut [u64], word: u64, base: usize, end: usize, to: Places)
     ensures { t.new ≡ P.link_word t.old word base end to }
 {
     let mut x = word;
-    let mut q = base;
-    while q < end {
+    for q in base..end {
         if x == 0 {
             return;
         }
         add_if(t, x, q, to);
-        x = x / 2;
-        q += 1;
+        x /= 2;
     }
 }
 

@@ -11,74 +11,21 @@ ghost use Rattle.principal.specs.Tag.{plain, caseless, group, mixed, mixed_with,
 fn colon_at(id: &[u8]) -> usize
     ensures { result ≡ length (front id.now) }
 {
-    let mut i: usize = 0;
-    while i < id.len() {
-        if id[i] == 58 {
-            return i;
-        }
-        i += 1;
-    }
-    i
-}
-
-// A capital letter as the small one.
-fn fold_byte(b: u8) -> u8
-    ensures { result ≡ fold b }
-{
-    if 65 <= b {
-        if b <= 90 {
-            return b + 32;
-        }
-        return b;
-    }
-    b
+    id.iter().position(|b| *b == b':').unwrap_or(id.len())
 }
 
 // The same bytes but for the case of letters?
 fn same_folded(a: &[u8], b: &[u8]) -> bool
     ensures { result ≡ equal (folded a.now) (folded b.now) }
 {
-    if a.len() != b.len() {
-        return false;
-    }
-    let mut i: usize = 0;
-    while i < a.len() {
-        if fold_byte(a[i]) != fold_byte(b[i]) {
-            return false;
-        }
-        i += 1;
-    }
-    true
+    a.eq_ignore_ascii_case(b)
 }
 
 // An algorithm whose keys are hexadecimal?
 fn is_hex(a: &[u8]) -> bool
     ensures { result ≡ is_hex (folded a.now) }
 {
-    if same_folded(a, b"rsa-hex") {
-        return true;
-    }
-    same_folded(a, b"dsa-hex")
-}
-
-// The first k bytes.
-fn front_to(id: &[u8], k: usize) -> &[u8]
-    ensures { result.now ≡ take k id.now }
-{
-    if id.len() <= k {
-        return id;
-    }
-    &id[..k]
-}
-
-// The bytes from k on.
-fn rest_from(id: &[u8], k: usize) -> &[u8]
-    ensures { result.now ≡ drop k id.now }
-{
-    if id.len() <= k {
-        return &id[id.len()..];
-    }
-    &id[k..]
+    same_folded(a, b"rsa-hex") || same_folded(a, b"dsa-hex")
 }
 
 // Are these the same principal? Mostly their bytes are the same, or their lengths differ.
@@ -92,19 +39,19 @@ pub fn same_principal(a: &[u8], b: &[u8]) -> bool
         return true;
     }
     let k = colon_at(a);
-    if colon_at(b) != k {
+    if colon_at(b) != k || a.len() <= k {
         return false;
     }
-    if a.len() <= k {
+    let (front_a, rest_a) = a.split_at(k);
+    let (front_b, rest_b) = b.split_at(k);
+    if !same_folded(front_a, front_b) {
         return false;
     }
-    if same_folded(front_to(a, k), front_to(b, k)) {
-        if is_hex(front_to(a, k)) {
-            return same_folded(rest_from(a, k), rest_from(b, k));
-        }
-        return text::same_bytes(rest_from(a, k), rest_from(b, k));
+    if is_hex(front_a) {
+        same_folded(rest_a, rest_b)
+    } else {
+        text::same_bytes(rest_a, rest_b)
     }
-    false
 }
 
 // Are these the bytes of POLICY?
@@ -119,7 +66,7 @@ fn caseless_byte(b: u8) -> usize
     ensures value { result ≡ plain b }
     ensures upper_bound { result < 128 }
 {
-    (b % 32 + 32 * (b / 64 % 4)) as usize
+    usize::from(b % 32 + 32 * (b / 64 % 4))
 }
 
 // The same of the byte at i, which is there. Without a test of that it buys 8 % of equal keys of 40 bytes.
@@ -132,14 +79,12 @@ fn byte_at(id: &[u8], i: usize) -> usize
 }
 
 // The same, or 0.
+#[tactic(auto, unfolding(crate::specs::Tag::caseless, crate::specs::Tag::plain))]
 fn byte_or_none(id: &[u8], i: usize) -> usize
     ensures value { result ≡ caseless id.now i }
     ensures upper_bound { result < 128 }
 {
-    if id.len() <= i {
-        return 0;
-    }
-    byte_at(id, i)
+    if i < id.len() { byte_at(id, i) } else { 0 }
 }
 
 // Four such as one number.
@@ -180,13 +125,9 @@ fn mix_groups(id: &[u8], k: usize, from: usize, h: usize) -> usize
     ensures value { result ≡ mixed_with id.now k from h }
     ensures upper_bound { result < 4294967296 }
 {
-    let mut left = k;
-    let mut i = from;
     let mut sum = h;
-    while 0 < left {
-        sum = mix(sum, group_at(id, i));
-        i += 4;
-        left -= 1;
+    for j in 0..k {
+        sum = mix(sum, group_at(id, from + 4 * j));
     }
     sum
 }

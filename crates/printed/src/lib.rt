@@ -18,10 +18,7 @@ pub const LINES: usize = 64 + 33 * MOST_ASSERTIONS;
 pub fn cut(text: &[u8], n: usize) -> &[u8]
     ensures { result.now ≡ take n text.now }
 {
-    if text.len() <= n {
-        return text;
-    }
-    &text[..n]
+    &text[..text.len().min(n)]
 }
 
 // Writes at a place as much of a text as fits, and gives the place behind it.
@@ -39,7 +36,7 @@ fn add(out: &mut [u8], at: usize, text: &[u8]) -> usize
 fn digit(n: usize) -> u8
     ensures { result ≡ 48 + n % 10 }
 {
-    48 + (n % 10) as u8
+    b'0' + (n % 10) as u8
 }
 
 fn add_number(out: &mut [u8], at: usize, n: usize) -> usize
@@ -86,20 +83,11 @@ fn add_pair(
     add(out, b, end)
 }
 
-fn wide(b: u8) -> usize
-    ensures { result ≡ b }
-{
-    b as usize
-}
-
 // The byte at a place, 0 past the end.
 fn byte_at(s: &[u8], at: usize) -> usize
     ensures { result ≡ get_or s.now at 0 }
 {
-    if s.len() <= at {
-        return 0;
-    }
-    wide(s[at])
+    usize::from(s.get(at).copied().unwrap_or(0))
 }
 
 // The reason in the report's entry i.
@@ -135,10 +123,8 @@ fn add_assertions(out: &mut [u8], at: usize, page: &[u8], end: &[u8], n: usize) 
     ensures { filled result out.new ≡ fill_at out.old at (assertion_lines page.now end.now n) }
 {
     let mut to = at;
-    let mut i: usize = 0;
-    while i < n {
+    for i in 0..n {
         to = add_assertion(out, to, page, end, i);
-        i += 1;
     }
     to
 }
@@ -147,7 +133,7 @@ fn add_assertions(out: &mut [u8], at: usize, page: &[u8], end: &[u8], n: usize) 
 fn add_head(out: &mut [u8], answer: Outcome, values: usize, end: &[u8]) -> usize
     ensures { filled result out.new ≡ fill_at out.old 0 (head_lines answer values end.now) }
 {
-    let rank = wide(answer.rank);
+    let rank = usize::from(answer.rank);
     let a = add_pair(out, 0, b"rank ", rank, b" of ", values, end);
     let b = add_line(out, a, b"rounds ", answer.rounds, end);
     add_line(out, b, b"reached ", answer.reached, end)
@@ -156,7 +142,7 @@ fn add_head(out: &mut [u8], answer: Outcome, values: usize, end: &[u8]) -> usize
 fn add_refusal(out: &mut [u8], answer: Outcome, end: &[u8]) -> usize
     ensures { filled result out.new ≡ fill_at out.old 0 (refusal_line answer end.now) }
 {
-    let number = wide(answer.number);
+    let number = usize::from(answer.number);
     add_pair(out, 0, b"refused ", number, b" at ", answer.place, end)
 }
 

@@ -5,6 +5,7 @@ pub mod Item
 pub mod Record
 pub mod Places
 pub mod Lies
+pub mod Refusal
 pub mod Reading
 pub mod Encode
 pub mod Valid

@@ -6,7 +6,7 @@ ghost use Rattle.std.specs.Io.{ReadsAtMost};
 ghost use Rattle.std.specs.Prelude.{◌<◌};
 
 use input::read_full;
-use record::Reading;
+use record::{Ends, Refusal};
 use std::io::{Read, Write};
 use std::{fs, io};
 
@@ -14,25 +14,19 @@ use std::{fs, io};
 const ROOM: usize = 65600;
 
 // A line of a vector: its name and what was read.
-fn print_reading<W: Write>(out: &mut W, name: &[u8], reading: Reading) -> io::Result<()> {
+fn print_reading<W: Write>(
+    out: &mut W,
+    name: &[u8],
+    reading: Result<Ends, Refusal>,
+) -> io::Result<()> {
     out.write_all(name)?;
     match reading {
-        Reading::Refused { number, at } => {
-            out.write_all(b" refused ")?;
-            write!(out, "{number}")?;
-            out.write_all(b" at ")?;
-            write!(out, "{at}")?;
-        }
-        Reading::Accepted {
-            values: _,
-            requesters: _,
-            attributes: _,
-            assertions: _,
-        } => {
-            out.write_all(b" accepted")?;
+        Ok(_) => writeln!(out, " accepted"),
+        Err(refusal) => {
+            let Refusal { number, at } = refusal;
+            writeln!(out, " refused {number} at {at}")
         }
     }
-    out.write_all(b"\n")
 }
 
 fn try_record<W: Write>(out: &mut W, name: &[u8], bytes: &[u8]) -> io::Result<()> {
@@ -41,15 +35,9 @@ fn try_record<W: Write>(out: &mut W, name: &[u8], bytes: &[u8]) -> io::Result<()
     print_reading(out, name, reading)
 }
 
-fn wide(b: u8) -> usize
-    ensures { result < 256 }
-{
-    b as usize
-}
-
 // The number in the last three of four bytes, big-endian.
 fn size_of(four: &[u8; 4]) -> usize {
-    wide(four[1]) * 65536 + wide(four[2]) * 256 + wide(four[3])
+    usize::from(four[1]) * 65536 + usize::from(four[2]) * 256 + usize::from(four[3])
 }
 
 // Reads n bytes to the front of a buffer, and answers how many there were.
@@ -70,10 +58,7 @@ fn try_fronts_of<W: Write>(
     bytes: &[u8],
     m: usize,
 ) -> io::Result<()> {
-    if name.len() < k {
-        return Ok(());
-    }
-    if bytes.len() < m {
+    if name.len() < k || bytes.len() < m {
         return Ok(());
     }
     try_record(out, &name[..k], &bytes[..m])
@@ -86,7 +71,7 @@ fn next_vector<R: Read, W: Write>(input: &mut R, out: &mut W) -> io::Result<bool
         return Ok(false);
     }
     let mut name = [0u8; 256];
-    let k = fill(input, &mut name, wide(one[0]))?;
+    let k = fill(input, &mut name, usize::from(one[0]))?;
     let mut four = [0u8; 4];
     read_full(input, &mut four)?;
     let mut bytes = [0u8; ROOM];
@@ -95,69 +80,40 @@ fn next_vector<R: Read, W: Write>(input: &mut R, out: &mut W) -> io::Result<bool
     Ok(true)
 }
 
-fn number_of(reading: Reading) -> u64 {
+// A refusal's number and place; 0 and 0 where the record is accepted.
+fn number_and_place(reading: Result<Ends, Refusal>) -> (u8, usize) {
     match reading {
-        Reading::Refused { number, at: _ } => number as u64,
-        Reading::Accepted {
-            values: _,
-            requesters: _,
-            attributes: _,
-            assertions: _,
-        } => 0,
-    }
-}
-
-fn place_of(reading: Reading) -> usize {
-    match reading {
-        Reading::Refused { number: _, at } => at,
-        Reading::Accepted {
-            values: _,
-            requesters: _,
-            attributes: _,
-            assertions: _,
-        } => 0,
+        Ok(_) => (0, 0),
+        Err(refusal) => (refusal.number, refusal.at),
     }
 }
 
 // The fronts of a record of 0 to all of its bytes: a line where number or place differ from the front before.
 fn try_fronts<W: Write>(out: &mut W, bytes: &[u8]) -> io::Result<()> {
-    let mut number: u64 = 0;
-    let mut place: usize = 0;
-    let mut n: usize = 0;
-    while n <= bytes.len() {
+    let mut last = (0, 0);
+    for n in 0..=bytes.len() {
         let mut table = [0usize; record::MOST_ITEMS];
-        let r = record::read(&bytes[..n], &mut table);
-        let k = number_of(r);
-        let p = place_of(r);
-        if k != number {
-            print_front(out, n, r)?;
-        } else {
-            if p != place {
-                print_front(out, n, r)?;
-            }
+        let reading = record::read(&bytes[..n], &mut table);
+        let found = number_and_place(reading);
+        if found != last {
+            print_front(out, n, reading)?;
         }
-        number = k;
-        place = p;
-        n += 1;
+        last = found;
     }
     Ok(())
 }
 
-fn print_front<W: Write>(out: &mut W, n: usize, r: Reading) -> io::Result<()> {
-    out.write_all(b"front ")?;
-    write!(out, "{n}")?;
-    print_reading(out, b"", r)
+fn print_front<W: Write>(out: &mut W, n: usize, reading: Result<Ends, Refusal>) -> io::Result<()> {
+    write!(out, "front {n}")?;
+    print_reading(out, b"", reading)
 }
 
 fn main(rt: HostRuntime) -> io::Result<()> {
     let mut out = io::writer(&rt);
     let mut records = fs::open(&rt, "records")?;
-    let mut left: usize = 10000;
-    while 0 < left {
-        if next_vector(&mut records, &mut out)? {
-            left -= 1;
-        } else {
-            left = 0;
+    for _ in 0..10000 {
+        if !next_vector(&mut records, &mut out)? {
+            break;
         }
     }
     let mut full = fs::open(&rt, "full")?;

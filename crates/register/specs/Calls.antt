@@ -3,6 +3,8 @@ use Rattle.std.specs.Prelude.{Bool, false, not, ◌&&◌, ◌||◌, List, [], �
 use Rattle.text.specs.Choice.{pick}
 use Rattle.register.specs.Limits.{most_principals, most_moves}
 use Rattle.register.specs.Entries.{Entry, free, Contents, known, moves_of, total, principals, twice, added, replaced, gained, lost}
+use Rattle.register.specs.declared.Reason.{Reason}
+use Rattle.register.specs.declared.Reason.TheVariants.{DamagedRegister, AmountOutside, UnknownPrincipal, MoreThanHeld, IssueLimit, NoPlace, MovesLeft}
 
 -- "issue, pass on, spend, remove": a payer or principal, passing's receiver, an amount
 pub data Call : Type 0 where
@@ -60,34 +62,25 @@ holding es (passes x y n) = false
 holding es (spends x n) = false
 holding es (removes x) = ltb 0 (moves_of x es)
 
--- why a call is refused
-pub data Reason : Type 0 where
-  damaged_register : Reason
-  amount_outside : Reason
-  unknown_principal : Reason
-  more_than_held : Reason
-  issue_limit : Reason
-  no_place : Reason
-  moves_left : Reason
-
+-- the number of the reason why a call is refused
 abbrev pub number : Reason → ℕ
-number damaged_register = 20
-number amount_outside = 14
-number unknown_principal = 15
-number more_than_held = 16
-number issue_limit = 17
-number no_place = 18
-number moves_left = 19
+number DamagedRegister = 20
+number AmountOutside = 14
+number UnknownPrincipal = 15
+number MoreThanHeld = 16
+number IssueLimit = 17
+number NoPlace = 18
+number MovesLeft = 19
 
 -- whether a reason is there, whatever the others
 abbrev pub applies : Contents → Call → Reason → Bool
-applies r c damaged_register = damaged r
-applies r c amount_outside = bad_amount c
-applies r c unknown_principal = unknown r.entries c
-applies r c more_than_held = exceeding r.entries c
-applies r c issue_limit = over_issue r.issued c
-applies r c no_place = crowded r.entries c
-applies r c moves_left = holding r.entries c
+applies r c DamagedRegister = damaged r
+applies r c AmountOutside = bad_amount c
+applies r c UnknownPrincipal = unknown r.entries c
+applies r c MoreThanHeld = exceeding r.entries c
+applies r c IssueLimit = over_issue r.issued c
+applies r c NoPlace = crowded r.entries c
+applies r c MovesLeft = holding r.entries c
 
 -- what a call does where it is granted
 unfoldable pub effect : Contents → Call → Contents
@@ -104,7 +97,7 @@ pub data Outcome : Type 0 where
 
 -- "are tested in this order"
 abbrev pub order : List Reason
-order = damaged_register ∷ amount_outside ∷ unknown_principal ∷ more_than_held ∷ issue_limit ∷ no_place ∷ moves_left ∷ []
+order = DamagedRegister ∷ AmountOutside ∷ UnknownPrincipal ∷ MoreThanHeld ∷ IssueLimit ∷ NoPlace ∷ MovesLeft ∷ []
 
 -- the first reason that is there refuses the call, with place 0
 abbrev pub tested : List Reason → Contents → Call → Outcome

@@ -3,10 +3,10 @@ ghost use Rattle.std.specs.Prelude.{◌≡◌, ◌++◌, ◌+◌, ◌-◌, ◌*�
 ghost use Rattle.text.specs.Copy.{put};
 ghost use Rattle.text.specs.Counted.{pair_at};
 ghost use Rattle.register.specs.Layout.{four_at, eight_at, entry_at, entries_at, entry_bytes, entries_bytes, head, encode};
-ghost use Rattle.register.specs.Told.{entry_of, contents};
+ghost use Rattle.register.specs.Told.{entry_of, contents, unfit_number, unfit_place};
 ghost use Rattle.register.specs.Working.Bytes.{readable_at, readable};
 
-use crate::{Answer, MOST_PRINCIPALS, Place, Register};
+use crate::{MOST_PRINCIPALS, NOBODY, Place, Register};
 use text::copy_at;
 
 pub const VERSION: u8 = 1;
@@ -19,26 +19,44 @@ pub const PLACE: usize = 13;
 
 pub const BYTES: usize = HEAD + MOST_PRINCIPALS * PLACE;
 
-// The numbers of refusals for bytes that are no register.
-pub const BAD_VERSION: u8 = 2;
-
-pub const BAD_LENGTH: u8 = 5;
-
-pub const BAD_MARK: u8 = 6;
-
-fn wide(b: u8) -> u64
-    ensures { (result ≡ b) × (result < 256) }
-{
-    b as u64
+// Why bytes are no register: another length, another version, or a mark above 1 at a place.
+#[derive(Clone, Copy, PartialEq, Eq)]
+pub enum Unfit {
+    Length,
+    Version,
+    Mark { place: usize },
 }
 
+impl Unfit {
+    // Its number, which C is told.
+    pub fn number(self) -> u8
+        ensures { result ≡ unfit_number self }
+    {
+        match self {
+            Unfit::Length => 5,
+            Unfit::Version => 2,
+            Unfit::Mark { .. } => 6,
+        }
+    }
+
+    // Its place, which C is told.
+    pub fn place(self) -> usize
+        ensures { result ≡ unfit_place self }
+    {
+        match self {
+            Unfit::Mark { place } => place,
+            _ => 0,
+        }
+    }
+}
+
+// The numbers in two, four and eight bytes, big-endian.
+// Kept: beside `text::pair_at`, which says no bound of its number.
 fn two_at(s: &[u8], at: usize) -> u64
     requires { at + 2 ≤ length s.now }
     ensures { (result ≡ pair_at s.now at) × (result < 65536) }
 {
-    let a = wide(s[at]);
-    let b = wide(s[at + 1]);
-    a * 256 + b
+    u64::from(s[at]) * 256 + u64::from(s[at + 1])
 }
 
 fn four_at(s: &[u8], at: usize) -> u64
@@ -73,11 +91,7 @@ fn place_at(s: &[u8], at: usize) -> Place
             moves,
         };
     }
-    Place {
-        held: false,
-        principal: 0,
-        moves: 0,
-    }
+    NOBODY
 }
 
 // The register in bytes that are one. It is filled from its last place to its first.
@@ -86,47 +100,30 @@ pub(crate) fn read(s: &[u8]) -> Register
     ensures { contents result ≡ record { entries = entries_at 64 s.now 9; issued = eight_at s.now 1 } }
 {
     let issued = eight_at(s, 1);
-    let mut places = [Place {
-        held: false,
-        principal: 0,
-        moves: 0,
-    }; MOST_PRINCIPALS];
-    let mut i = MOST_PRINCIPALS;
-    while 0 < i {
-        i -= 1;
+    let mut places = [NOBODY; MOST_PRINCIPALS];
+    for i in (0..MOST_PRINCIPALS).rev() {
         places[i] = place_at(s, HEAD + i * PLACE);
     }
     Register { places, issued }
 }
 
 // Whether bytes are a register, or why they are none.
-pub fn check(s: &[u8]) -> Answer
+pub fn check(s: &[u8]) -> Result<(), Unfit>
     ensures { result ≡ readable s.now }
 {
     if s.len() != BYTES {
-        return Answer::Refused {
-            number: BAD_LENGTH,
-            place: 0,
-        };
+        return Err(Unfit::Length);
     }
     if s[0] != VERSION {
-        return Answer::Refused {
-            number: BAD_VERSION,
-            place: 0,
-        };
+        return Err(Unfit::Version);
     }
-    let mut i: usize = 0;
-    while i < MOST_PRINCIPALS {
-        let at = HEAD + i * PLACE;
-        if 1 < s[at] {
-            return Answer::Refused {
-                number: BAD_MARK,
-                place: at,
-            };
+    for i in 0..MOST_PRINCIPALS {
+        let place = HEAD + i * PLACE;
+        if 1 < s[place] {
+            return Err(Unfit::Mark { place });
         }
-        i += 1;
     }
-    Answer::Granted
+    Ok(())
 }
 
 // The bytes of a place.
@@ -134,24 +131,9 @@ fn place_bytes(p: Place) -> [u8; PLACE]
     ensures { result ≡ entry_bytes (entry_of p) }
 {
     if p.held {
-        let x = p.principal;
-        let a = p.moves / 4294967296;
-        let b = p.moves % 4294967296;
-        return [
-            1,
-            (x / 65536 / 256 % 256) as u8,
-            (x / 65536 % 256) as u8,
-            (x % 65536 / 256 % 256) as u8,
-            (x % 65536 % 256) as u8,
-            (a / 65536 / 256 % 256) as u8,
-            (a / 65536 % 256) as u8,
-            (a % 65536 / 256 % 256) as u8,
-            (a % 65536 % 256) as u8,
-            (b / 65536 / 256 % 256) as u8,
-            (b / 65536 % 256) as u8,
-            (b % 65536 / 256 % 256) as u8,
-            (b % 65536 % 256) as u8,
-        ];
+        let [a, b, c, d] = p.principal.to_be_bytes();
+        let [e, f, g, h, i, j, k, l] = p.moves.to_be_bytes();
+        return [1, a, b, c, d, e, f, g, h, i, j, k, l];
     }
     [0; PLACE]
 }
@@ -159,19 +141,8 @@ fn place_bytes(p: Place) -> [u8; PLACE]
 fn head_bytes(issued: u64) -> [u8; HEAD]
     ensures { result ≡ head issued }
 {
-    let a = issued / 4294967296;
-    let b = issued % 4294967296;
-    [
-        VERSION,
-        (a / 65536 / 256 % 256) as u8,
-        (a / 65536 % 256) as u8,
-        (a % 65536 / 256 % 256) as u8,
-        (a % 65536 % 256) as u8,
-        (b / 65536 / 256 % 256) as u8,
-        (b / 65536 % 256) as u8,
-        (b % 65536 / 256 % 256) as u8,
-        (b % 65536 % 256) as u8,
-    ]
+    let [a, b, c, d, e, f, g, h] = issued.to_be_bytes();
+    [VERSION, a, b, c, d, e, f, g, h]
 }
 
 // Writes a place's bytes.
@@ -188,11 +159,8 @@ fn put_places(bytes: &mut [u8], register: Register)
     requires { length bytes.old ≡ 841 }
     ensures { (bytes.new ≡ put bytes.old 9 (entries_bytes (contents register).entries)) × (length (contents register).entries ≡ 64) }
 {
-    let mut i = MOST_PRINCIPALS;
-    while 0 < i {
-        i -= 1;
-        let p = register.places[i];
-        put_place(bytes, HEAD + i * PLACE, p);
+    for i in (0..MOST_PRINCIPALS).rev() {
+        put_place(bytes, HEAD + i * PLACE, register.places[i]);
     }
 }
 

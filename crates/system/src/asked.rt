@@ -18,8 +18,8 @@ fn ask(pool: &mut [u8], places: &mut [usize], direct: &mut [u8], index: Index, i
     ensures { asked result pool.new places.new direct.new ≡ ask_in pool.old places.old direct.old index id.now }
 {
     match enter(pool, places, index, id) {
-        Numbered::Full => index,
-        Numbered::At { count, number, end } => {
+        None => index,
+        Some(Numbered { count, number, end }) => {
             mark(direct, number);
             Index { count, end }
         }
@@ -38,11 +38,8 @@ pub fn ask_all(
     ensures { asked result pool.new places.new direct.new ≡ all_from query.now requesters.now (asked from pool.old places.old direct.old) }
 {
     let mut index = from;
-    let mut i: usize = 0;
-    while i < requesters.len() {
-        let p = requesters[i];
-        index = ask(pool, places, direct, index, text::counted_at(query, p));
-        i += 1;
+    for p in requesters {
+        index = ask(pool, places, direct, index, text::counted_at(query, *p));
     }
     index
 }
@@ -52,11 +49,10 @@ pub fn begin(pool: &mut [u8], places: &mut [usize]) -> Index
     ensures { begun result pool.new places.new ≡ begin_in pool.old places.old }
 {
     match enter(pool, places, Index { count: 0, end: 0 }, b"POLICY") {
-        Numbered::Full => Index { count: 0, end: 0 },
-        Numbered::At {
-            count,
-            number: _,
-            end,
-        } => Index { count, end },
+        None => Index { count: 0, end: 0 },
+        Some(e) => Index {
+            count: e.count,
+            end: e.end,
+        },
     }
 }

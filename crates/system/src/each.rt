@@ -1,12 +1,12 @@
 // The assertions of a query, one after the other.
-ghost use Rattle.std.specs.Prelude.{◌≡◌, get_or, drop, ◌+◌, ◌-◌, ltb};
-ghost use Rattle.text.specs.Choice.{pick};
+ghost use Rattle.std.specs.Prelude.{◌≡◌, get_or, drop, ◌-◌};
 ghost use Rattle.system.specs.Working.Each.{fixed, store, one_by, one_in, full, went_by, each_by, each_from};
 
 use crate::note::{Ends, note};
-use assertion::{Assessment, read};
+use assertion::{Assessed, read};
 use index::Index;
 use limits::{MOST_CONSTANTS, MOST_ENTERED, MOST_LENGTHS, MOST_NAMED};
+use syntax::fault::Fault;
 
 // The byte at a place, 0 past the end.
 fn byte_at(s: &[u8], at: usize) -> u8
@@ -28,13 +28,20 @@ fn standing_at(s: &[u8], at: usize) -> u8
     byte_at(s, at - 3)
 }
 
+// What is the same for all assertions of a query: its record, the places of its compliance values and of its attributes' names, the highest rank, and
+// where constants begin.
+#[derive(Clone, Copy)]
+pub struct Shared<'a> {
+    pub query: &'a [u8],
+    pub values: &'a [usize],
+    pub names: &'a [usize],
+    pub top: u8,
+    pub start: usize,
+}
+
 // The assertion at a place of the record.
 fn read_one(
-    query: &[u8],
-    values: &[usize],
-    names: &[usize],
-    top: u8,
-    start: usize,
+    shared: &Shared,
     at: usize,
     consts: &mut [u8],
     pool: &mut [u8],
@@ -42,20 +49,20 @@ fn read_one(
     code: &mut [u16],
     index: Index,
     size: usize,
-) -> Assessment
-    ensures { one_by result (store consts.new pool.new places.new code.new) ≡ one_in (fixed query.now values.now names.now top start) at (store consts.old pool.old places.old code.old) index.count index.end size }
+) -> Result<Assessed, Fault>
+    ensures { one_by result (store consts.new pool.new places.new code.new) ≡ one_in (fixed shared.now.query.now shared.now.values.now shared.now.names.now shared.now.top shared.now.start) at (store consts.old pool.old places.old code.old) index.count index.end size }
 {
     let mut constants = [0usize; MOST_CONSTANTS];
-    let standing = standing_at(query, at);
+    let standing = standing_at(shared.query, at);
     read(
-        text::counted_at(query, at),
+        text::counted_at(shared.query, at),
         standing,
-        top,
-        query,
-        values,
-        names,
+        shared.top,
+        shared.query,
+        shared.values,
+        shared.names,
         consts,
-        start,
+        shared.start,
         &mut constants,
         pool,
         places,
@@ -63,16 +70,6 @@ fn read_one(
         code,
         size,
     )
-}
-
-// The number behind i, up to n.
-fn behind(i: usize, n: usize) -> usize
-    ensures { result ≡ pick (ltb i n) (i + 1) i }
-{
-    if i < n {
-        return i + 1;
-    }
-    i
 }
 
 // Is a table too small for one assertion more: the constants of its text, and the longest identifiers?
@@ -117,11 +114,7 @@ pub struct Stretch {
 
 // The assertions whose texts are at those places, from the first on, while the tables have room for one more.
 pub fn read_each(
-    query: &[u8],
-    values: &[usize],
-    names: &[usize],
-    top: u8,
-    start: usize,
+    shared: &Shared,
     texts: &[usize],
     consts: &mut [u8],
     pool: &mut [u8],
@@ -134,17 +127,16 @@ pub fn read_each(
     first: usize,
     from: Ends,
 ) -> Stretch
-    ensures { went_by result.next (each_by result.ends (store consts.new pool.new places.new code.new) authors.new conds.new ends.new page.new) ≡ each_from (fixed query.now values.now names.now top start) (drop first texts.now) first (each_by from (store consts.old pool.old places.old code.old) authors.old conds.old ends.old page.old) }
+    ensures { went_by result.next (each_by result.ends (store consts.new pool.new places.new code.new) authors.new conds.new ends.new page.new) ≡ each_from (fixed shared.now.query.now shared.now.values.now shared.now.names.now shared.now.top shared.now.start) (drop first texts.now) first (each_by from (store consts.old pool.old places.old code.old) authors.old conds.old ends.old page.old) }
 {
     let mut e = from;
-    let mut i = first;
-    while i < texts.len() {
+    for i in first..texts.len() {
         let at = texts[i];
         let index = e.index;
-        let n = text::counted_at(query, at).len();
+        let n = text::counted_at(shared.query, at).len();
         if is_full(
             consts.len(),
-            start,
+            shared.start,
             n,
             pool.len(),
             index.end,
@@ -153,11 +145,11 @@ pub fn read_each(
         ) {
             return Stretch { next: i, ends: e };
         }
-        let r = read_one(
-            query, values, names, top, start, at, consts, pool, places, code, index, e.size,
-        );
+        let r = read_one(shared, at, consts, pool, places, code, index, e.size);
         e = note(authors, conds, ends, page, i, e, r);
-        i = behind(i, texts.len());
     }
-    Stretch { next: i, ends: e }
+    Stretch {
+        next: first.max(texts.len()),
+        ends: e,
+    }
 }

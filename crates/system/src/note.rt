@@ -2,7 +2,7 @@
 ghost use Rattle.std.specs.Prelude.{◌≡◌, ◌%◌};
 ghost use Rattle.system.specs.Working.Noting.{entry_into, rowed, row_into, noted, note_in, header_into};
 
-use assertion::Assessment;
+use assertion::Assessed;
 use index::Index;
 use naming::fault::clear;
 use syntax::fault::Fault;
@@ -77,24 +77,23 @@ pub fn note(
     page: &mut [u8],
     i: usize,
     e: Ends,
-    r: Assessment,
+    r: Result<Assessed, Fault>,
 ) -> Ends
     ensures { noted result authors.new conds.new ends.new page.new ≡ note_in authors.old conds.old ends.old page.old i e r }
 {
     match r {
-        Assessment::Dropped { fault } => {
+        Err(fault) => {
             put_entry(page, i, fault);
             e
         }
-        Assessment::Kept {
-            author,
-            rank,
-            index,
-            size,
-        } => {
+        Ok(a) => {
             put_entry(page, i, clear());
-            let kept = put_row(authors, conds, ends, e.kept, author, rank, size);
-            Ends { index, size, kept }
+            let kept = put_row(authors, conds, ends, e.kept, a.author, a.rank, a.size);
+            Ends {
+                index: a.index,
+                size: a.size,
+                kept,
+            }
         }
     }
 }

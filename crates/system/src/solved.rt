@@ -1,13 +1,14 @@
 // A query solved: its tables are made, filled and handed to the solver.
-ghost use Rattle.std.specs.Prelude.{◌≡◌, [], ◌∷◌, take, ◌-◌, ◌%◌};
+ghost use Rattle.std.specs.Prelude.{◌≡◌, [], ◌∷◌, length, ◌-◌, ◌%◌};
 ghost use Rattle.text.specs.Copy.{copied, copy_at};
 ghost use Rattle.system.specs.Working.Each.{fixed};
 ghost use Rattle.system.specs.Working.Sizes.{middle, large};
 ghost use Rattle.system.specs.Working.Solving.{solved_by, rows_give, grown_in, filled_in, filled_long, solved_in};
 
 use crate::asked::{ask_all, begin as begin_index};
-use crate::each::read_each;
+use crate::each::{Shared, read_each};
 use crate::note::{Ends, put_header};
+use assertion::field::front;
 use compliance::{Solution, solve};
 use constants::begin as begin_constants;
 use index::Index;
@@ -36,33 +37,6 @@ const MIDDLE_MOST: usize = MIDDLE_POOL - MOST_ENTERED;
 // Longer records, and those with more assertions, mostly need the larger tables.
 const LONG: usize = 16384;
 
-fn front_bytes(l: &[u8], n: usize) -> &[u8]
-    ensures { result.now ≡ take n l.now }
-{
-    if l.len() <= n {
-        return l;
-    }
-    &l[..n]
-}
-
-fn front_pairs(l: &[u16], n: usize) -> &[u16]
-    ensures { result.now ≡ take n l.now }
-{
-    if l.len() <= n {
-        return l;
-    }
-    &l[..n]
-}
-
-fn front_places(l: &[usize], n: usize) -> &[usize]
-    ensures { result.now ≡ take n l.now }
-{
-    if l.len() <= n {
-        return l;
-    }
-    &l[..n]
-}
-
 // Copies numbers into dst at a place, and tells whether they fit; where they don't, nothing is written.
 fn copy_places(dst: &mut [usize], at: usize, src: &[usize]) -> bool
     ensures { copied result dst.new ≡ copy_at dst.old at src.now }
@@ -73,11 +47,7 @@ fn copy_places(dst: &mut [usize], at: usize, src: &[usize]) -> bool
     if dst.len() - at < src.len() {
         return false;
     }
-    let mut i: usize = 0;
-    while i < src.len() {
-        dst[at + i] = src[i];
-        i += 1;
-    }
+    dst[at..at + src.len()].copy_from_slice(src);
     true
 }
 
@@ -89,6 +59,15 @@ fn top_of(n: usize) -> u8
         return 0;
     }
     ((n - 1) % 256) as u8
+}
+
+// What the smaller tables hold: the joined texts, the identifiers, their places, and which of them are requesters.
+#[derive(Clone, Copy)]
+struct Begun<'a> {
+    joined: &'a [u8],
+    identifiers: &'a [u8],
+    indexed: &'a [usize],
+    marks: &'a [u8],
 }
 
 // What the rows in use give.
@@ -104,28 +83,22 @@ fn solve_rows(
     ensures { result ≡ rows_give authors.now conds.now ends.now code.now direct.now e top }
 {
     solve(
-        front_pairs(authors, e.kept),
-        front_bytes(conds, e.kept),
-        front_pairs(ends, e.kept),
-        front_pairs(code, e.size),
-        front_bytes(direct, e.index.count),
+        front(authors, e.kept),
+        front(conds, e.kept),
+        front(ends, e.kept),
+        front(code, e.size),
+        front(direct, e.index.count),
         top,
     )
 }
 
 // The assertions from the one with that number on read and solved, over tables for every query that begin as the old ones.
+// Kept: one function for this and `grown` would call itself with a larger table, and such a call gets no proof.
 #[inline(never)]
 fn grown_large(
-    query: &[u8],
-    values: &[usize],
-    names: &[usize],
-    top: u8,
-    start: usize,
+    shared: &Shared,
     texts: &[usize],
-    joined: &[u8],
-    identifiers: &[u8],
-    indexed: &[usize],
-    marks: &[u8],
+    begun: &Begun,
     code: &mut [u16],
     authors: &mut [u16],
     conds: &mut [u8],
@@ -134,22 +107,18 @@ fn grown_large(
     next: usize,
     e: Ends,
 ) -> Solution
-    ensures { solved_by result page.new ≡ grown_in large [] (fixed query.now values.now names.now top start) texts.now joined.now identifiers.now indexed.now marks.now code.old authors.old conds.old ends.old page.old next e }
+    ensures { solved_by result page.new ≡ grown_in large [] (fixed shared.now.query.now shared.now.values.now shared.now.names.now shared.now.top shared.now.start) texts.now begun.now.joined.now begun.now.identifiers.now begun.now.indexed.now begun.now.marks.now code.old authors.old conds.old ends.old page.old next e }
 {
     let mut consts = [0u8; MOST_CONSTS];
     let mut pool = [0u8; MOST_POOL];
     let mut places = [0usize; MOST_PRINCIPALS];
     let mut direct = [0u8; MOST_PRINCIPALS];
-    text::copy_at(&mut consts, 0, joined);
-    text::copy_at(&mut pool, 0, identifiers);
-    copy_places(&mut places, 0, indexed);
-    text::copy_at(&mut direct, 0, marks);
+    text::copy_at(&mut consts, 0, begun.joined);
+    text::copy_at(&mut pool, 0, begun.identifiers);
+    copy_places(&mut places, 0, begun.indexed);
+    text::copy_at(&mut direct, 0, begun.marks);
     let w = read_each(
-        query,
-        values,
-        names,
-        top,
-        start,
+        shared,
         texts,
         &mut consts,
         &mut pool,
@@ -162,22 +131,15 @@ fn grown_large(
         next,
         e,
     );
-    solve_rows(authors, conds, ends, code, &direct, w.ends, top)
+    solve_rows(authors, conds, ends, code, &direct, w.ends, shared.top)
 }
 
 // The same over tables for most long records, and from where these are full over those for every query.
 #[inline(never)]
 fn grown(
-    query: &[u8],
-    values: &[usize],
-    names: &[usize],
-    top: u8,
-    start: usize,
+    shared: &Shared,
     texts: &[usize],
-    joined: &[u8],
-    identifiers: &[u8],
-    indexed: &[usize],
-    marks: &[u8],
+    begun: &Begun,
     code: &mut [u16],
     authors: &mut [u16],
     conds: &mut [u8],
@@ -186,22 +148,18 @@ fn grown(
     next: usize,
     e: Ends,
 ) -> Solution
-    ensures { solved_by result page.new ≡ grown_in middle (large ∷ []) (fixed query.now values.now names.now top start) texts.now joined.now identifiers.now indexed.now marks.now code.old authors.old conds.old ends.old page.old next e }
+    ensures { solved_by result page.new ≡ grown_in middle (large ∷ []) (fixed shared.now.query.now shared.now.values.now shared.now.names.now shared.now.top shared.now.start) texts.now begun.now.joined.now begun.now.identifiers.now begun.now.indexed.now begun.now.marks.now code.old authors.old conds.old ends.old page.old next e }
 {
     let mut consts = [0u8; MOST_CONSTS];
     let mut pool = [0u8; MIDDLE_POOL];
     let mut places = [0usize; MOST_PRINCIPALS];
     let mut direct = [0u8; MOST_PRINCIPALS];
-    text::copy_at(&mut consts, 0, joined);
-    text::copy_at(&mut pool, 0, identifiers);
-    copy_places(&mut places, 0, indexed);
-    text::copy_at(&mut direct, 0, marks);
+    text::copy_at(&mut consts, 0, begun.joined);
+    text::copy_at(&mut pool, 0, begun.identifiers);
+    copy_places(&mut places, 0, begun.indexed);
+    text::copy_at(&mut direct, 0, begun.marks);
     let w = read_each(
-        query,
-        values,
-        names,
-        top,
-        start,
+        shared,
         texts,
         &mut consts,
         &mut pool,
@@ -216,36 +174,23 @@ fn grown(
     );
     let u = w.ends;
     if w.next < texts.len() {
+        let begun = Begun {
+            joined: front(&consts, shared.start),
+            identifiers: front(&pool, u.index.end),
+            indexed: front(&places, u.index.count),
+            marks: front(&direct, u.index.count),
+        };
         return grown_large(
-            query,
-            values,
-            names,
-            top,
-            start,
-            texts,
-            front_bytes(&consts, start),
-            front_bytes(&pool, u.index.end),
-            front_places(&places, u.index.count),
-            front_bytes(&direct, u.index.count),
-            code,
-            authors,
-            conds,
-            ends,
-            page,
-            w.next,
-            u,
+            shared, texts, &begun, code, authors, conds, ends, page, w.next, u,
         );
     }
-    solve_rows(authors, conds, ends, code, &direct, u, top)
+    solve_rows(authors, conds, ends, code, &direct, u, shared.top)
 }
 
 // The assertions at `texts` read and solved, over an index that has POLICY and the requesters.
 fn fill(
-    query: &[u8],
-    values: &[usize],
-    names: &[usize],
+    shared: &Shared,
     texts: &[usize],
-    start: usize,
     consts: &mut [u8],
     pool: &mut [u8],
     places: &mut [usize],
@@ -253,13 +198,13 @@ fn fill(
     index: Index,
     page: &mut [u8],
 ) -> Solution
-    ensures { solved_by result page.new ≡ filled_in query.now values.now names.now texts.now start consts.old pool.old places.old direct.now index page.old }
+    requires { shared.now.top ≡ (length shared.now.values.now - 1) % 256 }
+    ensures { solved_by result page.new ≡ filled_in shared.now.query.now shared.now.values.now shared.now.names.now texts.now shared.now.start consts.old pool.old places.old direct.now index page.old }
 {
     let mut code = [0u16; SOME_CODE];
     let mut authors = [0u16; SOME_ROWS];
     let mut conds = [0u8; SOME_ROWS];
     let mut ends = [0u16; SOME_ROWS];
-    let top = top_of(values.len());
     put_header(page, texts.len());
     let from = Ends {
         index,
@@ -267,11 +212,7 @@ fn fill(
         kept: 0,
     };
     let w = read_each(
-        query,
-        values,
-        names,
-        top,
-        start,
+        shared,
         texts,
         consts,
         pool,
@@ -286,17 +227,16 @@ fn fill(
     );
     let e = w.ends;
     if w.next < texts.len() {
+        let begun = Begun {
+            joined: front(consts, shared.start),
+            identifiers: front(pool, e.index.end),
+            indexed: front(places, e.index.count),
+            marks: front(direct, e.index.count),
+        };
         return grown(
-            query,
-            values,
-            names,
-            top,
-            start,
+            shared,
             texts,
-            front_bytes(consts, start),
-            front_bytes(pool, e.index.end),
-            front_places(places, e.index.count),
-            front_bytes(direct, e.index.count),
+            &begun,
             &mut code,
             &mut authors,
             &mut conds,
@@ -306,17 +246,14 @@ fn fill(
             e,
         );
     }
-    solve_rows(&authors, &conds, &ends, &code, direct, e, top)
+    solve_rows(&authors, &conds, &ends, &code, direct, e, shared.top)
 }
 
 // The same for a long record or many assertions: into the middle tables at once, or into the large ones. That each of the functions called here is called
 // from two places also has the compiler keep their tables apart.
 fn fill_long(
-    query: &[u8],
-    values: &[usize],
-    names: &[usize],
+    shared: &Shared,
     texts: &[usize],
-    start: usize,
     consts: &[u8],
     pool: &[u8],
     places: &[usize],
@@ -324,31 +261,30 @@ fn fill_long(
     index: Index,
     page: &mut [u8],
 ) -> Solution
-    ensures { solved_by result page.new ≡ filled_long query.now values.now names.now texts.now start consts.now pool.now places.now direct.now index page.old }
+    requires { shared.now.top ≡ (length shared.now.values.now - 1) % 256 }
+    ensures { solved_by result page.new ≡ filled_long shared.now.query.now shared.now.values.now shared.now.names.now texts.now shared.now.start consts.now pool.now places.now direct.now index page.old }
 {
     let mut code = [0u16; MOST_PROGRAMS];
     let mut authors = [0u16; MOST_ASSERTIONS];
     let mut conds = [0u8; MOST_ASSERTIONS];
     let mut ends = [0u16; MOST_ASSERTIONS];
-    let top = top_of(values.len());
     put_header(page, texts.len());
     let e = Ends {
         index,
         size: 0,
         kept: 0,
     };
+    let begun = Begun {
+        joined: front(consts, shared.start),
+        identifiers: front(pool, e.index.end),
+        indexed: front(places, e.index.count),
+        marks: front(direct, e.index.count),
+    };
     if MIDDLE_MOST < e.index.end {
         return grown_large(
-            query,
-            values,
-            names,
-            top,
-            start,
+            shared,
             texts,
-            front_bytes(consts, start),
-            front_bytes(pool, e.index.end),
-            front_places(places, e.index.count),
-            front_bytes(direct, e.index.count),
+            &begun,
             &mut code,
             &mut authors,
             &mut conds,
@@ -359,16 +295,9 @@ fn fill_long(
         );
     }
     grown(
-        query,
-        values,
-        names,
-        top,
-        start,
+        shared,
         texts,
-        front_bytes(consts, start),
-        front_bytes(pool, e.index.end),
-        front_places(places, e.index.count),
-        front_bytes(direct, e.index.count),
+        &begun,
         &mut code,
         &mut authors,
         &mut conds,
@@ -404,22 +333,21 @@ pub fn solved(
         &mut direct,
         alone,
     );
-    if LONG < query.len() {
-        return fill_long(
-            query, values, names, texts, start, &consts, &pool, &places, &direct, index, page,
-        );
-    }
-    if SOME_ROWS < texts.len() {
-        return fill_long(
-            query, values, names, texts, start, &consts, &pool, &places, &direct, index, page,
-        );
-    }
-    fill(
+    let shared = Shared {
         query,
         values,
         names,
-        texts,
+        top: top_of(values.len()),
         start,
+    };
+    if LONG < query.len() || SOME_ROWS < texts.len() {
+        return fill_long(
+            &shared, texts, &consts, &pool, &places, &direct, index, page,
+        );
+    }
+    fill(
+        &shared,
+        texts,
         &mut consts,
         &mut pool,
         &mut places,

@@ -1,6 +1,8 @@
 -- Classes of bytes that a front of a string is made of. Assumes nothing.
 use Rattle.std.specs.Prelude.{Bool, true, false, not, ℕ, eqb, leb}
 use Rattle.text.specs.Choice.{pick}
+use Rattle.text.specs.declared.Class.{Class}
+use Rattle.text.specs.declared.Class.TheVariants.{Plain, Digit, Word}
 
 -- the decimal digits
 unfoldable pub is_digit : ℕ → Bool
@@ -18,15 +20,17 @@ is_word b = pick (is_letter b) true (pick (is_digit b) true (eqb b 95))
 unfoldable pub is_plain : ℕ → Bool
 is_plain b = not (eqb b 0)
 
--- the classes by number
-abbrev pub plain : ℕ
-plain = 0
+-- the classes
+abbrev pub plain : Class
+plain = Plain
 
-abbrev pub digit : ℕ
-digit = 1
+abbrev pub digit : Class
+digit = Digit
 
-abbrev pub word : ℕ
-word = 2
+abbrev pub word : Class
+word = Word
 
-unfoldable pub in_class : ℕ → ℕ → Bool
-in_class k b = pick (eqb k plain) (is_plain b) (pick (eqb k digit) (is_digit b) (is_word b))
+unfoldable pub in_class : Class → ℕ → Bool
+in_class Plain b = is_plain b
+in_class Digit b = is_digit b
+in_class Word b = is_word b

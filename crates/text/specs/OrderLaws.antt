@@ -3,8 +3,8 @@ use Rattle.std.specs.Prelude.{◌≡◌, refl, false, List, [], ◌∷◌, ◌++
 use Rattle.std.proofs.Common.{arith, lt-ltb, le-ltb, ltb-true, ltb-false}
 use Rattle.text.specs.Choice.{split}
 use Rattle.text.specs.Order.{order}
-use Rattle.text.specs.declared.Order.{Order}
-use Rattle.text.specs.declared.Order.TheVariants.{Less, Equal, Greater}
+use Rattle.std.specs.declared.cmp.Ordering.{Ordering}
+use Rattle.std.specs.declared.cmp.Ordering.TheVariants.{Less, Equal, Greater}
 
 no : (x : ℕ) → ltb x x ≡ false
 no x = le-ltb x x (omega arith)
@@ -41,7 +41,7 @@ order-byte [] x y a b h = rw (lt-ltb x y h)
 order-byte (z ∷ c) x y a b h = rw (no z) (order-byte c x y a b h)
 
 -- the other way round
-unfoldable pub flipped : Order → Order
+unfoldable pub flipped : Ordering → Ordering
 flipped Less = Greater
 flipped Equal = Equal
 flipped Greater = Less

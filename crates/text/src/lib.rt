@@ -4,6 +4,7 @@
 mod long;
 
 ghost use Rattle.std.specs.Prelude.{◌≡◌, ◌&&◌, map, ◌++◌, ◌+◌, ◌-◌, ◌*◌, ◌≤◌, ◌<◌, min, leb, length, take};
+ghost use Rattle.text.specs.Choice.{pick};
 ghost use Rattle.text.specs.Scan.{run, past};
 ghost use Rattle.text.specs.Equal.{equal};
 ghost use Rattle.text.specs.Order.{order};
@@ -19,15 +20,8 @@ ghost use Rattle.text.specs.Working.Blocks.{alike};
 ghost use Rattle.text.specs.Working.Holding.{most_held, hold};
 ghost use Rattle.text.specs.Working.Joining.{comma};
 
-pub use long::{copy_long, same_long};
-
-// How one byte string stands to another.
-#[derive(Clone, Copy)]
-pub enum Order {
-    Less,
-    Equal,
-    Greater,
-}
+pub use long::same_long;
+use std::cmp::Ordering;
 
 // An integer: a sign and a size; 0 has no sign.
 #[derive(Clone, Copy)]
@@ -36,12 +30,15 @@ pub struct Integer {
     pub size: u64,
 }
 
-// The classes of bytes that a front of a string is made of: any but 0, digits, letters with digits and underscores.
-pub const PLAIN: u8 = 0;
-
-pub const DIGIT: u8 = 1;
-
-pub const WORD: u8 = 2;
+// The classes of bytes that a front of a string is made of.
+#[derive(Clone, Copy, PartialEq, Eq)]
+pub enum Class {
+    // Any but 0.
+    Plain,
+    Digit,
+    // Letters with digits and underscores.
+    Word,
+}
 
 // A number is held here: numbers below it are told apart.
 pub const MOST_HELD: u64 = 4294967295;
@@ -57,76 +54,21 @@ fn same_part(a: &[u8], b: &[u8], i: usize, n: usize) -> bool
     ensures { result ≡ alike a.now b.now i n }
 {
     let mut same = true;
-    let mut j: usize = 0;
-    while j < n {
-        same = same & (a[i + j] == b[i + j]);
-        j += 1;
+    for j in 0..n {
+        same &= a[i + j] == b[i + j];
     }
     same
 }
 
-// The bytes of the blocks at the front that are the same in both.
-fn same_blocks(a: &[u8], b: &[u8]) -> usize
-    ensures { common_from a.now b.now result ≡ common a.now b.now }
-{
-    let mut i: usize = 0;
-    while 64 <= a.len() - i {
-        if b.len() - i < 64 {
-            return i;
-        }
-        if same_part(a, b, i, 64) {
-            i += 64;
-        } else {
-            return i;
-        }
-    }
-    i
-}
-
-// The length of the longest front that both share.
-fn agreement(a: &[u8], b: &[u8]) -> usize
-    ensures { result ≡ common a.now b.now }
-{
-    let mut i = same_blocks(a, b);
-    while i < a.len() {
-        if b.len() <= i {
-            return i;
-        }
-        if a[i] != b[i] {
-            return i;
-        }
-        i += 1;
-    }
-    i
-}
-
-// Are the first n blocks the same in both?
+// Are the first n blocks the same in both? The last ones first.
 fn same_below(a: &[u8], b: &[u8], n: usize) -> bool
     requires { (n * 64 ≤ length a.now) × (n * 64 ≤ length b.now) }
     ensures { result ≡ equal (take (n * 64) a.now) (take (n * 64) b.now) }
 {
-    let mut k = n;
-    while 0 < k {
-        if same_part(a, b, (k - 1) * 64, 64) {
-            k -= 1;
-        } else {
+    for k in (0..n).rev() {
+        if !same_part(a, b, k * 64, 64) {
             return false;
         }
-    }
-    true
-}
-
-// The same of fewer than eight bytes, from the last one on.
-fn same_few(a: &[u8], b: &[u8]) -> bool
-    requires { length a.now ≡ length b.now }
-    ensures { result ≡ equal a.now b.now }
-{
-    let mut i = a.len();
-    while 0 < i {
-        if a[i - 1] != b[i - 1] {
-            return false;
-        }
-        i -= 1;
     }
     true
 }
@@ -136,21 +78,13 @@ fn same_above(a: &[u8], b: &[u8], low: usize) -> bool
     requires { (length a.now ≡ length b.now) × (low ≤ length a.now) × (8 ≤ length a.now) }
     ensures { equal a.now b.now ≡ result && equal (take low a.now) (take low b.now) }
 {
-    let mut i = a.len();
-    while 8 <= i - low {
-        if same_part(a, b, i - 8, 8) {
-            i -= 8;
-        } else {
+    let i = low + (a.len() - low) % 8;
+    for k in (0..(a.len() - low) / 8).rev() {
+        if !same_part(a, b, i + k * 8, 8) {
             return false;
         }
     }
-    if i <= low {
-        return true;
-    }
-    if i < 8 {
-        return same_part(a, b, 0, 8);
-    }
-    same_part(a, b, i - 8, 8)
+    i == low || same_part(a, b, i.saturating_sub(8), 8)
 }
 
 // Do both hold the same bytes? Strings that differ often share their beginnings, so the last bytes come first.
@@ -161,33 +95,17 @@ pub fn same_bytes(a: &[u8], b: &[u8]) -> bool
         return false;
     }
     if a.len() < 8 {
-        return same_few(a, b);
+        return a == b;
     }
     let k = a.len() / 64;
-    if same_above(a, b, k * 64) {
-        return same_below(a, b, k);
-    }
-    false
+    same_above(a, b, k * 64) && same_below(a, b, k)
 }
 
 // The order by byte; a proper prefix is less.
-pub fn compare(a: &[u8], b: &[u8]) -> Order
+pub fn compare(a: &[u8], b: &[u8]) -> Ordering
     ensures { result ≡ order a.now b.now }
 {
-    let i = agreement(a, b);
-    if a.len() <= i {
-        if b.len() <= i {
-            return Order::Equal;
-        }
-        return Order::Less;
-    }
-    if b.len() <= i {
-        return Order::Greater;
-    }
-    if a[i] < b[i] {
-        return Order::Less;
-    }
-    Order::Greater
+    a.cmp(b)
 }
 
 // Copies src into dst at a place where it fits.
@@ -195,110 +113,77 @@ fn paste(dst: &mut [u8], at: usize, src: &[u8])
     requires { (at ≤ length dst.old) × (length src.now ≤ length dst.old - at) }
     ensures { dst.new ≡ put dst.old at src.now }
 {
-    let mut i: usize = 0;
-    while i < src.len() {
-        dst[at + i] = src[i];
-        i += 1;
-    }
+    dst[at..at + src.len()].copy_from_slice(src);
 }
 
 // Copies src into dst at a place, and tells whether it fits; where it doesn't, nothing is written.
+#[tactic(auto, using(crate::specs::Choice::tests), unfolding(crate::specs::Copy::copy_at))]
 pub fn copy_at(dst: &mut [u8], at: usize, src: &[u8]) -> bool
     ensures { copied result dst.new ≡ copy_at dst.old at src.now }
 {
-    if dst.len() < at {
-        return false;
-    }
-    if dst.len() - at < src.len() {
+    if dst.len() < at || dst.len() - at < src.len() {
         return false;
     }
     paste(dst, at, src);
     true
 }
 
+#[tactic(auto, using(crate::specs::Choice::tests), unfolding(crate::specs::Class::is_digit))]
 pub fn is_digit(b: u8) -> bool
     ensures { result ≡ is_digit b }
 {
-    if 48 <= b {
-        return b <= 57;
-    }
-    false
+    b.is_ascii_digit()
 }
 
+#[tactic(auto, using(crate::specs::Choice::tests), unfolding(crate::specs::Class::is_letter))]
 pub fn is_letter(b: u8) -> bool
     ensures { result ≡ is_letter b }
 {
-    if 97 <= b {
-        return b <= 122;
-    }
-    if 65 <= b {
-        return b <= 90;
-    }
-    false
+    b.is_ascii_alphabetic()
 }
 
-// A letter, a digit or the underscore; small letters are the commonest.
+// A letter, a digit or the underscore.
+#[tactic(auto, using(crate::specs::Choice::tests), unfolding(crate::specs::Class::is_word, crate::specs::Class::is_letter, crate::specs::Class::is_digit))]
 pub fn is_word(b: u8) -> bool
     ensures { result ≡ is_word b }
 {
-    if 97 <= b {
-        return b <= 122;
-    }
-    if b < 58 {
-        return 48 <= b;
-    }
-    if b == 95 {
-        return true;
-    }
-    is_letter(b)
+    b.is_ascii_alphanumeric() || b == b'_'
 }
 
-pub fn in_class(k: u8, b: u8) -> bool
-    ensures { result ≡ in_class k b }
-{
-    if k == PLAIN {
-        return b != 0;
+impl Class {
+    #[tactic(auto, using(crate::specs::Choice::tests), unfolding(crate::specs::Class::in_class, crate::specs::Class::is_plain))]
+    pub fn contains(self, b: u8) -> bool
+        ensures { result ≡ in_class self b }
+    {
+        match self {
+            Class::Plain => b != 0,
+            Class::Digit => is_digit(b),
+            Class::Word => is_word(b),
+        }
     }
-    if k == DIGIT {
-        return is_digit(b);
-    }
-    is_word(b)
 }
 
 // How many bytes at the front are of the class.
-pub fn front(s: &[u8], k: u8) -> usize
-    ensures { result ≡ run (in_class k) s.now }
+#[tactic(auto, using(crate::specs::Scan::scan))]
+pub fn front(s: &[u8], class: Class) -> usize
+    ensures { result ≡ run (in_class class) s.now }
 {
-    let mut i: usize = 0;
-    while i < s.len() {
-        if in_class(k, s[i]) {
-            i += 1;
-        } else {
+    for (i, b) in s.iter().enumerate() {
+        if !class.contains(*b) {
             return i;
         }
     }
-    i
+    s.len()
 }
 
 // The end of the word that starts at a place: letters, digits and underscores.
 pub fn word_end(s: &[u8], at: usize) -> usize
     ensures { result ≡ past is_word s.now at }
 {
-    let mut i = at;
-    while i < s.len() {
-        if is_word(s[i]) {
-            i += 1;
-        } else {
-            return i;
-        }
+    if s.len() <= at {
+        return at;
     }
-    i
-}
-
-fn wide(b: u8) -> usize
-    ensures { (result ≡ b) × (result < 256) }
-{
-    b as usize
+    at + front(&s[at..], Class::Word)
 }
 
 // The number in two bytes, big-endian; a byte past the end counts as 0.
@@ -308,22 +193,19 @@ pub fn pair_at(s: &[u8], at: usize) -> usize
     if s.len() <= at {
         return 0;
     }
-    let a = wide(s[at]);
+    let high = usize::from(s[at]) * 256;
     if s.len() - at <= 1 {
-        return a * 256;
+        return high;
     }
-    let b = wide(s[at + 1]);
-    a * 256 + b
+    high + usize::from(s[at + 1])
 }
 
 // The string that starts at a place, its length in the two bytes before it; empty where it doesn't fit.
+#[tactic(auto, using(crate::specs::Choice::tests), unfolding(crate::specs::Counted::counted, crate::specs::Counted::part))]
 pub fn counted_at(s: &[u8], at: usize) -> &[u8]
     ensures { result.now ≡ counted s.now at }
 {
-    if at < 2 {
-        return &s[..0];
-    }
-    if s.len() < at {
+    if at < 2 || s.len() < at {
         return &s[..0];
     }
     let n = pair_at(s, at - 2);
@@ -334,51 +216,31 @@ pub fn counted_at(s: &[u8], at: usize) -> &[u8]
 }
 
 // Writes a number below 65,536 in two bytes, big-endian, at a place, and tells whether it did; where it doesn't fit, nothing is written.
+#[tactic(auto, using(crate::specs::Choice::tests), unfolding(crate::specs::Put::put_pair, crate::specs::Counted::pair_bytes))]
 pub fn put_pair(dst: &mut [u8], at: usize, n: usize) -> bool
     ensures { copied result dst.new ≡ put_pair dst.old at n }
 {
-    if 65535 < n {
+    let Ok(n) = u16::try_from(n) else {
         return false;
-    }
-    if dst.len() < at {
-        return false;
-    }
-    if dst.len() - at < 2 {
-        return false;
-    }
-    dst[at] = (n / 256 % 256) as u8;
-    dst[at + 1] = (n % 256) as u8;
-    true
+    };
+    copy_at(dst, at, &n.to_be_bytes())
 }
 
 // Writes a string behind its two-byte length at a place, and tells whether it did; where it doesn't fit, nothing is written.
 pub fn put_counted(dst: &mut [u8], at: usize, b: &[u8]) -> bool
     ensures { copied result dst.new ≡ put_counted dst.old at b.now }
 {
-    if 65535 < b.len() {
+    if 65535 < b.len() || dst.len() < at || dst.len() - at < 2 {
         return false;
     }
-    if dst.len() < at {
-        return false;
-    }
-    if dst.len() - at < 2 {
-        return false;
-    }
-    if copy_at(dst, at + 2, b) {
-        put_pair(dst, at, b.len());
-        return true;
-    }
-    false
+    copy_at(dst, at + 2, b) && put_pair(dst, at, b.len())
 }
 
 // The length of the comma before string i: none before the first.
 fn lead(i: usize) -> usize
     ensures { result ≡ length (comma i) }
 {
-    if i == 0 {
-        return 0;
-    }
-    1
+    usize::from(i > 0)
 }
 
 // Does the joined text fit into so many bytes?
@@ -386,19 +248,13 @@ fn joined_fits(s: &[u8], places: &[usize], room: usize) -> bool
     ensures { result ≡ leb (length (joined (map (counted s.now) places.now))) room }
 {
     let mut left = room;
-    let mut i: usize = 0;
-    while i < places.len() {
+    for i in 0..places.len() {
         let c = lead(i);
-        let p = places[i];
-        let n = counted_at(s, p).len();
-        if left < c {
-            return false;
-        }
-        if left - c < n {
+        let n = counted_at(s, places[i]).len();
+        if left < c || left - c < n {
             return false;
         }
         left = left - c - n;
-        i += 1;
     }
     true
 }
@@ -414,7 +270,7 @@ fn copy_item(dst: &mut [u8], at: usize, i: usize, item: &[u8]) -> bool
         return false;
     }
     if copy_at(dst, at + 1, item) {
-        dst[at] = 44;
+        dst[at] = b',';
         return true;
     }
     false
@@ -425,15 +281,10 @@ fn write_joined(dst: &mut [u8], at: usize, s: &[u8], places: &[usize])
     ensures { dst.new ≡ put dst.old at (joined (map (counted s.now) places.now)) }
 {
     let mut to = at;
-    let mut i: usize = 0;
-    while i < places.len() {
-        let p = places[i];
-        let c = lead(i);
-        let item = counted_at(s, p);
-        let n = item.len();
+    for i in 0..places.len() {
+        let item = counted_at(s, places[i]);
         copy_item(dst, to, i, item);
-        to = to + c + n;
-        i += 1;
+        to = to + lead(i) + item.len();
     }
 }
 
@@ -441,150 +292,107 @@ fn write_joined(dst: &mut [u8], at: usize, s: &[u8], places: &[usize])
 pub fn join_at(dst: &mut [u8], at: usize, s: &[u8], places: &[usize]) -> bool
     ensures { copied result dst.new ≡ copy_at dst.old at (joined (map (counted s.now) places.now)) }
 {
-    if dst.len() < at {
+    if dst.len() < at || !joined_fits(s, places, dst.len() - at) {
         return false;
     }
-    if joined_fits(s, places, dst.len() - at) {
-        write_joined(dst, at, s, places);
-        return true;
-    }
-    false
-}
-
-fn digit_value(b: u8) -> u64
-    ensures { (result ≡ b - 48) × (result < 256) }
-{
-    if b < 48 {
-        return 0;
-    }
-    (b - 48) as u64
+    write_joined(dst, at, s, places);
+    true
 }
 
 // One digit more, held at MOST_HELD.
+#[tactic(auto, using(crate::specs::Choice::tests), unfolding(crate::specs::Working::Holding::hold))]
 fn hold_digit(v: u64, b: u8) -> u64
     ensures { result ≡ hold v b }
 {
-    if 429496729 < v {
-        return MOST_HELD;
-    }
-    let d = digit_value(b);
-    if MOST_HELD < v * 10 + d {
-        return MOST_HELD;
-    }
-    v * 10 + d
+    let digit = u64::from(b.saturating_sub(b'0'));
+    (v.min(MOST_HELD) * 10 + digit).min(MOST_HELD)
 }
 
 // The number that the digits write, held at MOST_HELD.
 pub fn number(digits: &[u8]) -> u64
     ensures { result ≡ min (value digits.now) most_held }
 {
-    let mut v: u64 = 0;
-    let mut i: usize = 0;
-    while i < digits.len() {
-        v = hold_digit(v, digits[i]);
-        i += 1;
-    }
-    v
+    digits.iter().fold(0, |v, &b| hold_digit(v, b))
 }
 
 // The number whose digits start at a place, held at MOST_HELD; 0 where none do.
 pub fn number_from(s: &[u8], at: usize) -> u64
     ensures { result ≡ min (value (digits_at s.now at)) most_held }
 {
-    let mut v: u64 = 0;
-    let mut i = at;
-    while i < s.len() {
-        if is_digit(s[i]) {
-            v = hold_digit(v, s[i]);
-            i += 1;
-        } else {
+    let mut v = 0;
+    for i in at..s.len() {
+        if !is_digit(s[i]) {
             return v;
         }
+        v = hold_digit(v, s[i]);
     }
     v
 }
 
+// The greatest size of a sign.
+fn largest(negative: bool) -> u64
+    ensures { result ≡ pick negative 2147483648 2147483647 }
+{
+    if negative { 2147483648 } else { 2147483647 }
+}
+
 // The integer, or 0 where it is out of range.
+#[tactic(auto, using(crate::specs::Choice::tests), unfolding(crate::specs::Decimal::in_range))]
 fn in_range(negative: bool, size: u64) -> Integer
     ensures { result ≡ in_range negative size }
 {
-    if size == 0 {
+    if size == 0 || largest(negative) < size {
         return ZERO;
     }
-    if negative {
-        if 2147483648 < size {
-            return ZERO;
-        }
-        return Integer {
-            negative: true,
-            size,
-        };
-    }
-    if 2147483647 < size {
-        return ZERO;
-    }
-    Integer {
-        negative: false,
-        size,
-    }
+    Integer { negative, size }
 }
 
+#[tactic(auto, using(crate::specs::Choice::tests), unfolding(crate::specs::Decimal::rounded_down))]
 fn rounded_down(negative: bool, whole: u64, fraction: u64) -> Integer
     ensures { result ≡ rounded_down negative whole fraction }
 {
-    if negative {
-        if fraction == 0 {
-            return in_range(negative, whole);
-        }
-        if 2147483648 <= whole {
-            return ZERO;
-        }
-        return in_range(negative, whole + 1);
+    if negative && fraction != 0 {
+        return in_range(negative, whole.saturating_add(1));
     }
     in_range(negative, whole)
 }
 
+#[tactic(auto, using(crate::specs::Choice::tests), unfolding(crate::specs::Decimal::with_fraction))]
 fn with_fraction(negative: bool, whole: u64, digits: &[u8]) -> Integer
     ensures { result ≡ with_fraction negative whole digits.now }
 {
-    let j = front(digits, DIGIT);
-    if j == 0 {
+    let j = front(digits, Class::Digit);
+    if j == 0 || j < digits.len() {
         return ZERO;
     }
-    if j < digits.len() {
-        return ZERO;
-    }
-    let f = number(digits);
-    rounded_down(negative, whole, f)
+    rounded_down(negative, whole, number(digits))
 }
 
 fn without_sign(negative: bool, s: &[u8]) -> Integer
     ensures { result ≡ unsigned negative s.now }
 {
-    let k = front(s, DIGIT);
+    let k = front(s, Class::Digit);
     if k == 0 {
         return ZERO;
     }
     if s.len() <= k {
-        let w = number(s);
-        return rounded_down(negative, w, 0);
+        return rounded_down(negative, number(s), 0);
     }
-    if s[k] != 46 {
+    if s[k] != b'.' {
         return ZERO;
     }
-    let w = number(&s[..k]);
-    with_fraction(negative, w, &s[k + 1..])
+    with_fraction(negative, number(&s[..k]), &s[k + 1..])
 }
 
 // The integer that a text writes, rounded down; 0 where it writes none or one out of range.
 pub fn to_integer(s: &[u8]) -> Integer
     ensures { result ≡ decimal s.now }
 {
-    if s.len() <= 0 {
+    let Some((first, rest)) = s.split_first() else {
         return ZERO;
-    }
-    if s[0] == 45 {
-        return without_sign(true, &s[1..]);
+    };
+    if *first == b'-' {
+        return without_sign(true, rest);
     }
     without_sign(false, s)
 }

@@ -24,7 +24,7 @@ use Rattle.conditions.specs.Word.{next_at}
 use Rattle.conditions.specs.Program.{read_program}
 use Rattle.judge.specs.Theorems.Judges.{Judging, judged-aside, judged-on}
 use Rattle.judge.proofs.Theorems.Judges.{judge-field-read}
-use Rattle.judge.specs.declared.Judged.{Judged}
+use Rattle.judge.specs.Working.Judging.{Judged}
 use Rattle.fields.specs.Parsed.{ended}
 use Rattle.fields.specs.Constants.{constants_from}
 use Rattle.naming.specs.Source.{Author, Licensees}

@@ -1,5 +1,5 @@
 -- An assertion read into the tables is what the meaning reads. Assumes nothing.
-use Rattle.std.specs.Prelude.{◌≡◌, Bool, true, ℕ, ◌<◌, eqb, get_or, take}
+use Rattle.std.specs.Prelude.{◌≡◌, Bool, true, ℕ, ◌<◌, eqb, get_or, take, Err}
 use Rattle.std.proofs.Math.Path.{refl, ap}
 use Rattle.std.proofs.Common.{sym, ◌∙◌}
 use Rattle.std.proofs.Math.Option.{Option, none, some}
@@ -44,9 +44,8 @@ use Rattle.naming.specs.Theorems.Authorized.{author_now}
 use Rattle.naming.specs.Theorems.StandIn.{licensed_now}
 use Rattle.assertion.specs.Theorems.StandIn.{resolved-clear, resolved-faulty}
 use Rattle.assertion.specs.Working.Field.{Given, Tables, tabled, Moved, field_at}
-use Rattle.assertion.specs.Working.Reading.{finished_by, Result, read_by, kept_at, kept_in, faulted_in, finished_in, on_signed, signed_in, with_code, State, on_moved, last_at, last_in, fields_turn, fields_in, fresh, read_in}
+use Rattle.assertion.specs.Working.Reading.{finished_by, ReadInto, read_by, kept_at, kept_in, faulted_in, finished_in, on_signed, signed_in, with_code, State, on_moved, last_at, last_in, fields_turn, fields_in, fresh, read_in}
 use Rattle.assertion.specs.Working.ReadingWays.{without-less}
-use Rattle.assertion.specs.declared.Assessment.TheVariants.{Dropped}
 use Rattle.assertion.specs.declared.field.Partial.{Partial}
 use Rattle.assertion.specs.Theorems.Ready.{Ready, After, worth, ReadAs, as_dropped, as-kept}
 use Rattle.assertion.specs.Working.OnePass.{against_of}
@@ -57,13 +56,13 @@ use Rattle.syntax.specs.Working.Faults.{against}
 use Rattle.assertion.specs.Theorems.Reads.{Belong, Ended, belong, meant-none, meant-some, missing-ends}
 
 module _ {q : Query} {g : Given} (top : ℕ) {x : Tables} {names : List Principal} {count end size : ℕ} (ready : Ready q g x names count end size) where
-  abbrev Means : Read → Result → Type 0
+  abbrev Means : Read → ReadInto → Type 0
   Means = ReadAs q g top x names count end size
 
-  abbrev As : Form → Result → Type 0
+  abbrev As : Form → ReadInto → Type 0
   As f r = Means (resolved q g.standing f) r
 
-  dropped-as : (r p : ℕ) (y : Tables) → (r ≡ 0 → ⊥) → Front g x names count end size y → Means (dropped r p) (read_by (Dropped (against r p)) y)
+  dropped-as : (r p : ℕ) (y : Tables) → (r ≡ 0 → ⊥) → Front g x names count end size y → Means (dropped r p) (read_by (Err (against r p)) y)
   dropped-as r p y h front = as_dropped r p y h front.after front.holds front.code
 
   module _ {free : List ℕ} {d : Sketch} {u : Partial} {t : Token} {y : Tables} (held : Held q g top x names end size free d u t y) where
@@ -124,15 +123,15 @@ module _ {q : Query} {g : Given} (top : ℕ) {x : Tables} {names : List Principa
     signed-as n _ (signature-on k h) = finished_as n.end
 
 module _ {q : Query} {g : Given} (top : ℕ) {x : Tables} {names : List Principal} {count end size : ℕ} (ready : Ready q g x names count end size) where
-  abbrev Turns : Reading → State → Step Reading Form → Step State Result → Type 0
+  abbrev Turns : Reading → State → Step Reading Form → Step State ReadInto → Type 0
   Turns = Steps (λ z. total z.0.free) (λ z. unformed 3 z.1.start) (turn g.text)
-      (λ z. total z.0) (λ z. read_by (Dropped (against 3 z.2.start)) z.3) (fields_turn g) (Belong q g top x names end size) (As top ready)
+      (λ z. total z.0) (λ z. read_by (Err (against 3 z.2.start)) z.3) (fields_turn g) (Belong q g top x names end size) (As top ready)
 
   module _ {free : List ℕ} {d : Sketch} (de : d.free ≡ free) {u : Partial} {t : Token} {y : Tables} (held : Held q g top x names end size free d u t y) where
-    abbrev Here : Step Reading Form → Step State Result → Type 0
+    abbrev Here : Step Reading Form → Step State ReadInto → Type 0
     Here = Turns (d, t) (free, u, t, y)
 
-    aside-here : (r p : ℕ) → (r ≡ 0 → ⊥) → Here (done (unformed r p)) (done (with_code y (finished_by (Dropped (against r p)) y.code)))
+    aside-here : (r p : ℕ) → (r ≡ 0 → ⊥) → Here (done (unformed r p)) (done (with_code y (finished_by (Err (against r p)) y.code)))
     aside-here r p h = both-done _ _ (dropped-as top ready r p y h (held-front ready held))
 
     field-here : eqb (get_or free t.kind 0) 1 ≡ true → (p : Parsed Sketch) (m : Moved) → FieldRead q g top x names count end size (without free t.kind) p m

@@ -1,8 +1,9 @@
 use Rattle.assertion.specs.Working.ReadingWays.{kept-given, kept-missing}
 use Rattle.assertion.proofs.kept.Goals as goal
-
-pub returns-then-d : goal.returns-then-d
-returns-then-d c = search kept-given
+use Rattle.assertion.proofs.kept.Goals.{then-d, else-d}
 
 pub returns : goal.returns
-returns c = search kept-missing
+returns c = elim c.if-d.branch [
+  | then-d w ↦ rw (w.code-is, w.size-is) (kept-given _ _ w.if-d.true)
+  | else-d w ↦ rw (w.code-is, w.size-is) (search kept-missing)
+]

@@ -1,5 +1,5 @@
 -- A field read into the tables is what the meaning reads. Assumes nothing.
-use Rattle.std.specs.Prelude.{◌≡◌, refl, List, [], ◌∷◌, ◌++◌, ℕ}
+use Rattle.std.specs.Prelude.{◌≡◌, refl, List, [], ◌∷◌, ◌++◌, ℕ, Err}
 use Rattle.std.proofs.Common.{◌∙◌}
 use Rattle.record.specs.Query.{Query}
 use Rattle.lexical.specs.Kind
@@ -10,17 +10,16 @@ use Rattle.index.specs.Index.{enter, enter_all}
 use Rattle.index.specs.EnterLaws.{fresh, fresh_all, enter-is, enter-all-is, enter-all-append}
 use Rattle.syntax.specs.Parsed.{Parsed, ok, aside}
 use Rattle.assertion.specs.Sketch.{Sketch}
-use Rattle.assertion.specs.Working.Field.{Given, Tables, Moved, moved}
+use Rattle.assertion.specs.Working.Field.{Given, Tables, Moved, moved, went}
 use Rattle.assertion.specs.declared.field.Partial.{Partial}
-use Rattle.assertion.specs.declared.field.Went.TheVariants.{On, Aside}
 use Rattle.assertion.specs.Theorems.Held.{Front, Held}
 use Rattle.syntax.specs.Working.Faults.{against}
 
 -- the same fault; or the same draft and token behind, as the tables hold it
 pub data FieldRead (q : Query) (g : Given) (top : ℕ) (x : Tables) (names : List Principal) (count end size : ℕ) (free : List ℕ) : Parsed Sketch → Moved → Type 0 where
-  field-aside : (r p : ℕ) (y : Tables) → (r ≡ 0 → ⊥) → Front g x names count end size y → FieldRead q g top x names count end size free (aside r p) (moved (Aside (against r p)) y)
+  field-aside : (r p : ℕ) (y : Tables) → (r ≡ 0 → ⊥) → Front g x names count end size y → FieldRead q g top x names count end size free (aside r p) (moved (Err (against r p)) y)
   field-on : (d : Sketch) (u : Partial) (n : Token) (y : Tables) → d.free ≡ free → Held q g top x names end size free d u n y
-      → FieldRead q g top x names count end size free (ok d n) (moved (On u n) y)
+      → FieldRead q g top x names count end size free (ok d n) (moved (went u n) y)
 
 pub opened-conditions : (k : ℕ) → k ≡ Kind.CONDITIONS → Kind.opened k ≡ Kind.IN_FIELD
 unfolding Kind.opened

@@ -1,5 +1,5 @@
 -- What must be true when an assertion is read into the tables, and what is true then. Assumes nothing.
-use Rattle.std.specs.Prelude.{◌≡◌, true, ℕ, ◌+◌, ◌*◌, ◌≤◌, length, take}
+use Rattle.std.specs.Prelude.{◌≡◌, true, ℕ, ◌+◌, ◌*◌, ◌≤◌, length, take, Err}
 use mathlib.Core.List.{List, ◌++◌, Memᴰ as Mem}
 use Rattle.limits.specs.Limits.{most_text, most_licensees, most_constants, most_named, most_counted, most_entered, most_numbers, most_code, most_lengths}
 use Rattle.text.specs.Join.{joined}
@@ -17,8 +17,7 @@ use Rattle.expression.specs.Conditions.{conditions}
 use Rattle.assertion.specs.Assertion.{Assertion, Conditions, absent, stated}
 use Rattle.assertion.specs.Read.{Read, kept, dropped}
 use Rattle.assertion.specs.Working.Field.{Given, Tables}
-use Rattle.assertion.specs.Working.Reading.{Result, read_by}
-use Rattle.assertion.specs.declared.Assessment.TheVariants.{Kept, Dropped}
+use Rattle.assertion.specs.Working.Reading.{ReadInto, read_by, assessed}
 use Rattle.assertion.specs.Theorems.Left.{First}
 use Rattle.syntax.specs.Working.Faults.{against}
 use Rattle.index.specs.Working.Adding.{index_of}
@@ -58,9 +57,9 @@ worth top q (stated cs p) = conditions (environment q cs) p
 
 -- The same fault, and the index and the programs stand as before; or the same assertion: its principals stand behind the others in the index,
 -- its Licensees' program behind the others, and its Authorizer's number and its Conditions' rank are given.
-pub data ReadAs (q : Query) (g : Given) (top : ℕ) (x : Tables) (names : List Principal) (count end size : ℕ) : Read → Result → Type 0 where
+pub data ReadAs (q : Query) (g : Given) (top : ℕ) (x : Tables) (names : List Principal) (count end size : ℕ) : Read → ReadInto → Type 0 where
   as_dropped : (r p : ℕ) (y : Tables) → (r ≡ 0 → ⊥) → After g x y → Holds y.pool y.places count end names → take size y.code ≡ take size x.code
-      → ReadAs q g top x names count end size (dropped r p) (read_by (Dropped (against r p)) y)
+      → ReadAs q g top x names count end size (dropped r p) (read_by (Err (against r p)) y)
   as-kept : (a : Assertion) (ps : List Principal) (i k c e z : ℕ) (y : Tables) → After g x y → length ps ≤ most_named
       → Holds y.pool y.places c e (enter_all names ps) → e ≤ most_counted * c
       → i ≡ place (enter_all names ps) a.authorizer → member a.authorizer (enter_all names ps) ≡ true
@@ -68,4 +67,4 @@ pub data ReadAs (q : Query) (g : Given) (top : ℕ) (x : Tables) (names : List P
       → ((e : Expression) → a.licensees ≡ given e → Formed e) → length (licensees a.licensees) ≤ most_licensees
       → take z y.code ≡ take size x.code ++ compiled (enter_all names ps) a.licensees
       → z ≡ size + length (compiled (enter_all names ps) a.licensees) → z ≤ size + most_code
-      → k ≡ worth top q a.conditions → ReadAs q g top x names count end size (kept a) (read_by (Kept i (index_of c e) z k) y)
+      → k ≡ worth top q a.conditions → ReadAs q g top x names count end size (kept a) (read_by (assessed i (index_of c e) z k) y)

@@ -1,29 +1,21 @@
 -- Working definitions: a field read into the tables. Assumes nothing.
-use Rattle.std.specs.Prelude.{true, List, ℕ, eqb, take}
+use Rattle.std.specs.Prelude.{true, List, ℕ, eqb, take, Result, Ok, Err}
 use Rattle.text.specs.Choice.{pick}
 use Rattle.lexical.specs.Kind
 use Rattle.lexical.specs.declared.token.Token.{Token}
-use Rattle.judge.specs.Working.Judging.{judged_here}
-use Rattle.judge.specs.declared.Judged.{Judged}
-use Rattle.judge.specs.declared.Judged.TheVariants.{On as Ranked, Aside as Unranked}
+use Rattle.judge.specs.Working.Judging.{judged_here, Judged}
 use Rattle.fields.specs.Version.{version}
-use Rattle.fields.specs.Working.Outs.{out_of, ended_out}
+use Rattle.fields.specs.Working.Outs.{out_of, ended_out, Out}
 use Rattle.fields.specs.Working.Setting.{Stored, stored, constants_in}
 use Rattle.naming.specs.Working.Identifying.{Sight, sight}
 use Rattle.naming.specs.Working.Authorizing.{Made, made, authorizer_in}
 use Rattle.naming.specs.Working.List.{Ran, ran}
 use Rattle.naming.specs.Working.Chain.{field_in}
-use Rattle.fields.specs.declared.out.Out.{Out}
-use Rattle.fields.specs.declared.out.Out.TheVariants.{On as Passed, Aside as Refused}
-use Rattle.fields.specs.declared.constants.Settings.TheVariants.{On as Set, Aside as Unset}
 use Rattle.syntax.specs.declared.fault.Fault.{Fault}
 use Rattle.index.specs.declared.Index.{Index}
-use Rattle.naming.specs.declared.authorizer.Author.TheVariants.{On as Authored, Aside as Unauthored}
 use Rattle.naming.specs.declared.list.State.{State}
-use Rattle.naming.specs.declared.list.Licensed.TheVariants.{On as Listed, Aside as Unlisted}
 use Rattle.assertion.specs.declared.field.Partial.{Partial}
 use Rattle.assertion.specs.declared.field.Went.{Went}
-use Rattle.assertion.specs.declared.field.Went.TheVariants.{On, Aside}
 
 -- what stays as it is: the text and its standing, the query's record, the places of its values and attributes, and where constants begin
 pub record Given : Type 0 where
@@ -55,9 +47,16 @@ pub record Tables : Type 0 where
 abbrev pub tabled : List ℕ → List ℕ → List ℕ → List ℕ → List ℕ → Tables
 tabled consts constants pool places code = record { consts = consts; constants = constants; pool = pool; places = places; code = code }
 
+-- what is read with one field more and the token behind it, or the first fault
+abbrev pub Going : Type 0
+Going = Result Went Fault
+
+abbrev pub went : Partial → Token → Going
+went d t = Ok (record { partial = d; next = t })
+
 -- an answer and the tables
 pub data Moved : Type 0 where
-  moved : Went → Tables → Moved
+  moved : Going → Tables → Moved
 
 -- what is read so far with one field more
 abbrev pub knowing : Partial → ℕ → Partial
@@ -74,28 +73,28 @@ abbrev pub ranked_at : Partial → ℕ → Partial
 ranked_at d k = record { authored = d.authored; author = d.author; licensed = d.licensed; rank = k; known = d.known; index = d.index; size = d.size; against = d.against; besides = d.besides }
 
 -- a field that says nothing to the tables
-abbrev pub passed_on : Partial → Out → Went
-passed_on d (Passed t) = On d t
-passed_on d (Refused f) = Aside f
+abbrev pub passed_on : Partial → Out → Going
+passed_on d (Ok t) = went d t
+passed_on d (Err f) = Err f
 
 -- an answer and two tables, or three
 pub data Settled : Type 0 where
-  settled : Went → List ℕ → List ℕ → Settled
+  settled : Going → List ℕ → List ℕ → Settled
 
 pub data Listing : Type 0 where
-  listed : Went → List ℕ → List ℕ → List ℕ → Listing
+  listed : Going → List ℕ → List ℕ → List ℕ → Listing
 
 abbrev pub settled_as : Partial → Stored → Settled
-settled_as d (stored (Set x t) c q) = settled (On (knowing d x.count) t) c q
-settled_as d (stored (Unset f) c q) = settled (Aside f) c q
+settled_as d (stored (Ok y) c q) = settled (went (knowing d y.index.count) y.next) c q
+settled_as d (stored (Err f) c q) = settled (Err f) c q
 
 abbrev pub made_as : Partial → Made → Settled
-made_as d (made (Authored i x f t) p l) = settled (On (authored_by d i x f) t) p l
-made_as d (made (Unauthored f) p l) = settled (Aside f) p l
+made_as d (made (Ok a) p l) = settled (went (authored_by d a.number a.index a.fault) a.next) p l
+made_as d (made (Err f) p l) = settled (Err f) p l
 
 abbrev pub listed_as : Partial → Ran → Listing
-listed_as d (ran (Listed u t) p l k) = listed (On (licensed_to d u) t) p l k
-listed_as d (ran (Unlisted f) p l k) = listed (Aside f) p l k
+listed_as d (ran (Ok w) p l k) = listed (went (licensed_to d w.state) w.next) p l k
+listed_as d (ran (Err f) p l k) = listed (Err f) p l k
 
 -- the tables with those
 abbrev pub into_constants : Tables → Settled → Moved
@@ -107,9 +106,9 @@ into_index x (settled r p l) = moved r (tabled x.consts x.constants p l x.code)
 abbrev pub into_code : Tables → Listing → Moved
 into_code x (listed r p l k) = moved r (tabled x.consts x.constants p l k)
 
-abbrev pub on_judged : Partial → Judged → Went
-on_judged d (Ranked k t) = On (ranked_at d k) t
-on_judged d (Unranked f) = Aside f
+abbrev pub on_judged : Partial → Judged → Going
+on_judged d (Ok k) = went (ranked_at d k.rank) k.next
+on_judged d (Err f) = Err f
 
 -- the constants that are known
 abbrev pub known : Partial → Tables → List ℕ

@@ -1,37 +1,27 @@
 -- The ways out of the functions that read a field. Assumes nothing.
-use Rattle.std.specs.Prelude.{◌≡◌, false, List, ℕ, ◌≤◌, ◌<◌, eqb, length, take, get_or, set}
+use Rattle.std.specs.Prelude.{◌≡◌, false, List, ℕ, ◌≤◌, ◌<◌, eqb, length, take, get_or, set, Ok, Err}
 use Rattle.std.proofs.Common.{sym, ◌∙◌, arith, take_all, length-take-le}
 use Rattle.std.proofs.Math.ListN.{get_or-eq_default}
 use Rattle.std.proofs.Math.Seq.{set_out}
 use borrow.Author.Tests.{ne_eqb}
 use Rattle.lexical.specs.Kind
 use Rattle.lexical.specs.declared.token.Token.{Token}
-use Rattle.judge.specs.Working.Judging.{judged_here}
-use Rattle.judge.specs.declared.Judged.{Judged}
-use Rattle.judge.specs.declared.Judged.TheVariants.{On as Ranked, Aside as Unranked}
+use Rattle.judge.specs.Working.Judging.{judged_here, Judged}
+use Rattle.judge.specs.declared.Ranked.{Ranked}
 use Rattle.fields.specs.Version.{version}
-use Rattle.fields.specs.Working.Outs.{out_of, ended_out}
-use Rattle.fields.specs.Working.Setting.{Stored, stored, constants_in}
+use Rattle.fields.specs.Working.Outs.{out_of, ended_out, Out}
+use Rattle.fields.specs.Working.Setting.{Setting, Stored, stored, constants_in}
 use Rattle.naming.specs.Working.Identifying.{sight}
-use Rattle.naming.specs.Working.Authorizing.{made, authorizer_in}
-use Rattle.naming.specs.Working.List.{ran}
+use Rattle.naming.specs.Working.Authorizing.{Authoring, made, authorizer_in}
+use Rattle.naming.specs.Working.List.{Licensing, ran}
 use Rattle.naming.specs.Working.Chain.{field_in}
 use Rattle.syntax.specs.declared.fault.Fault.{Fault}
-use Rattle.fields.specs.declared.out.Out.{Out}
-use Rattle.fields.specs.declared.out.Out.TheVariants.{On as Passed, Aside as Refused}
 use Rattle.fields.specs.declared.constants.Settings.{Settings}
-use Rattle.fields.specs.declared.constants.Settings.TheVariants.{On as Set, Aside as Unset}
 use Rattle.naming.specs.declared.authorizer.Author.{Author}
-use Rattle.naming.specs.declared.authorizer.Author.TheVariants.{On as Authored, Aside as Unauthored}
-use Rattle.naming.specs.declared.list.State.{State}
 use Rattle.naming.specs.declared.list.Licensed.{Licensed}
-use Rattle.naming.specs.declared.list.Licensed.TheVariants.{On as Listed, Aside as Unlisted}
 use Rattle.assertion.specs.Labels.{without}
-use Rattle.assertion.specs.Working.Field.{Given, given, Tables, tabled, moved, knowing, authored_by, licensed_to, ranked_at, passed_on, Settled, settled, settled_as, made_as, Listing, listed, listed_as, on_judged, constants_at, authorizer_at, licensees_at, conditions_at, field_at}
+use Rattle.assertion.specs.Working.Field.{Given, given, Tables, tabled, moved, Going, went, knowing, authored_by, licensed_to, ranked_at, passed_on, Settled, settled, settled_as, made_as, Listing, listed, listed_as, on_judged, constants_at, authorizer_at, licensees_at, conditions_at, field_at}
 use Rattle.assertion.specs.declared.field.Partial.{Partial}
-use Rattle.assertion.specs.declared.field.Went.{Went}
-use Rattle.assertion.specs.declared.field.Went.TheVariants.{On, Aside}
-use Rattle.index.specs.declared.Index.{Index}
 
 -- `front`
 pub front-all : (l : List ℕ) (n : ℕ) → length l ≤ n → l ≡ take n l
@@ -53,55 +43,55 @@ used l m k e n f = f ∙ rw e
 
 -- `passed`
 module _ (d : Partial) (o : Out) where
-  pub passed_on_lem : (t : Token) → o ≡ Passed t → On d t ≡ passed_on d o
+  pub passed_on_lem : (t : Token) → o ≡ Ok t → went d t ≡ passed_on d o
   passed_on_lem t e = rw e
 
-  pub passed-not : (f : Fault) → o ≡ Refused f → Aside f ≡ passed_on d o
+  pub passed-not : (f : Fault) → o ≡ Err f → Err f ≡ passed_on d o
   passed-not f e = rw e
 
 -- `constants_field`
-module _ (d : Partial) (x : Stored) (r : Settings) (c q : List ℕ) (e : stored r c q ≡ x) where
-  pub settings-on : (y : Index) (t : Token) → r ≡ Set y t → settled (On (knowing d y.count) t) c q ≡ settled_as d x
-  settings-on y t k = rw (← e, k)
+module _ (d : Partial) (x : Stored) (r : Setting) (c q : List ℕ) (e : stored r c q ≡ x) where
+  pub settings-on : (y : Settings) → r ≡ Ok y → settled (went (knowing d y.index.count) y.next) c q ≡ settled_as d x
+  settings-on y k = rw (← e, k)
 
-  pub settings-not : (f : Fault) → r ≡ Unset f → settled (Aside f) c q ≡ settled_as d x
+  pub settings-not : (f : Fault) → r ≡ Err f → settled (Err f) c q ≡ settled_as d x
   settings-not f k = rw (← e, k)
 
 -- `authorizer_field`
-module _ (d : Partial) (s : List ℕ) (standing : ℕ) (query consts values names constants known pool places : List ℕ) (t : Token) (ke : known ≡ take d.known constants)
-    (r : Author) (p l : List ℕ) (e : made r p l ≡ authorizer_in s standing (sight query consts values names known) pool places d.index.count d.index.end t) where
+module _ (d : Partial) (s : List ℕ) (standing : ℕ) (query consts values names known pool places : List ℕ) (t : Token)
+    (r : Authoring) (p l : List ℕ) (e : made r p l ≡ authorizer_in s standing (sight query consts values names known) pool places d.index.count d.index.end t) where
   abbrev meant : Settled
-  meant = made_as d (authorizer_in s standing (sight query consts values names (take d.known constants)) pool places d.index.count d.index.end t)
+  meant = made_as d (authorizer_in s standing (sight query consts values names known) pool places d.index.count d.index.end t)
 
-  pub author-on : (i : ℕ) (x : Index) (f : Fault) (n : Token) → r ≡ Authored i x f n → settled (On (authored_by d i x f) n) p l ≡ meant
-  author-on i x f n k = rw (← ke, ← e, k)
+  pub author-on : (a : Author) → r ≡ Ok a → settled (went (authored_by d a.number a.index a.fault) a.next) p l ≡ meant
+  author-on a k = rw (← e, k)
 
-  pub author-not : (f : Fault) → r ≡ Unauthored f → settled (Aside f) p l ≡ meant
-  author-not f k = rw (← ke, ← e, k)
+  pub author-not : (f : Fault) → r ≡ Err f → settled (Err f) p l ≡ meant
+  author-not f k = rw (← e, k)
 
 -- `licensees_field`
-module _ (d : Partial) (s query consts values names constants known pool places code : List ℕ) (t : Token) (ke : known ≡ take d.known constants)
-    (r : Licensed) (p l m : List ℕ) (e : ran r p l m ≡ field_in s (sight query consts values names known) pool places code d.index.count d.index.end d.size t) where
+module _ (d : Partial) (s query consts values names known pool places code : List ℕ) (t : Token)
+    (r : Licensing) (p l m : List ℕ) (e : ran r p l m ≡ field_in s (sight query consts values names known) pool places code d.index.count d.index.end d.size t) where
   abbrev listing : Listing
-  listing = listed_as d (field_in s (sight query consts values names (take d.known constants)) pool places code d.index.count d.index.end d.size t)
+  listing = listed_as d (field_in s (sight query consts values names known) pool places code d.index.count d.index.end d.size t)
 
-  pub listed-on : (u : State) (n : Token) → r ≡ Listed u n → listed (On (licensed_to d u) n) p l m ≡ listing
-  listed-on u n k = rw (← ke, ← e, k)
+  pub listed-on : (w : Licensed) → r ≡ Ok w → listed (went (licensed_to d w.state) w.next) p l m ≡ listing
+  listed-on w k = rw (← e, k)
 
-  pub listed-not : (f : Fault) → r ≡ Unlisted f → listed (Aside f) p l m ≡ listing
-  listed-not f k = rw (← ke, ← e, k)
+  pub listed-not : (f : Fault) → r ≡ Err f → listed (Err f) p l m ≡ listing
+  listed-not f k = rw (← e, k)
 
 -- `conditions_field`
-module _ (d : Partial) (s : List ℕ) (t : Token) (query consts values names constants known : List ℕ) (ke : known ≡ take d.known constants)
+module _ (d : Partial) (s : List ℕ) (t : Token) (query consts values names known : List ℕ)
     (r : Judged) (e : r ≡ judged_here s t query consts values names known) where
-  abbrev judged : Went
-  judged = on_judged d (judged_here s t query consts values names (take d.known constants))
+  abbrev judged : Going
+  judged = on_judged d (judged_here s t query consts values names known)
 
-  pub judged-on : (k : ℕ) (n : Token) → r ≡ Ranked k n → On (ranked_at d k) n ≡ judged
-  judged-on k n f = rw (← ke, ← e, f)
+  pub judged-on : (k : Ranked) → r ≡ Ok k → went (ranked_at d k.rank) k.next ≡ judged
+  judged-on k f = rw (← e, f)
 
-  pub judged-not : (w : Fault) → r ≡ Unranked w → Aside w ≡ judged
-  judged-not w f = rw (← ke, ← e, f)
+  pub judged-not : (w : Fault) → r ≡ Err w → Err w ≡ judged
+  judged-not w f = rw (← e, f)
 
 -- `field`
 module _ (s : List ℕ) (standing : ℕ) (query values names : List ℕ) (start k : ℕ) (consts constants pool places code : List ℕ) (d : Partial) (t : Token) where
@@ -111,37 +101,37 @@ module _ (s : List ℕ) (standing : ℕ) (query values names : List ℕ) (start 
   abbrev x : Tables
   x = tabled consts constants pool places code
 
-  pub field-version : (o : Out) (r : Went) → k ≡ Kind.KEYNOTE_VERSION → o ≡ out_of (version s t) → r ≡ passed_on d o → moved r x ≡ field_at g k x d t
+  pub field-version : (o : Out) (r : Going) → k ≡ Kind.KEYNOTE_VERSION → o ≡ out_of (version s t) → r ≡ passed_on d o → moved r x ≡ field_at g k x d t
   unfolding field_at
   field-version o r h e f = rw (f, e, h)
 
   module _ (n4 : k ≡ Kind.KEYNOTE_VERSION → ⊥) where
-    pub field-constants : (r : Went) (c q : List ℕ) → k ≡ Kind.LOCAL_CONSTANTS → settled r c q ≡ settled_as d (constants_in s consts constants 0 start t)
+    pub field-constants : (r : Going) (c q : List ℕ) → k ≡ Kind.LOCAL_CONSTANTS → settled r c q ≡ settled_as d (constants_in s consts constants 0 start t)
         → moved r (tabled c q pool places code) ≡ field_at g k x d t
     unfolding field_at constants_at
     field-constants r c q h e = rw (h, ← e)
 
     module _ (n5 : k ≡ Kind.LOCAL_CONSTANTS → ⊥) where
-      pub field-authorizer : (r : Went) (p l : List ℕ) → k ≡ Kind.AUTHORIZER
-          → settled r p l ≡ made_as d (authorizer_in s standing (sight query consts values names (take d.known constants)) pool places d.index.count d.index.end t)
+      pub field-authorizer : (known : List ℕ) → known ≡ take d.known constants → (r : Going) (p l : List ℕ) → k ≡ Kind.AUTHORIZER
+          → settled r p l ≡ made_as d (authorizer_in s standing (sight query consts values names known) pool places d.index.count d.index.end t)
           → moved r (tabled consts constants p l code) ≡ field_at g k x d t
       unfolding field_at authorizer_at
-      field-authorizer r p l h e = rw (h, ← e)
+      field-authorizer known ke r p l h e = rw (h, ← ke, ← e)
 
       module _ (n6 : k ≡ Kind.AUTHORIZER → ⊥) where
-        pub field-licensees : (r : Went) (p l m : List ℕ) → k ≡ Kind.LICENSEES
-            → listed r p l m ≡ listed_as d (field_in s (sight query consts values names (take d.known constants)) pool places code d.index.count d.index.end d.size t)
+        pub field-licensees : (known : List ℕ) → known ≡ take d.known constants → (r : Going) (p l m : List ℕ) → k ≡ Kind.LICENSEES
+            → listed r p l m ≡ listed_as d (field_in s (sight query consts values names known) pool places code d.index.count d.index.end d.size t)
             → moved r (tabled consts constants p l m) ≡ field_at g k x d t
         unfolding field_at licensees_at
-        field-licensees r p l m h e = rw (h, ← e)
+        field-licensees known ke r p l m h e = rw (h, ← ke, ← e)
 
         module _ (n7 : k ≡ Kind.LICENSEES → ⊥) where
-          pub field-conditions : (r : Went) → k ≡ Kind.CONDITIONS
-              → r ≡ on_judged d (judged_here s t query consts values names (take d.known constants))
+          pub field-conditions : (known : List ℕ) → known ≡ take d.known constants → (r : Going) → k ≡ Kind.CONDITIONS
+              → r ≡ on_judged d (judged_here s t query consts values names known)
               → moved r x ≡ field_at g k x d t
           unfolding field_at conditions_at
-          field-conditions r h e = rw (h, e)
+          field-conditions known ke r h e = rw (h, ← ke, e)
 
-          pub field-comment : (o : Out) (r : Went) → (k ≡ Kind.CONDITIONS → ⊥) → o ≡ ended_out t → r ≡ passed_on d o → moved r x ≡ field_at g k x d t
+          pub field-comment : (o : Out) (r : Going) → (k ≡ Kind.CONDITIONS → ⊥) → o ≡ ended_out t → r ≡ passed_on d o → moved r x ≡ field_at g k x d t
           unfolding field_at
           field-comment o r n8 e f = rw (f, e, ne_eqb _ _ n4, ne_eqb _ _ n5, ne_eqb _ _ n6, ne_eqb _ _ n7, ne_eqb _ _ n8)

@@ -1,5 +1,5 @@
 -- The ways out of the functions that read an assertion. Assumes nothing.
-use Rattle.std.specs.Prelude.{◌≡◌, refl, Bool, true, false, List, [], ◌∷◌, ℕ, zero, suc, ◌<◌, ◌≤◌, eqb, get_or, set}
+use Rattle.std.specs.Prelude.{◌≡◌, refl, Bool, true, false, List, [], ◌∷◌, ℕ, zero, suc, ◌<◌, ◌≤◌, eqb, get_or, set, Ok, Err}
 use Rattle.std.proofs.Math.Path.{sym}
 use Rattle.std.proofs.Common.{◌∙◌, arith, get_or-set_other}
 use borrow.Author.Tests.{eq-eqb, ne_eqb, eqb-true, eqb-false}
@@ -11,23 +11,18 @@ use Rattle.lexical.specs.Line.{token_at}
 use Rattle.lexical.specs.declared.token.Token.{Token}
 use Rattle.compliance.specs.Codes.{top_code}
 use Rattle.fields.specs.Signature.{signature}
-use Rattle.fields.specs.Working.Outs.{out_of}
+use Rattle.fields.specs.Working.Outs.{out_of, Out}
 use Rattle.naming.specs.Working.Code.{above, pushed}
-use Rattle.fields.specs.declared.out.Out.{Out}
-use Rattle.fields.specs.declared.out.Out.TheVariants.{On as Passed, Aside as Refused}
 use Rattle.assertion.specs.Labels.{labels, without, total}
 use Rattle.assertion.specs.Read.{first}
-use Rattle.assertion.specs.Working.Field.{Given, given, Tables, tabled, Moved, moved, field_at}
+use Rattle.assertion.specs.Working.Field.{Given, given, Tables, tabled, Moved, moved, Going, field_at}
 use Rattle.naming.specs.Working.Faults.{clear_at, first_of}
 use Rattle.syntax.specs.Working.Faults.{against, misplaced_at}
 use Rattle.syntax.specs.declared.fault.Fault.{Fault}
 use Rattle.index.specs.declared.Index.{Index}
-use Rattle.assertion.specs.Working.Reading.{Finished, finished_by, Result, read_by, kept_at, kept_in, finished_in, signed_in, last_at, last_in, fields_in, begun, read_in}
-use Rattle.assertion.specs.declared.Assessment.{Assessment}
-use Rattle.assertion.specs.declared.Assessment.TheVariants.{Dropped}
+use Rattle.assertion.specs.Working.Reading.{Assessment, Finished, finished_by, ReadInto, read_by, kept_at, kept_in, finished_in, signed_in, last_at, last_in, fields_in, begun, read_in}
 use Rattle.assertion.specs.declared.field.Partial.{Partial}
 use Rattle.assertion.specs.declared.field.Went.{Went}
-use Rattle.assertion.specs.declared.field.Went.TheVariants.{On, Aside}
 
 -- `kept` and `finished`
 module _ (code : List ℕ) (d : Partial) where
@@ -40,7 +35,7 @@ module _ (code : List ℕ) (d : Partial) where
   kept-missing k z m ze me = rw (k, ze, me)
 
   module _ (end : ℕ) (h : d.authored ≡ true) (f : Fault) (fe : f ≡ first_of d.against d.besides) where
-    pub finished-faulty : (f.reason ≡ 0 → ⊥) → finished_by (Dropped f) code ≡ finished_in code d end
+    pub finished-faulty : (f.reason ≡ 0 → ⊥) → finished_by (Err f) code ≡ finished_in code d end
     unfolding finished_in
     finished-faulty n = rw (h, ← fe, ne_eqb _ _ n)
 
@@ -48,17 +43,17 @@ module _ (code : List ℕ) (d : Partial) where
     unfolding finished_in
     finished-kept z r e = e ∙ rw (h, ← fe, eq-eqb _ _ z)
 
-  pub finished-none : (end : ℕ) → d.authored ≡ false → finished_by (Dropped (against 3 end)) code ≡ finished_in code d end
+  pub finished-none : (end : ℕ) → d.authored ≡ false → finished_by (Err (against 3 end)) code ≡ finished_in code d end
   unfolding finished_in
   finished-none end h = rw h
 
 -- `signed`
 module _ (s code : List ℕ) (d : Partial) (t : Token) (o : Out) (oe : o ≡ out_of (signature s t)) where
-  pub signed-not : (f : Fault) → o ≡ Refused f → finished_by (Dropped f) code ≡ signed_in s code d t
+  pub signed-not : (f : Fault) → o ≡ Err f → finished_by (Err f) code ≡ signed_in s code d t
   unfolding signed_in
   signed-not f k = rw (← oe, k)
 
-  pub signed-on : (n : Token) (r : Finished) → o ≡ Passed n → r ≡ finished_in code d n.end → r ≡ signed_in s code d t
+  pub signed-on : (n : Token) (r : Finished) → o ≡ Ok n → r ≡ finished_in code d n.end → r ≡ signed_in s code d t
   unfolding signed_in
   signed-on n r k e = e ∙ rw (← oe, k)
 
@@ -119,12 +114,12 @@ module _ (s free code : List ℕ) (d : Partial) (t : Token) where
   last-finished r h e = e ∙ rw h
 
   module _ (ne : t.kind ≡ Kind.END → ⊥) (b : Bool) (be : b ≡ ending t.kind) where
-    pub last-fault : (w : Fault) → b ≡ false → w ≡ misplaced_at t → finished_by (Dropped w) code ≡ last_in s free code d t
+    pub last-fault : (w : Fault) → b ≡ false → w ≡ misplaced_at t → finished_by (Err w) code ≡ last_in s free code d t
     unfolding last_in
     last-fault r h e = rw (e, ne_eqb _ _ ne, ← be, h)
 
     module _ (y : b ≡ true) (f : Bool) (fe : f ≡ eqb (get_or free t.kind 0) 1) where
-      pub last-again : f ≡ false → finished_by (Dropped (against 3 t.start)) code ≡ last_in s free code d t
+      pub last-again : f ≡ false → finished_by (Err (against 3 t.start)) code ≡ last_in s free code d t
       unfolding last_in
       last-again h = rw (ne_eqb _ _ ne, ← be, y, ← fe, h)
 
@@ -139,7 +134,7 @@ pub next-is : (s : List ℕ) (g : Given) (x : Tables) (d : Partial) (kind end mo
 next-is s g x d kind end mode n r me nt e = e ∙ rw (nt, me)
 
 -- the loop, with the invariant `fields_in .. ≡ a`
-module _ (s : List ℕ) (standing : ℕ) (query values names : List ℕ) (start : ℕ) (free consts constants pool places code : List ℕ) (d : Partial) (t : Token) (a : Result)
+module _ (s : List ℕ) (standing : ℕ) (query values names : List ℕ) (start : ℕ) (free consts constants pool places code : List ℕ) (d : Partial) (t : Token) (a : ReadInto)
     (inv : fields_in (given s standing query values names start) free (tabled consts constants pool places code) d t ≡ a) (b : Bool) (be : b ≡ last_at free t.kind) where
   abbrev g : Given
   g = given s standing query values names start
@@ -151,29 +146,29 @@ module _ (s : List ℕ) (standing : ℕ) (query values names : List ℕ) (start 
   unfolding fields_in
   fields-last r m h e = sym (loop-done _ _ _ (free, d, t, x) _ (rw (← be, h, ← e))) ∙ inv
 
-  module _ (h : b ≡ false) (left : List ℕ) (le : left ≡ without free t.kind) (r : Went) (z : Tables)
+  module _ (h : b ≡ false) (left : List ℕ) (le : left ≡ without free t.kind) (r : Going) (z : Tables)
       (re : moved r z ≡ field_at g t.kind x d (first s t)) where
-    pub fields-aside : (w : Fault) → r ≡ Aside w → read_by (Dropped w) z ≡ a
+    pub fields-aside : (w : Fault) → r ≡ Err w → read_by (Err w) z ≡ a
     unfolding fields_in
     fields-aside w k = sym (loop-done _ _ _ (free, d, t, x) _ (rw (← be, h, ← re, k))) ∙ inv
 
     less : total (without free t.kind) < total free
     less = without-less free t.kind (last-free free t.kind (sym be ∙ h))
 
-    pub fields-more : (u : Partial) (v : Token) → r ≡ On u v → fields_in g left z u v ≡ a
+    pub fields-more : (w : Went) → r ≡ Ok w → fields_in g left z w.partial w.next ≡ a
     unfolding fields_in
-    fields-more u v k = rw le (sym (loop-next _ _ _ (free, d, t, x) (without free t.kind, u, v, z) (rw (← be, h, ← re, k)) less) ∙ inv)
+    fields-more w k = rw le (sym (loop-next _ _ _ (free, d, t, x) (without free t.kind, w.partial, w.next, z) (rw (← be, h, ← re, k)) less) ∙ inv)
 
     pub fields-less : total left < total free
     fields-less = rw le less
 
 -- `read`
 module _ (g : Given) (top : ℕ) (x : Tables) (index : Index) (size : ℕ) where
-  pub read-unverified : g.standing ≡ 0 → read_by (Dropped (against 9 0)) x ≡ read_in g top x index.count index.end size
+  pub read-unverified : g.standing ≡ 0 → read_by (Err (against 9 0)) x ≡ read_in g top x index.count index.end size
   unfolding read_in
   read-unverified h = rw h
 
-  pub read-on : (g.standing ≡ 0 → ⊥) → (t : Token) → t ≡ token_at g.text Kind.BEFORE 0 → (a b : Fault) → a ≡ clear_at → b ≡ clear_at → (r : Result)
+  pub read-on : (g.standing ≡ 0 → ⊥) → (t : Token) → t ≡ token_at g.text Kind.BEFORE 0 → (a b : Fault) → a ≡ clear_at → b ≡ clear_at → (r : ReadInto)
       → r ≡ fields_in g labels x (begun top index size a b) t → r ≡ read_in g top x index.count index.end size
   unfolding read_in
   read-on h t te a b ae be r e = e ∙ rw (ae, be, te) (rw (ne_eqb _ _ h))

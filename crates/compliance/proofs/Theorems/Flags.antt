@@ -1,5 +1,5 @@
 -- Tables that represent a system: their flags are the reach. Assumes nothing.
-use Rattle.std.specs.Prelude.{◌≡◌, eqb, ltb, get_or, set}
+use Rattle.std.specs.Prelude.{◌≡◌, Bool, eqb, ltb, get_or, set, replicate}
 use Rattle.std.proofs.Math.Path.{refl, ap}
 use Rattle.std.proofs.Common.{sym, ◌∙◌, arith, get_or-set_other}
 use Rattle.std.proofs.Math.Bool.{true, false}
@@ -11,7 +11,7 @@ use mathlib.Core.List.Memᴰ.{tail as there}
 use mathlib.Core.List.{List, [], ◌∷◌, ◌++◌, map, Memᴰ as Mem}
 use Prim.Native.Nat.{ℕ, zero, suc, ◌≤◌, ◌<◌}
 use Rattle.std.proofs.Math.ListN.{length, get_elem?, length-set}
-use Rattle.std.proofs.lemmas.List.{length-map}
+use Rattle.std.proofs.lemmas.List.{length-map, length-replicate}
 use borrow.Author.Tests.{eqb-true, eqb-false, ltb-true, ltb-false, lt-ltb}
 use Rattle.text.specs.Choice.{split, clash}
 use Rattle.principal.specs.Principal.{Principal, same, policy, same_refl, same-sym}
@@ -26,7 +26,7 @@ use Rattle.compliance.specs.Theorems.Reach.{reach-sound, reach-complete}
 use Rattle.compliance.specs.Theorems.Index.{map_same, place-lt, place_map, place_none, place_set}
 use Rattle.compliance.specs.Working.Reach.{marked, marked_all, open_at, open_from, spread_from}
 use Rattle.compliance.specs.Working.Solve.{blank, reach_of}
-use Rattle.compliance.specs.Theorems.Flags.{at_mem, at_some, blank-at, blank-length, flag-on, flag_off, flagged, flagged-even, flagged-same, marked-last, marked_append, mem-at, no_flag, open-found, open-intro, open-parts, open-rest, open_done, undone, undone-blank, undone-none, undone-set}
+use Rattle.compliance.specs.Theorems.Flags.{at_mem, at_some, blank-at, flag-on, flag_off, flagged, flagged-even, flagged-same, marked-last, marked_append, mem-at, no_flag, open-found, open-intro, open-parts, open-rest, open_done, undone, undone-blank, undone-none, undone-set}
 
 -- ---- the tables
 
@@ -105,19 +105,19 @@ module _ (names : List Principal) (authors conds ends code direct : List ℕ) (t
   author-flag l j a e = let w = rep.rows j a e in rw w.author (place_map (flagged l) (flagged-even l) names a.authorizer w.known)
 
   -- the licensees of the assertions that are expanded are flagged
-  abbrev Done : List ℕ → List Principal → Type 0
-  Done done l = (j : ℕ) (a : Assertion) → get_elem? s.assertions j ≡ some a → eqb (get_or done j 0) 0 ≡ false
+  abbrev Done : List Bool → List Principal → Type 0
+  Done done l = (j : ℕ) (a : Assertion) → get_elem? s.assertions j ≡ some a → get_or done j false ≡ true
       → (q : Principal) → member q (licensees a.field) ≡ true → member q l ≡ true
 
-  module _ (done : List ℕ) (l : List Principal) (long : length done ≡ length authors) (rooted : member policy l ≡ true)
+  module _ (done : List Bool) (l : List Principal) (long : length done ≡ length authors) (rooted : member policy l ≡ true)
       (sound : (p : Principal) → member p l ≡ true → Reachable s p) (known : Done done l) where
     complete : ((j : ℕ) → j < length authors → open_at authors done (map (flagged l) names) j ≡ false) → {p : Principal} → Reachable s p → member p l ≡ true
     complete h {p} (root e) = member-same p policy l e ∙ rooted
-    complete h {p} (licensee {p = o} a m i r n) = mem-at m (λ j e b. split (eqb (get_or done j 0) 0)
-        (λ d. clash (opened j a e d (member-same a.authorizer o l i ∙ complete h r)) (h j (omega (arith, rep.counted))))
-        (λ d. known j a e d p n))
+    complete h {p} (licensee {p = o} a m i r n) = mem-at m (λ j e b. split (get_or done j false)
+        (λ d. known j a e d p n)
+        (λ d. clash (opened j a e d (member-same a.authorizer o l i ∙ complete h r)) (h j (omega (arith, rep.counted)))))
       where
-        opened : (j : ℕ) (a : Assertion) → get_elem? s.assertions j ≡ some a → eqb (get_or done j 0) 0 ≡ true → member a.authorizer l ≡ true
+        opened : (j : ℕ) (a : Assertion) → get_elem? s.assertions j ≡ some a → get_or done j false ≡ false → member a.authorizer l ≡ true
             → open_at authors done (map (flagged l) names) j ≡ true
         opened j a e d i = open-intro authors done (map (flagged l) names) j d (author-flag l j a e ∙ flag-on l a.authorizer i)
 
@@ -125,7 +125,7 @@ module _ (names : List Principal) (authors conds ends code direct : List ℕ) (t
     stopped : ((j : ℕ) → j < length authors → open_at authors done (map (flagged l) names) j ≡ false) → map (flagged l) names ≡ map (flagged (reach s)) names
     stopped h = flagged-same l (reach s) names (λ q m. reach-complete s (sound q m)) (λ q m. complete h (reach-sound s q m))
 
-  reaches : (k : ℕ) (done : List ℕ) (l : List Principal) → length done ≡ length authors → member policy l ≡ true
+  reaches : (k : ℕ) (done : List Bool) (l : List Principal) → length done ≡ length authors → member policy l ≡ true
       → ((p : Principal) → member p l ≡ true → Reachable s p) → Done done l → undone done ≤ k
       → spread_from authors ends code k done (map (flagged l) names) ≡ map (flagged (reach s)) names
   unfolding spread_from
@@ -142,7 +142,7 @@ module _ (names : List Principal) (authors conds ends code direct : List ℕ) (t
       let in-l : member a.authorizer l ≡ true = flag_off l a.authorizer (rw (author-flag l j a at) at o.1) in
       let m = licensees a.field ++ l in
       let f : marked_all (program_of ends code j) flags ≡ map (flagged m) names = rw w.program (mark-field a.field l w.listed) in
-      rw (e, f) (reaches k (set done j 1) m (rw length-set long)
+      rw (e, f) (reaches k (set done j true) m (rw length-set long)
       (member_right policy (licensees a.field) l rooted)
       (λ p i. ⊎_elim
       (λ x. licensee a (at_mem s.assertions j a at) (same_refl a.authorizer) (sound a.authorizer in-l) x)
@@ -150,8 +150,8 @@ module _ (names : List Principal) (authors conds ends code direct : List ℕ) (t
       (member-either p (licensees a.field) l i))
       (λ i c ci d q n. split (eqb i j)
       (λ x. let z : c ≡ a = cc (eqb-true i j x, ci, at) in member-left q (licensees a.field) l (rw z at n))
-      (λ x. member_right q (licensees a.field) l (known i c ci (rw (get_or-set_other done j i 1 0 (eqb-false i j x)) at d) q n)))
-      (omega (arith, undone-set done j (omega arith) (eqb-true _ _ o.0)))))
+      (λ x. member_right q (licensees a.field) l (known i c ci (rw (get_or-set_other done j i true false (eqb-false i j x)) at d) q n)))
+      (omega (arith, undone-set done j (omega arith) o.0))))
       )
       (λ e. rw e (stopped done l long rooted sound known (λ i h. open-rest authors done flags (length authors) 0 (omega (arith, ltb-false)) i (omega arith) (omega arith))))
 
@@ -166,8 +166,8 @@ module _ (names : List Principal) (authors conds ends code direct : List ℕ) (t
       ap (marked 0) (place_none names (flagged []) (length direct) direct-long (λ q m. no_flag q))
       ∙ ap (λ (i : ℕ). marked i (map (flagged []) names)) (sym rep.first)
       ∙ mark-name policy [] rep.rooted in
-      rw start (reaches (length authors) (blank (length authors)) (policy ∷ []) (blank-length (length authors))
+      rw start (reaches (length authors) (replicate (length authors) false) (policy ∷ []) (length-replicate (length authors) false)
       (member-here policy policy [] (same_refl policy))
       (λ p i. ⊎_elim root (λ x. member-none p x) (member-cases p policy [] i))
-      (λ j a e d q n. clash (blank-at (length authors) j) d)
+      (λ j a e d q n. clash d (blank-at (length authors) j))
       (omega (arith, undone-blank (length authors))))

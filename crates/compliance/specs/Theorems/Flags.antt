@@ -1,5 +1,5 @@
 -- Tables that represent a system: their flags are the reach. Assumes nothing.
-use Rattle.std.specs.Prelude.{◌≡◌, eqb, get_or, set}
+use Rattle.std.specs.Prelude.{◌≡◌, Bool, eqb, get_or, set, replicate}
 use Rattle.std.proofs.Math.Path.{refl, ap}
 use Rattle.std.proofs.Common.{sym, ◌∙◌, arith}
 use Rattle.std.proofs.Math.Bool.{true, false}
@@ -9,7 +9,7 @@ use mathlib.Core.List.Memᴰ.{tail as there}
 use mathlib.Core.List.{List, [], ◌∷◌, ◌++◌, map, Memᴰ as Mem}
 use Prim.Native.Nat.{ℕ, zero, suc, ◌+◌, ◌≤◌, ◌<◌}
 use Rattle.std.proofs.Math.ListN.{length, get_elem?}
-use borrow.Author.Tests.{eqb-true, eqb-false, eq-eqb, le-ltb}
+use borrow.Author.Tests.{eqb-true, eqb-false, le-ltb}
 use Rattle.text.specs.Choice.{pick, split, clash, bool_iff}
 use Rattle.principal.specs.Principal.{Principal}
 use Rattle.principal.specs.Members.{member, member-same}
@@ -78,23 +78,23 @@ marked-last a op f h = marked_append a (op ∷ []) f ∙ marked-none op (marked_
 
 -- ---- how many assertions are still to be expanded
 
-unfoldable pub undone : List ℕ → ℕ
+unfoldable pub undone : List Bool → ℕ
 undone [] = 0
-undone (x ∷ xs) = pick (eqb x 0) 1 0 + undone xs
+undone (x ∷ xs) = pick x 0 1 + undone xs
 
-pub undone-set : (d : List ℕ) (j : ℕ) → j < length d → get_or d j 0 ≡ 0 → suc (undone (set d j 1)) ≡ undone d
+pub undone-set : (d : List Bool) (j : ℕ) → j < length d → get_or d j false ≡ false → suc (undone (set d j true)) ≡ undone d
 unfolding undone
 undone-set [] j h e = absurd (omega arith)
-undone-set (x ∷ d) zero h e = rw (eq-eqb x 0 e) (omega arith)
+undone-set (x ∷ d) zero h e = rw e (omega arith)
 undone-set (x ∷ d) (suc j) h e = omega (arith, undone-set d j (omega arith) e)
 
-pub undone-none : (d : List ℕ) (j : ℕ) → undone d ≡ 0 → j < length d → eqb (get_or d j 0) 0 ≡ false
+pub undone-none : (d : List Bool) (j : ℕ) → undone d ≡ 0 → j < length d → get_or d j false ≡ true
 unfolding undone
 undone-none [] j e h = absurd (omega arith)
-undone-none (x ∷ d) zero e h = split (eqb x 0) (λ t. let z : 1 + undone d ≡ 0 = rw t at e in absurd (omega arith)) (λ t. t)
+undone-none (x ∷ d) zero e h = split x (λ t. t) (λ t. let z : 1 + undone d ≡ 0 = rw t at e in absurd (omega arith))
 undone-none (x ∷ d) (suc j) e h = undone-none d j (omega arith) (omega arith)
 
-pub undone-blank : (m : ℕ) → undone (blank m) ≡ m
+pub undone-blank : (m : ℕ) → undone (replicate m false) ≡ m
 unfolding undone
 undone-blank zero = refl
 undone-blank (suc m) = omega (arith, undone-blank m)
@@ -103,7 +103,7 @@ pub blank-length : (m : ℕ) → length (blank m) ≡ m
 blank-length zero = refl
 blank-length (suc m) = ap suc (blank-length m)
 
-pub blank-at : (m j : ℕ) → eqb (get_or (blank m) j 0) 0 ≡ true
+pub blank-at : (m j : ℕ) → get_or (replicate m false) j false ≡ false
 blank-at zero j = refl
 blank-at (suc m) zero = refl
 blank-at (suc m) (suc j) = blank-at m j
@@ -112,7 +112,7 @@ pub no_flag : (q : Principal) → flagged [] q ≡ 0
 unfolding flagged member
 no_flag q = refl
 
-module _ (authors done flags : List ℕ) where
+module _ (authors : List ℕ) (done : List Bool) (flags : List ℕ) where
   pub open-found : (k j : ℕ) → open_from authors done flags k j < j + k → open_at authors done flags (open_from authors done flags k j) ≡ true
   unfolding open_from
   open-found zero j h = absurd (omega arith)
@@ -128,14 +128,14 @@ module _ (authors done flags : List ℕ) where
       (λ e. let h' : j + suc k ≤ open_from authors done flags k (suc j) = rw e at h in
       split (eqb j i) (λ q. rw (← eqb-true j i q) e) (λ q. open-rest k (suc j) (omega arith) i (omega (arith, eqb-false j i q)) (omega arith)))
 
-  pub open-parts : (j : ℕ) → open_at authors done flags j ≡ true → (eqb (get_or done j 0) 0 ≡ true) × (eqb (get_or flags (get_or authors j 0) 0) 1 ≡ true)
+  pub open-parts : (j : ℕ) → open_at authors done flags j ≡ true → (get_or done j false ≡ false) × (eqb (get_or flags (get_or authors j 0) 0) 1 ≡ true)
   unfolding open_at
-  open-parts j e = split (eqb (get_or done j 0) 0) (λ d. (d, rw d at e)) (λ d. clash (rw d at e) refl)
+  open-parts j e = split (get_or done j false) (λ d. clash (rw d at e) refl) (λ d. (d, rw d at e))
 
-  pub open-intro : (j : ℕ) → eqb (get_or done j 0) 0 ≡ true → get_or flags (get_or authors j 0) 0 ≡ 1 → open_at authors done flags j ≡ true
+  pub open-intro : (j : ℕ) → get_or done j false ≡ false → get_or flags (get_or authors j 0) 0 ≡ 1 → open_at authors done flags j ≡ true
   unfolding open_at
   open-intro j d f = rw (d, f)
 
-  pub open_done : (j : ℕ) → eqb (get_or done j 0) 0 ≡ false → open_at authors done flags j ≡ false
+  pub open_done : (j : ℕ) → get_or done j false ≡ true → open_at authors done flags j ≡ false
   unfolding open_at
   open_done j e = rw e

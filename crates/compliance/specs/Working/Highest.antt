@@ -1,10 +1,11 @@
 -- The K-th highest as the code finds it, and that it is the K-th highest. Assumes nothing.
-use Rattle.std.specs.Prelude.{◌≡◌, refl, ◌⊎◌, ℕ, zero, suc, ◌+◌, ◌≤◌, ◌<◌, min, max, leb, length, get_or, drop}
-use Rattle.std.proofs.Common.{sym, ◌∙◌, inl, inr, ⊎_elim, zero-le, le_trans, le_refl, le_antisymm, add-one, drop_of_length-le, drop-cons}
+use Rattle.std.specs.Prelude.{◌≡◌, refl, ◌⊎◌, ℕ, zero, suc, ◌+◌, ◌≤◌, ◌<◌, min, max, leb, length, get_or, drop, count_by}
+use Rattle.std.proofs.Common.{inl, inr, ⊎_elim, zero-le, le_trans, le_refl, le_antisymm, add-one, drop_of_length-le, drop-cons}
 use mathlib.Core.List.Memᴰ.{head as here}
 use mathlib.Core.List.Memᴰ.{tail as there}
 use mathlib.Core.List.{List, [], ◌∷◌, Memᴰ as Mem}
 use native.Mathlib.Omega.{arith}
+use Rattle.std.proofs.lemmas.List.Recursion.{is_count_by}
 use borrow.Author.Tests.{leb-true, leb-false, le-leb, lt-leb}
 use Rattle.text.specs.Choice.{pick, split}
 use Rattle.compliance.specs.Highest.{highest, at_least}
@@ -22,41 +23,12 @@ best_of k all (x ∷ xs) best = best_of k all xs (max best (candidate_of k all x
 unfoldable pub best_from : ℕ → List ℕ → ℕ → ℕ → ℕ
 best_from k all i best = best_of k all (drop i all) best
 
--- how many are v or more from i on, and a count before
-unfoldable pub count_from : ℕ → List ℕ → ℕ → ℕ → ℕ
-count_from v xs i count = count + at_least v (drop i xs)
-
 -- ---- the ways
 
-pub count-start : (v : ℕ) (xs : List ℕ) → count_from v xs 0 0 ≡ at_least v xs
-unfolding count_from
-count-start v xs = omega arith
-
-module _ (v : ℕ) (xs : List ℕ) (i count r : ℕ) (inv : count_from v xs i count ≡ r) where
-  pub count-more : i < length xs → (o : ℕ) → (o ≡ pick (leb v (get_or xs i 0)) 1 0) × (o ≤ 1) → count_from v xs (i + 1) (count + o) ≡ r
-  unfolding count_from at_least
-  count-more h o e = rw (add-one i) (let k : count + (pick (leb v (get_or xs i 0)) 1 0 + at_least v (drop (suc i) xs)) ≡ r = rw (drop-cons xs i 0 h) at inv in omega (arith, e.0))
-
-  pub count-end : length xs ≤ i → count ≡ r
-  unfolding count_from at_least
-  count-end h = let k : count + 0 ≡ r = rw (drop_of_length-le xs h) at inv in omega arith
-
-module _ (k : ℕ) (all : List ℕ) (x c : ℕ) (ce : c ≡ at_least x all) where
-  pub candidate-in : k ≤ c → x ≡ candidate_of k all x
-  unfolding candidate_of
-  candidate-in h = simp (sym ce, le-leb _ _ h)
-
-  pub candidate-out : c < k → 0 ≡ candidate_of k all x
-  unfolding candidate_of
-  candidate-out h = simp (sym ce, lt-leb _ _ h)
-
--- `better`
-pub better-no : (k : ℕ) (all : List ℕ) (best x : ℕ) → x ≤ best → best ≡ max best (candidate_of k all x)
-unfolding candidate_of
-better-no k all best x h = split (leb k (at_least x all)) (λ e. rw e (omega (arith, h))) (λ e. rw e (omega arith))
-
-pub better-yes : (k : ℕ) (all : List ℕ) (best x c r : ℕ) → c ≡ candidate_of k all x → r ≡ max best c → r ≡ max best (candidate_of k all x)
-better-yes k all best x c r ce re = re ∙ rw ce
+-- `at_least`
+pub counted : (v : ℕ) (xs : List ℕ) → at_least v xs ≡ count_by (leb v) xs
+unfolding at_least
+counted v xs = is_count_by (at_least v) (leb v) refl (λ x ys. split (leb v x) (λ e. rw e (omega arith)) (λ e. rw e (omega arith))) xs
 
 -- ---- the candidates' highest is the K-th highest
 
@@ -124,9 +96,23 @@ best-begin zero all n = absurd (n refl)
 best-begin (suc k) all n = best-highest k all
 
 module _ (k : ℕ) (all : List ℕ) (i best r : ℕ) (inv : best_from k all i best ≡ r) where
-  pub best-more : i < length all → (b : ℕ) → b ≡ max best (candidate_of k all (get_or all i 0)) → best_from k all (i + 1) b ≡ r
+  best-more : i < length all → (b : ℕ) → b ≡ max best (candidate_of k all (get_or all i 0)) → best_from k all (i + 1) b ≡ r
   unfolding best_from best_of
   best-more h b be = rw (add-one i, be) (rw (drop-cons all i 0 h) at inv)
+
+  -- the next is the best, or it is no higher, or too few are as high
+  module _ (h : i < length all) (x : ℕ) (xe : x ≡ get_or all i 0) where
+    pub best-rises : best < x → (c : ℕ) → c ≡ at_least x all → k ≤ c → best_from k all (i + 1) x ≡ r
+    unfolding candidate_of
+    best-rises l c ce g = best-more h x (rw (← xe, ← ce, le-leb k c g) (omega arith))
+
+    pub best-stays : x ≤ best → best_from k all (i + 1) best ≡ r
+    unfolding candidate_of
+    best-stays l = best-more h best (rw (← xe) (split (leb k (at_least x all)) (λ e. rw e (omega arith)) (λ e. rw e (omega arith))))
+
+    pub best-few : (c : ℕ) → c ≡ at_least x all → c < k → best_from k all (i + 1) best ≡ r
+    unfolding candidate_of
+    best-few c ce g = best-more h best (rw (← xe, ← ce, lt-leb k c g) (omega arith))
 
   pub best-end : length all ≤ i → best ≡ r
   unfolding best_from best_of

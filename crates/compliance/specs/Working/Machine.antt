@@ -1,7 +1,7 @@
 -- The stack machine that runs compiled licensees, in the code's shape, and the ways of its functions. Assumes nothing.
 use Rattle.std.specs.Prelude.{◌≡◌, refl, List, [], ◌∷◌, ◌++◌, ℕ, zero, suc, ◌+◌, ◌-◌, ◌/◌, ◌%◌, ◌≤◌, ◌<◌, eqb, ltb, get_or, set, take, drop}
 use Rattle.std.proofs.Common.{sym, ap, ◌∙◌, arith, add-one, drop_of_length-le, drop-cons, get_or-take}
-use Rattle.std.proofs.Math.ListN.{length, length-set, get_or-eq_default}
+use Rattle.std.proofs.Math.ListN.{length, length-set}
 use Rattle.std.proofs.Math.Seq.{take-suc-set, length-take-le, take-take}
 use borrow.Author.Tests.{lt-ltb, le-ltb, eq-eqb, ne_eqb}
 use Rattle.text.specs.Choice.{pick}
@@ -41,9 +41,6 @@ unfoldable pub worth : List ℕ → ℕ → ℕ → List ℕ → ℕ
 worth ranks top depth prog = last_of (exec ranks top depth prog [])
 
 -- ---- the ways
-
-pub past_end : (l : List ℕ) (i : ℕ) → length l ≤ i → 0 ≡ get_or l i 0
-past_end l i h = sym (get_or-eq_default l 0 h)
 
 module _ (st : List ℕ) (sp v : ℕ) (w : sp ≤ length st) where
   pub push-in : sp < length st → Live (set st sp v) (sp + 1) (pushed (length st) (take sp st) v)

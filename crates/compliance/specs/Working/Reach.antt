@@ -1,13 +1,13 @@
 -- The reach as flags, one for each principal, in the code's shape, and the ways of its functions. Assumes nothing.
-use Rattle.std.specs.Prelude.{◌≡◌, refl, Bool, true, false, List, [], ◌∷◌, ℕ, zero, suc, ◌+◌, ◌-◌, ◌≤◌, ◌<◌, eqb, ltb, get_or, set, take, drop}
+use Rattle.std.specs.Prelude.{◌≡◌, refl, Bool, true, false, not, List, [], ◌∷◌, ℕ, zero, suc, ◌+◌, ◌-◌, ◌≤◌, ◌<◌, eqb, ltb, get_or, set, take, drop, Option, MatchOption}
 use Rattle.std.proofs.Math.Path.{sym}
-use Rattle.std.proofs.Common.{◌∙◌, drop_of_length-le, drop-cons, drop-set-lt, get_or-take}
+use Rattle.std.proofs.Common.{◌∙◌, drop_of_length-le, drop-cons, drop-set-lt, get_or-take, le_refl}
 use native.Mathlib.Omega.{arith}
 use Rattle.std.proofs.Math.Numerals.{add-one}
 use Rattle.std.proofs.Math.Nat.{sub-zero}
 use Rattle.std.proofs.Math.ListN.{length, length-take, get_or-eq_default}
 use Rattle.std.proofs.Math.Seq.{set_out, take-set-lt}
-use borrow.Author.Tests.{lt-ltb, le-ltb, eq-eqb, ne_eqb}
+use borrow.Author.Tests.{lt-ltb, le-ltb}
 use Rattle.text.specs.Choice.{pick}
 use Rattle.compliance.specs.Codes.{top_code}
 use Rattle.compliance.specs.Tables.{program_of}
@@ -24,24 +24,30 @@ marked_all [] reach = reach
 marked_all (op ∷ ops) reach = marked_all ops (marked op reach)
 
 -- assertion j is not expanded, and its authorizer is reached
-unfoldable pub open_at : List ℕ → List ℕ → List ℕ → ℕ → Bool
-open_at authors done reach j = pick (eqb (get_or done j 0) 0) (eqb (get_or reach (get_or authors j 0) 0) 1) false
+unfoldable pub open_at : List ℕ → List Bool → List ℕ → ℕ → Bool
+open_at authors done reach j = pick (get_or done j false) false (eqb (get_or reach (get_or authors j 0) 0) 1)
 
 -- the first such of k assertions from j on
-unfoldable pub open_from : List ℕ → List ℕ → List ℕ → ℕ → ℕ → ℕ
+unfoldable pub open_from : List ℕ → List Bool → List ℕ → ℕ → ℕ → ℕ
 open_from authors done reach zero j = j
 open_from authors done reach (suc k) j = pick (open_at authors done reach j) j (open_from authors done reach k (suc j))
 
+-- the first such of all, if there is one
+abbrev pub FirstOpen : List ℕ → List Bool → List ℕ → Option ℕ → Type 0
+FirstOpen authors done reach o =
+    MatchOption o (open_from authors done reach (length authors) 0 ≡ length authors)
+    (λ j. (j ≡ open_from authors done reach (length authors) 0) × (j < length authors))
+
 -- at most k assertions expanded
-unfoldable pub spread_from : List ℕ → List ℕ → List ℕ → ℕ → List ℕ → List ℕ → List ℕ
+unfoldable pub spread_from : List ℕ → List ℕ → List ℕ → ℕ → List Bool → List ℕ → List ℕ
 spread_from authors ends code zero done reach = reach
 spread_from authors ends code (suc k) done reach =
     pick (ltb (open_from authors done reach (length authors) 0) (length authors))
-    (spread_from authors ends code k (set done (open_from authors done reach (length authors) 0) 1) (marked_all (program_of ends code (open_from authors done reach (length authors) 0)) reach))
+    (spread_from authors ends code k (set done (open_from authors done reach (length authors) 0) true) (marked_all (program_of ends code (open_from authors done reach (length authors) 0)) reach))
     reach
 
 -- what `expand` leaves of its two tables
-pub record Expanded (done reach done' reach' : List ℕ) : Type 0 where
+pub record Expanded (done : List Bool) (reach : List ℕ) (done' : List Bool) (reach' : List ℕ) : Type 0 where
   pub expanded : done ≡ done'
   pub flags : reach ≡ reach'
 
@@ -73,13 +79,15 @@ spare-on a b c e f = e ∙ f
 
 -- `is_reached`
 module _ (ws : List ℕ) (n i : ℕ) where
-  pub reached-at : i < n → (r : ℕ) → r ≡ get_or (flags_of ws) i 0 → r ≡ get_or (flags_in n ws) i 0
+  pub reached-at : i < n → (b : Bool) → b ≡ eqb (get_or (flags_of ws) i 0) 1 → b ≡ eqb (get_or (flags_in n ws) i 0) 1
   unfolding flags_in
-  reached-at h r e = e ∙ sym (get_or-take n (flags_of ws) i 0 h)
+  reached-at h b e = e ∙ rw (get_or-take n (flags_of ws) i 0 h)
 
-  pub reached-past : n ≤ i → 0 ≡ get_or (flags_in n ws) i 0
+  pub reached-past : n ≤ i → ltb i n ≡ eqb (get_or (flags_in n ws) i 0) 1
   unfolding flags_in
-  reached-past h = sym (get_or-eq_default (take n (flags_of ws)) 0 (omega (arith, h, length-take n (flags_of ws))))
+  reached-past h =
+      let e : get_or (take n (flags_of ws)) i 0 ≡ 0 = get_or-eq_default (take n (flags_of ws)) 0 (omega (arith, h, length-take n (flags_of ws))) in
+      rw (le-ltb i n h, e)
 
 unfoldable pub mark_from : List ℕ → ℕ → List ℕ → List ℕ
 mark_from code i reach = marked_all (drop i code) reach
@@ -97,22 +105,22 @@ module _ (code : List ℕ) (i : ℕ) (reach a : List ℕ) (inv : mark_from code 
   unfolding mark_from marked_all
   mark-end h = rw (drop_of_length-le code h) at inv
 
-module _ (authors done reach : List ℕ) (j d : ℕ) (de : d ≡ get_or done j 0) where
-  pub open-flag : d ≡ 0 → (p f : ℕ) → p ≡ get_or authors j 0 → f ≡ get_or reach p 0 → eqb f 1 ≡ open_at authors done reach j
+module _ (authors : List ℕ) (done : List Bool) (reach : List ℕ) (j : ℕ) (d : Bool) (de : d ≡ get_or done j false) where
+  pub open-flag : d ≡ false → (p : ℕ) → p ≡ get_or authors j 0 → (b : Bool) → b ≡ eqb (get_or reach p 0) 1 → b ≡ open_at authors done reach j
   unfolding open_at
-  open-flag h p f pe fe = simp (sym de, eq-eqb d 0 h, sym pe, sym fe)
+  open-flag h p pe b be = simp (sym de, h, sym pe, sym be)
 
-  pub open_done : (d ≡ 0 → ⊥) → false ≡ open_at authors done reach j
+  pub open_done : d ≡ true → not d ≡ open_at authors done reach j
   unfolding open_at
-  open_done n = simp (sym de, ne_eqb d 0 n)
+  open_done h = simp (sym de, h)
 
-pub open-start : (authors done reach : List ℕ) → open_from authors done reach (length authors - 0) 0 ≡ open_from authors done reach (length authors) 0
+pub open-start : (authors : List ℕ) (done : List Bool) (reach : List ℕ) → open_from authors done reach (length authors - 0) 0 ≡ open_from authors done reach (length authors) 0
 open-start authors done reach = rw sub-zero
 
-module _ (authors done reach : List ℕ) (j r : ℕ) (inv : open_from authors done reach (length authors - j) j ≡ r) where
-  pub open_none : length authors ≤ j → j ≡ r
+module _ (authors : List ℕ) (done : List Bool) (reach : List ℕ) (j r : ℕ) (inv : open_from authors done reach (length authors - j) j ≡ r) where
+  pub open_none : length authors ≤ j → j ≤ length authors → r ≡ length authors
   unfolding open_from
-  open_none h = let z : length authors - j ≡ 0 = omega arith in rw z at inv
+  open_none h g = let z : length authors - j ≡ 0 = omega arith in omega (arith, rw z at inv, h, g)
 
   module _ (h : j < length authors) (o : Bool) (oe : o ≡ open_at authors done reach j) where
     pub open-here : o ≡ true → j ≡ r
@@ -123,32 +131,32 @@ module _ (authors done reach : List ℕ) (j r : ℕ) (inv : open_from authors do
     unfolding open_from
     open-later f = rw (add-one j) (rw (one_less (length authors) j h, ← oe, f, add-one j) at inv)
 
-module _ (prog done reach m z : List ℕ) (j : ℕ) (ze : z ≡ marked_all prog reach) where
-  pub expand-in : prog ≡ m → Expanded (set done j 1) z (set done j 1) (marked_all m reach)
+module _ (prog : List ℕ) (done : List Bool) (reach m z : List ℕ) (j : ℕ) (ze : z ≡ marked_all prog reach) where
+  pub expand-in : prog ≡ m → Expanded (set done j true) z (set done j true) (marked_all m reach)
   expand-in e = record { expanded = refl; flags = rw (← e) ze }
 
-  pub expand-out : prog ≡ m → length done ≤ j → Expanded done z (set done j 1) (marked_all m reach)
-  expand-out e h = record { expanded = sym (set_out done j 1 h); flags = rw (← e) ze }
+  pub expand-out : prog ≡ m → length done ≤ j → Expanded done z (set done j true) (marked_all m reach)
+  expand-out e h = record { expanded = sym (set_out done j true h); flags = rw (← e) ze }
 
 module _ (authors ends code : List ℕ) where
-  pub spread-start : (done reach : List ℕ) → spread_from authors ends code (length authors - 0) done reach ≡ spread_from authors ends code (length authors) done reach
+  pub spread-start : (done : List Bool) (reach : List ℕ) → spread_from authors ends code (length authors - 0) done reach ≡ spread_from authors ends code (length authors) done reach
   spread-start done reach = rw sub-zero
 
-  module _ (n : ℕ) (done reach a : List ℕ) (inv : spread_from authors ends code (length authors - n) done reach ≡ a) where
+  module _ (n : ℕ) (done : List Bool) (reach a : List ℕ) (inv : spread_from authors ends code (length authors - n) done reach ≡ a) where
     pub spread_end : length authors ≤ n → reach ≡ a
     unfolding spread_from
     spread_end h = let z : length authors - n ≡ 0 = omega arith in rw z at inv
 
-    module _ (h : n < length authors) (j : ℕ) (je : j ≡ open_from authors done reach (length authors) 0) where
-      pub spread-stop : length authors ≤ j → reach ≡ a
+    module _ (h : n < length authors) where
+      pub spread-stop : open_from authors done reach (length authors) 0 ≡ length authors → reach ≡ a
       unfolding spread_from
-      spread-stop k = rw (one_less (length authors) n h, ← je, le-ltb j (length authors) k) at inv
+      spread-stop e = rw (one_less (length authors) n h, e, le-ltb (length authors) (length authors) (le_refl _)) at inv
 
-      pub spread-more : j < length authors → (d z : List ℕ) → Expanded d z (set done j 1) (marked_all (program_of ends code j) reach)
+      pub spread-more : (j : ℕ) → (j ≡ open_from authors done reach (length authors) 0) × (j < length authors) → (d : List Bool) (z : List ℕ) → Expanded d z (set done j true) (marked_all (program_of ends code j) reach)
           → spread_from authors ends code (length authors - (n + 1)) d z ≡ a
       unfolding spread_from
-      spread-more k d z e = rw (e.expanded, e.flags) (rw (one_less (length authors) n h, ← je, lt-ltb j (length authors) k) at inv)
+      spread-more j (je, k) d z e = rw (e.expanded, e.flags) (rw (one_less (length authors) n h, ← je, lt-ltb j (length authors) k) at inv)
 
-pub found-is : (authors ends code done reach r z : List ℕ) → r ≡ marked 0 reach → z ≡ spread_from authors ends code (length authors) done r
+pub found-is : (authors ends code : List ℕ) (done : List Bool) (reach r z : List ℕ) → r ≡ marked 0 reach → z ≡ spread_from authors ends code (length authors) done r
     → z ≡ spread_from authors ends code (length authors) done (marked 0 reach)
 found-is authors ends code done reach r z re ze = ze ∙ rw re

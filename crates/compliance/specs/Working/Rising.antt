@@ -214,9 +214,9 @@ module _ (authors conds ends code : List ℕ) (top depth : ℕ) (reach : List �
     settle-start limit ranks = rw sub-zero
 
     module _ (limit m : ℕ) (ranks : List ℕ) (a : Settled) (inv : settle_on authors conds ends code top depth reach d (limit - m) m ranks ≡ a) where
-      pub settle-end : limit ≤ m → settled_at m ranks ≡ a
+      pub settle-end : limit ≤ m → m ≤ limit → settled_at limit ranks ≡ a
       unfolding settle_on
-      settle-end h = let z : limit - m ≡ 0 = omega arith in rw z at inv
+      settle-end h g = let e : m ≡ limit = omega arith in let z : limit - m ≡ 0 = omega arith in rw (← e) (rw z at inv)
 
       module _ (h : m < limit) (next : List ℕ) (u : Rising ranks next) (st : ℕ) (se : st ≡ depth)
           (z : List ℕ) (ze : z ≡ relax_from authors conds ends code top st reach ranks (length authors) 0 next) (c : Bool) (y : List ℕ) (adv : Advanced c y ranks z) where

@@ -32,22 +32,22 @@ unfolding raised
 raise-out next i v h = sym (set_out next i _ h)
 
 module _ (authors conds ends code : List ℕ) (top depth : ℕ) (reach ranks : List ℕ) (j : ℕ) (next : List ℕ)
-    (p f : ℕ) (pe : p ≡ get_or authors j 0) (fe : f ≡ get_or reach p 0) where
-  pub relax-in : f ≡ 1 → (v : ℕ) (z : List ℕ) → v ≡ granted_of conds ends code top depth ranks j → z ≡ raised next p v
+    (p : ℕ) (pe : p ≡ get_or authors j 0) (f : Bool) (fe : f ≡ eqb (get_or reach p 0) 1) where
+  pub relax-in : f ≡ true → (v : ℕ) (z : List ℕ) → v ≡ granted_of conds ends code top depth ranks j → z ≡ raised next p v
       → z ≡ relaxed_at authors conds ends code top depth reach ranks j next
   unfolding relaxed_at
-  relax-in h v z ve ze = simp (ze, ve, sym pe, sym fe, eq-eqb f 1 h)
+  relax-in h v z ve ze = simp (ze, ve, sym pe, sym fe, h)
 
   -- conditions that rank no higher than the authorizer raise nothing
-  pub relax-idle : f ≡ 1 → (g c : ℕ) → g ≡ get_or next p 0 → c ≡ get_or conds j 0 → c ≤ g → next ≡ relaxed_at authors conds ends code top depth reach ranks j next
+  pub relax-idle : f ≡ true → (g c : ℕ) → g ≡ get_or next p 0 → c ≡ get_or conds j 0 → c ≤ g → next ≡ relaxed_at authors conds ends code top depth reach ranks j next
   unfolding relaxed_at raised granted_of
   relax-idle h g c ge ce l =
       let e : max (get_or next p 0) (min (get_or conds j 0) (worth ranks top depth (program_of ends code j))) ≡ get_or next p 0 = rw (← ge, ← ce) (omega arith) in
-      simp (sym pe, sym fe, eq-eqb f 1 h, e, set-get_or next p 0)
+      simp (sym pe, sym fe, h, e, set-get_or next p 0)
 
-  pub relax-out : (f ≡ 1 → ⊥) → next ≡ relaxed_at authors conds ends code top depth reach ranks j next
+  pub relax-out : f ≡ false → next ≡ relaxed_at authors conds ends code top depth reach ranks j next
   unfolding relaxed_at
-  relax-out n = simp (sym pe, sym fe, ne_eqb f 1 n)
+  relax-out n = simp (sym pe, sym fe, n)
 
 module _ (authors conds ends code : List ℕ) (top depth : ℕ) (reach ranks : List ℕ) where
   pub relax-start : (next : List ℕ) → relax_from authors conds ends code top depth reach ranks (length authors - 0) 0 next ≡ relax_from authors conds ends code top depth reach ranks (length authors) 0 next
@@ -63,19 +63,19 @@ module _ (authors conds ends code : List ℕ) (top depth : ℕ) (reach ranks : L
     unfolding relax_from
     relax-end h = let z : length authors - j ≡ 0 = omega arith in rw z at inv
 
-module _ (direct reach : List ℕ) (top i f : ℕ) (fe : f ≡ get_or reach i 0) where
-  module _ (d : ℕ) (de : d ≡ get_or direct i 0) (h : f ≡ 1) where
+module _ (direct reach : List ℕ) (top i : ℕ) (f : Bool) (fe : f ≡ eqb (get_or reach i 0) 1) where
+  module _ (d : ℕ) (de : d ≡ get_or direct i 0) (h : f ≡ true) where
     pub direct-top : d ≡ 1 → top ≡ direct_at direct reach top i
     unfolding direct_at
-    direct-top k = simp (sym fe, sym de, eq-eqb f 1 h, eq-eqb d 1 k)
+    direct-top k = simp (sym fe, sym de, h, eq-eqb d 1 k)
 
     pub direct-none : (d ≡ 1 → ⊥) → 0 ≡ direct_at direct reach top i
     unfolding direct_at
-    direct-none k = simp (sym fe, sym de, eq-eqb f 1 h, ne_eqb d 1 k)
+    direct-none k = simp (sym fe, sym de, h, ne_eqb d 1 k)
 
-  pub direct-out : (f ≡ 1 → ⊥) → 0 ≡ direct_at direct reach top i
+  pub direct-out : f ≡ false → 0 ≡ direct_at direct reach top i
   unfolding direct_at
-  direct-out n = simp (sym fe, ne_eqb f 1 n)
+  direct-out n = simp (sym fe, n)
 
 pub direct-length : (direct reach : List ℕ) (top n : ℕ) → length (direct_table direct reach top n) ≡ n
 unfolding direct_table
@@ -87,15 +87,15 @@ unfolding direct_table
 table-start direct reach top d = refl
 
 module _ (direct reach : List ℕ) (top i : ℕ) (d next : List ℕ) (inv : next ≡ direct_table direct reach top i ++ drop i d) where
-  pub table_more : length next ≡ length d → i < length next → (v : ℕ) → v ≡ direct_at direct reach top i
+  pub table_more : i < length d → (v : ℕ) → v ≡ direct_at direct reach top i
       → set next i v ≡ direct_table direct reach top (i + 1) ++ drop (i + 1) d
   unfolding direct_table
-  table_more l h v e = rw (inv, e, add-one i, drop-cons d i 0 (rw l at h))
+  table_more h v e = rw (inv, e, add-one i, drop-cons d i 0 h)
       (set_at (direct_table direct reach top i) (get_or d i 0) (drop (suc i) d) (direct_at direct reach top i) i (direct-length direct reach top i)
       ∙ sym (append_snoc (direct_table direct reach top i) (direct_at direct reach top i) (drop (suc i) d)))
 
-  pub table-end : length next ≡ length d → i ≤ length d → length next ≤ i → next ≡ direct_table direct reach top (length d)
-  table-end l h k =
+  pub table-end : i ≤ length d → length d ≤ i → next ≡ direct_table direct reach top (length d)
+  table-end h k =
       let e : i ≡ length d = omega arith in
       inv ∙ rw (e, drop-length d) (append-nil _)
 
@@ -124,28 +124,28 @@ still-last : (still : Bool) → (still && true) ≡ still
 still-last true = refl
 still-last false = refl
 
-module _ (a b : List ℕ) (l : length a ≡ length b) (i : ℕ) (r : List ℕ) (inv : r ≡ adopted a b i) (k : length r ≡ length a) where
-  adopt-read : i < length r → get_or r i 0 ≡ get_or a i 0
+module _ (a b : List ℕ) (l : length a ≡ length b) (i : ℕ) (r : List ℕ) (inv : r ≡ adopted a b i) where
+  adopt-read : i < length a → get_or r i 0 ≡ get_or a i 0
   unfolding adopted
-  adopt-read h = rw (inv, drop-cons a i 0 (rw k at h)) (get_or_at (take i b) (get_or a i 0) (drop (suc i) a) 0 i (length-take-le i b (omega arith)))
+  adopt-read h = rw (inv, drop-cons a i 0 h) (get_or_at (take i b) (get_or a i 0) (drop (suc i) a) 0 i (length-take-le i b (omega arith)))
 
-  pub adopt-more : i < length r → set r i (get_or b i 0) ≡ adopted a b (i + 1)
+  pub adopt-more : i < length a → set r i (get_or b i 0) ≡ adopted a b (i + 1)
   unfolding adopted
-  adopt-more h = rw (inv, add-one i, drop-cons a i 0 (rw k at h))
+  adopt-more h = rw (inv, add-one i, drop-cons a i 0 h)
       (set_at (take i b) (get_or a i 0) (drop (suc i) a) (get_or b i 0) i (length-take-le i b (omega arith))
       ∙ sym (rw (take-suc b i 0 (omega arith)) (append_snoc (take i b) (get_or b i 0) (drop (suc i) a))))
 
-  pub still-more : (still c : Bool) → still_from a b i still ≡ c → i < length r → still_from a b (i + 1) (still && eqb (get_or r i 0) (get_or b i 0)) ≡ c
+  pub still-more : (still c : Bool) → still_from a b i still ≡ c → i < length a → still_from a b (i + 1) (still && eqb (get_or r i 0) (get_or b i 0)) ≡ c
   unfolding still_from changes_of
   still-more still c e h =
       let u : (still && eqb (pick (eqb (get_or a i 0) (get_or b i 0)) 0 1 + changes_of (drop (suc i) a) (drop (suc i) b)) 0) ≡ c =
-      rw (drop-cons a i 0 (rw k at h), drop-cons b i 0 (omega arith)) at e in
+      rw (drop-cons a i 0 h, drop-cons b i 0 (omega arith)) at e in
       rw (add-one i, adopt-read h) (still-next still (get_or a i 0) (get_or b i 0) (changes_of (drop (suc i) a) (drop (suc i) b)) ∙ u)
 
-  pub adopt-end : length r ≤ i → (still : Bool) → still_from a b i still ≡ eqb (changes_of a b) 0 → Advanced still r a b
+  pub adopt-end : length a ≤ i → (still : Bool) → still_from a b i still ≡ eqb (changes_of a b) 0 → Advanced still r a b
   unfolding adopted still_from changes_of
   adopt-end h still e =
-      let z : drop i a ≡ [] = drop_of_length-le a (let q : length a ≤ i = omega arith in q) in
+      let z : drop i a ≡ [] = drop_of_length-le a h in
       let u : (still && true) ≡ eqb (changes_of a b) 0 = rw z at e in
       record { told = sym (still-last still) ∙ u; ranks = inv ∙ rw (z, take_all i b (omega arith)) (append-nil b) }
 

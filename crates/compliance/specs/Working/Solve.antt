@@ -1,5 +1,5 @@
 -- The answer over tables of numbers, in the code's shape, and the ways to it. Assumes nothing.
-use Rattle.std.specs.Prelude.{◌≡◌, eqb, ltb, get_or, take, replicate}
+use Rattle.std.specs.Prelude.{◌≡◌, Bool, false, eqb, ltb, get_or, take, replicate}
 use Rattle.std.proofs.Common.{sym, ◌∙◌, arith}
 use Rattle.std.proofs.Math.Path.{ap}
 use mathlib.Core.List.{List}
@@ -13,12 +13,8 @@ use Rattle.limits.specs.Limits.{most_assertions, most_licensees, most_principals
 use Rattle.compliance.specs.Working.Reach.{marked, spread_from}
 use Rattle.compliance.specs.Working.Rounds.{Settled, settled_at, changes_of, round_of, settle_from}
 use Rattle.compliance.specs.Working.RoundWays.{settle-same}
-use Rattle.compliance.specs.Working.Words.{flags_of, flags_in, spare_in, words_for, take-blank, blank-flags, blank-spare, parted-at, parted-count}
+use Rattle.compliance.specs.Working.Words.{flags_of, flags_in, spare_in, words_for, take-same, take-blank, blank-flags, blank-spare, parted-at, parted-count}
 use Rattle.compliance.specs.declared.Solution.{Solution}
-
--- the principals that the smaller tables are made for
-abbrev pub few : ℕ
-few = 64
 
 -- n numbers, all 0
 abbrev pub blank : ℕ → List ℕ
@@ -26,7 +22,7 @@ blank n = replicate n 0
 
 -- the flags of the reach, of n principals
 unfoldable pub reach_of : List ℕ → List ℕ → List ℕ → ℕ → List ℕ
-reach_of authors ends code n = spread_from authors ends code (length authors) (blank (length authors)) (marked 0 (blank n))
+reach_of authors ends code n = spread_from authors ends code (length authors) (replicate (length authors) false) (marked 0 (blank n))
 
 abbrev pub answer_of : ℕ → Settled → Solution
 answer_of reached (settled_at rounds ranks) = record { rank = get_or ranks 0 0; rounds = rounds; reached = reached }
@@ -48,35 +44,35 @@ solution_of authors conds ends code direct top =
 -- ---- the ways
 
 -- the tables lent: m flags of assertions, words for the reach of n principals, n numbers in the others, all 0
-pub record Blank (m n : ℕ) (ranks next reach done : List ℕ) : Type 0 where
+pub record Blank (m n : ℕ) (ranks next reach : List ℕ) (done : List Bool) : Type 0 where
   pub no_ranks : ranks ≡ blank n
   pub next_long : length next ≡ n
   pub no_reach : reach ≡ blank (length reach)
   pub reach_wide : n ≤ length reach * 64
   pub reach_few : length reach ≤ words_for most_principals
-  pub none_done : done ≡ blank m
+  pub none_done : done ≡ replicate m false
 
-pub blank-words : (m n : ℕ) (ranks next reach done : List ℕ) → Blank m n ranks next reach done → (found : List ℕ) → length found ≡ length reach → length found ≤ words_for most_principals
+pub blank-words : (m n : ℕ) (ranks next reach : List ℕ) (done : List Bool) → Blank m n ranks next reach done → (found : List ℕ) → length found ≡ length reach → length found ≤ words_for most_principals
 blank-words m n ranks next reach done b found e = omega (arith, b.reach_few, e)
 
-pub blank-ranks : (m n : ℕ) (ranks next reach done : List ℕ) → Blank m n ranks next reach done → ranks ≡ replicate (length next) 0
+pub blank-ranks : (m n : ℕ) (ranks next reach : List ℕ) (done : List Bool) → Blank m n ranks next reach done → ranks ≡ replicate (length next) 0
 blank-ranks m n ranks next reach done b = b.no_ranks ∙ rw b.next_long
 
 -- the first n numbers of a blank table of k
 module _ (k n : ℕ) (h : n ≤ k) where
-  pub part-long : n ≡ length (take n (blank k))
+  part-long : n ≡ length (take n (blank k))
   part-long = rw (take-blank n k h) (sym (length-replicate n 0))
 
-  pub part-blank : k ≤ most_principals → (j m : ℕ) → m ≤ j → Blank m n (take n (blank k)) (take n (blank k)) (blank (words_for k)) (take m (blank j))
-  part-blank few j m i =
-      let w : length (blank (words_for k)) ≡ words_for k = length-replicate {A = ℕ} (words_for k) 0 in
+  pub part-blank : k ≤ most_principals → (w : ℕ) → w ≡ words_for k → (j m : ℕ) → m ≤ j → Blank m n (take n (blank k)) (take n (blank k)) (blank w) (take m (replicate j false))
+  part-blank few w we j m i =
+      let l : length (blank w) ≡ w = length-replicate {A = ℕ} w 0 in
       record {
         no_ranks = take-blank n k h;
         next_long = sym part-long;
-        no_reach = ap blank (sym w);
-        reach_wide = omega (arith, h, w);
-        reach_few = omega (arith, few, w);
-        none_done = take-blank m j i;
+        no_reach = ap blank (sym l);
+        reach_wide = omega (arith, h, l, we);
+        reach_few = omega (arith, few, l, we);
+        none_done = take-same false m j i;
       }
 
 module _ (authors conds ends code direct : List ℕ) (top : ℕ) where
@@ -95,7 +91,7 @@ module _ (authors conds ends code direct : List ℕ) (top : ℕ) where
     solve-is h r e = simp (le-ltb most_principals (length direct) fits, le-ltb most_assertions (length authors) h) e
 
   -- the answer from what the calls leave
-  pub solved-is : (depth : ℕ) (ranks next reach done : List ℕ) → Blank (length authors) (length direct) ranks next reach done
+  pub solved-is : (depth : ℕ) (ranks next reach : List ℕ) (done : List Bool) → Blank (length authors) (length direct) ranks next reach done
       → (found : List ℕ) → flags_in (length direct) found ≡ spread_from authors ends code (length authors) done (marked 0 (flags_in (length direct) reach))
       → spare_in (length direct) found ≡ spare_in (length direct) reach
       → (k : ℕ) → k ≡ at_least 1 (flags_of found) → (n : ℕ) (z : List ℕ)
@@ -108,7 +104,7 @@ module _ (authors conds ends code direct : List ℕ) (top : ℕ) where
       ap (flags_in (length direct)) b.no_reach ∙ blank-flags (length direct) (length reach) b.reach_wide in
       let spare : spare_in (length direct) found ≡ blank (length reach * 64 - length direct) =
       se ∙ ap (spare_in (length direct)) b.no_reach ∙ blank-spare (length direct) (length reach) in
-      let e : flags ≡ spread_from authors ends code (length authors) (blank (length authors)) (marked 0 (blank (length direct))) =
+      let e : flags ≡ spread_from authors ends code (length authors) (replicate (length authors) false) (marked 0 (blank (length direct))) =
       fe ∙ rw (b.none_done, none) in
       let c : k ≡ at_least 1 flags = ke ∙ parted-count (length direct) found (length reach * 64 - length direct) spare in
       let f : settle_from authors conds ends code direct top depth (flags_of found) (length next) k 0 ranks

@@ -1,12 +1,16 @@
 -- Flags as the binary digits of words, the lowest first, and the ways of the functions over them. Assumes nothing.
-use Rattle.std.specs.Prelude.{◌≡◌, ℕ, zero, suc, ◌+◌, ◌-◌, ◌*◌, ◌/◌, ◌%◌, ◌^◌, ◌<◌, ◌≤◌, leb, length, get_or, set, drop, replicate}
+use Rattle.std.specs.Prelude.{◌≡◌, ℕ, zero, suc, ◌+◌, ◌-◌, ◌*◌, ◌/◌, ◌%◌, ◌^◌, ◌<◌, ◌≤◌, leb, ltb, eqb, length, get_or, set, drop, replicate, sum_by, bit_or, bit_and}
 use Rattle.std.proofs.Math.Path.{refl, sym, ap}
-use Rattle.std.proofs.Common.{◌∙◌, pow-suc, mod-eq_of_lt, arith, add-one, length-append, take-append-drop, get_or-append-add, take_all, take-suc, shr-shr, leb-true, leb-false}
-use mathlib.Core.List.{List, [], ◌∷◌, ◌++◌, append-nil, append_assoc}
+use Rattle.std.proofs.Common.{◌∙◌, pow-suc, mod-eq_of_lt, arith, length-append, take-append-drop, get_or-append-add, shr-shr, leb-true, leb-false}
+use mathlib.Core.List.{List, [], ◌∷◌, ◌++◌, append_assoc}
 use Rattle.std.specs.Int.Count.{ones, ones_step}
-use Rattle.std.proofs.lemmas.Nat.{ones-le}
+use Rattle.std.proofs.lemmas.Nat.{or_disjoint}
+use Rattle.std.proofs.lemmas.Nat.Bits.{and_pow}
+use Rattle.std.specs.Int.Bits.{or_add_and}
+use Rattle.std.proofs.lemmas.List.Sums.{sum_by-cons}
+use borrow.Author.Tests.{le-ltb, eqb-true, eqb-false}
 use Rattle.std.proofs.Math.ListN.{take, get_or-append, get_or-eq_default}
-use Rattle.std.proofs.lemmas.List.{replicate-append-replicate, set-get_or, set-append_left}
+use Rattle.std.proofs.lemmas.List.{replicate-append-replicate, set-append_left}
 use Rattle.std.proofs.Math.Seq.{set_out}
 use Rattle.std.proofs.Math.Pow.{pow-lt}
 use Rattle.text.specs.Choice.{pick, split}
@@ -90,16 +94,26 @@ digits-kept (suc d) n zero h =
     ap (λ (x : ℕ). x ∷ digits d (n / 2)) e
 digits-kept (suc d) n (suc k) h = ap (λ (l : List ℕ). n % 2 ∷ l) (digits-kept d (n / 2) k (ap (λ (x : ℕ). x % 2) (halves n k) ∙ h))
 
--- a word with one digit more is still a word
-pub digits-room : (d n k : ℕ) → n < 2 ^ d → k < d → n / 2 ^ k % 2 ≡ 0 → n + 2 ^ k < 2 ^ d
-digits-room zero n k h l e = let no : ⊥ = omega (arith, l) in absurd no
-digits-room (suc d) n zero h l e =
-    let z : n / 1 ≡ n = omega arith in
-    let f : n % 2 ≡ 0 = ap (λ (x : ℕ). x % 2) (sym z) ∙ e in
-    omega (arith, f, h, pow-suc 2 d)
-digits-room (suc d) n (suc k) h l e =
-    let ih = digits-room d (n / 2) k (omega (arith, h, pow-suc 2 d)) (omega (arith, l)) (ap (λ (x : ℕ). x % 2) (halves n k) ∙ e) in
-    omega (arith, ih, pow-suc 2 d, pow-suc 2 k)
+-- a power of 2, shifted in a word
+power-is : (k : ℕ) → k < 64 → (1 * 2 ^ k) % 2 ^ 64 ≡ 2 ^ k
+power-is k h =
+    let z : 1 * 2 ^ k ≡ 2 ^ k = omega arith in
+    ap (λ (x : ℕ). x % 2 ^ 64) z ∙ mod-eq_of_lt (pow-lt h)
+
+-- a digit set by `|`
+pub digits-or : (n k : ℕ) → k < 64 → digits 64 (bit_or n (1 * 2 ^ k % 2 ^ 64)) ≡ set (digits 64 n) k 1
+digits-or n k h =
+    let p : 1 * 2 ^ k % 2 ^ 64 ≡ 2 ^ k = power-is k h in
+    split (eqb (n / 2 ^ k % 2) 0)
+    (λ e.
+    let z : n / 2 ^ k % 2 ≡ 0 = eqb-true _ _ e in
+    let a : bit_and n (2 ^ k) ≡ 0 = and_pow n k ∙ rw z (omega arith) in
+    rw (p, or_disjoint n (2 ^ k) a) (digits-set 64 n k z))
+    (λ e.
+    let z : n / 2 ^ k % 2 ≡ 1 = omega (arith, eqb-false _ _ e) in
+    let a : bit_and n (2 ^ k) ≡ 2 ^ k = and_pow n k ∙ rw z (omega arith) in
+    let o : bit_or n (2 ^ k) ≡ n = omega (arith, or_add_and n (2 ^ k), a) in
+    rw (p, o) (digits-kept 64 n k z))
 
 -- the flag k of the word j
 pub flag_at : (ws : List ℕ) (j k : ℕ) → j < length ws → k < 64 → get_or (flags_of ws) (j * 64 + k) 0 ≡ get_or ws j 0 / 2 ^ k % 2
@@ -130,55 +144,31 @@ flag-set (w ∷ ws) (suc j) k v h l e =
 
 -- ---- the ways out of the code
 
--- `flag`
+-- `is_set`
 module _ (ws : List ℕ) (i : ℕ) where
   whole : i ≡ i / 64 * 64 + i % 64
   whole = omega arith
 
-  pub flag-past : length ws ≤ i / 64 → 0 ≡ get_or (flags_of ws) i 0
-  flag-past h = sym (get_or-eq_default (flags_of ws) 0 (omega (arith, h, flags_long ws)))
+  pub flag-past : length ws ≤ i / 64 → ltb (i / 64) (length ws) ≡ eqb (get_or (flags_of ws) i 0) 1
+  flag-past h =
+      let e : get_or (flags_of ws) i 0 ≡ 0 = get_or-eq_default (flags_of ws) 0 (omega (arith, h, flags_long ws)) in
+      rw (le-ltb _ _ h, e)
 
-  module _ (h : i / 64 < length ws) (k : ℕ) (ke : k ≡ i % 64) where
-    pub flag_is : (r : ℕ) → r ≡ get_or ws (i / 64) 0 / 2 ^ k % 2 → r ≡ get_or (flags_of ws) i 0
-    flag_is r re =
-        re ∙ ap (λ (x : ℕ). get_or ws (i / 64) 0 / 2 ^ x % 2) ke ∙ sym (flag_at ws (i / 64) (i % 64) h (omega arith)) ∙ ap (λ (x : ℕ). get_or (flags_of ws) x 0) (sym whole)
+  module _ (h : i / 64 < length ws) where
+    pub flag_is : eqb (get_or ws (i / 64) 0 / 2 ^ (i % 64) % 2) 1 ≡ eqb (get_or (flags_of ws) i 0) 1
+    flag_is =
+        let e : get_or (flags_of ws) i 0 ≡ get_or ws (i / 64) 0 / 2 ^ (i % 64) % 2 =
+        ap (λ (x : ℕ). get_or (flags_of ws) x 0) whole ∙ flag_at ws (i / 64) (i % 64) h (omega arith) in
+        rw e
 
     -- `set_flag`
-    module _ (w : ℕ) (we : w ≡ get_or ws (i / 64) 0) (r : ℕ) (re : r ≡ w / 2 ^ k % 2) where
-      pub flag-new : r ≡ 0 → (v : ℕ) → v ≡ w + 2 ^ k → flags_of (set ws (i / 64) v) ≡ set (flags_of ws) i 1
-      flag-new z v ve =
-          let q : get_or ws (i / 64) 0 / 2 ^ (i % 64) % 2 ≡ 0 = rw (← we, ← ke) (sym re ∙ z) in
-          flag-set ws (i / 64) (i % 64) v h (omega arith) (ap (digits 64) (rw (ve, we, ke)) ∙ digits-set 64 (get_or ws (i / 64) 0) (i % 64) q)
-          ∙ ap (λ (x : ℕ). set (flags_of ws) x 1) (sym whole)
-
-      pub flag-old : (r ≡ 0 → ⊥) → flags_of ws ≡ set (flags_of ws) i 1
-      flag-old n =
-          let o : w / 2 ^ k % 2 ≡ 1 = omega (arith, re, n) in
-          let q : get_or ws (i / 64) 0 / 2 ^ (i % 64) % 2 ≡ 1 = rw (← we, ← ke) o in
-          ap flags_of (sym (set-get_or ws (i / 64) 0))
-          ∙ flag-set ws (i / 64) (i % 64) (get_or ws (i / 64) 0) h (omega arith) (digits-kept 64 (get_or ws (i / 64) 0) (i % 64) q)
-          ∙ ap (λ (x : ℕ). set (flags_of ws) x 1) (sym whole)
+    pub flag-new : flags_of (set ws (i / 64) (bit_or (get_or ws (i / 64) 0) (1 * 2 ^ (i % 64) % 2 ^ 64))) ≡ set (flags_of ws) i 1
+    flag-new =
+        flag-set ws (i / 64) (i % 64) _ h (omega arith) (digits-or (get_or ws (i / 64) 0) (i % 64) (omega arith))
+        ∙ ap (λ (x : ℕ). set (flags_of ws) x 1) (sym whole)
 
 pub set_past : (ws : List ℕ) (i : ℕ) → length ws ≤ i / 64 → flags_of ws ≡ set (flags_of ws) i 1
 set_past ws i h = sym (set_out (flags_of ws) i 1 (omega (arith, h, flags_long ws)))
-
--- `power`
-pub power-is : (k : ℕ) → k < 64 → (1 * 2 ^ k) % 2 ^ 64 ≡ 2 ^ k
-power-is k h =
-    let z : 1 * 2 ^ k ≡ 2 ^ k = omega arith in
-    ap (λ (x : ℕ). x % 2 ^ 64) z ∙ mod-eq_of_lt (pow-lt h)
-
--- `with_bit`
-pub bit-room : (n k r : ℕ) → n < 2 ^ 64 → k < 64 → n / 2 ^ k % 2 ≡ 0 → r ≡ 2 ^ k → n + r < 2 ^ 64
-bit-room n k r h l e re = rw re (digits-room 64 n k h l e)
-
--- `ones_of`
-pub ones-flags : (w : ℕ) → w < 2 ^ 64 → (r : ℕ) → r ≡ ones w → r ≡ at_least 1 (flags_of (w ∷ []))
-unfolding flags_of
-ones-flags w h r e = e ∙ ones-digits 64 w h ∙ ap (at_least 1) (sym (append-nil (digits 64 w)))
-
-pub ones-few : (w : ℕ) → w < 2 ^ 64 → ones w ≤ 64
-ones-few w h = ones-le 64 w h
 
 -- `count`
 flags-append : (a b : List ℕ) → flags_of (a ++ b) ≡ flags_of a ++ flags_of b
@@ -186,19 +176,11 @@ unfolding flags_of
 flags-append [] b = refl
 flags-append (w ∷ a) b = ap (λ (x : List ℕ). digits 64 w ++ x) (flags-append a b) ∙ sym (append_assoc (digits 64 w) (flags_of a) (flags_of b))
 
-module _ (ws : List ℕ) where
-  pub count_none : 0 ≡ at_least 1 (flags_of (take 0 ws))
-  unfolding flags_of at_least
-  count_none = refl
-
-  module _ (i sum : ℕ) (e : sum ≡ at_least 1 (flags_of (take i ws))) where
-    pub count-more : i < length ws → (r : ℕ) → r ≡ at_least 1 (flags_of (get_or ws i 0 ∷ [])) → sum + r ≡ at_least 1 (flags_of (take (i + 1) ws))
-    count-more h r re =
-        sym (ap (λ (l : List ℕ). at_least 1 (flags_of l)) (ap (λ (k : ℕ). take k ws) (add-one i) ∙ take-suc ws i 0 h) ∙ ap (at_least 1) (flags-append (take i ws) (get_or ws i 0 ∷ [])) ∙ at-least-append 1 (flags_of (take i ws)) (flags_of (get_or ws i 0 ∷ []))
-        ∙ (let z : at_least 1 (flags_of (take i ws)) + at_least 1 (flags_of (get_or ws i 0 ∷ [])) ≡ sum + r = omega (arith, e, re) in z))
-
-    pub count-all : length ws ≤ i → sum ≡ at_least 1 (flags_of ws)
-    count-all h = e ∙ ap (λ (l : List ℕ). at_least 1 (flags_of l)) (take_all i ws h)
+pub ones-are : (ws : List ℕ) → ((k : ℕ) → get_or ws k 0 < 2 ^ 64) → sum_by ones ws ≡ at_least 1 (flags_of ws)
+unfolding flags_of at_least
+ones-are [] h = omega arith
+ones-are (w ∷ ws) h =
+    omega (arith, sum_by-cons ones w ws, ones-digits 64 w (h 0), ones-are ws (λ k. h (suc k)), at-least-append 1 (digits 64 w) (flags_of ws))
 
 -- ---- words for n flags: the last of them may have bits to spare
 
@@ -256,10 +238,13 @@ module _ (n : ℕ) (words : List ℕ) (k : ℕ) (none : spare_in n words ≡ rep
       ∙ (let z : at_least 1 (flags_in n words) + at_least 1 (replicate k 0) ≡ at_least 1 (flags_in n words) = omega (arith, blank-count k) in z)
 
 -- words of zeros
+pub take-same : {A : Type 0} (x : A) (n k : ℕ) → n ≤ k → take n (replicate k x) ≡ replicate n x
+take-same x zero k h = refl
+take-same x (suc n) zero h = absurd (omega arith)
+take-same {A} x (suc n) (suc k) h = ap (λ (l : List A). x ∷ l) (take-same x n k (omega arith))
+
 pub take-blank : (n k : ℕ) → n ≤ k → take n (replicate {A = ℕ} k 0) ≡ replicate n 0
-take-blank zero k h = refl
-take-blank (suc n) zero h = absurd (omega arith)
-take-blank (suc n) (suc k) h = ap (λ (l : List ℕ). 0 ∷ l) (take-blank n k (omega arith))
+take-blank n k h = take-same 0 n k h
 
 pub drop-blank : (n k : ℕ) → drop n (replicate {A = ℕ} k 0) ≡ replicate (k - n) 0
 drop-blank zero k = let z : k ≡ k - 0 = omega arith in ap (λ (x : ℕ). replicate x 0) z

@@ -9,7 +9,7 @@ use Rattle.conditions.specs.Table.{stops}
 use Rattle.conditions.specs.Word.{next_at}
 use Rattle.syntax.specs.Parsed.{Parsed, ok}
 use Rattle.conditions.specs.Program.{DEPTH, read_program}
-use Rattle.conditions.specs.Working.Emit.{Ran, ran}
+use Rattle.conditions.specs.Working.Emit.{found, Ran, ran}
 use Rattle.conditions.specs.Working.Program.{conditions_at}
 use Rattle.conditions.specs.Working.Written.{keeps, grown, Wrote, wrote}
 use Rattle.conditions.specs.Working.Same.{SameAs, as-aside, as-ok, start-within}
@@ -17,12 +17,11 @@ use Rattle.conditions.proofs.Working.TieProgram.{conditions-same}
 use Rattle.conditions.specs.Working.Pace.{next-sound}
 use Rattle.conditions.specs.Working.PaceProgram.{Blocked, blocked-aside, blocked-found}
 use Rattle.conditions.proofs.Working.PaceProgram.{block-paced}
-use Rattle.conditions.specs.declared.emit.Out.TheVariants.{Found}
 use Rattle.conditions.specs.Working.Compiled.{Compiled, compiled, refused}
 
 module _ (s m : List ℕ) (top : ℕ) where
   compiled-from : (q : Program) (x p u : ℕ) (n : Token) (b : List ℕ) → stops 0 n.kind ≡ true → length b ≡ length m → u < length m → Wrote m top b u (ProgramCodes s q)
-      → Compiled s m top (ok q n) (ran (Found x p u n) b)
+      → Compiled s m top (ok q n) (ran (found x p u n) b)
   compiled-from q x p u n b e l h (wrote c k w) = compiled q x p u n b c e l h k w
 
   both_hold : (at : ℕ) → length s - at + 2 ≤ length m - top → top ≤ length m → (q : Parsed Program) (r : Ran) → SameAs (ProgramCodes s) s m top q r → Blocked s 0 top at r → Compiled s m top q r

@@ -1,5 +1,5 @@
 -- Expressions are read to their end or to a fault of document 01, at most an entry a byte, in a depth that brackets and rows bound. Assumes nothing.
-use Rattle.std.specs.Prelude.{◌≡◌, eqb, leb}
+use Rattle.std.specs.Prelude.{◌≡◌, eqb, leb, Err}
 use mathlib.Core.List.{List}
 use Prim.Native.Nat.{ℕ, zero, suc, ◌+◌, ◌-◌, ◌*◌, ◌<◌, ◌≤◌}
 use Rattle.std.proofs.Common.{arith}
@@ -17,14 +17,13 @@ use Rattle.conditions.specs.Table
 use Rattle.conditions.specs.Working.Numbered.{sort_number, want_number}
 use Rattle.conditions.specs.Working.Numbered
 use Rattle.conditions.specs.Word.{next_at}
-use Rattle.conditions.specs.Working.Emit.{Ran, ran, word_top, word_written, finish_at, closed_at}
+use Rattle.conditions.specs.Working.Emit.{found, Ran, ran, word_top, word_written, finish_at, closed_at}
 use Rattle.conditions.specs.Working.Expression
 use Rattle.conditions.specs.Working.Pace.{Sound, real, next-sound, next-after, debt, word-top-most, Paced, paced-aside, paced-found, paced-refused, paced-on, finish-paced, leaf-paced, seven, Goes, goes_on, ends, loop-holds}
 use Rattle.conditions.specs.Working.TieTable.{prefix-of, allows-number, inside-number, binary-row, prefix-number, unary-row, unary-want, alike-prefix, alike-infix}
 use Rattle.conditions.proofs.Working.TieTable.{operator-number, right-want, right-level, binds-number}
 use Rattle.conditions.specs.Working.Reach.{allowed-real, spread, spread-level, operand-level-most, prefix-level, operand-wanted, inside-most, inside-wanted, level-most, binds-level, right-wanted}
 use Rattle.conditions.proofs.Working.Reach.{operator-token}
-use Rattle.conditions.specs.declared.emit.Out.TheVariants.{Found, Aside}
 use Rattle.syntax.specs.Working.Faults.{against}
 use Rattle.limits.specs.Limits.{most_brackets, most_prefixes}
 use Rattle.conditions.specs.Working.PaceExpression.{need}
@@ -91,7 +90,7 @@ module _ (s : List ℕ) where
 
     joined-on : (t : Token) (sort : PartSort) (place top : ℕ) (m : List ℕ) → t.start < length s → at₀ < t.start → (low : ℕ) → t.start < low → (r : Ran) → Paced s top₀ at₀ low r
         → Turns (t, sort_number sort, place, top, m) (Expression.on_joined t r)
-    joined-on t sort place top m short after low l _ (paced-aside r p b k) = ends (ran (Aside (against r p)) b) (paced-aside r p b k)
+    joined-on t sort place top m short after low l _ (paced-aside r p b k) = ends (ran (Err (against r p)) b) (paced-aside r p b k)
     joined-on t sort place top m short after low l _ (paced-found x p u n b k i j) =
         chosen (Turns (t, sort_number sort, place, top, m)) (leb n.start t.start) _ _
         (λ h. absurd (let no : ⊥ = omega (arith, leb-true n.start t.start h, l, i) in no))
@@ -104,7 +103,7 @@ module _ (s : List ℕ) where
           → Turns x (Expression.chain_turn (λ m top op nest sort place at. Expression.joined_at d s m top op nest sort place at) s level nest x)
       chain-turn _ (state t sort place top m k i j) =
           rw (operator-number sort t.kind, binds-number level (Table.operator sort t.kind)) (chosen (Turns (t, sort_number sort, place, top, m)) (leb (length s) t.start) _ _
-          (λ h. ends (ran (Found (sort_number sort) place top t) m) (paced-found sort place top t m k i j))
+          (λ h. ends (ran (found (sort_number sort) place top t) m) (paced-found sort place top t m k i j))
           (λ h. chosen (Turns (t, sort_number sort, place, top, m)) (Table.binds level (Table.operator sort t.kind)) _ _
           (λ e. alike-infix (λ (i : Table.Infix). Turns (t, sort_number sort, place, top, m)) level (Table.operator sort t.kind) Table.no-infix Table.between
           (λ op. Expression.on_joined t (Expression.joined_at d s m top op nest (sort_number sort) place t.end)) e
@@ -112,12 +111,12 @@ module _ (s : List ℕ) where
           let w : (t.start < t.end) × (t.end ≤ length s) = real s t k (operator-token level t.kind sort e) in
           joined-on t sort place top m (leb-false (length s) t.start h) i t.end w.0 _
           (joined m top op sort place t.end w.1 (omega (arith, j, w.0)) (omega (arith, i, w.0)) (omega (arith, deep, b)))))
-          (λ e. ends (ran (Found (sort_number sort) place top t) m) (paced-found sort place top t m k i j))))
+          (λ e. ends (ran (found (sort_number sort) place top t) m) (paced-found sort place top t m k i j))))
 
       chain-body : (t : Token) (sort : PartSort) (place top : ℕ) (m : List ℕ) → Sound s t → at₀ < t.start → top + debt sort + at₀ ≤ top₀ + t.start
           → Paced s top₀ at₀ at₀ (Expression.chain_loop (λ m top op nest sort place at. Expression.joined_at d s m top op nest sort place at) s m top level nest (sort_number sort) place t)
       chain-body t sort place top m k i j =
-          loop-holds (λ x. length s - x.0.start) (λ x. ran (Aside (against 0 x.0.start)) x.4)
+          loop-holds (λ x. length s - x.0.start) (λ x. ran (Err (against 0 x.0.start)) x.4)
           (Expression.chain_turn (λ m top op nest sort place at. Expression.joined_at d s m top op nest sort place at) s level nest)
           (State top₀ at₀) (Paced s top₀ at₀ at₀) chain-turn (t, sort_number sort, place, top, m) (state t sort place top m k i j)
 

@@ -1,5 +1,5 @@
 -- Programs are read to their end or to a fault of document 01, at most an entry a byte and one, in a depth that brackets and rows bound. Assumes nothing.
-use Rattle.std.specs.Prelude.{◌≡◌, true, List, ℕ, zero, suc, ◌+◌, ◌-◌, ◌<◌, ◌≤◌, eqb, leb}
+use Rattle.std.specs.Prelude.{◌≡◌, true, List, ℕ, zero, suc, ◌+◌, ◌-◌, ◌<◌, ◌≤◌, eqb, leb, Err}
 use Rattle.std.proofs.Common.{arith}
 use Rattle.std.proofs.Math.ListN.{length}
 use borrow.Author.Tests.{leb-true, leb-false, eqb-true}
@@ -13,14 +13,13 @@ use Rattle.syntax.specs.Operator.{a_test}
 use Rattle.conditions.specs.Table.{PartSort, sorted, want-any, want-string, stops}
 use Rattle.conditions.specs.Working.Numbered.{ANY, TEST, TEXT, fits, sort_number}
 use Rattle.conditions.specs.Word.{next_at}
-use Rattle.conditions.specs.Working.Emit.{Ran, ran, on_found, refused, above, put, word_top, word_written, ended_at, valued_at}
+use Rattle.conditions.specs.Working.Emit.{found, Ran, ran, on_found, refused, above, put, word_top, word_written, ended_at, valued_at}
 use Rattle.conditions.specs.Working.Expression.{expr_at}
 use Rattle.conditions.specs.Working.Program
 use Rattle.conditions.specs.Working.Pace.{Sound, real, next-sound, next-after, debt, above_most, word-top-most, refusal-some, Paced, paced-aside, paced-found, paced-refused, paced-on, seven, Goes, goes_on, ends, loop-holds}
 use Rattle.conditions.specs.Working.Reach.{string-any}
 use Rattle.conditions.specs.Working.PaceExpression.{need}
 use Rattle.conditions.proofs.Working.PaceExpression.{expression-paced}
-use Rattle.conditions.specs.declared.emit.Out.TheVariants.{Found, Aside}
 use Rattle.syntax.specs.Working.Faults.{against}
 use Rattle.limits.specs.Limits.{most_brackets}
 use Rattle.conditions.specs.Working.PaceProgram.{Blocked, blocked-aside, blocked-found, closing-brace}
@@ -59,7 +58,7 @@ module _ (s : List ℕ) where
 
     clause-on : (t : Token) (top : ℕ) (m : List ℕ) → t.start < length s → at₀ ≤ t.start → top + at₀ ≤ top₀ + t.start + 1
         → (r : Ran) → Paced s top t.start t.start r → Turns (t, top, m) (Program.on_clause t r)
-    clause-on t top m short i j _ (paced-aside r p b k) = ends (ran (Aside (against r p)) b) (blocked-aside r p b k)
+    clause-on t top m short i j _ (paced-aside r p b k) = ends (ran (Err (against r p)) b) (blocked-aside r p b k)
     clause-on t top m short i j _ (paced-found x p u n b k l e) =
         chosen (Turns (t, top, m)) (leb n.start t.start) _ _
         (λ h. absurd (let no : ⊥ = omega (arith, leb-true n.start t.start h, l) in no))
@@ -75,13 +74,13 @@ module _ (s : List ℕ) where
       clauses-turn _ (state t top m k i j) =
           chosen (Turns (t, top, m)) (leb (length s) t.start) _ _ (λ h. ends (ran (Program.last_at nest top t) m) (last-blocked t top m k i j))
           (λ h. chosen (Turns (t, top, m)) (stops nest t.kind) _ _
-          (λ e. ends (ran (Found TEST 0 top t) m) (blocked-found TEST 0 top t m k e i j))
+          (λ e. ends (ran (found TEST 0 top t) m) (blocked-found TEST 0 top t m k e i j))
           (λ e. clause-on t top m (leb-false (length s) t.start h) i j _ (clause m top t k)))
 
       clauses-body : (t : Token) (top : ℕ) (m : List ℕ) → Sound s t → at₀ ≤ t.start → top + at₀ ≤ top₀ + t.start + 1
           → Blocked s nest top₀ at₀ (Program.clauses_loop (λ m top nest t. Program.clause_at d s m top nest t) s m top nest t)
       clauses-body t top m k i j =
-          loop-holds (λ x. length s - x.0.start) (λ x. ran (Aside (against 0 x.0.start)) x.2) (Program.clauses_turn (λ m top nest t. Program.clause_at d s m top nest t) s nest)
+          loop-holds (λ x. length s - x.0.start) (λ x. ran (Err (against 0 x.0.start)) x.2) (Program.clauses_turn (λ m top nest t. Program.clause_at d s m top nest t) s nest)
           (State top₀ at₀) (Blocked s nest top₀ at₀) clauses-turn (t, top, m) (state t top m k i j)
 
   mutual

@@ -1,5 +1,5 @@
 -- Expressions belong to their code. Assumes nothing.
-use Rattle.std.specs.Prelude.{◌≡◌, refl, Bool, List, ℕ, zero, suc, ◌+◌, ◌-◌, ◌<◌, ◌≤◌, eqb, leb, length}
+use Rattle.std.specs.Prelude.{◌≡◌, refl, Bool, List, ℕ, zero, suc, ◌+◌, ◌-◌, ◌<◌, ◌≤◌, eqb, leb, length, Err}
 use Rattle.std.proofs.Math.Bool.{true, false}
 use Rattle.text.specs.Choice.{pick}
 use Rattle.text.specs.Loop.{Step}
@@ -19,14 +19,13 @@ use Rattle.syntax.specs.Parsed.{Parsed, ok, aside, unexpected}
 use Rattle.conditions.specs.Parsed.{Part, part}
 use Rattle.conditions.specs.Operand.{settled_tree, applied}
 use Rattle.conditions.specs.Expression as Read
-use Rattle.conditions.specs.Working.Emit.{Ran, ran, refused, word_top, word_written, finish_at, closed_at}
+use Rattle.conditions.specs.Working.Emit.{found, Ran, ran, refused, word_top, word_written, finish_at, closed_at}
 use Rattle.conditions.specs.Working.Expression as Write
 use Rattle.conditions.specs.Working.Written.{Grown, keeps_self, kept, under}
 use Rattle.conditions.specs.Working.Same.{PartCodes, Same, same-aside, same-part, same-refused, same-on, both, start-within, Steps, both-next, both-done, loop-same}
 use Rattle.conditions.specs.Working.TieTable.{prefix-of, allows-number, inside-number, alike-prefix, alike-infix, prefix-number, unary-row, unary-want, binary-row}
 use Rattle.conditions.proofs.Working.TieTable.{operator-number, right-want, right-level, binds-number}
 use Rattle.conditions.specs.Working.TieOperand.{leaf-same, write-word-grown, unary-same, binary-same}
-use Rattle.conditions.specs.declared.emit.Out.TheVariants.{Found, Aside}
 use Rattle.syntax.specs.Working.Faults.{against}
 use Rattle.limits.specs.Limits.{most_brackets, most_prefixes}
 
@@ -56,7 +55,7 @@ module _ (s : List ℕ) (short : length s < 65536) where
     unfolding closed_at
     closed_same m top x p u e n b near g = closed-cases (eqb n.kind Kind.CLOSE)
       where
-        closed-cases : (f : Bool) → Same s m top (pick f (ok (part x e) (next_at s n.end)) (unexpected n)) (ran (pick f (Found (sort_number x) p u (next_at s n.end)) (refused n)) b)
+        closed-cases : (f : Bool) → Same s m top (pick f (ok (part x e) (next_at s n.end)) (unexpected n)) (ran (pick f (found (sort_number x) p u (next_at s n.end)) (refused n)) b)
         closed-cases true = same-part x p u e (next_at s n.end) b near (start-within s n.end) g
         closed-cases false = same-refused s m top n b (kept g)
 
@@ -100,10 +99,10 @@ module _ (s : List ℕ) (short : length s < 65536) where
     Turns = Steps (States m₀ top₀) (Same s m₀ top₀)
 
     joined-on : (t : Token) (q : Parsed Part) (r : Ran) → Same s m₀ top₀ q r → Turns (Read.on_joined t q) (Write.on_joined t r)
-    joined-on t _ _ (same-aside r p b k) = both-done (aside r p) (ran (Aside (against r p)) b) (same-aside r p b k)
+    joined-on t _ _ (same-aside r p b k) = both-done (aside r p) (ran (Err (against r p)) b) (same-aside r p b k)
     joined-on t _ _ (same-part x p u e n b near within g) =
         both Turns (leb n.start t.start) _ _ _ _
-        (λ h. both-done (aside 0 t.start) (ran (Aside (against 0 t.start)) b) (same-aside 0 t.start b (kept g)))
+        (λ h. both-done (aside 0 t.start) (ran (Err (against 0 t.start)) b) (same-aside 0 t.start b (kept g)))
         (λ h. both-next (n, x, e) (n, sort_number x, p, u, b) (states n x e p u b near within g))
 
     module _ (d level nest : ℕ) (joined : (m : List ℕ) (top : ℕ) (op : Binary) (sort : PartSort) (place at : ℕ) (e : Expr) → place < 65536 → Grown m₀ top₀ m top (λ c. PartCodes s place e c sort)
@@ -113,16 +112,16 @@ module _ (s : List ℕ) (short : length s < 65536) where
           (Write.chain_turn (λ m top op nest sort place at. Write.joined_at d s m top op nest sort place at) s level nest y)
       chain-turn _ _ (states t sort e place top m near within g) =
           rw (operator-number sort t.kind, binds-number level (Table.operator sort t.kind)) (both Turns (leb (length s) t.start) _ _ _ _
-          (λ h. both-done (ok (part sort e) t) (ran (Found (sort_number sort) place top t) m) (same-part sort place top e t m near within g))
+          (λ h. both-done (ok (part sort e) t) (ran (found (sort_number sort) place top t) m) (same-part sort place top e t m near within g))
           (λ h. both Turns (Table.binds level (Table.operator sort t.kind)) _ _ _ _
           (λ k. alike-infix Turns level (Table.operator sort t.kind) _ _ (λ op. Write.on_joined t (Write.joined_at d s m top op nest (sort_number sort) place t.end)) k
           (λ op l. joined-on t _ _ (joined m top op sort place t.end e near g)))
-          (λ k. both-done (ok (part sort e) t) (ran (Found (sort_number sort) place top t) m) (same-part sort place top e t m near within g))))
+          (λ k. both-done (ok (part sort e) t) (ran (found (sort_number sort) place top t) m) (same-part sort place top e t m near within g))))
 
       measures : (x : Read.State) (y : Write.State) → States m₀ top₀ x y → length s - x.0.start ≡ length s - y.0.start
       measures _ _ (states t sort e place top m near within g) = refl
 
-      outs : (x : Read.State) (y : Write.State) → States m₀ top₀ x y → Same s m₀ top₀ (aside 0 x.0.start) (ran (Aside (against 0 y.0.start)) y.4)
+      outs : (x : Read.State) (y : Write.State) → States m₀ top₀ x y → Same s m₀ top₀ (aside 0 x.0.start) (ran (Err (against 0 y.0.start)) y.4)
       outs _ _ (states t sort e place top m near within g) = same-aside 0 t.start m (kept g)
 
       chain-body : (t : Token) (sort : PartSort) (e : Expr) (place top : ℕ) (m : List ℕ) → place < 65536 → t.start ≤ length s → Grown m₀ top₀ m top (λ c. PartCodes s place e c sort)
@@ -130,7 +129,7 @@ module _ (s : List ℕ) (short : length s < 65536) where
           (Write.chain_loop (λ m top op nest sort place at. Write.joined_at d s m top op nest sort place at) s m top level nest (sort_number sort) place t)
       chain-body t sort e place top m near within g =
           loop-same (λ x. length s - x.0.start) (λ x. aside 0 x.0.start) (Read.chain_turn (λ op nest sort e at. Read.read_joined d s op nest sort e at) s level nest)
-          (λ x. length s - x.0.start) (λ x. ran (Aside (against 0 x.0.start)) x.4)
+          (λ x. length s - x.0.start) (λ x. ran (Err (against 0 x.0.start)) x.4)
           (Write.chain_turn (λ m top op nest sort place at. Write.joined_at d s m top op nest sort place at) s level nest)
           (States m₀ top₀) (Same s m₀ top₀) measures outs chain-turn (t, sort, e) (t, sort_number sort, place, top, m) (states t sort e place top m near within g)
 

@@ -1,5 +1,5 @@
 -- Programs belong to their code. Assumes nothing.
-use Rattle.std.specs.Prelude.{◌≡◌, refl, Bool, List, [], ◌∷◌, ◌++◌, ℕ, zero, suc, ◌+◌, ◌-◌, ◌<◌, ◌≤◌, eqb, leb, length}
+use Rattle.std.specs.Prelude.{◌≡◌, refl, Bool, List, [], ◌∷◌, ◌++◌, ℕ, zero, suc, ◌+◌, ◌-◌, ◌<◌, ◌≤◌, eqb, leb, length, Err}
 use Rattle.std.proofs.Common.{sym, arith}
 use Rattle.std.proofs.Math.Bool.{true, false}
 use borrow.Author.Tests.{le-ltb}
@@ -19,14 +19,13 @@ use Rattle.syntax.specs.Parsed.{Parsed, ok, aside, unexpected}
 use Rattle.conditions.specs.Operand.{settled_tree}
 use Rattle.conditions.specs.Expression.{read_expression}
 use Rattle.conditions.specs.Program as Read
-use Rattle.conditions.specs.Working.Emit.{Ran, ran, refused, above, put, word_top, word_written, ended_at, valued_at}
+use Rattle.conditions.specs.Working.Emit.{found, Ran, ran, refused, above, put, word_top, word_written, ended_at, valued_at}
 use Rattle.conditions.specs.Working.Expression.{expr_at}
 use Rattle.conditions.specs.Working.Program as Write
 use Rattle.conditions.specs.Working.Written.{Grown, Then, then, grown-as, grown-then, grown-none, grown-put, append_assoc, keeps_self, kept, under}
 use Rattle.conditions.specs.Working.Same.{PartCodes, SameAs, as-aside, as-ok, as-refused, same-on, as-on, both, start-within, Steps, both-next, both-done, loop-same}
 use Rattle.conditions.specs.Working.TieOperand.{write-word-grown}
 use Rattle.conditions.proofs.Working.TieExpression.{expression-same}
-use Rattle.conditions.specs.declared.emit.Out.TheVariants.{Found, Aside}
 use Rattle.syntax.specs.Working.Faults.{against}
 use Rattle.limits.specs.Limits.{most_brackets}
 
@@ -80,10 +79,10 @@ module _ (s : List ℕ) (short : length s < 65536) where
 
     clause-on : (t : Token) (p : Program) (top : ℕ) (m : List ℕ) → Grown m₀ top₀ m top (ProgramCodes s p)
         → (q : Parsed Clause) (r : Ran) → SameClause m top q r → Turns (Read.on_clause t p q) (Write.on_clause t r)
-    clause-on t p top m g _ _ (as-aside r i b k) = both-done (aside r i) (ran (Aside (against r i)) b) (as-aside r i b (under g k))
+    clause-on t p top m g _ _ (as-aside r i b k) = both-done (aside r i) (ran (Err (against r i)) b) (as-aside r i b (under g k))
     clause-on t p top m g _ _ (as-ok c x i u n b within h) =
         both Turns (leb n.start t.start) _ _ _ _
-        (λ k. both-done (aside 0 t.start) (ran (Aside (against 0 t.start)) b) (as-aside 0 t.start b (under g (kept h))))
+        (λ k. both-done (aside 0 t.start) (ran (Err (against 0 t.start)) b) (as-aside 0 t.start b (under g (kept h))))
         (λ k. both-next (n, also p c) (n, u, b) (states n (also p c) u b within
         (grown-then m₀ top₀ m top b u (ProgramCodes s p) (ClauseCodes s c) (ProgramCodes s (also p c)) (λ y z v w. code-also v w) g h)))
 
@@ -92,7 +91,7 @@ module _ (s : List ℕ) (short : length s < 65536) where
     unfolding Read.stopping Write.last_at
     last-same nest t p top m within g = last-cases (stops nest t.kind)
       where
-        last-cases : (f : Bool) → SameProgram m₀ top₀ (pick f (ok p t) (unexpected t)) (ran (pick f (Found TEST 0 top t) (refused t)) m)
+        last-cases : (f : Bool) → SameProgram m₀ top₀ (pick f (ok p t) (unexpected t)) (ran (pick f (found TEST 0 top t) (refused t)) m)
         last-cases true = as-ok p TEST 0 top t m within g
         last-cases false = as-refused (ProgramCodes s) s m₀ top₀ t m (kept g)
 
@@ -103,20 +102,20 @@ module _ (s : List ℕ) (short : length s < 65536) where
           both Turns (leb (length s) t.start) _ _ _ _
           (λ h. both-done (Read.stopping nest p t) (ran (Write.last_at nest top t) m) (last-same nest t p top m within g))
           (λ h. both Turns (stops nest t.kind) _ _ _ _
-          (λ k. both-done (ok p t) (ran (Found TEST 0 top t) m) (as-ok p TEST 0 top t m within g))
+          (λ k. both-done (ok p t) (ran (found TEST 0 top t) m) (as-ok p TEST 0 top t m within g))
           (λ k. clause-on t p top m g _ _ (clause m top t within)))
 
       measures : (x : Read.State) (y : Write.State) → States m₀ top₀ x y → length s - x.0.start ≡ length s - y.0.start
       measures _ _ (states t p top m within g) = refl
 
-      outs : (x : Read.State) (y : Write.State) → States m₀ top₀ x y → SameProgram m₀ top₀ (aside 0 x.0.start) (ran (Aside (against 0 y.0.start)) y.2)
+      outs : (x : Read.State) (y : Write.State) → States m₀ top₀ x y → SameProgram m₀ top₀ (aside 0 x.0.start) (ran (Err (against 0 y.0.start)) y.2)
       outs _ _ (states t p top m within g) = as-aside 0 t.start m (kept g)
 
       clauses-body : (t : Token) (top : ℕ) (m : List ℕ) → t.start ≤ length s → Grown m₀ top₀ m top (ProgramCodes s none)
           → SameProgram m₀ top₀ (Read.clauses_of (λ nest t. Read.read_clause d s nest t) s nest t) (Write.clauses_loop (λ m top nest t. Write.clause_at d s m top nest t) s m top nest t)
       clauses-body t top m within g =
           loop-same (λ x. length s - x.0.start) (λ x. aside 0 x.0.start) (Read.clauses_turn (λ nest t. Read.read_clause d s nest t) s nest)
-          (λ x. length s - x.0.start) (λ x. ran (Aside (against 0 x.0.start)) x.2) (Write.clauses_turn (λ m top nest t. Write.clause_at d s m top nest t) s nest)
+          (λ x. length s - x.0.start) (λ x. ran (Err (against 0 x.0.start)) x.2) (Write.clauses_turn (λ m top nest t. Write.clause_at d s m top nest t) s nest)
           (States m₀ top₀) (SameProgram m₀ top₀) measures outs clauses-turn (t, none) (t, top, m) (states t none top m within g)
 
   mutual

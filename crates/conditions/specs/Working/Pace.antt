@@ -1,5 +1,5 @@
 -- How far a reader comes: it writes at most an entry a byte that it reads, and always reads on. Assumes nothing.
-use Rattle.std.specs.Prelude.{◌≡◌, Bool, true, false, eqb, ltb, leb, length}
+use Rattle.std.specs.Prelude.{◌≡◌, Bool, true, false, eqb, ltb, leb, length, Err}
 use Rattle.std.proofs.Common.{ap, arith, not-suc-le-zero, ltb-true, ltb-false, eqb-true, lt-ltb}
 use mathlib.Core.List.{List}
 use Prim.Native.Nat.{ℕ, zero, suc, ◌+◌, ◌-◌, ◌<◌, ◌≤◌}
@@ -19,12 +19,11 @@ use Rattle.conditions.specs.Table.{PartSort, sorted, word, Want}
 use Rattle.conditions.specs.Working.Numbered.{sort_number, want_number}
 use Rattle.conditions.specs.Working.Numbered
 use Rattle.conditions.specs.Word.{next_at, word_sort}
-use Rattle.conditions.specs.Working.Emit.{Ran, ran, refused, on_found, above, put, word_top, word_written, finish_at}
+use Rattle.conditions.specs.Working.Emit.{found, Ran, ran, refused, on_found, above, put, word_top, word_written, finish_at}
 use Rattle.conditions.specs.Working.Leaf.{literal_read, name_read, digits_read, float_read, leaf_read, leaf_found, name_as}
 use Rattle.conditions.specs.Working.Same.{start-within}
 use Rattle.conditions.specs.Working.TieOperand.{Named, named-string, named-word, name-cases}
 use Rattle.conditions.specs.Working.TieTable.{word_number}
-use Rattle.conditions.specs.declared.emit.Out.TheVariants.{Found, Aside}
 use Rattle.syntax.specs.Working.Faults.{against}
 use Rattle.limits.specs.Limits.{most_float, most_literal}
 
@@ -71,8 +70,8 @@ word-top-most m top (word false) = above_most m top
 
 -- a fault of document 01, or what was found: behind `low`, and at most an entry a byte since at₀
 pub data Paced (s : List ℕ) (top₀ at₀ low : ℕ) : Ran → Type 0 where
-  paced-aside : (r p : ℕ) (b : List ℕ) → (r ≡ 0 → ⊥) → Paced s top₀ at₀ low (ran (Aside (against r p)) b)
-  paced-found : (x : PartSort) (p u : ℕ) (n : Token) (b : List ℕ) → Sound s n → low < n.start → u + debt x + at₀ ≤ top₀ + n.start → Paced s top₀ at₀ low (ran (Found (sort_number x) p u n) b)
+  paced-aside : (r p : ℕ) (b : List ℕ) → (r ≡ 0 → ⊥) → Paced s top₀ at₀ low (ran (Err (against r p)) b)
+  paced-found : (x : PartSort) (p u : ℕ) (n : Token) (b : List ℕ) → Sound s n → low < n.start → u + debt x + at₀ ≤ top₀ + n.start → Paced s top₀ at₀ low (ran (found (sort_number x) p u n) b)
 
 pub refusal-some : (k : ℕ) → refusal k ≡ 0 → ⊥
 unfolding refusal
@@ -126,7 +125,7 @@ module _ (s m : List ℕ) (top : ℕ) (t : Token) (wide : t.start < t.end) (insi
   digits-paced =
       chosen (Paced s top t.start t.start) (leb Number.LIMIT (Number.number_at s t.start t.end)) _ _ (λ e. paced-aside 5 t.start m (λ z. omega (arith, z))) (λ e. found-paced an-integer Op.NUMBER)
 
-  bare-paced : (b : Bool) → Paced s top t.start t.start (ran (Found (sort_number (word b)) t.start top (next_at s t.end)) m)
+  bare-paced : (b : Bool) → Paced s top t.start t.start (ran (found (sort_number (word b)) t.start top (next_at s t.end)) m)
   bare-paced b =
       paced-found (word b) t.start top (next_at s t.end) m (next-sound s t.end) (omega (arith, wide, next-after s t.end inside))
       (omega (arith, wide, next-after s t.end inside))

@@ -1,5 +1,5 @@
 -- What is read and what is written belong together: the same fault, or the same token behind and the code of what was read. Assumes nothing.
-use Rattle.std.specs.Prelude.{◌≡◌, refl, Bool, true, false, List, [], eqb, ltb, length}
+use Rattle.std.specs.Prelude.{◌≡◌, refl, Bool, true, false, List, [], eqb, ltb, length, Err}
 use Rattle.std.proofs.Common.{ap, arith, ltb-true, ltb-false, eqb-true}
 use Prim.Native.Nat.{ℕ, zero, suc, ◌<◌, ◌≤◌}
 use Rattle.std.proofs.lemmas.Bool.{eqb-false}
@@ -16,9 +16,8 @@ use Rattle.conditions.specs.Working.Numbered.{sort_number}
 use Rattle.conditions.specs.Word.{next_at}
 use Rattle.syntax.specs.Parsed.{Parsed, ok, aside, unexpected, and_then}
 use Rattle.conditions.specs.Parsed.{Part, part, on_part}
-use Rattle.conditions.specs.Working.Emit.{Ran, ran, refused, on_found}
+use Rattle.conditions.specs.Working.Emit.{found, Ran, ran, refused, on_found}
 use Rattle.conditions.specs.Working.Written.{Grown, Keeps}
-use Rattle.conditions.specs.declared.emit.Out.TheVariants.{Found, Aside}
 use Rattle.syntax.specs.Working.Faults.{against}
 
 -- a token lies within the text
@@ -36,14 +35,14 @@ pub data PartCodes (s : List ℕ) (p : ℕ) (e : Expr) (c : List ℕ) : PartSort
   bare : (b : Bool) → e ≡ name (name_at s p) → c ≡ [] → PartCodes s p e c (word b)
 
 pub data Same (s m : List ℕ) (top : ℕ) : Parsed Part → Ran → Type 0 where
-  same-aside : (r p : ℕ) (b : List ℕ) → Keeps m top b → Same s m top (aside r p) (ran (Aside (against r p)) b)
+  same-aside : (r p : ℕ) (b : List ℕ) → Keeps m top b → Same s m top (aside r p) (ran (Err (against r p)) b)
   same-part : (x : PartSort) (p u : ℕ) (e : Expr) (n : Token) (b : List ℕ) → p < 65536 → n.start ≤ length s → Grown m top b u (λ c. PartCodes s p e c x)
-      → Same s m top (ok (part x e) n) (ran (Found (sort_number x) p u n) b)
+      → Same s m top (ok (part x e) n) (ran (found (sort_number x) p u n) b)
 
 -- the same of a clause or a program
 pub data SameAs {A : Type 0} (Q : A → List ℕ → Type 0) (s m : List ℕ) (top : ℕ) : Parsed A → Ran → Type 0 where
-  as-aside : (r p : ℕ) (b : List ℕ) → Keeps m top b → SameAs Q s m top (aside r p) (ran (Aside (against r p)) b)
-  as-ok : (a : A) (x p u : ℕ) (n : Token) (b : List ℕ) → n.start ≤ length s → Grown m top b u (Q a) → SameAs Q s m top (ok a n) (ran (Found x p u n) b)
+  as-aside : (r p : ℕ) (b : List ℕ) → Keeps m top b → SameAs Q s m top (aside r p) (ran (Err (against r p)) b)
+  as-ok : (a : A) (x p u : ℕ) (n : Token) (b : List ℕ) → n.start ≤ length s → Grown m top b u (Q a) → SameAs Q s m top (ok a n) (ran (found x p u n) b)
 
 pub same-refused : (s m : List ℕ) (top : ℕ) (t : Token) (b : List ℕ) → Keeps m top b → Same s m top (unexpected t) (ran (refused t) b)
 unfolding refused
@@ -58,7 +57,7 @@ pub both : {A B : Type 0} (T : A → B → Type 0) (f : Bool) (a b : A) (c d : B
 both T true a b c d h k = h refl
 both T false a b c d h k = k refl
 
-module _ {A : Type 0} (T : Parsed A → Ran → Type 0) (s m : List ℕ) (top : ℕ) (asides : (r p : ℕ) (b : List ℕ) → Keeps m top b → T (aside r p) (ran (Aside (against r p)) b)) where
+module _ {A : Type 0} (T : Parsed A → Ran → Type 0) (s m : List ℕ) (top : ℕ) (asides : (r p : ℕ) (b : List ℕ) → Keeps m top b → T (aside r p) (ran (Err (against r p)) b)) where
   pub same-on : (q : Parsed Part) (r : Ran) (k : PartSort → Expr → Token → Parsed A) (l : ℕ → ℕ → ℕ → Token → List ℕ → Ran)
       → ((x : PartSort) (p u : ℕ) (e : Expr) (n : Token) (b : List ℕ) → p < 65536 → n.start ≤ length s → Grown m top b u (λ c. PartCodes s p e c x) → T (k x e n) (l (sort_number x) p u n b))
       → Same s m top q r → T (on_part q k) (on_found r l)

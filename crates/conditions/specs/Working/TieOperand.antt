@@ -22,11 +22,10 @@ use Rattle.conditions.specs.Word.{next_at, word_sort}
 use Rattle.syntax.specs.Parsed.{ok}
 use Rattle.conditions.specs.Parsed.{part}
 use Rattle.conditions.specs.Operand.{read_literal, read_name, read_digits, read_float, read_leaf, settled_tree, applied}
-use Rattle.conditions.specs.Working.Emit.{ran, above, put, word_top, word_written, finish_at}
+use Rattle.conditions.specs.Working.Emit.{found, ran, above, put, word_top, word_written, finish_at}
 use Rattle.conditions.specs.Working.Leaf.{literal_read, name_read, digits_read, float_read, leaf_read, leaf_found, name_as}
 use Rattle.conditions.specs.Working.Written.{Grown, Then, then, grown-as, grown-then, grown-none, grown-put, append_assoc, keeps_self, kept, under}
 use Rattle.conditions.specs.Working.Same.{PartCodes, whole, bare, Same, same-aside, same-part, same-refused, both, start-within}
-use Rattle.conditions.specs.declared.emit.Out.TheVariants.{Found}
 use Rattle.limits.specs.Limits.{most_float, most_literal}
 
 -- a name is a string or a bare word
@@ -64,7 +63,7 @@ module _ (s : List ℕ) (short : length s < 65536) (m : List ℕ) (top : ℕ) wh
         both (Same s m top) (leb Number.LIMIT (Number.number_at s t.start t.end)) _ _ _ _ (λ h. same-aside 5 t.start m (keeps_self m top))
         (λ h. entered an-integer Op.NUMBER _ (omega arith) (code-number t.start (omega (arith, within, short))))
 
-    bare-same : (b : Bool) → Same s m top (ok (part (word b) (name (name_at s t.start))) (next_at s t.end)) (ran (Found (sort_number (word b)) t.start top (next_at s t.end)) m)
+    bare-same : (b : Bool) → Same s m top (ok (part (word b) (name (name_at s t.start))) (next_at s t.end)) (ran (found (sort_number (word b)) t.start top (next_at s t.end)) m)
     bare-same b =
         same-part (word b) t.start top (name (name_at s t.start)) (next_at s t.end) m (omega (arith, within, short)) (start-within s t.end)
         (grown-none m top (λ l. PartCodes s t.start (name (name_at s t.start)) l (word b)) (bare b refl refl))

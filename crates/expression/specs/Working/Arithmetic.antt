@@ -9,8 +9,9 @@ use Rattle.text.specs.Choice.{split}
 use Rattle.text.specs.declared.Integer.{Integer}
 use Rattle.expression.specs.Value.{operand}
 use Rattle.text.specs.Decimal.{integer as signed}
-use Rattle.text.specs.declared.Order.{Order}
-use Rattle.text.specs.declared.Order.TheVariants.{Less, Equal, Greater}
+use Rattle.std.specs.declared.cmp.Ordering.{Ordering as Order}
+use Rattle.std.specs.Ordering.{nat_cmp}
+use Rattle.std.specs.declared.cmp.Ordering.TheVariants.{Less, Equal, Greater}
 use Rattle.expression.specs.Integers.{ranged, apart, plus, minus, times, over, remainder, differ, odd, raised_to, power, sign_of_power, negated, sizes, compared}
 use Rattle.expression.specs.declared.value.Operand.{Operand}
 use Rattle.expression.specs.declared.value.Operand.TheVariants.{Number, Fault}
@@ -258,6 +259,20 @@ module _ (x y : ℕ) where
     pub sizes-equal : x ≤ y → Equal ≡ sizes x y
     unfolding sizes
     sizes-equal k = simp (le-ltb _ _ h, le-ltb _ _ k)
+
+-- the library's order of two numbers
+pub sizes_cmp : (x y : ℕ) → nat_cmp x y ≡ sizes x y
+unfolding sizes
+sizes_cmp x y =
+    split (ltb x y) (λ h. rw h)
+    (λ h. split (ltb y x)
+    (λ k. let l : y < x = ltb-true y x k in
+    let n : x ≡ y → ⊥ = λ e. omega arith in
+    rw (h, k, ne_eqb x y n))
+    (λ k. let l₁ : y ≤ x = ltb-false x y h in
+    let l₂ : x ≤ y = ltb-false y x k in
+    let q : x ≡ y = omega arith in
+    rw (h, k, eq-eqb x y q)))
 
 module _ (a b : Integer) where
   module _ (an : a.negative ≡ true) where

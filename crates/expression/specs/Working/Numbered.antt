@@ -4,7 +4,7 @@ use Rattle.std.specs.Float.Ieee.{lt, le}
 use Rattle.text.specs.Choice.{pick}
 use Rattle.text.specs.Order.{order}
 use Rattle.text.specs.declared.Integer.{Integer}
-use Rattle.text.specs.declared.Order.{Order}
+use Rattle.std.specs.declared.cmp.Ordering.{Ordering as Order}
 use Rattle.syntax.specs.Op.{JOIN, POWER, TIMES, OVER, REMAINDER, PLUS, MINUS, TEXT_EQUAL, MATCHES, EQUAL, AT_LEAST, FLOAT_POWER, FLOAT_TIMES, FLOAT_OVER, FLOAT_PLUS, FLOAT_MINUS, FLOAT_LESS, FLOAT_GREATER, FLOAT_AT_MOST, FLOAT_AT_LEAST, BOTH, EITHER}
 use Rattle.float.specs.Operations as Floats
 use Rattle.expression.specs.Value.{Value, test, fault, on_text, on_integer, on_test, on_float}

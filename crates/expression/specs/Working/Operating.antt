@@ -1,5 +1,5 @@
 -- Working laws: the ways out of the operators. Assumes nothing.
-use Rattle.std.specs.Prelude.{◌≡◌, refl, Bool, true, false, List, ◌++◌, map, ℕ, ◌+◌, ◌-◌, ◌<◌, ◌≤◌, max, Float as Single}
+use Rattle.std.specs.Prelude.{◌≡◌, refl, Bool, true, false, List, ◌++◌, map, ℕ, ◌+◌, ◌-◌, ◌<◌, ◌≤◌, max, Float as Single, Some, None}
 use Rattle.std.proofs.Common.{sym, ◌∙◌, arith}
 use Rattle.std.proofs.Math.Path.{ap}
 use Rattle.std.proofs.Math.Bool.{not}
@@ -15,15 +15,14 @@ use Rattle.text.specs.Order.{order}
 use Rattle.text.specs.OrderLaws.{order-refl, order-equal}
 use Rattle.text.specs.Decimal.{integer as signed, decimal}
 use Rattle.text.specs.declared.Integer.{Integer}
-use Rattle.text.specs.declared.Order.{Order}
+use Rattle.std.specs.declared.cmp.Ordering.{Ordering as Order}
+use Rattle.std.specs.Ordering.{is_eq, is_ne, is_lt, is_gt, is_le, is_ge}
 use Rattle.pattern.specs.Test.{test_of}
-use Rattle.pattern.specs.declared.Answer.{Answer}
-use Rattle.pattern.specs.declared.Answer.TheVariants.{Yes, No, Error}
-use Rattle.text.specs.declared.Order.TheVariants.{Less, Equal, Greater}
+use Rattle.pattern.specs.Verdict.{Answer}
+use Rattle.std.specs.declared.cmp.Ordering.TheVariants.{Less, Equal, Greater}
 use Rattle.float.specs.Written.{float_of}
 use Rattle.float.specs.Operations as Floats
-use Rattle.float.specs.declared.operation.Computed.{Computed}
-use Rattle.float.specs.declared.operation.Computed.TheVariants as computed
+use Rattle.float.specs.Operations.{Computed}
 use Rattle.expression.specs.Value.{Value, text, integer, test, float, fault, operand, on_text, on_integer, on_test, on_float}
 use Rattle.expression.specs.Operands.{size_of, value_of, is_text, is_number, integer_in, is_float, float_in, is_test, holds_in, rank_in, test_in}
 use Rattle.expression.specs.Integers.{plus, minus, times, over, remainder, power, negated, compared}
@@ -205,6 +204,39 @@ module _ (k : ℕ) (o : Order) (r : Bool) where
           unfolding relates_by
           relates-least qe n4 e = e ∙ simp (qe, ne_eqb _ _ n0, ne_eqb _ _ n1, ne_eqb _ _ n2, ne_eqb _ _ n3, ne_eqb _ _ n4)
 
+-- the library's tests of an order
+pub eq-is : (o : Order) → is_eq o ≡ is_equal o
+eq-is Less = refl
+eq-is Equal = refl
+eq-is Greater = refl
+
+pub ne-is : (o : Order) → is_ne o ≡ not (is_equal o)
+ne-is Less = refl
+ne-is Equal = refl
+ne-is Greater = refl
+
+pub lt-is : (o : Order) → is_lt o ≡ is_less o
+lt-is Less = refl
+lt-is Equal = refl
+lt-is Greater = refl
+
+pub gt-is : (o : Order) → is_gt o ≡ is_greater o
+gt-is Less = refl
+gt-is Equal = refl
+gt-is Greater = refl
+
+pub le-is : (o : Order) → is_le o ≡ not (is_greater o)
+le-is Less = refl
+le-is Equal = refl
+le-is Greater = refl
+
+pub ge-is : (o : Order) → is_ge o ≡ not (is_less o)
+ge-is Less = refl
+ge-is Equal = refl
+ge-is Greater = refl
+
+pub ruleset orders = (eq-is, ne-is, lt-is, gt-is, le-is, ge-is, eq-eqb, ne_eqb)
+
 -- the ways out of `of_integers`
 module _ (op : ℕ) (a b : Integer) (r : Operand) where
   pub does-power : op ≡ 13 → r ≡ operand (power a b) → r ≡ operand (arithmetic op a b)
@@ -243,11 +275,11 @@ module _ (op : ℕ) (a b : Integer) (n13 : op ≡ 13 → ⊥) (n14 : op ≡ 14 �
 
 -- the ways out of `value_of`
 module _ (x : Computed) where
-  pub value-finite : (y : Single) → x ≡ computed.Finite y → Float y ≡ operand (valued x)
+  pub value-finite : (y : Single) → x ≡ Some y → Float y ≡ operand (valued x)
   unfolding operand
   value-finite y e = rw e
 
-  pub value-error : x ≡ computed.Error → Fault ≡ operand (valued x)
+  pub value-error : x ≡ None → Fault ≡ operand (valued x)
   unfolding operand
   value-error e = rw e
 
@@ -335,15 +367,11 @@ equal_is a b =
 
 -- the ways out of `answer`
 module _ (x : Answer) where
-  pub answer-yes : x ≡ Yes → Test true ≡ operand (answered x)
+  pub answer-told : (t : Bool) → x ≡ Some t → Test t ≡ operand (answered x)
   unfolding operand
-  answer-yes e = rw e
+  answer-told t e = rw e
 
-  pub answer-no : x ≡ No → Test false ≡ operand (answered x)
-  unfolding operand
-  answer-no e = rw e
-
-  pub answer-error : x ≡ Error → Fault ≡ operand (answered x)
+  pub answer-error : x ≡ None → Fault ≡ operand (answered x)
   unfolding operand
   answer-error e = rw e
 

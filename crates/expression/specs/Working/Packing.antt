@@ -4,7 +4,7 @@ use Rattle.std.proofs.Common.{ap, ◌∙◌, arith}
 use borrow.Author.Tests.{lt-ltb, le-ltb, le-leb, lt-leb, ne_eqb, eqb-true}
 use Rattle.text.specs.Choice.{split}
 use Rattle.text.specs.Decimal.{integer as signed}
-use Rattle.text.specs.declared.Order.{Order}
+use Rattle.std.specs.declared.cmp.Ordering.{Ordering as Order}
 use Rattle.expression.specs.Value.{operand}
 use Rattle.expression.specs.Operands.{kind_of, size_of, pack}
 use Rattle.expression.specs.Integers.{ranged, apart, plus, minus, compared}

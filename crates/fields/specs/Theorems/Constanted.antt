@@ -1,5 +1,5 @@
 -- Local-Constants read into the buffer and the table are those that the meaning reads. Assumes nothing.
-use Rattle.std.specs.Prelude.{◌≡◌, refl, Bool, ℕ, suc, ◌+◌, ◌-◌, ◌*◌, ◌<◌, ◌≤◌, eqb, leb, drop, set}
+use Rattle.std.specs.Prelude.{◌≡◌, refl, Bool, ℕ, suc, ◌+◌, ◌-◌, ◌*◌, ◌<◌, ◌≤◌, eqb, leb, drop, set, Some, Err}
 use Rattle.std.proofs.Common.{sym, ◌∙◌, add-one, take-append-drop, take_at, drop_at, take-take}
 use Rattle.std.proofs.Math.Path.{ap}
 use Rattle.std.proofs.Math.Bool.{true, false}
@@ -26,7 +26,6 @@ use Rattle.lexical.specs.Literal.{decoded_at}
 use Rattle.lexical.specs.Line.{token_at}
 use Rattle.lexical.specs.declared.token.Token.{Token}
 use Rattle.index.specs.Working.Adding.{entered, index_of, append_into, counted_into}
-use Rattle.index.specs.declared.Entered.TheVariants.{Now}
 use Rattle.expression.specs.Tables.{first_from}
 use Rattle.syntax.specs.Code.{name_at}
 use Rattle.syntax.specs.Parsed.{Parsed, ok, aside, refusal, unexpected}
@@ -35,8 +34,7 @@ use Rattle.limits.specs.Limits.{most_constants, most_literal, most_record, most_
 use Rattle.fields.specs.Parsed.{behind}
 use Rattle.fields.specs.Working.Word.{word_of}
 use Rattle.fields.specs.Constants.{is_set, constant_value, assigned, name_fault, constant, constants_turn, on_constant, constants_from}
-use Rattle.fields.specs.Working.Setting.{Stored, stored, State, taken_in, constant_fault_in, store_in, value_in, assigned_in, setting_turn, on_assigned, on_stored, assigned_from, constants_in, refused_settings}
-use Rattle.fields.specs.declared.constants.Settings.TheVariants.{On, Aside}
+use Rattle.fields.specs.Working.Setting.{Stored, stored, State, taken_in, constant_fault_in, store_in, value_in, assigned_in, setting_turn, on_assigned, on_stored, assigned_from, constants_in, refused_settings, settings}
 use Rattle.fields.specs.Theorems.Together.{both, Steps, both-next, both-done, loop-same, refusal-some, behind-from, stood-start, stood-wide, stood-literal, word-short}
 use Rattle.syntax.specs.Working.Faults.{against}
 use Rattle.fields.specs.Theorems.Words.{word-is}
@@ -64,9 +62,9 @@ unset-is s ps name (lie∷ {v = p} {vs = vs} {a = a} {l = l} at t) x y =
 -- the same fault, or the same constants and token behind: they lie in the buffer at the places of the table, and what was there before stays
 pub data ConstantsRead (s m q : List ℕ) (start : ℕ) : Parsed (List Attribute) → Stored → Type 0 where
   constants-aside : (r p : ℕ) (m' q' : List ℕ) → (r ≡ 0 → ⊥) → length m' ≡ length m → length q' ≡ length q → take start m' ≡ take start m
-      → ConstantsRead s m q start (aside r p) (stored (Aside (against r p)) m' q')
+      → ConstantsRead s m q start (aside r p) (stored (Err (against r p)) m' q')
   constants-on : (cs : List Attribute) (c e : ℕ) (n : Token) (m' q' : List ℕ) → c ≡ length cs → c ≤ most_constants → Lie (AttributeAt m') (take c q') cs → Stood s n
-      → length m' ≡ length m → length q' ≡ length q → take start m' ≡ take start m → ConstantsRead s m q start (ok cs n) (stored (On (index_of c e) n) m' q')
+      → length m' ≡ length m → length q' ≡ length q → take start m' ≡ take start m → ConstantsRead s m q start (ok cs n) (stored (settings (index_of c e) n) m' q')
 
 string-length : (a : List ℕ) → length (string_bytes a) ≡ 2 + length a
 unfolding string_bytes
@@ -168,7 +166,7 @@ module _ (s m q : List ℕ) (start : ℕ) (short : length s ≤ most_record) (pl
 -- where there is room, a name and its value are put behind the others
 store_is : (m q : List ℕ) (c e : ℕ) (a : Attribute) → c < length q → length a.name ≤ 65535 → length a.value ≤ 65535
     → e + 2 + length a.name + 2 + length a.value ≤ length m
-    → store_in m q c e a.name a.value ≡ entered (Now (index_of (c + 1) (e + 2 + length a.name + 2 + length a.value))) (put m e (attribute_bytes a)) (set q c (e + 2))
+    → store_in m q c e a.name a.value ≡ entered (Some (index_of (c + 1) (e + 2 + length a.name + 2 + length a.value))) (put m e (attribute_bytes a)) (set q c (e + 2))
 unfolding store_in append_into counted_into copy_at attribute_bytes
 store_is m q c e a h hn hv fits =
     let n : length (string_bytes a.name) ≡ 2 + length a.name = string-length a.name in
@@ -193,9 +191,9 @@ front-put m at x h =
 
 -- one more constant: the same fault, or the same constant behind the others
 pub data OneRead (s m q : List ℕ) (start : ℕ) (cs : List Attribute) (c : ℕ) (m' q' : List ℕ) : Parsed Attribute → Stored → Type 0 where
-  one-aside : (r p : ℕ) → (r ≡ 0 → ⊥) → OneRead s m q start cs c m' q' (aside r p) (stored (Aside (against r p)) m' q')
+  one-aside : (r p : ℕ) → (r ≡ 0 → ⊥) → OneRead s m q start cs c m' q' (aside r p) (stored (Err (against r p)) m' q')
   one_on : (a : Attribute) (d e : ℕ) (n : Token) (m'' q'' : List ℕ) → Laid s m q start (cs ++ (a ∷ [])) n (c + 1) e m'' q''
-      → OneRead s m q start cs c m' q' (ok a n) (stored (On (index_of d e) n) m'' q'')
+      → OneRead s m q start cs c m' q' (ok a n) (stored (settings (index_of d e) n) m'' q'')
 
 module _ (s m q : List ℕ) (start : ℕ) (short : length s ≤ most_record) (places : most_constants ≤ length q) (fits : start + most_lengths + length s ≤ length m) where
   module _ {cs : List Attribute} {t : Token} {c e : ℕ} {m' q' : List ℕ} (laid : Laid s m q start cs t c e m' q') (few : c < most_constants) where
@@ -285,8 +283,8 @@ module _ (s m q : List ℕ) (start : ℕ) (short : length s ≤ most_record) (pl
       (λ x. most_constants - x.0) (λ x. stored (refused_settings x.2) x.3 x.4) (setting_turn s) (Held s m q start) (ConstantsRead s m q start)
 
   module _ {cs : List Attribute} {t : Token} {c e : ℕ} {m' q' : List ℕ} (laid : Laid s m q start cs t c e m' q') where
-    set-aside : (r p : ℕ) → (r ≡ 0 → ⊥) → Turns (cs, t) (c, e, t, m', q') (done (aside r p)) (done (stored (Aside (against r p)) m' q'))
-    set-aside r p h = both-done (aside r p) (stored (Aside (against r p)) m' q') (constants-aside r p m' q' h laid.buffer laid.table (laid-before s m q start short places fits laid))
+    set-aside : (r p : ℕ) → (r ≡ 0 → ⊥) → Turns (cs, t) (c, e, t, m', q') (done (aside r p)) (done (stored (Err (against r p)) m' q'))
+    set-aside r p h = both-done (aside r p) (stored (Err (against r p)) m' q') (constants-aside r p m' q' h laid.buffer laid.table (laid-before s m q start short places fits laid))
 
     one-turned : c < most_constants → (x : Parsed Attribute) (y : Stored) → OneRead s m q start cs c m' q' x y → Turns (cs, t) (c, e, t, m', q') (on_constant cs x) (on_assigned c y)
     one-turned few _ _ (one-aside r p h) = set-aside r p h
@@ -296,7 +294,7 @@ module _ (s m q : List ℕ) (start : ℕ) (short : length s ≤ most_record) (pl
 
     named-turn : name_fault s cs t ≡ 0
         → Turns (cs, t) (c, e, t, m', q') (on_constant cs (pick (leb most_constants (length cs)) (aside 7 t.start) (assigned s (name_at s t.start) (behind s Kind.IN_FIELD t))))
-        (pick (leb most_constants c) (done (stored (Aside (against 7 t.start)) m' q')) (on_assigned c (assigned_in s m' q' c e t)))
+        (pick (leb most_constants c) (done (stored (Err (against 7 t.start)) m' q')) (on_assigned c (assigned_in s m' q' c e t)))
     named-turn z =
         split (leb most_constants c)
         (λ f. rw (← laid.number, f) (set-aside 7 t.start (λ z. omega (arith, z))))
@@ -306,7 +304,7 @@ module _ (s m q : List ℕ) (start : ℕ) (short : length s ≤ most_record) (pl
     unfolding constant
     turn =
         both (Turns (cs, t) (c, e, t, m', q')) (ending t.kind) _ _ _ _
-        (λ f. both-done (ok cs t) (stored (On (index_of c e) t) m' q')
+        (λ f. both-done (ok cs t) (stored (settings (index_of c e) t) m' q')
         (constants-on cs c e t m' q' laid.number laid.few (laid-lie s m q start short places fits laid) laid.stood laid.buffer laid.table
         (laid-before s m q start short places fits laid)))
         (λ f. split (eqb (name_fault s cs t) 0)

@@ -1,5 +1,5 @@
 -- Working definitions and laws: the answer to a reading, and the ways out of the readers of KeyNote-Version and Signature. Assumes nothing.
-use Rattle.std.specs.Prelude.{◌≡◌, Bool, true, false, not, List, [], ◌∷◌, ℕ, zero, suc, ◌-◌, ◌<◌, ◌≤◌, min, eqb, leb, get_or, take, drop}
+use Rattle.std.specs.Prelude.{◌≡◌, Bool, true, false, not, List, [], ◌∷◌, ℕ, zero, suc, ◌-◌, ◌<◌, ◌≤◌, min, eqb, leb, get_or, take, drop, Result, Ok, Err}
 use Rattle.std.proofs.Math.Path.{refl, sym}
 use Rattle.std.proofs.Common.{ap, ◌∙◌, drop_of_length-le}
 use native.Mathlib.Omega.{arith}
@@ -24,24 +24,27 @@ use Rattle.fields.specs.Parsed.{ended}
 use Rattle.fields.specs.Working.Word.{word_of}
 use Rattle.fields.specs.Version.{two, version_number, version_literal, version}
 use Rattle.fields.specs.Signature.{signature}
-use Rattle.fields.specs.declared.out.Out.{Out}
-use Rattle.fields.specs.declared.out.Out.TheVariants.{On, Aside}
 use Rattle.syntax.specs.Working.Faults.{against, misplaced_at}
+use Rattle.syntax.specs.declared.fault.Fault.{Fault}
+
+-- the token behind what was read, or the first fault
+abbrev pub Out : Type 0
+Out = Result Token Fault
 
 -- the answer to a reading
 abbrev pub out_of : {A : Type 0} → Parsed A → Out
-out_of (ok a t) = On t
-out_of (aside r p) = Aside (against r p)
+out_of (ok a t) = Ok t
+out_of (aside r p) = Err (against r p)
 
 abbrev pub refused_out : Token → Out
-refused_out t = Aside (misplaced_at t)
+refused_out t = Err (misplaced_at t)
 
 unfoldable pub ended_out : Token → Out
-ended_out t = pick (ending t.kind) (On t) (refused_out t)
+ended_out t = pick (ending t.kind) (Ok t) (refused_out t)
 
 -- `ended`
 module _ (t : Token) (e : Bool) (ee : e ≡ ending t.kind) where
-  pub ended-on : e ≡ true → On t ≡ ended_out t
+  pub ended-on : e ≡ true → Ok t ≡ ended_out t
   unfolding ended_out
   ended-on y = simp (sym ee, y)
 
@@ -82,7 +85,7 @@ module _ (s : List ℕ) (t : Token) (n : ℕ) (ne : n ≡ min (number_at s t.sta
   abbrev number_is : Out
   number_is = out_of (version_number s t (number_at s t.start t.end))
 
-  pub number-high : LIMIT ≤ n → Aside (against 5 t.start) ≡ number_is
+  pub number-high : LIMIT ≤ n → Err (against 5 t.start) ≡ number_is
   unfolding version_number
   number-high h = rw (le-leb LIMIT (number_at s t.start t.end) (omega (arith, ne, h)))
 
@@ -95,7 +98,7 @@ module _ (s : List ℕ) (t : Token) (n : ℕ) (ne : n ≡ min (number_at s t.sta
     unfolding version_number
     number-two u ue r h re = re ∙ ended_is {A = ℕ} 2 u ∙ simp (low-is, lt-leb _ _ low, eq-eqb _ _ h, sym ue)
 
-    pub number-other : (n ≡ 2 → ⊥) → Aside (against 6 t.start) ≡ number_is
+    pub number-other : (n ≡ 2 → ⊥) → Err (against 6 t.start) ≡ number_is
     unfolding version_number
     number-other h = simp (low-is, lt-leb _ _ low, ne_eqb _ _ h)
 
@@ -134,7 +137,7 @@ module _ (s : List ℕ) (t : Token) (b : Bool) (be : b ≡ equal (decoded_at s t
   unfolding version_literal
   literal-two u ue r y re = re ∙ ended_is {A = ℕ} 2 u ∙ simp (sym be, y, sym ue)
 
-  pub literal-other : b ≡ false → Aside (against 6 t.start) ≡ out_of (version_literal s t (decoded_at s t.start))
+  pub literal-other : b ≡ false → Err (against 6 t.start) ≡ out_of (version_literal s t (decoded_at s t.start))
   unfolding version_literal
   literal-other n = simp (sym be, n)
 
@@ -166,10 +169,10 @@ module _ (s : List ℕ) (start : ℕ) where
   fitting-told n ne r e = e ∙ ap (λ (k : ℕ). leb k most_literal) ne
 
 module _ (s : List ℕ) (t : Token) (is : t.kind ≡ Kind.LITERAL) (b : Bool) (be : b ≡ leb (length (decoded_at s t.start)) most_literal) where
-  pub signature-long : not b ≡ true → Aside (against 7 t.start) ≡ out_of (signature s t)
+  pub signature-long : not b ≡ true → Err (against 7 t.start) ≡ out_of (signature s t)
   unfolding signature
   signature-long h = simp (eq-eqb _ _ is, lt-ltb most_literal (length (decoded_at s t.start)) (leb-false (length (decoded_at s t.start)) most_literal (sym be ∙ not-true b h)))
 
-  pub signature-read : not b ≡ false → On t ≡ out_of (signature s t)
+  pub signature-read : not b ≡ false → Ok t ≡ out_of (signature s t)
   unfolding signature
   signature-read h = simp (eq-eqb _ _ is, le-ltb most_literal (length (decoded_at s t.start)) (leb-true (length (decoded_at s t.start)) most_literal (sym be ∙ not-false b h)))

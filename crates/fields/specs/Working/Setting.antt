@@ -1,5 +1,5 @@
 -- Working definitions: Local-Constants put into the buffer and the table, and the ways out of the functions that do it. Assumes nothing.
-use Rattle.std.specs.Prelude.{◌≡◌, refl, Bool, true, false, not, List, [], ◌∷◌, ◌++◌, ℕ, ◌+◌, ◌-◌, ◌<◌, ◌≤◌, eqb, leb, ltb, length, get_or, take, drop}
+use Rattle.std.specs.Prelude.{◌≡◌, refl, Bool, true, false, not, List, [], ◌∷◌, ◌++◌, ℕ, ◌+◌, ◌-◌, ◌<◌, ◌≤◌, eqb, leb, ltb, length, get_or, take, drop, Option, Some, None, Result, Ok, Err}
 use Rattle.std.proofs.Math.Path.{sym}
 use Rattle.std.proofs.Common.{ap, ◌∙◌, arith, length-take-le}
 use borrow.Author.Tests.{lt-ltb, le-ltb, le-leb, lt-leb, eq-eqb, ne_eqb, leb-true, leb-false, not-true, not-false}
@@ -17,18 +17,15 @@ use Rattle.text.specs.Put.{put_pair}
 use Rattle.text.specs.Working.Pairs.{counted-large, counted-past, counted-half, counted-put, counted_none}
 use Rattle.index.specs.Working.Adding.{After, entered, index_of, append_into, counted_into, counted_is, append-room}
 use Rattle.index.specs.declared.Index.{Index}
-use Rattle.index.specs.declared.Entered.{Entered}
-use Rattle.index.specs.declared.Entered.TheVariants.{Now, Full}
 use Rattle.expression.specs.Tables.{first_from}
 use Rattle.limits.specs.Limits.{most_constants, most_literal}
 use Rattle.syntax.specs.Parsed.{refusal}
 use Rattle.fields.specs.Parsed.{behind}
 use Rattle.fields.specs.Working.Word.{word_of}
 use Rattle.fields.specs.Constants.{reserved}
-use Rattle.fields.specs.declared.constants.Settings.{Settings}
-use Rattle.fields.specs.declared.constants.Settings.TheVariants.{On, Aside}
 use Rattle.syntax.specs.Working.Faults.{against, misplaced_at}
 use Rattle.syntax.specs.declared.fault.Fault.{Fault}
+use Rattle.fields.specs.declared.constants.Settings.{Settings}
 
 -- has one of the first `count` constants that name?
 unfoldable pub taken_in : List ℕ → List ℕ → ℕ → List ℕ → Bool
@@ -41,33 +38,40 @@ constant_fault_in s consts places count t =
     (pick (reserved (word_of s t)) 4 (pick (taken_in consts places count (word_of s t)) 4 0))
     (refusal t.kind)
 
+-- the index of the constants and the token behind them, or the first fault
+abbrev pub Setting : Type 0
+Setting = Result Settings Fault
+
+abbrev pub settings : Index → Token → Setting
+settings x t = Ok (record { index = x; next = t })
+
 -- an answer, the buffer and the table
 pub data Stored : Type 0 where
-  stored : Settings → List ℕ → List ℕ → Stored
+  stored : Setting → List ℕ → List ℕ → Stored
 
-abbrev pub refused_settings : Token → Settings
-refused_settings t = Aside (misplaced_at t)
+abbrev pub refused_settings : Token → Setting
+refused_settings t = Err (misplaced_at t)
 
 -- the value behind the name
 abbrev pub on_put : ℕ → ℕ → List ℕ → List ℕ → Copied → After
-on_put c e value places (copied true m) = entered (Now (index_of c (e + 2 + length value))) m places
-on_put c e value places (copied false m) = entered Full m places
+on_put c e value places (copied true m) = entered (Some (index_of c (e + 2 + length value))) m places
+on_put c e value places (copied false m) = entered None m places
 
 abbrev pub on_named : List ℕ → After → After
-on_named value (entered Full m places) = entered Full m places
-on_named value (entered (Now x) m places) = on_put x.count x.end value places (counted_into m x.end value)
+on_named value (entered None m places) = entered None m places
+on_named value (entered (Some x) m places) = on_put x.count x.end value places (counted_into m x.end value)
 
 unfoldable pub store_in : List ℕ → List ℕ → ℕ → ℕ → List ℕ → List ℕ → After
 store_in m places count end name value = on_named value (append_into m places count end name)
 
 abbrev pub on_stored : Token → After → Stored
-on_stored n (entered Full m places) = stored (Aside (against 0 0)) m places
-on_stored n (entered (Now x) m places) = stored (On x n) m places
+on_stored n (entered None m places) = stored (Err (against 0 0)) m places
+on_stored n (entered (Some x) m places) = stored (settings x n) m places
 
 unfoldable pub value_in : List ℕ → List ℕ → List ℕ → ℕ → ℕ → Token → Token → Stored
 value_in s m places count end t v =
     pick (eqb v.kind Kind.LITERAL)
-    (pick (ltb most_literal (length (decoded_at s v.start))) (stored (Aside (against 7 v.start)) m places)
+    (pick (ltb most_literal (length (decoded_at s v.start))) (stored (Err (against 7 v.start)) m places)
     (on_stored (behind s Kind.IN_FIELD v) (store_in m places count end (word_of s t) (decoded_at s v.start))))
     (stored (refused_settings v) m places)
 
@@ -83,15 +87,15 @@ abbrev pub State : Type 0
 State = ℕ × ℕ × Token × List ℕ × List ℕ
 
 abbrev pub on_assigned : ℕ → Stored → Step State Stored
-on_assigned count (stored (Aside f) m places) = done (stored (Aside f) m places)
-on_assigned count (stored (On x n) m places) = next (count + 1, x.end, n, m, places)
+on_assigned count (stored (Err f) m places) = done (stored (Err f) m places)
+on_assigned count (stored (Ok w) m places) = next (count + 1, w.index.end, w.next, m, places)
 
 abbrev pub setting_turn : List ℕ → State → Step State Stored
 setting_turn s (count, end, t, m, places) =
-    pick (ending t.kind) (done (stored (On (index_of count end) t) m places))
+    pick (ending t.kind) (done (stored (settings (index_of count end) t) m places))
     (pick (eqb (constant_fault_in s m places count t) 0)
-    (pick (leb most_constants count) (done (stored (Aside (against 7 t.start)) m places)) (on_assigned count (assigned_in s m places count end t)))
-    (done (stored (Aside (against (constant_fault_in s m places count t) t.start)) m places)))
+    (pick (leb most_constants count) (done (stored (Err (against 7 t.start)) m places)) (on_assigned count (assigned_in s m places count end t)))
+    (done (stored (Err (against (constant_fault_in s m places count t) t.start)) m places)))
 
 unfoldable pub constants_in : List ℕ → List ℕ → List ℕ → ℕ → ℕ → Token → Stored
 constants_in s m places count end t =
@@ -178,43 +182,43 @@ module _ (s : List ℕ) (start : ℕ) (m : List ℕ) (at n : ℕ) (ne : n ≡ le
 pub put-room : (m : List ℕ) (at : ℕ) (value : List ℕ) (t : Bool) (e : List ℕ) → copied t e ≡ counted_into m at value → t ≡ true → at + 2 + length value ≤ length m
 put-room m at value t e is y = append-room m (0 ∷ []) 0 at value (omega arith) t e is y
 
-module _ (m places : List ℕ) (count end : ℕ) (name value : List ℕ) (r : Entered) (p q : List ℕ) (re : entered r p q ≡ append_into m places count end name) where
-  pub store-full : r ≡ Full → entered Full p q ≡ store_in m places count end name value
+module _ (m places : List ℕ) (count end : ℕ) (name value : List ℕ) (r : Option Index) (p q : List ℕ) (re : entered r p q ≡ append_into m places count end name) where
+  pub store-full : r ≡ None → entered None p q ≡ store_in m places count end name value
   unfolding store_in
   store-full k = simp (sym re, k)
 
-  module _ (x : Index) (k : r ≡ Now x) (n : ℕ) (ne : n ≡ length value) (t : Bool) (b : List ℕ) (be : copied t b ≡ counted_into p x.end value) where
-    pub store-done : t ≡ true → entered (Now (index_of x.count (x.end + 2 + n))) b q ≡ store_in m places count end name value
+  module _ (x : Index) (k : r ≡ Some x) (n : ℕ) (ne : n ≡ length value) (t : Bool) (b : List ℕ) (be : copied t b ≡ counted_into p x.end value) where
+    pub store-done : t ≡ true → entered (Some (index_of x.count (x.end + 2 + n))) b q ≡ store_in m places count end name value
     unfolding store_in
     store-done y = rw ne (simp (sym re, k, sym be, y))
 
-    pub store-none : t ≡ false → entered Full b q ≡ store_in m places count end name value
+    pub store-none : t ≡ false → entered None b q ≡ store_in m places count end name value
     unfolding store_in
     store-none y = simp (sym re, k, sym be, y)
 
 -- `valued`
 module _ (s m places : List ℕ) (count end : ℕ) (t v : Token) where
-  pub value_none : (r : Settings) → (v.kind ≡ Kind.LITERAL → ⊥) → r ≡ refused_settings v → stored r m places ≡ value_in s m places count end t v
+  pub value_none : (r : Setting) → (v.kind ≡ Kind.LITERAL → ⊥) → r ≡ refused_settings v → stored r m places ≡ value_in s m places count end t v
   unfolding value_in
   value_none r h re = rw re (simp (ne_eqb _ _ h))
 
   module _ (h : v.kind ≡ Kind.LITERAL) (b : Bool) (be : b ≡ leb (length (decoded_at s v.start)) most_literal) where
-    pub value-long : not b ≡ true → stored (Aside (against 7 v.start)) m places ≡ value_in s m places count end t v
+    pub value-long : not b ≡ true → stored (Err (against 7 v.start)) m places ≡ value_in s m places count end t v
     unfolding value_in
     value-long k = simp (eq-eqb _ _ h, lt-ltb most_literal (length (decoded_at s v.start)) (leb-false (length (decoded_at s v.start)) most_literal (sym be ∙ not-true b k)))
 
-    module _ (k : not b ≡ false) (w : List ℕ) (we : w ≡ word_of s t) (r : Entered) (p q : List ℕ) (re : entered r p q ≡ store_in m places count end w (decoded_at s v.start)) where
-      pub value-full : r ≡ Full → stored (Aside (against 0 0)) p q ≡ value_in s m places count end t v
+    module _ (k : not b ≡ false) (w : List ℕ) (we : w ≡ word_of s t) (r : Option Index) (p q : List ℕ) (re : entered r p q ≡ store_in m places count end w (decoded_at s v.start)) where
+      pub value-full : r ≡ None → stored (Err (against 0 0)) p q ≡ value_in s m places count end t v
       unfolding value_in
       value-full f = simp (eq-eqb _ _ h, le-ltb most_literal (length (decoded_at s v.start)) (leb-true (length (decoded_at s v.start)) most_literal (sym be ∙ not-false b k)), sym we, sym re, f)
 
-      pub value_on : (x : Index) (u : Token) → r ≡ Now x → u ≡ token_at s Kind.IN_FIELD v.end → stored (On x u) p q ≡ value_in s m places count end t v
+      pub value_on : (x : Index) (u : Token) → r ≡ Some x → u ≡ token_at s Kind.IN_FIELD v.end → stored (settings x u) p q ≡ value_in s m places count end t v
       unfolding value_in
       value_on x u f ue = rw ue (simp (eq-eqb _ _ h, le-ltb most_literal (length (decoded_at s v.start)) (leb-true (length (decoded_at s v.start)) most_literal (sym be ∙ not-false b k)), sym we, sym re, f))
 
 -- `assigned`
 module _ (s m places : List ℕ) (count end : ℕ) (t a : Token) (ae : a ≡ token_at s Kind.IN_FIELD t.end) where
-  pub assign-none : (r : Settings) → (a.kind ≡ Kind.ASSIGN → ⊥) → r ≡ refused_settings a → stored r m places ≡ assigned_in s m places count end t
+  pub assign-none : (r : Setting) → (a.kind ≡ Kind.ASSIGN → ⊥) → r ≡ refused_settings a → stored r m places ≡ assigned_in s m places count end t
   unfolding assigned_in
   assign-none r h re = rw re (simp (sym ae, ne_eqb _ _ h))
 
@@ -224,28 +228,28 @@ module _ (s m places : List ℕ) (count end : ℕ) (t a : Token) (ae : a ≡ tok
 
 -- the end of `constants`
 pub constants-end : (s m places : List ℕ) (x : Index) (t : Token) (a : Stored) → constants_in s m places x.count x.end t ≡ a → (b : Bool) → b ≡ ending t.kind → b ≡ true
-    → stored (On x t) m places ≡ a
+    → stored (settings x t) m places ≡ a
 unfolding constants_in
 constants-end s m places x t a inv b be y = sym (loop-done _ _ _ (x.count, x.end, t, m, places) _ (simp (sym be, y))) ∙ inv
 
 -- the loop of `constants`, with the invariant `constants_in .. ≡ a`
 module _ (s m places : List ℕ) (count end : ℕ) (t : Token) (a : Stored) (inv : constants_in s m places count end t ≡ a) (b : Bool) (be : b ≡ ending t.kind) where
   module _ (nb : b ≡ false) (f : ℕ) (fe : f ≡ constant_fault_in s m places count t) where
-    pub setting-fault : (f ≡ 0 → ⊥) → stored (Aside (against f t.start)) m places ≡ a
+    pub setting-fault : (f ≡ 0 → ⊥) → stored (Err (against f t.start)) m places ≡ a
     unfolding constants_in
     setting-fault h = sym (loop-done _ _ _ (count, end, t, m, places) _ (simp (sym be, nb, sym fe, ne_eqb _ _ h))) ∙ inv
 
     module _ (z : f ≡ 0) where
-      pub setting-most : most_constants ≤ count → stored (Aside (against 7 t.start)) m places ≡ a
+      pub setting-most : most_constants ≤ count → stored (Err (against 7 t.start)) m places ≡ a
       unfolding constants_in
       setting-most h = sym (loop-done _ _ _ (count, end, t, m, places) _ (simp (sym be, nb, sym fe, eq-eqb _ _ z, le-leb _ _ h))) ∙ inv
 
-      module _ (h : count < most_constants) (r : Settings) (p q : List ℕ) (re : stored r p q ≡ assigned_in s m places count end t) where
-        pub setting-aside : (w : Fault) → r ≡ Aside w → stored r p q ≡ a
+      module _ (h : count < most_constants) (r : Setting) (p q : List ℕ) (re : stored r p q ≡ assigned_in s m places count end t) where
+        pub setting-aside : (w : Fault) → r ≡ Err w → stored (Err w) p q ≡ a
         unfolding constants_in
-        setting-aside w k = sym (loop-done _ _ _ (count, end, t, m, places) (stored r p q) (simp (sym be, nb, sym fe, eq-eqb _ _ z, lt-leb _ _ h, sym re, k))) ∙ inv
+        setting-aside w k = sym (loop-done _ _ _ (count, end, t, m, places) (stored (Err w) p q) (simp (sym be, nb, sym fe, eq-eqb _ _ z, lt-leb _ _ h, sym re, k))) ∙ inv
 
-        pub setting-more : (x : Index) (n : Token) → r ≡ On x n → constants_in s p q (count + 1) x.end n ≡ a
+        pub setting-more : (w : Settings) → r ≡ Ok w → constants_in s p q (count + 1) w.index.end w.next ≡ a
         unfolding constants_in
-        setting-more x n k =
-            sym (loop-next _ _ _ (count, end, t, m, places) (count + 1, x.end, n, p, q) (simp (sym be, nb, sym fe, eq-eqb _ _ z, lt-leb _ _ h, sym re, k)) (omega arith)) ∙ inv
+        setting-more w k =
+            sym (loop-next _ _ _ (count, end, t, m, places) (count + 1, w.index.end, w.next, p, q) (simp (sym be, nb, sym fe, eq-eqb _ _ z, lt-leb _ _ h, sym re, k)) (omega arith)) ∙ inv

@@ -1,14 +1,12 @@
 -- "Each operation rounds once": on finite operands the exact sum, product or quotient is a fraction a / c of whole numbers with a sign, and the
 -- result is the float nearest to it, of two equally near the even one, or the infinity of that sign where the nearest pattern is none of a finite float. Assumes nothing.
-use Rattle.std.specs.Prelude.{◌≡◌, refl, Bool, true, false, not, cond, ℕ, zero, suc, ◌+◌, ◌-◌, ◌*◌, ◌%◌, ◌^◌, ◌≤◌, ◌<◌, T, Float}
+use Rattle.std.specs.Prelude.{◌≡◌, refl, Bool, true, false, not, cond, ℕ, zero, suc, ◌+◌, ◌-◌, ◌*◌, ◌%◌, ◌^◌, ◌≤◌, ◌<◌, T, Float, None, Some}
 use Rattle.std.proofs.Common.{sym, ap, ◌∙◌, subst, true≢false, zero-lt-suc, arith, le-ltb}
 use Rattle.std.specs.Float.{nan, inf, fin, binary32}
 use Rattle.std.specs.Float.Ieee.{sub, neg, of_bits, to_bits, is_nan}
 use Rattle.std.specs.Float.Ieee.Bits.{to_bits-of_bits, nan_bits_is, nan_bits_above}
 use Rattle.float.specs.Nearest.{Nearest}
-use Rattle.float.specs.Operations.{is_finite, checked, plus, minus}
-use Rattle.float.specs.declared.operation.Computed.{Computed}
-use Rattle.float.specs.declared.operation.Computed.TheVariants.{Finite, Error}
+use Rattle.float.specs.Operations.{Computed, is_finite, checked, plus, minus}
 
 -- r is ± a / c, rounded once
 pub data RoundedTo (s : Bool) (a c : ℕ) (r : Float) : Type 0 where
@@ -34,8 +32,8 @@ pub record Total (s : Bool) (a : ℕ) (t : Bool) (b c : ℕ) (r : Float) : Type 
 
 -- "An infinite or not-a-number result is an error": the same of what is computed
 pub data Once (s : Bool) (a c : ℕ) : Computed → Type 0 where
-  near : (b : ℕ) → Nearest (a * 2 ^ 149) c b → b < 2139095040 → Once s a c (Finite (of_bits binary32 (cond s 2147483648 0 + b)))
-  beyond : (b : ℕ) → Nearest (a * 2 ^ 149) c b → 2139095040 ≤ b → Once s a c Error
+  near : (b : ℕ) → Nearest (a * 2 ^ 149) c b → b < 2139095040 → Once s a c (Some (of_bits binary32 (cond s 2147483648 0 + b)))
+  beyond : (b : ℕ) → Nearest (a * 2 ^ 149) c b → 2139095040 ≤ b → Once s a c None
 
 -- a pattern below the infinity's is a finite float's
 finite-bits : (n : ℕ) → n < 4294967296 → n % 2147483648 < 2139095040 → is_finite (of_bits binary32 n) ≡ true

@@ -1,6 +1,6 @@
 -- The examples that OPEN-POINTS-02 rules, F01 to F03 and F06 to F08, by computation; and where the theorems' premises hold and where they don't.
 -- Assumes nothing.
-use Rattle.std.specs.Prelude.{◌≡◌, refl, true, false, List, [], ◌∷◌, ℕ, ◌^◌, ◌*◌, ◌≤◌, pos, negsuc, Float}
+use Rattle.std.specs.Prelude.{◌≡◌, refl, true, false, List, [], ◌∷◌, ℕ, ◌^◌, ◌*◌, ◌≤◌, pos, negsuc, Float, None, Some}
 use Rattle.std.proofs.Common.{sym, ap, ◌∙◌, inl, arith, le_of_eq, mul-zero, lit≤}
 use Prim.Native.Char.{code}
 use Prim.Native.String.{String, [] as nothing, ◌∷◌ as ◌then◌}
@@ -16,7 +16,6 @@ use Rattle.float.specs.Operations.{is_finite, checked, times, over, one, raised_
 use Rattle.float.specs.Theorems.Exponent.{IsWhole}
 use Rattle.float.specs.Theorems.Power.{power-whole, power-other}
 use Rattle.float.specs.Theorems.Held.{float_back}
-use Rattle.float.specs.declared.operation.Computed.TheVariants.{Finite, Error}
 
 -- the bytes of a text, and the bits of the float that it writes
 unfoldable pub bytes : String → List ℕ
@@ -75,23 +74,23 @@ two = fin false 1 (pos 1)
 abbrev half : Float
 half = fin false 1 (negsuc 0)
 
-pub two-64 : power two (fin false 1 (pos 6)) ≡ Finite (fin false 1 (pos 64))
+pub two-64 : power two (fin false 1 (pos 6)) ≡ Some (fin false 1 (pos 64))
 unfolding power power_from raised raised_from is_finite mul eq of_int round
 two-64 = refl
 
-pub two-65 : power two (fin false 65 (pos 0)) ≡ Error
+pub two-65 : power two (fin false 65 (pos 0)) ≡ None
 unfolding power power_from eq of_int round
 two-65 = refl
 
-pub root : power one half ≡ Error
+pub root : power one half ≡ None
 unfolding power power_from eq of_int round
 root = refl
 
-pub minus_one : power one (fin true 1 (pos 0)) ≡ Error
+pub minus_one : power one (fin true 1 (pos 0)) ≡ None
 unfolding power power_from eq of_int round
 minus_one = refl
 
-pub minus-zero : power two (fin true 0 (pos 0)) ≡ Finite one
+pub minus-zero : power two (fin true 0 (pos 0)) ≡ Some one
 unfolding power power_from raised raised_from eq of_int round
 minus-zero = refl
 
@@ -105,28 +104,28 @@ power-64 = power-whole two (fin false 1 (pos 6)) 64 (lit≤ tt) whole-64
 pub no_whole : (n : ℕ) → n ≤ 64 → IsWhole n half → ⊥
 no_whole n h w = let e : 1 ≡ n * 2 = w.0 in let no : ⊥ = omega (arith, e) in no
 
-pub power-half : power one half ≡ Error
+pub power-half : power one half ≡ None
 power-half = power-other one half no_whole
 
 -- very small floats: 2 ^ -149 is there, 2 ^ -150 is 0
-pub tiny : times (fin false 1 (negsuc 127)) (fin false 1 (negsuc 20)) ≡ Finite (fin false 1 (negsuc 148))
+pub tiny : times (fin false 1 (negsuc 127)) (fin false 1 (negsuc 20)) ≡ Some (fin false 1 (negsuc 148))
 unfolding times checked is_finite mul round
 tiny = refl
 
-pub gone : times (fin false 1 (negsuc 127)) (fin false 1 (negsuc 21)) ≡ Finite (fin false 0 (pos 0))
+pub gone : times (fin false 1 (negsuc 127)) (fin false 1 (negsuc 21)) ≡ Some (fin false 0 (pos 0))
 unfolding times checked is_finite mul round
 gone = refl
 
 -- infinite in between, and a division by zero
-pub too-big : times (fin false 1 (pos 64)) (fin false 1 (pos 64)) ≡ Error
+pub too-big : times (fin false 1 (pos 64)) (fin false 1 (pos 64)) ≡ None
 unfolding times checked is_finite mul round
 too-big = refl
 
-pub by_zero : over one (fin true 0 (pos 0)) ≡ Error
+pub by_zero : over one (fin true 0 (pos 0)) ≡ None
 unfolding over checked is_finite div
 by_zero = refl
 
-pub zero_by_zero : over (fin false 0 (pos 0)) (fin false 0 (pos 0)) ≡ Error
+pub zero_by_zero : over (fin false 0 (pos 0)) (fin false 0 (pos 0)) ≡ None
 unfolding over checked is_finite div
 zero_by_zero = refl
 

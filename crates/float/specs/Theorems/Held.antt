@@ -1,5 +1,5 @@
 -- Every float that is written or computed is one that 32 bits hold, so its bits say it. Assumes nothing.
-use Rattle.std.specs.Prelude.{◌≡◌, Bool, true, false, List, [], ◌∷◌, ◌++◌, ℕ, zero, suc, ◌+◌, ◌^◌, ◌<◌, T, eqb, ltb, leb, length, get_or, take, drop, pos, Float}
+use Rattle.std.specs.Prelude.{◌≡◌, Bool, true, false, List, [], ◌∷◌, ◌++◌, ℕ, zero, suc, ◌+◌, ◌^◌, ◌<◌, T, eqb, ltb, leb, length, get_or, take, drop, pos, Float, None, Some}
 use Rattle.std.specs.Float.{binary32}
 use Rattle.std.specs.Float.Ieee.{add, sub, mul, div, neg, eq, of_int, fits, of_bits, to_bits}
 use Rattle.std.specs.Float.Ieee.Fits.{add-fits, sub-fits, mul-fits, div-fits, neg-fits, round-fits}
@@ -12,9 +12,7 @@ use Rattle.text.specs.Digits.{value}
 use Rattle.float.specs.Bits.{float_at}
 use Rattle.float.specs.Decimal.{decimal}
 use Rattle.float.specs.Written.{nought, amount_of, with_fraction, unsigned, float_of}
-use Rattle.float.specs.Operations.{is_finite, checked, plus, minus, times, over, negated, one, raised_from, raised, power_from, power}
-use Rattle.float.specs.declared.operation.Computed.{Computed}
-use Rattle.float.specs.declared.operation.Computed.TheVariants.{Finite, Error}
+use Rattle.float.specs.Operations.{Computed, is_finite, checked, plus, minus, times, over, negated, one, raised_from, raised, power_from, power}
 
 abbrev pub Fitting : Float → Type 0
 Fitting x = T (fits binary32 x)
@@ -59,8 +57,8 @@ written-fits (b ∷ bs) = pick-fits (eqb b 45) _ _ (unsigned-fits true bs) (unsi
 
 -- what is computed, whatever the operands are; "-" alone asks it of its operand
 abbrev pub Held : Computed → Type 0
-Held (Finite x) = Fitting x
-Held Error = Unit
+Held (Some x) = Fitting x
+Held None = Unit
 
 pick-held : (t : Bool) (v w : Computed) → Held v → Held w → Held (pick t v w)
 pick-held true v w h k = h
@@ -68,7 +66,7 @@ pick-held false v w h k = k
 
 checked-held : (x : Float) → Fitting x → Held (checked x)
 unfolding checked
-checked-held x h = pick-held (is_finite x) (Finite x) Error h tt
+checked-held x h = pick-held (is_finite x) (Some x) None h tt
 
 pub plus-held : (a b : Float) → Held (plus a b)
 unfolding plus
@@ -93,7 +91,7 @@ negated-held a h = checked-held (neg a) (neg-fits binary32 a h)
 raised_from-held : (n : ℕ) (x v : Float) → Fitting v → Held (raised_from n x v)
 unfolding raised_from
 raised_from-held zero x v h = h
-raised_from-held (suc n) x v h = pick-held (is_finite (mul binary32 v x)) (raised_from n x (mul binary32 v x)) Error (raised_from-held n x (mul binary32 v x) (mul-fits binary32 v x)) tt
+raised_from-held (suc n) x v h = pick-held (is_finite (mul binary32 v x)) (raised_from n x (mul binary32 v x)) None (raised_from-held n x (mul binary32 v x) (mul-fits binary32 v x)) tt
 
 one-fits : Fitting one
 unfolding fits

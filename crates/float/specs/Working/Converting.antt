@@ -1,16 +1,15 @@
 -- Working laws: what the parts of `nearest_to` give, and that together they give the nearest float. Assumes nothing.
 use Rattle.std.specs.Prelude.{◌≡◌, refl, Bool, true, false, not, cond, T, ltb}
-use Rattle.std.proofs.Common.{sym, ap, ◌∙◌, subst, inl, inr, add-mul, one-mul, le_trans, le_of_eq, le_of_lt, lt_of_lt_of_le, lt_of_le_of_lt, mul-one, mul_comm, mul_assoc, mul_left_comm, mul_right_comm, mul-pos, mul-le-mul_left, mul-le-mul_right, mul-lt-mul_of_pos_right, lt_of_mul-lt-mul_right, div-add-mod', mod-lt, lt_irrefl, zero-mul, le_antisymm, pow-suc, mod-eq_of_lt, arith, add-one, lit<, lit≤, le-ltb, Fits, pow_pos, pow-add, pow_mono}
-use Prim.Native.Nat.{ℕ, zero, suc, ◌+◌, ◌-◌, ◌*◌, ◌/◌, ◌%◌, ◌^◌, ◌≤◌, ◌<◌, compare, Ordering}
+use Rattle.std.proofs.Common.{sym, ap, ◌∙◌, subst, inl, inr, add-mul, one-mul, le_trans, le_of_eq, le_of_lt, lt_of_lt_of_le, lt_of_le_of_lt, mul-one, mul_comm, mul_assoc, mul_left_comm, mul_right_comm, mul-pos, mul-le-mul_left, mul-le-mul_right, mul-lt-mul_of_pos_right, lt_of_mul-lt-mul_right, div-add-mod', mod-lt, lt_irrefl, zero-mul, pow-suc, mod-eq_of_lt, arith, lit<, lit≤, le-ltb, Fits, pow_pos, pow-add, pow_mono}
+use Prim.Native.Nat.{ℕ, zero, suc, ◌+◌, ◌-◌, ◌*◌, ◌/◌, ◌%◌, ◌^◌, ◌≤◌, ◌<◌}
 use Rattle.std.proofs.Math.Nat.{mul-lt-mul_of_pos_left}
 use Rattle.std.specs.Float.Ieee.Fits.{round_is}
 use Rattle.std.specs.Float.Ieee.Bits.{nan_bits_above}
 use Rattle.std.specs.Int.{w64}
 use Rattle.std.specs.Float.{inf, binary32}
-use Rattle.std.specs.Float.Ieee.{nearest, odd, units, round, neg, nan_bits}
+use Rattle.std.specs.Float.Ieee.{odd, units, round, neg, nan_bits}
 use Rattle.float.specs.Working.Patterns.{split}
 use Rattle.float.specs.Nearest.{val, apart, Nearest}
-use Rattle.float.specs.Theorems.Rounded.{Stands, stands}
 use Rattle.float.specs.declared.decimal.Scaled.{Scaled}
 use Rattle.float.specs.declared.decimal.Cut.{Cut}
 
@@ -76,15 +75,9 @@ ten-le k m h =
     subst (λ (z : ℕ). 10 ^ k ≤ 10 ^ z) (sym e) (subst (λ (z : ℕ). 10 ^ k ≤ z) (sym (pow-add 10 k (m - k))) (le_trans (le_of_eq (sym (mul-one (10 ^ k)))) (mul-le-mul_left (10 ^ k) (ten-pos (m - k)))))
 
 -- the loops' steps
-pub ten-step : (i p : ℕ) → p ≡ 10 ^ i → p * 10 ≡ 10 ^ (i + 1)
-ten-step i p e = ap (λ (x : ℕ). x * 10) e ∙ sym (pow-add 10 i 1)
-
 pub level-start : (c : ℕ) → Level 125 c c
 unfolding Level
 level-start c = refl
-
-pub ten-done : (i k p : ℕ) → i ≤ k → k ≤ i → p ≡ 10 ^ i → p ≡ 10 ^ k
-ten-done i k p h g e = e ∙ ap (λ (z : ℕ). 10 ^ z) (le_antisymm h g)
 
 pub under-step : (j c b : ℕ) → Level j c b → Level (j + 1) c (b * 2)
 unfolding Level
@@ -123,11 +116,8 @@ divide-digit r b h =
     lt_of_mul-lt-mul_right b u
 
 -- what fits, and what the parts give
-pub ten-fits : (i k p : ℕ) → i < k → k ≤ 18 → p ≡ 10 ^ i → Fits w64 (p * 10)
-ten-fits i k p h g e =
-    let l : i ≤ 17 = omega arith in
-    let m : 10 ^ i ≤ 10 ^ 17 = ten-le i 17 l in
-    record { fits = omega arith }
+pub ten-fits : (k : ℕ) → k ≤ 18 → 10 ^ k < 2 ^ 64
+ten-fits k h = let m : 10 ^ k ≤ 10 ^ 18 = ten-le k 18 h in omega arith
 
 pub place-fits : (j c b : ℕ) → Level j c b → 0 < c → b ≤ 2000000000000000000 → Fits w64 (j + 1)
 place-fits j c b e C h = let l : j < 186 = place-high j c b e C h in record { fits = omega arith }
@@ -185,28 +175,6 @@ zero-nearest c = record { near = λ d. zero-le' (apart 0 (val d * c)) (val 0 * c
   where
     zero-le' : (y z : ℕ) → z ≡ 0 → apart 0 z ≤ y
     zero-le' y z e = omega arith
-
--- the three ways of `rounded`
-module _ (q r b : ℕ) where
-  ordered : (o p : Ordering) → Stands o (r * 2) b → Stands p (r * 2) b → o ≡ p
-  ordered Ordering.lt Ordering.lt h k = refl
-  ordered Ordering.lt Ordering.eq h k = let no : ⊥ = omega arith in absurd no
-  ordered Ordering.lt Ordering.gt h k = let no : ⊥ = omega arith in absurd no
-  ordered Ordering.eq Ordering.lt h k = let no : ⊥ = omega arith in absurd no
-  ordered Ordering.eq Ordering.eq h k = refl
-  ordered Ordering.eq Ordering.gt h k = let no : ⊥ = omega arith in absurd no
-  ordered Ordering.gt Ordering.lt h k = let no : ⊥ = omega arith in absurd no
-  ordered Ordering.gt Ordering.eq h k = let no : ⊥ = omega arith in absurd no
-  ordered Ordering.gt Ordering.gt h k = refl
-
-  pub rounds-down : r * 2 < b → q ≡ nearest q (compare (r * 2) b)
-  rounds-down h = ap (nearest q) (ordered Ordering.lt (compare (r * 2) b) h (stands (r * 2) b))
-
-  pub rounds-up : b < r * 2 → q + 1 ≡ nearest q (compare (r * 2) b)
-  rounds-up h = add-one q ∙ ap (nearest q) (ordered Ordering.gt (compare (r * 2) b) h (stands (r * 2) b))
-
-  pub rounds-tie : b ≤ r * 2 → r * 2 ≤ b → q + q % 2 ≡ nearest q (compare (r * 2) b)
-  rounds-tie h k = ap (nearest q) (ordered Ordering.eq (compare (r * 2) b) (le_antisymm k h) (stands (r * 2) b))
 
 pub few-of : (a b : ℕ) (d : Cut) → Divided a b d → a < b → d.digits < 16777216
 few-of a b d h l = few-digits a b d.digits d.rest h.same l

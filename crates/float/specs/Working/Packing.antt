@@ -1,11 +1,9 @@
 -- Working laws: the ways out of the functions between floats and bits. Assumes nothing.
 use Rattle.std.specs.Prelude.{◌≡◌, refl, Bool, true, false, not, ℕ, ◌%◌, ◌≤◌, ◌<◌, T, ltb, Float}
-use Rattle.std.proofs.Common.{sym, ap, ◌∙◌, subst, true≢false, arith, Fits, lt-ltb, le-ltb, ltb-true}
+use Rattle.std.proofs.Common.{sym, ap, ◌∙◌, subst, true≢false, arith, lt-ltb, le-ltb, ltb-true}
 use Rattle.std.specs.Float.{nan, inf, fin, binary32}
-use Rattle.std.specs.Float.Ieee.{div, eq, ne, fits, of_bits, to_bits, nan_bits, is_nan}
-use Rattle.std.specs.Float.Ieee.Compare.{differs_from_itself}
-use Rattle.std.specs.Float.Ieee.Bits.{to_bits-lt, nan_bits_is, nan_bits_above}
-use Rattle.std.specs.Int.{w64}
+use Rattle.std.specs.Float.Ieee.{div, of_bits, to_bits, nan_bits, is_nan}
+use Rattle.std.specs.Float.Ieee.Bits.{nan_bits_is, nan_bits_above}
 use Rattle.text.specs.Choice.{pick}
 use Rattle.float.specs.Bits.{float_at}
 
@@ -23,25 +21,9 @@ nan_pattern : to_bits binary32 nan ≡ 2143289344
 unfolding to_bits
 nan_pattern = refl
 
-ne-is : (x : Float) → ne x x ≡ not (eq x x)
-unfolding ne
-ne-is x = refl
-
--- the bits
-pub is_number : (x : Float) → eq x x ≡ true → T (not (is_nan x))
-unfolding eq is_nan
-is_number nan h = absurd (true≢false (sym h))
-is_number (inf s) h = tt
-is_number (fin s m e) h = tt
-
-pub nan-bits : (x : Float) → eq x x ≡ false → 2143289344 ≡ to_bits binary32 x
-nan-bits x h = sym (ap (to_bits binary32) (differs_from_itself x (subst T (sym (ne-is x ∙ ap not h)) tt)) ∙ bits)
-  where
-    bits : to_bits binary32 nan ≡ 2143289344
-    bits = nan_pattern
-
-pub bits_fit : (x : Float) → fits binary32 x ≡ true → Fits w64 (to_bits binary32 x)
-bits_fit x h = let l : to_bits binary32 x < 4294967296 = to_bits-lt binary32 x (subst T (sym h) tt) in record { fits = omega arith }
+-- the bits of a NaN
+pub nan-bits : (x : Float) (r : Bool) → r ≡ is_nan x → r ≡ true → 2143289344 ≡ to_bits binary32 x
+nan-bits x r e h = sym (ap (to_bits binary32) (is-nan x (sym e ∙ h)) ∙ nan_pattern)
 
 -- the float of a number
 above : (n : ℕ) → nan_bits binary32 n ≡ ltb 2139095040 (n % 2147483648)

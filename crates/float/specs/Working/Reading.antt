@@ -1,7 +1,7 @@
 -- Working laws: the ways out of the functions that read a written float. Assumes nothing.
-use Rattle.std.specs.Prelude.{◌≡◌, Bool, true, false, ℕ, zero, suc, ◌+◌, ◌-◌, ◌*◌, ◌^◌, ◌≤◌, ◌<◌, leb, length, get_or, take, drop, Float}
+use Rattle.std.specs.Prelude.{◌≡◌, Bool, true, false, ℕ, zero, suc, ◌+◌, ◌-◌, ◌*◌, ◌^◌, ◌≤◌, ◌<◌, min, leb, length, get_or, take, drop, Float}
 use Rattle.std.proofs.Math.Path.{refl, sym, ap}
-use Rattle.std.proofs.Common.{◌∙◌, subst, not-suc-le-zero, le_of_suc-le-suc, add-zero, lt_of_lt_of_le, le_refl, zero-add, le_antisymm, arith, add-one, length-drop, drop_of_length-le, drop-cons, take_all, pow-add, Fits}
+use Rattle.std.proofs.Common.{◌∙◌, subst, not-suc-le-zero, le_of_suc-le-suc, add-zero, lt_of_lt_of_le, zero-add, le_antisymm, arith, add-one, length-drop, drop_of_length-le, drop-cons, take_all, pow-add, Fits}
 use mathlib.Core.List.{List, [], ◌∷◌, ◌++◌}
 use Rattle.std.specs.Int.{w64}
 use borrow.Author.Tests.{lt-ltb, le-ltb, le-leb, lt-leb, eq-eqb, ne_eqb, leb-true}
@@ -39,13 +39,13 @@ passes p [] e i h = absurd (not-suc-le-zero h)
 passes p (x ∷ xs) e zero h = head-is p x xs e
 passes p (x ∷ xs) e (suc i) h = passes p xs (tail-same p x xs e) i (le_of_suc-le-suc h)
 
-ten : (b : ℕ) → in_class 1 b ≡ true → b - 48 < 10
+ten : (b : ℕ) → in_class digit b ≡ true → b - 48 < 10
 unfolding in_class is_digit
 ten b e = split (leb 48 b) (λ t. let h : b ≤ 57 = leb-true b 57 (rw t at e) in omega arith) (λ t. clash refl (sym (rw t at e)))
 
 digit-is : (ds : List ℕ) (i d : ℕ) → AllDigits ds → i < length ds → d ≡ get_or ds i 0 - 48 → d < 10
 unfolding AllDigits
-digit-is ds i d a h e = subst (λ (z : ℕ). z < 10) (sym e) (ten (get_or ds i 0) (passes (in_class 1) ds a i h))
+digit-is ds i d a h e = subst (λ (z : ℕ). z < 10) (sym e) (ten (get_or ds i 0) (passes (in_class digit) ds a i h))
 
 -- the loop
 module _ (v m n i d : ℕ) (ds : List ℕ) (a : AllDigits ds) (h : i < length ds) (small : n < 10 ^ (m + i)) where
@@ -55,7 +55,10 @@ module _ (v m n i d : ℕ) (ds : List ℕ) (a : AllDigits ds) (h : i < length ds
       let t : 10 ^ (m + i) ≤ 10 ^ 17 = ten-le (m + i) 17 k in
       record { fits = omega arith }
 
-  module _ (e : d ≡ get_or ds i 0 - 48) where
+  module _ (b : ℕ) (be : b ≡ get_or ds i 0 - 48) (de : d ≡ b) where
+    e : d ≡ get_or ds i 0 - 48
+    e = de ∙ be
+
     pub more-holds : m + length ds ≤ 18 → Fits w64 (n * 10 + d)
     more-holds l =
         let k : m + i ≤ 17 = omega arith in
@@ -86,19 +89,13 @@ more-done v m n i ds a b q l =
     record { is = sym (ap (value_from n) (drop_of_length-le ds b)) ∙ q; small = subst (λ (z : ℕ). n < 10 ^ (m + z)) e l }
 
 -- the ways out of `amount`
+pub amount-few : (w f : List ℕ) (k : ℕ) → k ≡ min (length w + length f) (2 ^ 64 - 1) → k ≤ 18 → length w + length f ≤ 18
+amount-few w f k e h = omega arith
+
 module _ (n : Bool) (w f : List ℕ) where
-  amount-over : 18 < length w + length f → nought ≡ amount_of n w f
+  pub amount-over : (k : ℕ) → k ≡ min (length w + length f) (2 ^ 64 - 1) → 18 < k → nought ≡ amount_of n w f
   unfolding amount_of
-  amount-over h = simp (lt-ltb _ _ h)
-
-  pub amount-long : 18 < length w → nought ≡ amount_of n w f
-  amount-long h = let l : 18 < length w + length f = omega arith in amount-over l
-
-  pub amount-deep : 18 < length f → nought ≡ amount_of n w f
-  amount-deep h = let l : 18 < length w + length f = omega arith in amount-over l
-
-  pub amount-both : 18 < length w + length f → nought ≡ amount_of n w f
-  amount-both h = amount-over h
+  amount-over k e h = let l : 18 < length w + length f = omega arith in simp (lt-ltb _ _ l)
 
   module _ (l : length w + length f ≤ 18) (v z : ℕ) (hv : More 0 0 w v) (hz : More v (length w) f z) where
     joined : (xs ys : List ℕ) (a : ℕ) → value_from a (xs ++ ys) ≡ value_from (value_from a xs) ys
@@ -125,34 +122,24 @@ value-small w f v z l h = lt_of_lt_of_le h.small (ten-le (length w + length f) 1
 pub run_length : (p : ℕ → Bool) (xs : List ℕ) → run p xs ≤ length xs
 run_length p xs = subst (λ (z : ℕ). z ≤ length xs) (past-front p xs 0) (past-within p xs 0 (omega arith))
 
-rest-none : (s : List ℕ) → take (length s - length s) (drop (length s) s) ≡ []
-rest-none s = ap (take (length s - length s)) (drop_of_length-le s (le_refl (length s))) ∙ take-empty (length s - length s)
-  where
-    take-empty : (k : ℕ) → take {A = ℕ} k [] ≡ []
-    take-empty zero = refl
-    take-empty (suc k) = refl
-
-pub digits-all : (ds : List ℕ) (j : ℕ) → j ≡ run (in_class 1) ds → length ds ≤ j → AllDigits ds
+pub digits-all : (ds : List ℕ) (j : ℕ) → j ≡ run (in_class digit) ds → length ds ≤ j → AllDigits ds
 unfolding AllDigits
-digits-all ds j e h = le_antisymm (run_length (in_class 1) ds) (subst (λ (z : ℕ). length ds ≤ z) e h)
+digits-all ds j e h = le_antisymm (run_length (in_class digit) ds) (subst (λ (z : ℕ). length ds ≤ z) e h)
 
 pub run-front : (p : ℕ → Bool) (xs : List ℕ) → run p (take (run p xs) xs) ≡ length (take (run p xs) xs)
 run-front p [] = refl
 run-front p (x ∷ xs) = split (p x) (λ t. rw (t, t) (ap suc (run-front p xs))) (λ t. rw t refl)
 
-pub digits-front : (s : List ℕ) (k : ℕ) → k ≡ run (in_class 1) s → AllDigits (take k s)
+pub digits-front : (s : List ℕ) (k : ℕ) → k ≡ run (in_class digit) s → AllDigits (take k s)
 unfolding AllDigits
-digits-front s k e = subst (λ (z : ℕ). run (in_class 1) (take z s) ≡ length (take z s)) (sym e) (run-front (in_class 1) s)
+digits-front s k e = subst (λ (z : ℕ). run (in_class digit) (take z s) ≡ length (take z s)) (sym e) (run-front (in_class digit) s)
 
-no-digits : AllDigits []
+pub no-digits : AllDigits []
 unfolding AllDigits
 no-digits = refl
 
-pub digits-none : (s : List ℕ) → AllDigits (take (length s - length s) (drop (length s) s))
-digits-none s = subst AllDigits (sym (rest-none s)) no-digits
-
 -- the ways out of `with_fraction`
-module _ (n : Bool) (w ds : List ℕ) (j : ℕ) (je : j ≡ run (in_class 1) ds) where
+module _ (n : Bool) (w ds : List ℕ) (j : ℕ) (je : j ≡ run (in_class digit) ds) where
   pub fraction-none : j ≡ 0 → nought ≡ with_fraction n w ds
   unfolding with_fraction
   fraction-none h = simp (sym je, eq-eqb _ _ h)
@@ -170,15 +157,15 @@ module _ (n : Bool) (w ds : List ℕ) (j : ℕ) (je : j ≡ run (in_class 1) ds)
 tail-is : (s : List ℕ) (k : ℕ) → take (length s - k) (drop k s) ≡ drop k s
 tail-is s k = take_all (length s - k) (drop k s) (simp length-drop (omega arith))
 
-module _ (n : Bool) (s : List ℕ) (k : ℕ) (ke : k ≡ run (in_class 1) s) where
+module _ (n : Bool) (s : List ℕ) (k : ℕ) (ke : k ≡ run (in_class digit) s) where
   pub unsigned-none : k ≡ 0 → nought ≡ unsigned n s
   unfolding unsigned
   unsigned-none h = simp (sym ke, eq-eqb _ _ h)
 
   module _ (nz : k ≡ 0 → ⊥) where
-    pub unsigned-all : length s ≤ k → (r : Float) → r ≡ amount_of n s (take (length s - length s) (drop (length s) s)) → r ≡ unsigned n s
+    pub unsigned-all : length s ≤ k → (r : Float) → r ≡ amount_of n s [] → r ≡ unsigned n s
     unfolding unsigned
-    unsigned-all h r e = e ∙ ap (amount_of n s) (rest-none s) ∙ simp (sym ke, ne_eqb _ _ nz, le-leb _ _ h)
+    unsigned-all h r e = e ∙ simp (sym ke, ne_eqb _ _ nz, le-leb _ _ h)
 
     module _ (more : k < length s) where
       pub unsigned-other : (get_or s k 0 ≡ 46 → ⊥) → nought ≡ unsigned n s
@@ -190,10 +177,10 @@ module _ (n : Bool) (s : List ℕ) (k : ℕ) (ke : k ≡ run (in_class 1) s) whe
       unsigned-point h r e = e ∙ rw (tail-is s (k + 1)) (simp (sym ke, ne_eqb _ _ nz, lt-leb _ _ more, eq-eqb _ _ h))
 
 -- the ways out of `to_float`
-pub float-none : (s : List ℕ) → length s ≤ 0 → nought ≡ float_of s
-unfolding float_of
-float-none [] h = refl
-float-none (b ∷ bs) h = absurd (not-suc-le-zero h)
+pub float-none : (s : List ℕ) (r : Float) → length s ≤ 0 → r ≡ unsigned false s → r ≡ float_of s
+unfolding float_of unsigned
+float-none [] r h e = e
+float-none (b ∷ bs) r h e = absurd (not-suc-le-zero h)
 
 pub float-minus : (s : List ℕ) (r : Float) → 0 < length s → get_or s 0 0 ≡ 45 → r ≡ unsigned true (take (length s - 1) (drop 1 s)) → r ≡ float_of s
 unfolding float_of

@@ -53,7 +53,7 @@ dropped-past s e k (suc n) i h l =
 -- one unit: what the bytes behind it give, and what it gives before that
 module _ (s : List ℕ) (i e : ℕ) (k : e ≤ length s) (quote : get_or s e 0 ≡ 34) (ys : List ℕ) where
   abbrev Stepped : Unit → Type 0
-  Stepped u = leb u.kind 1 ≡ true → i + u.width ≤ e → Gives (between s (i + u.width) e) ys → Gives (between s i e) (pick (eqb u.kind 1) (u.byte ∷ ys) ys)
+  Stepped u = leb (U.kind u) 1 ≡ true → i + (U.width u) ≤ e → Gives (between s (i + (U.width u)) e) ys → Gives (between s i e) (pick (eqb (U.kind u) 1) ((U.byte u) ∷ ys) ys)
 
   -- an octal digit is no closing quote
   digit-before : (j : ℕ) → j ≤ e → octal (get_or s j 0) ≡ true → j + 1 ≤ e
@@ -233,10 +233,10 @@ module _ (s : List ℕ) where
   unfolding units
   closing-quote zero i = λ z. absurd (z refl)
   closing-quote (suc n) i =
-      chosen Quoted (eqb (U.unit_at s i).kind 2) (i + 1) _
+      chosen Quoted (eqb (U.kind (U.unit_at s i)) 2) (i + 1) _
       (λ e z. let w : i + 1 - 1 ≡ i = omega arith in rw w (unit-closing s i (eqb-true _ _ e)).1)
-      (λ e. chosen (λ (us : List Unit). Quoted (closing (i + (U.unit_at s i).width) us)) (inside (U.unit_at s i)) (units n s (i + (U.unit_at s i).width)) []
-      (λ f. closing-quote n (i + (U.unit_at s i).width)) (λ f z. absurd (z refl)))
+      (λ e. chosen (λ (us : List Unit). Quoted (closing (i + (U.width (U.unit_at s i))) us)) (inside (U.unit_at s i)) (units n s (i + (U.width (U.unit_at s i)))) []
+      (λ f. closing-quote n (i + (U.width (U.unit_at s i)))) (λ f z. absurd (z refl)))
 
   closed-within : (n i : ℕ) → (closing i (units n s i) ≡ 0 → ⊥) → (i < closing i (units n s i)) × (closing i (units n s i) ≤ length s)
   unfolding Closed
@@ -246,32 +246,32 @@ module _ (s : List ℕ) where
   Decodes i us = (closing i us ≡ 0 → ⊥) → Gives (between s i (closing i us - 1)) (given us)
 
   -- the closing quote
-  decodes-last : (i : ℕ) (u : Unit) (us : List Unit) → u.kind ≡ 2 → given us ≡ [] → Decodes i (u ∷ us)
+  decodes-last : (i : ℕ) (u : Unit) (us : List Unit) → (U.kind u) ≡ 2 → given us ≡ [] → Decodes i (u ∷ us)
   decodes-last i u us h g =
-      let c : eqb u.kind 2 ≡ true = eq-eqb _ _ h in
-      let d : eqb u.kind 1 ≡ false = ne_eqb u.kind 1 (λ e. let no : ⊥ = omega (arith, h, e) in no) in
+      let c : eqb (U.kind u) 2 ≡ true = eq-eqb _ _ h in
+      let d : eqb (U.kind u) 1 ≡ false = ne_eqb (U.kind u) 1 (λ e. let no : ⊥ = omega (arith, h, e) in no) in
       let w : i + 1 - 1 ≡ i = omega arith in
       rw (c, d, w, g) (λ z. rw (between_none s i) ends)
 
   -- a unit before it
-  decodes-more : (n i : ℕ) → inside (U.unit_at s i) ≡ true → eqb (U.unit_at s i).kind 2 ≡ false
-      → Decodes (i + (U.unit_at s i).width) (units n s (i + (U.unit_at s i).width)) → Decodes i (U.unit_at s i ∷ units n s (i + (U.unit_at s i).width))
+  decodes-more : (n i : ℕ) → inside (U.unit_at s i) ≡ true → eqb (U.kind (U.unit_at s i)) 2 ≡ false
+      → Decodes (i + (U.width (U.unit_at s i))) (units n s (i + (U.width (U.unit_at s i)))) → Decodes i (U.unit_at s i ∷ units n s (i + (U.width (U.unit_at s i))))
   decodes-more n i f c h =
       rw c (λ z.
-      let m : (i + (U.unit_at s i).width < closing (i + (U.unit_at s i).width) (units n s (i + (U.unit_at s i).width))) × (closing (i + (U.unit_at s i).width) (units n s (i + (U.unit_at s i).width)) ≤ length s)
-      = closed-within n (i + (U.unit_at s i).width) z in
-      step-unit s i (closing (i + (U.unit_at s i).width) (units n s (i + (U.unit_at s i).width)) - 1) (omega (arith, m.1)) (closing-quote n (i + (U.unit_at s i).width) z)
-      (given (units n s (i + (U.unit_at s i).width))) f (omega (arith, m.0)) (h z))
+      let m : (i + (U.width (U.unit_at s i)) < closing (i + (U.width (U.unit_at s i))) (units n s (i + (U.width (U.unit_at s i))))) × (closing (i + (U.width (U.unit_at s i))) (units n s (i + (U.width (U.unit_at s i)))) ≤ length s)
+      = closed-within n (i + (U.width (U.unit_at s i))) z in
+      step-unit s i (closing (i + (U.width (U.unit_at s i))) (units n s (i + (U.width (U.unit_at s i)))) - 1) (omega (arith, m.1)) (closing-quote n (i + (U.width (U.unit_at s i))) z)
+      (given (units n s (i + (U.width (U.unit_at s i))))) f (omega (arith, m.0)) (h z))
 
   decodes-units : (n i : ℕ) → Decodes i (units n s i)
   unfolding units
   decodes-units zero i = λ z. absurd (z refl)
   decodes-units (suc n) i =
       split (inside (U.unit_at s i))
-      (λ f. let l : (U.unit_at s i).kind ≤ 1 = leb-true _ _ f in
-      let c : eqb (U.unit_at s i).kind 2 ≡ false = ne_eqb (U.unit_at s i).kind 2 (λ e. let no : ⊥ = omega (arith, l, e) in no) in
-      rw f (decodes-more n i f c (decodes-units n (i + (U.unit_at s i).width))))
-      (λ f. split (eqb (U.unit_at s i).kind 2) (λ c. rw f (decodes-last i (U.unit_at s i) [] (eqb-true _ _ c) refl))
+      (λ f. let l : (U.kind (U.unit_at s i)) ≤ 1 = leb-true _ _ f in
+      let c : eqb (U.kind (U.unit_at s i)) 2 ≡ false = ne_eqb (U.kind (U.unit_at s i)) 2 (λ e. let no : ⊥ = omega (arith, l, e) in no) in
+      rw f (decodes-more n i f c (decodes-units n (i + (U.width (U.unit_at s i))))))
+      (λ f. split (eqb (U.kind (U.unit_at s i)) 2) (λ c. rw f (decodes-last i (U.unit_at s i) [] (eqb-true _ _ c) refl))
       (λ c. rw (f, c) (λ z. absurd (z refl))))
 
 -- What lexical decodes from a legal literal, one that its reader finds an end to, is what the list of escapes gives for the bytes between its quotes.

@@ -68,14 +68,14 @@ module _ (s : List ℕ) where
 
   reads-gives : (i m w b : ℕ) (ys : List ℕ) → U.unit_at s i ≡ U.gives w b → Reads (i + w) m ys → Reads i m (b ∷ ys)
   reads-gives i m w b ys u (reads h k) =
-      let l : units_at s i ≡ U.unit_at s i ∷ units_at s (i + (U.unit_at s i).width) = units-more s i (rw u (omega arith)) in
-      let v : units_at s i ≡ U.gives w b ∷ units_at s (i + w) = l ∙ ap (λ (x : Unit). x ∷ units_at s (i + x.width)) u in
+      let l : units_at s i ≡ U.unit_at s i ∷ units_at s (i + (U.width (U.unit_at s i))) = units-more s i (rw u (omega arith)) in
+      let v : units_at s i ≡ U.gives w b ∷ units_at s (i + w) = l ∙ ap (λ (x : Unit). x ∷ units_at s (i + (U.width x))) u in
       reads (rw v h) (rw v (ap (λ (zs : List ℕ). b ∷ zs) k))
 
   reads-drops : (i m w : ℕ) (ys : List ℕ) → U.unit_at s i ≡ U.drops w → Reads (i + w) m ys → Reads i m ys
   reads-drops i m w ys u (reads h k) =
-      let l : units_at s i ≡ U.unit_at s i ∷ units_at s (i + (U.unit_at s i).width) = units-more s i (rw u (omega arith)) in
-      let v : units_at s i ≡ U.drops w ∷ units_at s (i + w) = l ∙ ap (λ (x : Unit). x ∷ units_at s (i + x.width)) u in
+      let l : units_at s i ≡ U.unit_at s i ∷ units_at s (i + (U.width (U.unit_at s i))) = units-more s i (rw u (omega arith)) in
+      let v : units_at s i ≡ U.drops w ∷ units_at s (i + w) = l ∙ ap (λ (x : Unit). x ∷ units_at s (i + (U.width x))) u in
       reads (rw v h) (rw v k)
 
   -- the scan over whitespace

@@ -4,5 +4,5 @@ use Rattle.index.proofs.is_between.Goals as goal
 pub returns-then-a-b : goal.returns-then-a-b
 returns-then-a-b c = search between-up
 
-pub returns : goal.returns
-returns c = search between-not
+pub returns-else-a-b : goal.returns-else-a-b
+returns-else-a-b c = search between-not

@@ -4,5 +4,5 @@ use Rattle.index.proofs.is_entry.Goals as goal
 pub returns-then-e-t : goal.returns-then-e-t
 returns-then-e-t c = search entry-held
 
-pub returns : goal.returns
-returns c = search entry_other
+pub returns-else-e-t : goal.returns-else-e-t
+returns-else-e-t c = search entry_other

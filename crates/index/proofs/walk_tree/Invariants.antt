@@ -1,9 +1,6 @@
-use mathlib.Core.Path.{◌≡◌}
+use Rattle.std.proofs.Common.{◌≡◌, ◌-◌}
 use Rattle.index.specs.Working.Walking.{walked}
 use Rattle.index.proofs.walk_tree.Given as goal
 
-abbrev pub invariant-loop-left : goal.invariant-loop-left
-invariant-loop-left l = walked l.pool l.places l.n l.id l.left l.i l.rest ≡ walked l.pool l.places l.n l.id l.n 0 l.t
-
-abbrev pub decreases-loop-left : goal.decreases-loop-left
-decreases-loop-left l = l.left
+abbrev pub invariant-loop : goal.invariant-loop
+invariant-loop l = walked l.pool l.places l.n l.id (l.n - l.counter) l.last l.rest ≡ walked l.pool l.places l.n l.id l.n 0 l.t

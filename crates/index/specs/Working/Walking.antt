@@ -1,5 +1,5 @@
 -- Working definition: the search of the tree, the ways out of `walk_tree`, and what it finds. Assumes nothing.
-use Rattle.std.specs.Prelude.{◌≡◌, Bool, ◌&&◌, List, length, get_or}
+use Rattle.std.specs.Prelude.{eqb, ◌≡◌, Bool, ◌&&◌, List, length, get_or, Result, Ok, Err}
 use Rattle.std.proofs.Math.Path.{refl, sym, ap}
 use Rattle.std.proofs.Common.{◌∙◌}
 use Rattle.std.proofs.Math.Bool.{true, false}
@@ -12,22 +12,31 @@ use Rattle.principal.specs.Principal.{Principal, same}
 use Rattle.principal.specs.Tag.{tag}
 use Rattle.index.specs.Entry.{is_at, identifier_at, child, linked}
 use Rattle.index.specs.Tree.{Reaches, there, onward, Ends, stop, step, reaches-up}
-use Rattle.index.specs.declared.Walk.{Walk}
-use Rattle.index.specs.declared.Walk.TheVariants.{Found, Missing}
+use Rattle.index.specs.declared.Missing.{Missing}
+
+-- the number of its entry, or where the search ends
+abbrev pub Walk : Type 0
+Walk = Result ℕ Missing
+
+abbrev pub found : ℕ → Walk
+found i = Ok i
+
+abbrev pub missing : ℕ → ℕ → Walk
+missing i t = Err (record { last = i; rest = t })
 
 -- at most f entries from entry i on
 unfoldable pub walked : List ℕ → List ℕ → ℕ → Principal → ℕ → ℕ → ℕ → Walk
-walked pool places n p zero i t = Missing i t
+walked pool places n p zero i t = missing i t
 walked pool places n p (suc f) i t =
-    pick (leb (length places) i) (Missing i t)
-    (pick (is_at pool p (get_or places i 0)) (Found i)
-    (pick (ltb i (child (get_or places i 0) t) && ltb (child (get_or places i 0) t) n) (walked pool places n p f (child (get_or places i 0) t) (t / 2)) (Missing i t)))
+    pick (leb (length places) i) (missing i t)
+    (pick (is_at pool p (get_or places i 0)) (found i)
+    (pick (ltb i (child (get_or places i 0) t) && ltb (child (get_or places i 0) t) n) (walked pool places n p f (child (get_or places i 0) t) (t / 2)) (missing i t)))
 
 -- `is_entry`
 module _ (pool : List ℕ) (p : Principal) (e t : ℕ) (te : t ≡ tag p) where
-  pub entry_other : (e % 1048576 ≡ t → ⊥) → false ≡ is_at pool p e
+  pub entry_other : (e % 1048576 ≡ t → ⊥) → eqb (e % 1048576) t ≡ is_at pool p e
   unfolding is_at
-  entry_other other = rw (ne_eqb (e % 1048576) (tag p) (λ z. other (z ∙ sym te)))
+  entry_other other = rw (ne_eqb (e % 1048576) t other, ne_eqb (e % 1048576) (tag p) (λ z. other (z ∙ sym te)))
 
   pub entry-held : e % 1048576 ≡ t → (q : List ℕ) → q ≡ identifier_at pool e → (b : Bool) → b ≡ same p q → b ≡ is_at pool p e
   unfolding is_at
@@ -54,25 +63,25 @@ linked-odd e t c h = rw (ne_eqb (t % 2) 0 h)
 pub between-up : (a b c : ℕ) → a < b → (r : Bool) → r ≡ ltb b c → r ≡ ltb a b && ltb b c
 between-up a b c h r re = re ∙ rw (lt-ltb a b h)
 
-pub between-not : (a b c : ℕ) → b ≤ a → false ≡ ltb a b && ltb b c
+pub between-not : (a b c : ℕ) → b ≤ a → ltb a b ≡ ltb a b && ltb b c
 between-not a b c h = rw (le-ltb a b h)
 
 -- `walk_tree`
-module _ (pool places : List ℕ) (n : ℕ) (p : Principal) (left i t : ℕ) (r : Walk) (inv : walked pool places n p left i t ≡ r) where
-  pub walk-spent : left ≤ 0 → Missing i t ≡ r
+module _ (pool places : List ℕ) (n : ℕ) (p : Principal) (k i t : ℕ) (r : Walk) (inv : walked pool places n p (n - k) i t ≡ r) where
+  pub walk-spent : n ≤ k → missing i t ≡ r
   unfolding walked
-  walk-spent h = let z : left ≡ 0 = omega arith in rw z at inv
+  walk-spent h = let z : n - k ≡ 0 = omega arith in rw z at inv
 
-  module _ (some : 0 < left) where
-    more : walked pool places n p (suc (left - 1)) i t ≡ r
-    more = let z : left ≡ suc (left - 1) = omega arith in rw z at inv
+  module _ (some : k < n) where
+    more : walked pool places n p (suc (n - (k + 1))) i t ≡ r
+    more = let z : n - k ≡ suc (n - (k + 1)) = omega arith in rw z at inv
 
-    pub walk-past : length places ≤ i → Missing i t ≡ r
+    pub walk-past : length places ≤ i → missing i t ≡ r
     unfolding walked
     walk-past h = let m = more in rw (le-leb _ _ h) at m
 
     module _ (in_table : i < length places) (e : ℕ) (ee : e ≡ get_or places i 0) (b : Bool) (be : b ≡ is_at pool p e) where
-      pub walk_here : b ≡ true → Found i ≡ r
+      pub walk_here : b ≡ true → found i ≡ r
       unfolding walked
       walk_here y = let m = more in let z : is_at pool p (get_or places i 0) ≡ true = ap (is_at pool p) (sym ee) ∙ sym be ∙ y in rw (lt-leb _ _ in_table, z) at m
 
@@ -83,11 +92,11 @@ module _ (pool places : List ℕ) (n : ℕ) (p : Principal) (left i t : ℕ) (r 
         next : child (get_or places i 0) t ≡ c
         next = ap (λ (x : ℕ). child x t) (sym ee) ∙ sym ce
 
-        pub walk-on : d ≡ true → walked pool places n p (left - 1) c (t / 2) ≡ r
+        pub walk-on : d ≡ true → walked pool places n p (n - (k + 1)) c (t / 2) ≡ r
         unfolding walked
         walk-on y = let m = more in let z : ltb i c && ltb c n ≡ true = sym de ∙ y in rw (lt-leb _ _ in_table, elsewhere, next, z) at m
 
-        pub walk_ends : d ≡ false → Missing i t ≡ r
+        pub walk_ends : d ≡ false → missing i t ≡ r
         unfolding walked
         walk_ends y = let m = more in let z : ltb i c && ltb c n ≡ false = sym de ∙ y in rw (lt-leb _ _ in_table, elsewhere, next, z) at m
 
@@ -96,7 +105,7 @@ module _ (pool places : List ℕ) (n : ℕ) (p : Principal) (left i t : ℕ) (r 
 module _ (pool places : List ℕ) (n : ℕ) (p : Principal) (room : n ≤ length places) where
   -- an entry that is reached and the only one of the principal
   pub walk-found : {i t j : ℕ} → Reaches places i t j → (f : ℕ) → n ≤ f + i → j < n → is_at pool p (get_or places j 0) ≡ true
-      → ((a : ℕ) → a < n → is_at pool p (get_or places a 0) ≡ true → a ≡ j) → walked pool places n p f i t ≡ Found j
+      → ((a : ℕ) → a < n → is_at pool p (get_or places a 0) ≡ true → a ≡ j) → walked pool places n p f i t ≡ found j
   unfolding walked
   walk-found {i} {t} {j} (there e) zero h l at one = let no : ⊥ = omega (arith, e, h, l) in absurd no
   walk-found {i} {t} {j} (there e) (suc f) h l at one = rw (e, lt-leb (length places) j (omega (arith, l, room)), at)
@@ -106,14 +115,14 @@ module _ (pool places : List ℕ) (n : ℕ) (p : Principal) (room : n ≤ length
       let below : i < n = omega (arith, g, up, l) in
       rw (lt-leb (length places) i (omega (arith, below, room)))
       (split (is_at pool p (get_or places i 0))
-      (λ y. rw y (ap Found (one i below y)))
+      (λ y. rw y (ap found (one i below y)))
       (λ y. rw (y, ← e, lt-ltb i c g, lt-ltb c n (omega (arith, up, l))) (walk-found r f (omega (arith, h, g)) l at one)))
 
   -- a principal that has no entry
   pub record Stops (f i t : ℕ) : Type 0 where
     pub last : ℕ
     pub rest : ℕ
-    pub gives : walked pool places n p f i t ≡ Missing last rest
+    pub gives : walked pool places n p f i t ≡ missing last rest
     pub ends : Ends places n i t last rest
 
   pub walk-stops : ((a : ℕ) → a < n → is_at pool p (get_or places a 0) ≡ false) → (f i t : ℕ) → i < n → n ≤ f + i → Stops f i t

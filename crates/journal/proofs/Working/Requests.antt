@@ -1,18 +1,17 @@
 -- The ways out of the functions that are called from outside. Assumes nothing.
-use Rattle.std.specs.Prelude.{◌≡◌, refl, List, [], ◌∷◌, ◌++◌, ℕ, ◌+◌, ◌-◌, ◌<◌, ◌≤◌, min, take}
+use Rattle.std.specs.Prelude.{◌≡◌, refl, List, [], ◌∷◌, ◌++◌, ℕ, ◌+◌, ◌-◌, ◌<◌, ◌≤◌, min, take, Ok, Err}
 use Rattle.std.proofs.Math.Path.{sym}
 use Rattle.std.proofs.Common.{ap, ◌∙◌, arith}
 use Rattle.std.proofs.Math.ListN.{length}
 use Rattle.journal.specs.Page.{least_page, closing, size_bytes, entry}
 use Rattle.journal.specs.Stores.{Store, stored, placed}
-use Rattle.journal.specs.Journal.{granted, append_verdict, outcome, entry_stores, appending, AppendCut, Appended}
+use Rattle.journal.specs.Journal.{number, granted, append_verdict, outcome, entry_stores, appending, AppendCut, Appended}
 use Rattle.journal.specs.Working.Walk.{end_at, rest_of}
 use Rattle.journal.specs.Working.Placing.{placed-length, placed-append}
-use Rattle.journal.specs.Working.Rooms.{room, entry_length, Roomy, roomy-facts}
+use Rattle.journal.specs.Working.Rooms.{Room, room, entry_length, Roomy, roomy-facts}
 use Rattle.journal.specs.Theorems.Content.{content-is}
 use Rattle.journal.specs.declared.Outcome.{Outcome}
-use Rattle.journal.specs.declared.Room.{Room}
-use Rattle.journal.specs.declared.Room.TheVariants.{At, Not}
+use Rattle.journal.specs.declared.Refusal.{Refusal}
 use Rattle.journal.specs.Working.Requests.{allowed_all, appends, rest-long, rest_at, take_min, verdict-at, verdict-not}
 
 -- the stores of an entry are its bytes from the first to the last
@@ -28,13 +27,13 @@ appending-is p a h = rw (rest_at p h) (stores-are (end_at p 1) a)
 
 -- ---- appending
 module _ (budget : ℕ) (p a : List ℕ) (r : Room) (re : r ≡ room p a) where
-  pub append-not : (n : ℕ) → r ≡ Not n → (o : Outcome) → o ≡ outcome n → AppendCut budget p a o p
+  pub append-not : (n : Refusal) → r ≡ Err n → (k : ℕ) → k ≡ number n → (o : Outcome) → o ≡ outcome k → AppendCut budget p a o p
   unfolding room
-  append-not n rv o oe =
+  append-not n rv k ke o oe =
       let v = verdict-not (append_verdict p (rest_of p) a) n (end_at p 1) (sym re ∙ rv) in
-      appends (take budget) p a o p (oe ∙ v.0) (v.1 _ p)
+      appends (take budget) p a o p (oe ∙ ap outcome ke ∙ v.0) (v.1 _ p)
 
-  module _ (e : ℕ) (rv : r ≡ At e) where
+  module _ (e : ℕ) (rv : r ≡ Ok e) where
     found : (append_verdict p (rest_of p) a ≡ granted) × (e ≡ end_at p 1)
     unfolding room
     found = verdict-at (append_verdict p (rest_of p) a) e (end_at p 1) (sym re ∙ rv)

@@ -4,10 +4,10 @@ use borrow.Author.Rules.{rules}
 use Rattle.journal.proofs.clear_back.Goals as goal
 
 pub loop-j-init : goal.loop-j-init
-loop-j-init c = (search rules, search rules, search store-start)
+loop-j-init c = (search rules, search store-start)
 
 pub loop-j-preserved : goal.loop-j-preserved
-loop-j-preserved c = (search rules, search rules, search clear-more)
+loop-j-preserved c = (search rules, search clear-more)
 
 pub returns : goal.returns
 returns c = search store-end

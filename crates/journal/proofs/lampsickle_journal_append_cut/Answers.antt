@@ -4,8 +4,8 @@ use Rattle.journal.proofs.lampsickle_journal_append_cut.Goals as goal
 pub write_entry-requires : goal.write_entry-requires
 write_entry-requires c = (search append-within, search append-few, search append-short)
 
-pub returns-in-Not : goal.returns-in-Not
-returns-in-Not c = search append-not
+pub returns-in-Err : goal.returns-in-Err
+returns-in-Err c = search append-not
 
-pub returns-in-At : goal.returns-in-At
-returns-in-At c = search append-done
+pub returns-in-Ok : goal.returns-in-Ok
+returns-in-Ok c = search append-done

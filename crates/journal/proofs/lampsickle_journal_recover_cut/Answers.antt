@@ -8,8 +8,8 @@ overflow_sub-total c = search opened-within
 pub clear_back-requires : goal.clear_back-requires
 clear_back-requires c = (search opened-within, search recover-few)
 
-pub returns-in-Not : goal.returns-in-Not
-returns-in-Not c = search recover-not
+pub returns-in-Err : goal.returns-in-Err
+returns-in-Err c = search recover-not
 
-pub returns-in-At : goal.returns-in-At
-returns-in-At c = search recover-done
+pub returns-in-Ok : goal.returns-in-Ok
+returns-in-Ok c = search recover-done

@@ -3,7 +3,8 @@ use Rattle.std.specs.Prelude.{◌≡◌, refl, List, ℕ, ◌-◌, length}
 use Rattle.std.proofs.Common.{sym, ◌∙◌}
 use Rattle.std.proofs.Math.Path.{ap}
 use Rattle.journal.specs.Stores.{Store, stored, cleared}
-use Rattle.journal.specs.Journal.{Refusal, granted, refused, number, recover_verdict, append_verdict, outcome, outcome_of, allowed, appending, clearing, Appends, Recovers}
+use Rattle.journal.specs.Journal.{granted, refused, number, recover_verdict, append_verdict, outcome, outcome_of, allowed, appending, clearing, Appends, Recovers}
+use Rattle.journal.specs.declared.Refusal.{Refusal}
 use Rattle.journal.specs.Working.Walk.{end_at, rest_of}
 use Rattle.journal.specs.Working.Rooms.{Fine, Judged, is-fine, is-not, judged}
 use Rattle.journal.specs.Working.Requests.{appends, recovers, clearing-is}

@@ -1,20 +1,19 @@
 -- The ways out of the functions that are called from outside. Assumes nothing.
-use Rattle.std.specs.Prelude.{◌≡◌, refl, List, ℕ, ◌-◌, ◌<◌, ◌≤◌, min, ltb, take}
+use Rattle.std.specs.Prelude.{◌≡◌, refl, List, ℕ, ◌-◌, ◌<◌, ◌≤◌, min, ltb, take, Ok, Err}
 use Rattle.std.proofs.Math.Path.{sym}
 use Rattle.std.proofs.Common.{ap, ◌∙◌, arith, length-drop, take_all, ltb-true, ltb-false}
 use Rattle.std.proofs.Math.ListN.{length}
 use Rattle.text.specs.Choice.{split}
 use Rattle.journal.specs.Page.{least_page}
 use Rattle.journal.specs.Stores.{Store, stored, cleared}
-use Rattle.journal.specs.Journal.{Verdict, granted, refused, recover_verdict, append_verdict, outcome, outcome_of, allowed, appending, clearing, Appends, Recovers, RecoverCut, Recovered}
+use Rattle.journal.specs.Journal.{number, Verdict, granted, refused, recover_verdict, append_verdict, outcome, outcome_of, allowed, appending, clearing, Appends, Recovers, RecoverCut, Recovered}
 use Rattle.journal.specs.Working.Walk.{entries, end_at, rest_of}
 use Rattle.journal.specs.Working.Placing.{cleared-length}
-use Rattle.journal.specs.Working.Rooms.{room_of, opened, fine-facts}
+use Rattle.journal.specs.Working.Rooms.{Room, room_of, opened, fine-facts}
 use Rattle.journal.specs.Working.Ways.{at-not, at_same, end-within}
 use Rattle.journal.specs.Theorems.Content.{content-walk, content-is}
 use Rattle.journal.specs.declared.Outcome.{Outcome}
-use Rattle.journal.specs.declared.Room.{Room}
-use Rattle.journal.specs.declared.Room.TheVariants.{At, Not}
+use Rattle.journal.specs.declared.Refusal.{Refusal}
 
 -- the rest begins where the finished entries end
 pub rest-long : (p : List ℕ) → length (rest_of p) ≡ length p - end_at p 1
@@ -34,19 +33,19 @@ take_min k n l e =
     (λ t. let h : k ≤ n = ltb-false _ _ t in let m : min k n ≡ k = omega arith in rw m refl)
 
 -- a room that is found, and one that isn't, as verdicts
-pub verdict-at : (v : Verdict) (e d : ℕ) → room_of v d ≡ At e → (v ≡ granted) × (e ≡ d)
+pub verdict-at : (v : Verdict) (e d : ℕ) → room_of v d ≡ Ok e → (v ≡ granted) × (e ≡ d)
 verdict-at granted e d h = (refl, at_same h)
 verdict-at (refused r) e d h = at-not h
 
-not_at : {P : Type 0} {n e : ℕ} → At e ≡ Not n → P
+not_at : {P : Type 0} {n : Refusal} {e : ℕ} → ◌≡◌ {A = Room} (Ok e) (Err n) → P
 not_at h = at-not (sym h)
 
-not_same : {m n : ℕ} → Not m ≡ Not n → n ≡ m
+not_same : {m n : Refusal} → ◌≡◌ {A = Room} (Err m) (Err n) → n ≡ m
 not_same h = cc
 
-pub verdict-not : (v : Verdict) (n d : ℕ) → room_of v d ≡ Not n → (outcome n ≡ outcome_of v) × ((ss : List Store) (p : List ℕ) → p ≡ allowed v ss p)
+pub verdict-not : (v : Verdict) (n : Refusal) (d : ℕ) → room_of v d ≡ Err n → (outcome (number n) ≡ outcome_of v) × ((ss : List Store) (p : List ℕ) → p ≡ allowed v ss p)
 verdict-not granted n d h = not_at h
-verdict-not (refused r) n d h = (ap outcome (not_same h), λ ss p. refl)
+verdict-not (refused r) n d h = (ap (λ k. outcome (number k)) (not_same h), λ ss p. refl)
 
 pub clearing-is : (p : List ℕ) → least_page ≤ length p → clearing p (rest_of p) ≡ cleared (length p - end_at p 1) (end_at p 1)
 unfolding clearing
@@ -69,13 +68,13 @@ allowed_all (refused r) n ss p h = refl
 
 -- ---- recovery
 module _ (budget : ℕ) (p : List ℕ) (r : Room) (re : r ≡ opened p) where
-  pub recover-not : (n : ℕ) → r ≡ Not n → (o : Outcome) → o ≡ outcome n → RecoverCut budget p o p
+  pub recover-not : (n : Refusal) → r ≡ Err n → (k : ℕ) → k ≡ number n → (o : Outcome) → o ≡ outcome k → RecoverCut budget p o p
   unfolding opened
-  recover-not n rv o oe =
+  recover-not n rv k ke o oe =
       let v = verdict-not (recover_verdict p) n (end_at p 1) (sym re ∙ rv) in
-      recovers (take budget) p o p (oe ∙ v.0) (v.1 _ p)
+      recovers (take budget) p o p (oe ∙ ap outcome ke ∙ v.0) (v.1 _ p)
 
-  module _ (e : ℕ) (rv : r ≡ At e) where
+  module _ (e : ℕ) (rv : r ≡ Ok e) where
     pub recover-done : (count : ℕ) → count ≡ min budget (length p - e) → (m : List ℕ) → m ≡ stored p (take count (cleared (length p - e) e))
         → (o : Outcome) → o ≡ outcome 0 → RecoverCut budget p o m
     unfolding opened

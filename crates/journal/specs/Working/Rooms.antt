@@ -1,18 +1,22 @@
 -- Where the stores of a request go, as the code finds it; and what it says of a page that a place is found. Assumes nothing.
-use Rattle.std.specs.Prelude.{◌≡◌, refl, true, false, List, [], ◌∷◌, ℕ, ◌+◌, ◌<◌, ◌≤◌, eqb, ltb, length, get_or, drop}
+use Rattle.std.specs.Prelude.{◌≡◌, refl, true, false, List, [], ◌∷◌, ℕ, ◌+◌, ◌<◌, ◌≤◌, eqb, ltb, length, get_or, drop, Result, Ok, Err}
 use Rattle.std.proofs.Common.{sym, ap, ◌∙◌, arith, length-append, ltb-false, eqb-true, le-ltb, eq-eqb, ne_eqb}
 use Rattle.std.proofs.lemmas.Bool.{eqb-false}
 use Rattle.text.specs.Choice.{pick, split}
 use Rattle.journal.specs.Page.{least_page, most_page, version, closing, zeros, entry}
-use Rattle.journal.specs.Journal.{Refusal, wrong_size, wrong_version, unclean, no_room, number, Verdict, granted, refused, page_verdict, recover_verdict, append_verdict, outcome, outcome_of}
+use Rattle.journal.specs.Journal.{Verdict, granted, refused, page_verdict, recover_verdict, append_verdict, outcome, outcome_of}
+use Rattle.journal.specs.declared.Refusal.{Refusal}
+use Rattle.journal.specs.declared.Refusal.TheVariants.{WrongSize, WrongVersion, Unclean, NoRoom}
 use Rattle.journal.specs.Working.Walk.{end_at, rest_of}
 use Rattle.journal.specs.declared.Outcome.{Outcome}
-use Rattle.journal.specs.declared.Room.{Room}
-use Rattle.journal.specs.declared.Room.TheVariants.{At, Not}
+
+-- the place, or why there is none
+abbrev pub Room : Type 0
+Room = Result ℕ Refusal
 
 abbrev pub room_of : Verdict → ℕ → Room
-room_of granted e = At e
-room_of (refused r) e = Not (number r)
+room_of granted e = Ok e
+room_of (refused r) e = Err r
 
 unfoldable pub opened : List ℕ → Room
 opened p = room_of (recover_verdict p) (end_at p 1)
@@ -22,7 +26,7 @@ room p a = room_of (append_verdict p (rest_of p) a) (end_at p 1)
 
 -- what is asked of a page in appending, once its size and version are fine
 abbrev pub further : List ℕ → ℕ → Verdict
-further rest n = pick (zeros rest) (pick (ltb (length rest) n) (refused no_room) granted) (refused unclean)
+further rest n = pick (zeros rest) (pick (ltb (length rest) n) (refused NoRoom) granted) (refused Unclean)
 
 unfoldable pub room_at : List ℕ → ℕ → ℕ → Room
 room_at p e n = room_of (further (drop e p) (n + 3)) e
@@ -44,11 +48,11 @@ pub data Judged (p : List ℕ) : Type 0 where
 
 pub judged : (p : List ℕ) → Judged p
 judged p =
-    split (ltb (length p) least_page) (λ t. is-not wrong_size (λ v. rw t refl))
-    (λ t. split (ltb most_page (length p)) (λ u. is-not wrong_size (λ v. rw (t, u) refl))
+    split (ltb (length p) least_page) (λ t. is-not WrongSize (λ v. rw t refl))
+    (λ t. split (ltb most_page (length p)) (λ u. is-not WrongSize (λ v. rw (t, u) refl))
     (λ u. split (eqb (get_or p 0 0) version)
     (λ w. is-fine (record { least = ltb-false _ _ t; most = ltb-false _ _ u; versioned = eqb-true _ _ w }) (λ v. rw (t, u, w) refl))
-    (λ w. is-not wrong_version (λ v. rw (t, u, w) refl))))
+    (λ w. is-not WrongVersion (λ v. rw (t, u, w) refl))))
 
 pub fine-further : (p : List ℕ) → Fine p → (v : Verdict) → page_verdict p v ≡ v
 fine-further p f v = simp (le-ltb _ _ f.least, le-ltb _ _ f.most, eq-eqb _ _ f.versioned)
@@ -102,7 +106,7 @@ roomy-granted p a g =
 -- only what is granted has number 0
 pub done-granted : (v : Verdict) → outcome 0 ≡ outcome_of v → v ≡ granted
 done-granted granted h = refl
-done-granted (refused wrong_size) h = let z : ◌≡◌ {A = ℕ} 0 5 = ap (λ (o : Outcome). o.number) h in let no : ⊥ = omega arith in absurd no
-done-granted (refused wrong_version) h = let z : ◌≡◌ {A = ℕ} 0 2 = ap (λ (o : Outcome). o.number) h in let no : ⊥ = omega arith in absurd no
-done-granted (refused unclean) h = let z : ◌≡◌ {A = ℕ} 0 3 = ap (λ (o : Outcome). o.number) h in let no : ⊥ = omega arith in absurd no
-done-granted (refused no_room) h = let z : ◌≡◌ {A = ℕ} 0 9 = ap (λ (o : Outcome). o.number) h in let no : ⊥ = omega arith in absurd no
+done-granted (refused WrongSize) h = let z : ◌≡◌ {A = ℕ} 0 5 = ap (λ (o : Outcome). o.number) h in let no : ⊥ = omega arith in absurd no
+done-granted (refused WrongVersion) h = let z : ◌≡◌ {A = ℕ} 0 2 = ap (λ (o : Outcome). o.number) h in let no : ⊥ = omega arith in absurd no
+done-granted (refused Unclean) h = let z : ◌≡◌ {A = ℕ} 0 3 = ap (λ (o : Outcome). o.number) h in let no : ⊥ = omega arith in absurd no
+done-granted (refused NoRoom) h = let z : ◌≡◌ {A = ℕ} 0 9 = ap (λ (o : Outcome). o.number) h in let no : ⊥ = omega arith in absurd no

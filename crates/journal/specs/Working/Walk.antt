@@ -1,5 +1,5 @@
 -- The walk over a page's entries, as the code makes it. Theorems/Content has that it finds what the page holds. Assumes nothing.
-use Rattle.std.specs.Prelude.{Bool, false, List, [], ◌∷◌, ℕ, zero, suc, ◌+◌, ◌-◌, eqb, ltb, leb, length, get_or, drop}
+use Rattle.std.specs.Prelude.{Bool, false, List, [], ◌∷◌, ℕ, zero, suc, ◌+◌, ◌-◌, eqb, ltb, leb, length, get_or, drop, Option, Some, None}
 use Rattle.text.specs.Choice.{pick}
 use Rattle.text.specs.Counted.{part, pair_at}
 use Rattle.journal.specs.Page.{closing}
@@ -35,3 +35,7 @@ rest_of p = drop (end_at p 1) p
 -- the place behind the finished entry at a place, or that place where none stands
 unfoldable pub next_at : List ℕ → ℕ → ℕ
 next_at p at = pick (finished_at p at) (behind p at) at
+
+-- the place behind the finished entry at a place, if one stands there
+unfoldable pub entry_behind : List ℕ → ℕ → Option ℕ
+entry_behind p at = pick (finished_at p at) (Some (behind p at)) None

@@ -1,12 +1,12 @@
 -- The ways out of the journal's functions, and the turns of their loops. Assumes nothing.
-use Rattle.std.specs.Prelude.{◌≡◌, Bool, true, false, ◌&&◌, ℕ, suc, ◌+◌, ◌-◌, ◌/◌, ◌%◌, ◌<◌, ◌≤◌, min, eqb, set, take}
+use Rattle.std.specs.Prelude.{◌≡◌, Bool, true, false, ◌&&◌, ℕ, suc, ◌+◌, ◌-◌, ◌/◌, ◌%◌, ◌<◌, ◌≤◌, min, eqb, set, take, Option, Some, None, Ok, Err}
 use Rattle.std.proofs.Math.Path.{refl, sym, ap}
 use Rattle.std.proofs.Common.{◌∙◌, le_refl, add-one, length-append, length-set, drop_of_length-le}
 use mathlib.Core.List.{List, [], ◌∷◌, ◌++◌}
 use native.Mathlib.Omega.{arith}
 use Rattle.std.proofs.Math.ListN.{length, get_or, drop, length-drop}
 use Rattle.std.proofs.lemmas.List.{take-append-le}
-use Rattle.std.proofs.Math.Seq.{get_or-append_seam, drop-cons}
+use Rattle.std.proofs.Math.Seq.{get_or-append_seam, drop-cons, take_all}
 use borrow.Author.Tests.{lt-ltb, le-ltb, eq-eqb, ne_eqb}
 use Rattle.text.specs.Choice.{pick, split}
 use Rattle.text.specs.All.{all}
@@ -14,42 +14,38 @@ use Rattle.text.specs.Counted.{pair_at}
 use Rattle.journal.specs.Page.{least_page, most_page, version, closing, is_zero, zeros, entry}
 use Rattle.journal.specs.Stores.{Store, stored, placed}
 use Rattle.journal.specs.Journal.{granted, page_verdict, recover_verdict, append_verdict}
-use Rattle.journal.specs.Working.Walk.{behind, finished_at, next_at, end_at, rest_of}
+use Rattle.journal.specs.Working.Walk.{behind, finished_at, entry_behind, end_at, rest_of}
 use Rattle.journal.specs.Working.Walks.{Finished, finished-facts, facts-finished, unfinished, Walk, w[], w∷, walk-within, walk-in, stops-in, walk_is}
 use Rattle.journal.specs.Working.Placing.{stored-none, stored_next, placed-length, placed-take, placed_at}
-use Rattle.journal.specs.Working.Rooms.{room_of, opened, room, further, room_at, entry_length, Fine, Judged, is-fine, is-not, judged, fine-further}
-use Rattle.journal.specs.declared.Room.{Room}
-use Rattle.journal.specs.declared.Room.TheVariants.{At, Not}
+use Rattle.journal.specs.Working.Rooms.{Room, room_of, opened, room, further, room_at, entry_length, Fine, Judged, is-fine, is-not, judged, fine-further}
+use Rattle.journal.specs.declared.Refusal.{Refusal}
+use Rattle.journal.specs.declared.Refusal.TheVariants.{WrongSize, WrongVersion, Unclean, NoRoom}
 
 -- the next entry
-next-none : (p : List ℕ) (at : ℕ) → (Finished p at → ⊥) → at ≡ next_at p at
-unfolding next_at
-next-none p at n = rw (unfinished p at n) refl
+behind-none : (p : List ℕ) (at : ℕ) → (Finished p at → ⊥) → None ≡ entry_behind p at
+unfolding entry_behind
+behind-none p at n = rw (unfinished p at n) refl
 
-module _ (p : List ℕ) (at : ℕ) where
-  pub next_past : length p ≤ at → at ≡ next_at p at
-  next_past h = next-none p at (λ f. let w : at + pair_at p at + 3 ≤ length p = f.within in omega arith)
+module _ (p : List ℕ) (at left n : ℕ) (le : left ≡ length p - at) (ne : n ≡ pair_at p at) where
+  pub behind-empty : n ≡ 0 → None ≡ entry_behind p at
+  behind-empty z = behind-none p at (λ f. let w : 0 < pair_at p at = f.above in omega arith)
 
-  module _ (n : ℕ) (ne : n ≡ pair_at p at) where
-    pub next-empty : n ≡ 0 → at ≡ next_at p at
-    next-empty z = next-none p at (λ f. let w : 0 < pair_at p at = f.above in omega arith)
+  pub behind-short : left < 3 → None ≡ entry_behind p at
+  behind-short h = behind-none p at (λ f. let w : at + pair_at p at + 3 ≤ length p = f.within in omega arith)
 
-    pub next-short : length p - at < 3 → at ≡ next_at p at
-    next-short h = next-none p at (λ f. let w : at + pair_at p at + 3 ≤ length p = f.within in omega arith)
+  pub behind-over : left - 3 < n → None ≡ entry_behind p at
+  behind-over h = behind-none p at (λ f. let w : at + pair_at p at + 3 ≤ length p = f.within in omega arith)
 
-    pub next-over : length p - at - 3 < n → at ≡ next_at p at
-    next-over h = next-none p at (λ f. let w : at + pair_at p at + 3 ≤ length p = f.within in omega arith)
+  pub behind-open : (get_or p (at + n + 2) 0 ≡ closing → ⊥) → None ≡ entry_behind p at
+  behind-open h = behind-none p at (λ f. h (rw ne f.closed))
 
-    pub next-open : (get_or p (at + n + 2) 0 ≡ closing → ⊥) → at ≡ next_at p at
-    next-open h = next-none p at (λ f. h (rw ne f.closed))
-
-    pub next-closed : (n ≡ 0 → ⊥) → 3 ≤ length p - at → n ≤ length p - at - 3 → get_or p (at + n + 2) 0 ≡ closing → at + n + 3 ≡ next_at p at
-    unfolding next_at behind
-    next-closed z three fit c =
-        let a : 0 < pair_at p at = rw (sym ne) (omega arith) in
-        let w : at + pair_at p at + 3 ≤ length p = rw (sym ne) (omega arith) in
-        let d : get_or p (at + pair_at p at + 2) 0 ≡ 1 = rw (sym ne) c in
-        rw (facts-finished p at (record { above = a; within = w; closed = d }), ne) refl
+  pub behind-closed : (n ≡ 0 → ⊥) → 3 ≤ left → n ≤ left - 3 → get_or p (at + n + 2) 0 ≡ closing → Some (at + n + 3) ≡ entry_behind p at
+  unfolding entry_behind behind
+  behind-closed z three fit c =
+      let a : 0 < pair_at p at = rw (sym ne) (omega arith) in
+      let w : at + pair_at p at + 3 ≤ length p = rw (sym ne) (omega arith) in
+      let d : get_or p (at + pair_at p at + 2) 0 ≡ 1 = rw (sym ne) c in
+      rw (facts-finished p at (record { above = a; within = w; closed = d }), ne) refl
 
 -- the end of the finished entries, step by step
 end_is : {p : List ℕ} {at e : ℕ} {l : List (List ℕ)} → Walk p at l e → finished_at p e ≡ false → end_at p at ≡ e
@@ -69,33 +65,36 @@ pub end-within : (p : List ℕ) (at : ℕ) → at ≤ length p → end_at p at �
 unfolding end_at
 end-within p at h = walk-within (walk-in (length p - at) p at) h
 
-module _ (p : List ℕ) (at r : ℕ) (inv : end_at p at ≡ r) where
-  pub end-past : length p ≤ at → at ≡ r
-  end-past h =
-      sym (end-at-stop p at (unfinished p at (λ f. let w : at + pair_at p at + 3 ≤ length p = f.within in omega arith))) ∙ inv
+no-entry : {x : ℕ} {P : Type 0} → Some x ≡ None → P
+no-entry h = let z : ◌≡◌ {A = ℕ} 0 1 = cc in let no : ⊥ = omega arith in absurd no
 
-  module _ (x : ℕ) (xe : x ≡ next_at p at) where
-    pub end-stop : x ≡ at → at ≡ r
-    unfolding next_at behind
-    end-stop h =
-        split (finished_at p at)
-        (λ e. let g : x ≡ at + pair_at p at + 3 = xe ∙ (rw e refl) in let no : ⊥ = omega arith in absurd no)
-        (λ e. sym (end-at-stop p at e) ∙ inv)
+some-entry : {x y : ℕ} → Some x ≡ Some y → x ≡ y
+some-entry h = cc
 
-    pub end_more : (x ≡ at → ⊥) → end_at p x ≡ r
-    unfolding next_at behind
-    end_more h =
-        split (finished_at p at)
-        (λ e. let g : x ≡ at + pair_at p at + 3 = xe ∙ (rw e refl) in (rw g (sym (end-at-more p at e))) ∙ inv)
-        (λ e. absurd (h (xe ∙ (rw e refl))))
-
-module _ (p : List ℕ) (at x : ℕ) (xe : x ≡ next_at p at) where
-  pub next-less : (x ≡ at → ⊥) → at < length p → length p - x < length p - at
-  unfolding next_at behind
-  next-less h l =
+module _ (p : List ℕ) (at : ℕ) (o : Option ℕ) (oe : o ≡ entry_behind p at) where
+  -- where an entry stands, it ends at the place found
+  entry-is : (x : ℕ) → o ≡ Some x → (finished_at p at ≡ true) × (x ≡ at + pair_at p at + 3)
+  unfolding entry_behind behind
+  entry-is x ox =
       split (finished_at p at)
-      (λ e. let g : x ≡ at + pair_at p at + 3 = xe ∙ (rw e refl) in omega arith)
-      (λ e. absurd (h (xe ∙ (rw e refl))))
+      (λ e. (e, some-entry (sym ox ∙ oe ∙ rw e refl)))
+      (λ e. no-entry (sym ox ∙ oe ∙ rw e refl))
+
+  pub end-more : (r x : ℕ) → end_at p at ≡ r → o ≡ Some x → end_at p x ≡ r
+  end-more r x inv ox = let f = entry-is x ox in rw f.1 (sym (end-at-more p at f.0) ∙ inv)
+
+  pub end-stop : (r : ℕ) → end_at p at ≡ r → o ≡ None → at ≡ r
+  unfolding entry_behind
+  end-stop r inv on =
+      split (finished_at p at)
+      (λ e. let z : None ≡ Some (behind p at) = sym on ∙ oe ∙ (rw e refl) in no-entry (sym z))
+      (λ e. sym (end-at-stop p at e) ∙ inv)
+
+  pub end-less : (x : ℕ) → o ≡ Some x → length p - x < length p - at
+  end-less x ox =
+      let f = entry-is x ox in
+      let w : at + pair_at p at + 3 ≤ length p = (finished-facts p at f.0).within in
+      omega (arith, f.1)
 
 -- zeros: what is known of those passed, and what is left
 and-true : (b : Bool) → (b && true) ≡ b
@@ -106,9 +105,6 @@ and-head : (b c d : Bool) → ((b && c) && d) ≡ (b && pick c d false)
 and-head true true d = refl
 and-head true false d = refl
 and-head false c d = refl
-
-pub zeros-start : (p : List ℕ) (at : ℕ) → (true && zeros (drop at p)) ≡ zeros (drop at p)
-zeros-start p at = refl
 
 module _ (p : List ℕ) (at : ℕ) (b r : Bool) (inv : (b && zeros (drop at p)) ≡ r) where
   pub zeros-end : length p ≤ at → b ≡ r
@@ -123,32 +119,32 @@ module _ (p : List ℕ) (at : ℕ) (b r : Bool) (inv : (b && zeros (drop at p)) 
 
 -- the page's end
 module _ (p : List ℕ) where
-  pub end-small : length p < least_page → Not 5 ≡ opened p
+  pub end-small : length p < least_page → Err WrongSize ≡ opened p
   unfolding opened recover_verdict
   end-small h = simp (lt-ltb _ _ h)
 
   module _ (h₁ : least_page ≤ length p) where
-    pub end-large : most_page < length p → Not 5 ≡ opened p
+    pub end-large : most_page < length p → Err WrongSize ≡ opened p
     unfolding opened recover_verdict
     end-large h = simp (le-ltb _ _ h₁, lt-ltb _ _ h)
 
     module _ (h₂ : length p ≤ most_page) where
-      pub end-foreign : (get_or p 0 0 ≡ version → ⊥) → Not 2 ≡ opened p
+      pub end-foreign : (get_or p 0 0 ≡ version → ⊥) → Err WrongVersion ≡ opened p
       unfolding opened recover_verdict
       end-foreign h = simp (le-ltb _ _ h₁, le-ltb _ _ h₂, ne_eqb _ _ h)
 
-      pub end-found : get_or p 0 0 ≡ version → (e : ℕ) → e ≡ end_at p 1 → At e ≡ opened p
+      pub end-found : get_or p 0 0 ≡ version → (e : ℕ) → e ≡ end_at p 1 → Ok e ≡ opened p
       unfolding opened recover_verdict
       end-found h e ee = simp (le-ltb _ _ h₁, le-ltb _ _ h₂, eq-eqb _ _ h, ee)
 
-pub at-not : {P : Type 0} {n e : ℕ} → Not n ≡ At e → P
+pub at-not : {P : Type 0} {n : Refusal} {e : ℕ} → ◌≡◌ {A = Room} (Err n) (Ok e) → P
 at-not h = let z : ◌≡◌ {A = ℕ} 0 1 = cc in let no : ⊥ = omega arith in absurd no
 
-pub at_same : {d e : ℕ} → At d ≡ At e → e ≡ d
+pub at_same : {d e : ℕ} → ◌≡◌ {A = Room} (Ok d) (Ok e) → e ≡ d
 at_same h = cc
 
 -- what a found place says
-pub opened-at : (p : List ℕ) (e : ℕ) → opened p ≡ At e → Fine p × (e ≡ end_at p 1)
+pub opened-at : (p : List ℕ) (e : ℕ) → opened p ≡ Ok e → Fine p × (e ≡ end_at p 1)
 unfolding opened recover_verdict
 opened-at p e h = of (judged p)
   where
@@ -156,50 +152,56 @@ opened-at p e h = of (judged p)
     of (is-fine f v) = (f, at_same (sym (ap (λ x. room_of x (end_at p 1)) (v granted)) ∙ h))
     of (is-not r v) = at-not (sym (ap (λ x. room_of x (end_at p 1)) (v granted)) ∙ h)
 
-pub opened-within : (p : List ℕ) (e : ℕ) (r : Room) → r ≡ opened p → r ≡ At e → e ≤ length p
+pub opened-within : (p : List ℕ) (e : ℕ) (r : Room) → r ≡ opened p → r ≡ Ok e → e ≤ length p
 opened-within p e r re rv =
     let o = opened-at p e (sym re ∙ rv) in
     let l : least_page ≤ length p = o.0.least in
     rw o.1 (end-within p 1 (omega arith))
 
 -- the room at a place
-module _ (p : List ℕ) (e n : ℕ) (z : Bool) (ze : z ≡ zeros (drop e p)) where
-  pub at-unclean : z ≡ false → Not 3 ≡ room_at p e n
+module _ (p : List ℕ) (e n : ℕ) (rest : List ℕ) (te : rest ≡ take (length p - e) (drop e p)) (z : Bool) (ze : z ≡ zeros rest) where
+  re : rest ≡ drop e p
+  re = te ∙ take_all (length p - e) (drop e p) (omega (arith, length-drop e p))
+
+  at-is : z ≡ zeros (drop e p)
+  at-is = ze ∙ ap zeros re
+
+  pub at-unclean : z ≡ false → Err Unclean ≡ room_at p e n
   unfolding room_at
-  at-unclean h = simp (sym ze, h)
+  at-unclean h = simp (sym at-is, h)
 
   module _ (h₁ : z ≡ true) where
-    over : length p - e < n + 3 → Not 9 ≡ room_at p e n
+    over : length rest < n + 3 → Err NoRoom ≡ room_at p e n
     unfolding room_at
-    over h = let l : length (drop e p) < n + 3 = omega (arith, length-drop e p) in simp (sym ze, h₁, lt-ltb _ _ l)
+    over h = let l : length (drop e p) < n + 3 = omega (arith, ap length re) in simp (sym at-is, h₁, lt-ltb _ _ l)
 
-    pub at-tiny : length p - e < 3 → Not 9 ≡ room_at p e n
+    pub at-tiny : length rest < 3 → Err NoRoom ≡ room_at p e n
     at-tiny h = over (omega arith)
 
-    module _ (h₂ : 3 ≤ length p - e) where
-      pub at-over : length p - e - 3 < n → Not 9 ≡ room_at p e n
+    module _ (h₂ : 3 ≤ length rest) where
+      pub at-over : length rest - 3 < n → Err NoRoom ≡ room_at p e n
       at-over h = over (omega arith)
 
-      pub at-enough : n ≤ length p - e - 3 → At e ≡ room_at p e n
+      pub at-enough : n ≤ length rest - 3 → Ok e ≡ room_at p e n
       unfolding room_at
-      at-enough h = let l : n + 3 ≤ length (drop e p) = omega (arith, length-drop e p) in simp (sym ze, h₁, le-ltb _ _ l)
+      at-enough h = let l : n + 3 ≤ length (drop e p) = omega (arith, ap length re) in simp (sym at-is, h₁, le-ltb _ _ l)
 
 -- the room for an answer
 module _ (p a : List ℕ) where
-  pub room-empty : length a ≡ 0 → Not 5 ≡ room p a
+  pub room-empty : length a ≡ 0 → Err WrongSize ≡ room p a
   unfolding room append_verdict
   room-empty h = simp (eq-eqb _ _ h)
 
   module _ (h : length a ≡ 0 → ⊥) (r : Room) (re : r ≡ opened p) where
-    pub room-not : (n : ℕ) → r ≡ Not n → Not n ≡ room p a
+    pub room-not : (n : Refusal) → r ≡ Err n → Err n ≡ room p a
     unfolding room append_verdict opened recover_verdict
     room-not n rv = rw (ne_eqb _ _ h) (of (judged p))
       where
-        of : Judged p → Not n ≡ room_of (page_verdict p (further (rest_of p) (length (entry a)))) (end_at p 1)
+        of : Judged p → Err n ≡ room_of (page_verdict p (further (rest_of p) (length (entry a)))) (end_at p 1)
         of (is-fine f v) = at-not (sym rv ∙ re ∙ ap (λ x. room_of x (end_at p 1)) (v granted))
         of (is-not q v) = sym rv ∙ re ∙ ap (λ x. room_of x (end_at p 1)) (v granted ∙ sym (v _))
 
-    pub room-there : (e : ℕ) → r ≡ At e → (x : Room) → x ≡ room_at p e (length a) → x ≡ room p a
+    pub room-there : (e : ℕ) → r ≡ Ok e → (x : Room) → x ≡ room_at p e (length a) → x ≡ room p a
     unfolding room append_verdict room_at rest_of
     room-there e rv x xe =
         let o = opened-at p e (sym re ∙ rv) in

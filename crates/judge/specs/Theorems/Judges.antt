@@ -1,5 +1,5 @@
 -- What `judge` gives is what the Conditions field says. Assumes nothing.
-use Rattle.std.specs.Prelude.{◌≡◌, List, ℕ, ◌-◌, ◌%◌, ◌≤◌, length}
+use Rattle.std.specs.Prelude.{◌≡◌, List, ℕ, ◌-◌, ◌%◌, ◌≤◌, length, Err}
 use Rattle.std.proofs.Common.{arith}
 use Rattle.lexical.specs.declared.token.Token.{Token}
 use Rattle.syntax.specs.Expr.{Program}
@@ -8,9 +8,8 @@ use Rattle.syntax.specs.Stood.{Stood}
 use Rattle.expression.specs.Names.{Environment}
 use Rattle.expression.specs.Conditions.{conditions, top}
 use Rattle.expression.specs.Theorems.Topmost.{conditions-most}
-use Rattle.judge.specs.declared.Judged.{Judged}
-use Rattle.judge.specs.declared.Judged.TheVariants.{On, Aside}
 use Rattle.syntax.specs.Working.Faults.{against}
+use Rattle.judge.specs.Working.Judging.{Judged, ranked}
 
 -- room for the strings of every program that a text of this length has
 abbrev pub Wide : ℕ → Type 0
@@ -18,8 +17,8 @@ Wide space = 77824 ≤ space
 
 -- the same reason of document 01 at the same place; or the rank of the program, before a token of the text
 pub data Judging (s : List ℕ) (env : Environment) : Parsed Program → Judged → Type 0 where
-  judged-aside : (r p : ℕ) → (r ≡ 0 → ⊥) → Judging s env (aside r p) (Aside (against r p))
-  judged-on : (q : Program) (n : Token) → Stood s n → Judging s env (ok q n) (On (conditions env q) n)
+  judged-aside : (r p : ℕ) → (r ≡ 0 → ⊥) → Judging s env (aside r p) (Err (against r p))
+  judged-on : (q : Program) (n : Token) → Stood s n → Judging s env (ok q n) (ranked (conditions env q) n)
 
 -- a rank of at most 256 values is a byte
 small : (k n : ℕ) → k ≤ n - 1 → n ≤ 256 → k % 256 ≡ k

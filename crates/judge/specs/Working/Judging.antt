@@ -1,5 +1,5 @@
 -- Conditions read into code that is run, as the program does it; and the ways out of its functions. Assumes nothing.
-use Rattle.std.specs.Prelude.{◌≡◌, List, [], map, ℕ, ◌-◌, ◌%◌, ◌<◌, ◌≤◌, ltb, leb, length, take, replicate}
+use Rattle.std.specs.Prelude.{◌≡◌, List, [], map, ℕ, ◌-◌, ◌%◌, ◌<◌, ◌≤◌, ltb, leb, length, take, replicate, Err, Result, Ok}
 use Rattle.std.proofs.Common.{sym}
 use borrow.Author.Tests.{lt-ltb, le-ltb, le-leb, lt-leb}
 use Rattle.text.specs.Choice.{pick}
@@ -10,13 +10,18 @@ use Rattle.expression.specs.Tables.{lookup_in}
 use Rattle.expression.specs.declared.value.Operand.{Operand}
 use Rattle.machine.specs.Working.Machine.{on, exec, result_of}
 use Rattle.machine.specs.Working.Left.{left_in}
-use Rattle.conditions.specs.Working.Emit.{Ran, ran}
+use Rattle.conditions.specs.Working.Emit.{Out, Ran, ran}
 use Rattle.conditions.specs.Working.Program.{conditions_at}
-use Rattle.conditions.specs.declared.emit.Out.{Out}
-use Rattle.conditions.specs.declared.emit.Out.TheVariants.{Found, Aside as Refused}
-use Rattle.judge.specs.declared.Judged.{Judged}
-use Rattle.judge.specs.declared.Judged.TheVariants.{On, Aside}
 use Rattle.syntax.specs.declared.fault.Fault.{Fault}
+use Rattle.judge.specs.declared.Ranked.{Ranked}
+use Rattle.conditions.specs.declared.emit.Found.{Found}
+
+-- a rank and the token behind the field, or the first fault
+abbrev pub Judged : Type 0
+Judged = Result Ranked Fault
+
+abbrev pub ranked : ℕ → Token → Judged
+ranked k n = Ok (record { rank = k; next = n })
 
 -- the operand that the code leaves
 unfoldable pub left_by : List ℕ → List ℕ → List ℕ → List ℕ → List ℕ → List ℕ → List ℕ → ℕ → ℕ → Operand
@@ -30,8 +35,8 @@ rank_at code top s rec consts values names constants depth space =
 
 -- the rank of what was read, or its fault
 abbrev pub judged_of : (List ℕ → ℕ → ℕ) → Ran → Judged
-judged_of f (ran (Refused w) b) = Aside w
-judged_of f (ran (Found x p u n) b) = On (f b u) n
+judged_of f (ran (Err w) b) = Err w
+judged_of f (ran (Ok q) b) = ranked (f b q.top) q.next
 
 -- a field in the text s whose first token is t; the code is written to m
 unfoldable pub judged_in : List ℕ → Token → List ℕ → List ℕ → List ℕ → List ℕ → List ℕ → List ℕ → ℕ → ℕ → Judged
@@ -64,14 +69,14 @@ module _ (s rec consts values names constants : List ℕ) (depth space : ℕ) wh
 
   -- `judge` and `judge_in`
   module _ (t : Token) (m b : List ℕ) (o : Out) (oe : ran o b ≡ conditions_at s m 0 t) where
-    pub judge-aside : (w : Fault) → o ≡ Refused w → Aside w ≡ judged_in s t rec consts values names constants m depth space
+    pub judge-aside : (w : Fault) → o ≡ Err w → Err w ≡ judged_in s t rec consts values names constants m depth space
     unfolding judged_in
     judge-aside w e = simp (sym oe, e)
 
-    pub judge-on : (x p u : ℕ) (n : Token) → o ≡ Found x p u n → (k : ℕ) → k ≡ rank_at b u s rec consts values names constants depth space
-        → On k n ≡ judged_in s t rec consts values names constants m depth space
+    pub judge-on : (q : Found) → o ≡ Ok q → (k : ℕ) → k ≡ rank_at b q.top s rec consts values names constants depth space
+        → ranked k q.next ≡ judged_in s t rec consts values names constants m depth space
     unfolding judged_in
-    judge-on x p u n e k ke = simp (sym oe, e, ke)
+    judge-on q e k ke = simp (sym oe, e, ke)
 
 -- `judge_field`
 module _ (s rec consts values names constants : List ℕ) (t : Token) (r : Judged) (n : ℕ) (ne : n ≡ length s - t.start) where

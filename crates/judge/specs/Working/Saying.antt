@@ -1,41 +1,44 @@
 -- A string expression read into code that is run, as the program does it; and the ways out of its functions. Assumes nothing.
-use Rattle.std.specs.Prelude.{◌≡◌, List, ℕ, ◌-◌, ◌<◌, ◌≤◌, ltb, leb, length, take, replicate}
+use Rattle.std.specs.Prelude.{◌≡◌, List, ℕ, ◌-◌, ◌<◌, ◌≤◌, ltb, leb, length, take, replicate, Err, Option, Some, None, Result, Ok}
 use borrow.Author.Tests.{lt-ltb, le-ltb, le-leb, lt-leb}
 use Rattle.text.specs.Choice.{pick}
 use Rattle.lexical.specs.declared.token.Token.{Token}
 use Rattle.machine.specs.Working.Given.{Gave, gave, string_in}
-use Rattle.machine.specs.declared.Given.{Given}
-use Rattle.machine.specs.declared.Given.TheVariants.{Bytes, Stuck}
 use Rattle.conditions.specs.Program.{DEPTH}
-use Rattle.conditions.specs.Working.Emit.{Ran, ran}
+use Rattle.conditions.specs.Working.Emit.{Out, Ran, ran}
 use Rattle.conditions.specs.Working.Expression.{expr_at}
-use Rattle.conditions.specs.declared.emit.Out.{Out}
-use Rattle.conditions.specs.declared.emit.Out.TheVariants.{Found, Aside as Refused}
-use Rattle.judge.specs.declared.string.Said.{Said}
-use Rattle.judge.specs.declared.string.Said.TheVariants.{On, Aside}
 use Rattle.syntax.specs.Working.Faults.{against}
 use Rattle.syntax.specs.declared.fault.Fault.{Fault}
+use Rattle.judge.specs.declared.string.Said.{Said}
+use Rattle.conditions.specs.declared.emit.Found.{Found}
+
+-- how many bytes a string has and the token behind it, or the first fault
+abbrev pub Spoken : Type 0
+Spoken = Result Said Fault
+
+abbrev pub spoken : ℕ → Token → Spoken
+spoken k n = Ok (record { count = k; next = n })
 
 -- an answer and the buffer
 pub data Told : Type 0 where
-  said : Said → List ℕ → Told
+  said : Spoken → List ℕ → Told
 
-abbrev pub valued : Given → List ℕ → Gave
+abbrev pub valued : Option ℕ → List ℕ → Gave
 valued = gave
 
 -- the string that the code up to top gives; none where the code is shorter
 unfoldable pub valued_at : List ℕ → ℕ → List ℕ → List ℕ → List ℕ → List ℕ → List ℕ → List ℕ → List ℕ → Gave
 valued_at code top s rec consts values names constants out =
-    pick (ltb (length code) top) (gave Stuck out) (string_in 208 77824 (take top code) s rec consts values names constants out)
+    pick (ltb (length code) top) (gave None out) (string_in 208 77824 (take top code) s rec consts values names constants out)
 
 abbrev pub said_of : ℕ → Token → Gave → Told
-said_of at n (gave (Bytes k) out) = said (On k n) out
-said_of at n (gave Stuck out) = said (Aside (against 0 at)) out
+said_of at n (gave (Some k) out) = said (spoken k n) out
+said_of at n (gave None out) = said (Err (against 0 at)) out
 
 -- the string of what was read, or its fault
 abbrev pub on_read : ℕ → List ℕ → (List ℕ → ℕ → Gave) → Ran → Told
-on_read at out f (ran (Refused w) b) = said (Aside w) out
-on_read at out f (ran (Found x p u n) b) = said_of at n (f b u)
+on_read at out f (ran (Err w) b) = said (Err w) out
+on_read at out f (ran (Ok q) b) = said_of at q.next (f b q.top)
 
 -- an expression in the text s whose first token is t; the code is written to m
 unfoldable pub said_in : List ℕ → Token → ℕ → List ℕ → List ℕ → List ℕ → List ℕ → List ℕ → List ℕ → List ℕ → Told
@@ -54,32 +57,32 @@ said_here s t nest rec consts values names constants out =
 module _ (s rec consts values names constants out : List ℕ) where
   -- `value_of`
   module _ (code : List ℕ) (top : ℕ) where
-    pub value-short : length code < top → valued Stuck out ≡ valued_at code top s rec consts values names constants out
+    pub value-short : length code < top → valued None out ≡ valued_at code top s rec consts values names constants out
     unfolding valued_at
     value-short h = rw (lt-ltb _ _ h)
 
-    pub value-whole : top ≤ length code → (part : List ℕ) → part ≡ take top code → (r : Given) (to : List ℕ)
+    pub value-whole : top ≤ length code → (part : List ℕ) → part ≡ take top code → (r : Option ℕ) (to : List ℕ)
         → gave r to ≡ string_in 208 77824 part s rec consts values names constants out → valued r to ≡ valued_at code top s rec consts values names constants out
     unfolding valued_at
     value-whole h part pe r to e = rw (le-ltb _ _ h, ← pe) e
 
   -- `string_in`
   module _ (t : Token) (nest : ℕ) (m b : List ℕ) (o : Out) (oe : ran o b ≡ expr_at DEPTH s m 0 3 1 0 nest t) where
-    pub said-aside : (w : Fault) → o ≡ Refused w → said (Aside w) out ≡ said_in s t nest rec consts values names constants m out
+    pub said-aside : (w : Fault) → o ≡ Err w → said (Err w) out ≡ said_in s t nest rec consts values names constants m out
     unfolding said_in
     said-aside w e = rw (← oe, e)
 
-    module _ (x p u : ℕ) (n : Token) (e : o ≡ Found x p u n) (g : Given) (to : List ℕ) (ge : valued g to ≡ valued_at b u s rec consts values names constants out) where
-      pub said-stuck : g ≡ Stuck → said (Aside (against 0 t.start)) to ≡ said_in s t nest rec consts values names constants m out
+    module _ (q : Found) (e : o ≡ Ok q) (g : Option ℕ) (to : List ℕ) (ge : valued g to ≡ valued_at b q.top s rec consts values names constants out) where
+      pub said-stuck : g ≡ None → said (Err (against 0 t.start)) to ≡ said_in s t nest rec consts values names constants m out
       unfolding said_in
       said-stuck h = rw (← oe, e, ← ge, h)
 
-      pub said-on : (k : ℕ) → g ≡ Bytes k → said (On k n) to ≡ said_in s t nest rec consts values names constants m out
+      pub said-on : (k : ℕ) → g ≡ Some k → said (spoken k q.next) to ≡ said_in s t nest rec consts values names constants m out
       unfolding said_in
       said-on k h = rw (← oe, e, ← ge, h)
 
   -- `string_field`
-  module _ (t : Token) (nest : ℕ) (r : Said) (to : List ℕ) (n : ℕ) (ne : n ≡ length s - t.start) where
+  module _ (t : Token) (nest : ℕ) (r : Spoken) (to : List ℕ) (n : ℕ) (ne : n ≡ length s - t.start) where
     here : (k : ℕ) → string_size n ≡ k → said r to ≡ said_in s t nest rec consts values names constants (replicate k 0) out → said r to ≡ said_here s t nest rec consts values names constants out
     unfolding said_here
     here k h e = rw (← ne, h) e

@@ -10,10 +10,9 @@ use Rattle.text.specs.Choice.{pick, split}
 use Rattle.record.specs.Query.{Query}
 use Rattle.record.specs.Read.{accepted, refused}
 use Rattle.record.specs.Record.{read_record}
-use Rattle.record.specs.Reading.{told, read_into}
+use Rattle.record.specs.Reading.{Reading, Accepted, told, read_into}
 use Rattle.record.specs.RoundTrip.{Bytes}
-use Rattle.record.specs.declared.Reading.{Reading}
-use Rattle.record.specs.declared.Reading.TheVariants.{Accepted, Refused}
+use Rattle.record.specs.Refusal.{Refused}
 use Rattle.system.specs.Working.Solving.{solved_in}
 use Rattle.keynote.specs.Outcome.{refused_with, answer, needed, outcome, page_after}
 use Rattle.keynote.specs.Report.{report_size}

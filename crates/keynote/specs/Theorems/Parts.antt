@@ -1,5 +1,5 @@
 -- The table of places that reading an accepted query leaves: its four parts are the places of the four groups. Assumes nothing.
-use Rattle.std.specs.Prelude.{◌≡◌, refl, List, [], ◌∷◌, ◌++◌, ℕ, suc, ◌+◌, ◌-◌, ◌≤◌, length, take, drop}
+use Rattle.std.specs.Prelude.{◌≡◌, refl, List, [], ◌∷◌, ◌++◌, ℕ, suc, ◌+◌, ◌-◌, ◌≤◌, length, take, drop, Ok, Err}
 use Rattle.std.proofs.Common.{sym, ap, ◌∙◌, append_assoc, arith, length-append, take_at, drop_at}
 use Rattle.limits.specs.Limits.{most_items}
 use Rattle.text.specs.Copy.{put}
@@ -8,12 +8,13 @@ use Rattle.record.specs.Query.{Query}
 use Rattle.record.specs.Read.{Verdict, accepted, refused}
 use Rattle.record.specs.Record.{read_record}
 use Rattle.record.specs.Places.{string_size, attribute_size, assertion_size, places_from, requesters_start, attributes_start, assertions_start, places}
-use Rattle.record.specs.Reading.{told, group_ends, leaves, read_into}
+use Rattle.record.specs.Reading.{Reading, Accepted, told, group_ends, leaves, read_into}
 use Rattle.record.specs.Valid.{Valid}
 use Rattle.record.specs.RoundTrip.{Bytes}
 use Rattle.record.proofs.Laws.RoundTrip.{read_back}
-use Rattle.record.specs.declared.Reading.{Reading}
-use Rattle.record.specs.declared.Reading.TheVariants.{Accepted, Refused}
+use Rattle.record.specs.Refusal.{Refused}
+use Rattle.record.specs.declared.Ends.{Ends}
+use Rattle.record.specs.declared.Refusal.{Refusal}
 use Rattle.keynote.specs.Working.Filled.{values_at, requesters_at, attributes_at, assertions_at}
 
 pub places-length : {A : Type 0} (size : A → ℕ) (lead at : ℕ) (l : List A) → length (places_from size lead at l) ≡ length l
@@ -92,8 +93,11 @@ all-length q =
       length-append (values_at q) (requesters_at q),
     )
 
-accepted-is : {v n a c v' n' a' c' : ℕ} → Accepted v n a c ≡ Accepted v' n' a' c' → (v ≡ v') × ((n ≡ n') × ((a ≡ a') × (c ≡ c')))
-accepted-is e = (cc, (cc, (cc, cc)))
+accepted-is : {x y : Ends} → ◌≡◌ {A = Reading} (Ok x) (Ok y)
+    → (x.values ≡ y.values) × ((x.requesters ≡ y.requesters) × ((x.attributes ≡ y.attributes) × (x.assertions ≡ y.assertions)))
+accepted-is {x} {y} e =
+    let z : x ≡ y = cc in
+    (ap (λ (w : Ends). w.values) z, (ap (λ (w : Ends). w.requesters) z, (ap (λ (w : Ends). w.attributes) z, ap (λ (w : Ends). w.assertions) z)))
 
 pub accepted-parts : (s : List ℕ) (q : Query) → Bytes s → read_record s ≡ accepted q → (t table : List ℕ) → most_items ≤ length t
     → (values requesters attributes assertions : ℕ) → told (Accepted values requesters attributes assertions) table ≡ read_into s t
@@ -133,11 +137,11 @@ accepted-parts s q bytes e t table room values requesters attributes assertions 
 
 -- ---- what a reading says of the record
 
-no-mix : {P : Type 0} {v n a c r p : ℕ} → Accepted v n a c ≡ Refused r p → P
+no-mix : {P : Type 0} {x : Ends} {y : Refusal} → ◌≡◌ {A = Reading} (Ok x) (Err y) → P
 no-mix e = let z : ◌≡◌ {A = ℕ} 0 1 = cc in absurd (omega arith)
 
-refused-is : {n p m r : ℕ} → Refused n p ≡ Refused m r → (n ≡ m) × (p ≡ r)
-refused-is e = (cc, cc)
+refused-is : {x y : Refusal} → ◌≡◌ {A = Reading} (Err x) (Err y) → (x.number ≡ y.number) × (x.at ≡ y.at)
+refused-is {x} {y} e = let z : x ≡ y = cc in (ap (λ (w : Refusal). w.number) z, ap (λ (w : Refusal). w.at) z)
 
 accepted-by : (w : Verdict) (t table : List ℕ) (v n a c : ℕ) → told (Accepted v n a c) table ≡ leaves w t → (q : Query) × (w ≡ accepted q)
 unfolding leaves

@@ -1,5 +1,5 @@
 -- A reason against Conditions, or against an expression, is at most 8, and its place lies in the text or at its end. Assumes nothing.
-use Rattle.std.specs.Prelude.{◌≡◌, refl, List, [], eqb, leb, ltb, length, replicate}
+use Rattle.std.specs.Prelude.{◌≡◌, refl, List, [], eqb, leb, ltb, length, replicate, Err}
 use Rattle.std.proofs.Common.{ap, ◌∙◌, arith, le-ltb}
 use Prim.Native.Nat.{ℕ, zero, suc, ◌+◌, ◌-◌, ◌≤◌, ◌<◌, zero-le}
 use Rattle.std.proofs.lemmas.List.{length-replicate}
@@ -26,7 +26,6 @@ use Rattle.syntax.specs.Code.{ProgramCodes}
 use Rattle.syntax.specs.Stood.{Stood}
 use Rattle.text.specs.Choice.{clash}
 use Rattle.conditions.specs.Working.Emit.{Ran, ran}
-use Rattle.conditions.specs.declared.emit.Out.TheVariants.{Aside as Refused}
 use Rattle.conditions.specs.Working.Same.{Same, same-aside, same-part, SameAs, as-aside, as-ok, start-within}
 use Rattle.conditions.proofs.Working.TieExpression.{expression-same}
 use Rattle.conditions.proofs.Working.TieProgram.{conditions-same}
@@ -218,7 +217,7 @@ program-reasoned s short at =
 
 -- ---- the same of a string expression by itself
 
-not_none : (s : List ℕ) (a b c r p : ℕ) (m : List ℕ) (x : Ran) → Paced s a b c x → x ≡ ran (Refused (against r p)) m → r ≡ 0 → ⊥
+not_none : (s : List ℕ) (a b c r p : ℕ) (m : List ℕ) (x : Ran) → Paced s a b c x → x ≡ ran (Err (against r p)) m → r ≡ 0 → ⊥
 not_none s a b c r p m _ (paced-aside r' p' b' h) e z = h (let q : against r' p' ≡ against r p = cc e in ap (λ (f : Fault). f.reason) q ∙ z)
 not_none s a b c r p m _ (paced-found _ _ _ _ _ _ _ _) e z = absurd (let q : ◌≡◌ {A = ℕ} 0 1 = cc e in omega (arith, q))
 

@@ -22,7 +22,7 @@ use Rattle.expression.specs.Conditions.{top}
 use Rattle.assertion.specs.Assertion.{Assertion as Said, Conditions, absent, stated}
 use Rattle.assertion.specs.Read.{Read, kept, dropped}
 use Rattle.assertion.specs.Working.Field.{Given, Tables, tabled}
-use Rattle.assertion.specs.Working.Reading.{Result}
+use Rattle.assertion.specs.Working.Reading.{ReadInto}
 use Rattle.assertion.specs.Theorems.Ready.{After, ReadAs, as_dropped, as-kept}
 use Rattle.assertion.specs.Theorems.Ready.{worth as rank_of}
 use Rattle.assertion.specs.Theorems.Left.{enter-all-length, First, first_more}
@@ -189,7 +189,7 @@ module _ {size : Size} {room : ℕ} {q : Query} {start : ℕ} {direct : List ℕ
 
   -- what was read of it is noted: its row where it is kept, and its entry
   pub noted-made : (t : ℕ) → t ≡ top q.values → (front sheet page : List ℕ) → length front ≡ 3 + 3 * i → page ≡ front ++ drop (3 + 3 * i) sheet → 3 * i + 6 ≤ length sheet
-      → (r : Read) (w : Result) → Small r → ReadAs q g t (before x) made.names e.index.count e.index.end e.size r w
+      → (r : Read) (w : ReadInto) → Small r → ReadAs q g t (before x) made.names e.index.count e.index.end e.size r w
       → Reached size room q start direct sheet (joining q l r) (suc i) (front ++ entry_bytes r) (on_one a c d page i e (one_of w))
   unfolding note_in joining reason_of place_of
   noted-made t te front sheet page fe pe fits _ _ small (as_dropped r p y some after holds code) =

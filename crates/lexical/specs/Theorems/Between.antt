@@ -14,7 +14,7 @@ use Rattle.text.specs.Scan.{past, past_more, past_stop, past_end, past-from}
 use Rattle.lexical.specs.Theorems.Bounds.{chosen}
 use Rattle.lexical.specs.Run.{in_run, WHITE}
 use Rattle.lexical.specs.declared.unit.Unit.{Unit}
-use Rattle.lexical.specs.Unit.{GIVES, CLOSES, gives, drops, spoils, closes, bare, octal, control, coded, octal_unit, escape_unit, barred, unit_at}
+use Rattle.lexical.specs.Unit.{GIVES, CLOSES, gives, drops, spoils, closes, bare, octal, control, coded, octal_unit, escape_unit, barred, kind, width, unit_at}
 use Rattle.lexical.specs.Theorems.UnitLaws.{unit-closing}
 use Rattle.lexical.specs.Literal.{inside, units, units_at, closing, given, literal_end, decoded_at, decode}
 use Rattle.lexical.specs.Theorems.LiteralLaws.{Closed, closing-within, units-more, units-end}
@@ -48,12 +48,12 @@ module _ (s : List ℕ) (k : ℕ) where
   unfolding units
   units-drop zero j = refl
   units-drop (suc n) j =
-      let e : k + (j + (unit_at s (k + j)).width) ≡ k + j + (unit_at s (k + j)).width = omega arith in
-      rw (unit-drop j, units-drop n (j + (unit_at s (k + j)).width), e) refl
+      let e : k + (j + width (unit_at s (k + j))) ≡ k + j + width (unit_at s (k + j)) = omega arith in
+      rw (unit-drop j, units-drop n (j + width (unit_at s (k + j))), e) refl
 
 -- an escape that is legal takes two bytes at least
 Two : Unit → Type 0
-Two u = u.kind ≤ GIVES → 2 ≤ u.width
+Two u = kind u ≤ GIVES → 2 ≤ width u
 
 two-spoils : Two spoils
 unfolding Two
@@ -76,7 +76,7 @@ two-octal b c d =
     (λ p. chosen Two (eqb b 48) _ (bare b) (λ z. two-coded _ 3 b (omega arith)) (λ z. two-gives 2 b (omega arith))))
     (λ o. two-gives 2 b (omega arith))
 
-escape-two : (b c d : ℕ) → (escape_unit b c d).kind ≤ GIVES → 2 ≤ (escape_unit b c d).width
+escape-two : (b c d : ℕ) → kind (escape_unit b c d) ≤ GIVES → 2 ≤ width (escape_unit b c d)
 unfolding escape_unit Two
 escape-two b c d =
     chosen Two (eqb b 0) spoils _ (λ z. two-spoils)
@@ -120,9 +120,9 @@ module _ (s : List ℕ) (n : ℕ) (within : n ≤ length s) where
   -- a unit that ends before the cut, at which a quote stands, is the same unit of the text up to there
   module _ (quote : get_or s n 0 ≡ 34) (i : ℕ) where
     abbrev Kept : Unit → Type 0
-    Kept u = u.kind ≤ GIVES → i + u.width ≤ n → unit_at (take n s) i ≡ u
+    Kept u = kind u ≤ GIVES → i + width u ≤ n → unit_at (take n s) i ≡ u
 
-    not-kept : (u : Unit) → GIVES < u.kind → Kept u
+    not-kept : (u : Unit) → GIVES < kind u → Kept u
     not-kept u h k = let no : ⊥ = omega (arith, h, k) in absurd no
 
     first : i < n → leb (length (take n s)) i ≡ false
@@ -147,7 +147,7 @@ module _ (s : List ℕ) (n : ℕ) (within : n ≤ length s) where
     kept-escape : get_or s i 0 ≡ 92 → eqb (get_or s (i + 1) 0) 10 ≡ false → Kept (escape_unit (get_or s (i + 1) 0) (get_or s (i + 2) 0) (get_or s (i + 3) 0))
     unfolding unit_at
     kept-escape a b k l =
-        let w : 2 ≤ (escape_unit (get_or s (i + 1) 0) (get_or s (i + 2) 0) (get_or s (i + 3) 0)).width = escape-two _ _ _ k in
+        let w : 2 ≤ width (escape_unit (get_or s (i + 1) 0) (get_or s (i + 2) 0) (get_or s (i + 3) 0)) = escape-two _ _ _ k in
         let h : i + 1 < n = omega (arith, l, w) in
         rw (first (omega (arith, h)), same_byte i (omega (arith, h)), a, same_byte (i + 1) h, b)
         (split (ltb (i + 2) n)
@@ -176,23 +176,23 @@ module _ (s : List ℕ) (n : ℕ) (within : n ≤ length s) where
   unfolding units Closed
   units-cut quote zero i h = let no : ⊥ = omega (arith, h) in absurd no
   units-cut quote (suc g) i h =
-      split (eqb (unit_at s i).kind CLOSES)
+      split (eqb (kind (unit_at s i)) CLOSES)
       (λ c.
-      let k : (unit_at s i).kind ≡ CLOSES = eqb-true _ _ c in
+      let k : kind (unit_at s i) ≡ CLOSES = eqb-true _ _ c in
       let e : i + 1 ≡ suc n = rw c at h in
       let p : length (take n s) ≤ i = omega (arith, e, cut-length) in
-      let m : eqb (unit_at s i).kind GIVES ≡ false = ne_eqb (unit_at s i).kind GIVES (λ z. let no : ⊥ = omega (arith, k, z) in no) in
-      let o : leb (unit_at s i).kind GIVES ≡ false = lt-leb (unit_at s i).kind GIVES (omega (arith, k)) in
+      let m : eqb (kind (unit_at s i)) GIVES ≡ false = ne_eqb (kind (unit_at s i)) GIVES (λ z. let no : ⊥ = omega (arith, k, z) in no) in
+      let o : leb (kind (unit_at s i)) GIVES ≡ false = lt-leb (kind (unit_at s i)) GIVES (omega (arith, k)) in
       rw (units-end (take n s) i p, m, o) refl)
       (λ c. split (inside (unit_at s i))
       (λ f.
-      let k : (unit_at s i).kind ≤ GIVES = leb-true _ _ f in
-      let r : closing (i + (unit_at s i).width) (units g s (i + (unit_at s i).width)) ≡ suc n = rw (c, f) at h in
-      let l : i + (unit_at s i).width < closing (i + (unit_at s i).width) (units g s (i + (unit_at s i).width)) =
-      (closing-within g s (i + (unit_at s i).width) (λ z. let no : ⊥ = omega (arith, r, z) in no)).0 in
+      let k : kind (unit_at s i) ≤ GIVES = leb-true _ _ f in
+      let r : closing (i + width (unit_at s i)) (units g s (i + width (unit_at s i))) ≡ suc n = rw (c, f) at h in
+      let l : i + width (unit_at s i) < closing (i + width (unit_at s i)) (units g s (i + width (unit_at s i))) =
+      (closing-within g s (i + width (unit_at s i)) (λ z. let no : ⊥ = omega (arith, r, z) in no)).0 in
       let u : unit_at (take n s) i ≡ unit_at s i = kept-unit quote i k (omega (arith, l, r)) in
-      let v : units_at (take n s) i ≡ unit_at (take n s) i ∷ units_at (take n s) (i + (unit_at (take n s) i).width) = units-more (take n s) i (rw u k) in
-      rw (v, u, f, units-cut quote g (i + (unit_at s i).width) r) refl)
+      let v : units_at (take n s) i ≡ unit_at (take n s) i ∷ units_at (take n s) (i + width (unit_at (take n s) i)) = units-more (take n s) i (rw u k) in
+      rw (v, u, f, units-cut quote g (i + width (unit_at s i)) r) refl)
       (λ f. let r : 0 ≡ suc n = rw (c, f) at h in let no : ⊥ = omega (arith, r) in absurd no))
 
 -- the byte before the end of a literal is a quote of the text
@@ -200,10 +200,10 @@ closing-quote : (s : List ℕ) (n g i : ℕ) → closing i (units g s i) ≡ suc
 unfolding units
 closing-quote s n zero i h = let no : ⊥ = omega (arith, h) in absurd no
 closing-quote s n (suc g) i h =
-    split (eqb (unit_at s i).kind CLOSES)
+    split (eqb (kind (unit_at s i)) CLOSES)
     (λ c. let e : i + 1 ≡ suc n = rw c at h in let z : i ≡ n = omega (arith, e) in subst (λ (j : ℕ). (j < length s) × (get_or s j 0 ≡ 34)) z (unit-closing s i (eqb-true _ _ c)))
     (λ c. split (inside (unit_at s i))
-    (λ f. closing-quote s n g (i + (unit_at s i).width) (rw (c, f) at h))
+    (λ f. closing-quote s n g (i + width (unit_at s i)) (rw (c, f) at h))
     (λ f. let r : 0 ≡ suc n = rw (c, f) at h in let no : ⊥ = omega (arith, r) in absurd no))
 
 units-slice : (s : List ℕ) (k n : ℕ) → units_at (slice k n s) 0 ≡ units_at (take n s) k

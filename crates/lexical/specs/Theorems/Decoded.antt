@@ -6,7 +6,7 @@ use Rattle.std.proofs.Common.{arith, eqb-true, leb-true, leb-false, ne_eqb}
 use Rattle.text.specs.Choice.{pick}
 use Rattle.lexical.specs.Theorems.Bounds.{chosen}
 use Rattle.lexical.specs.declared.unit.Unit.{Unit}
-use Rattle.lexical.specs.Unit.{GIVES, CLOSES, unit_at}
+use Rattle.lexical.specs.Unit.{GIVES, CLOSES, kind, width, byte, unit_at}
 use Rattle.lexical.specs.Theorems.UnitLaws.{Bytes, unit-moves, unit-solid, unit-byte}
 use Rattle.lexical.specs.Literal.{inside, units, units_at, closing, given, literal_end, decoded_at}
 
@@ -21,14 +21,14 @@ each_at P (x ∷ xs) (also _ _ p e) zero h = p
 each_at P (x ∷ xs) (also _ _ p e) (suc j) h = each_at P xs e j (omega (arith, h))
 
 -- what holds of each byte that a unit gives holds of each byte given
-module _ (P : ℕ → Type 0) (s : List ℕ) (p : (i : ℕ) → (unit_at s i).kind ≡ GIVES → P (unit_at s i).byte) where
+module _ (P : ℕ → Type 0) (s : List ℕ) (p : (i : ℕ) → kind (unit_at s i) ≡ GIVES → P (byte (unit_at s i))) where
   each-given : (n i : ℕ) → Each P (given (units n s i))
   unfolding units
   each-given zero i = none
   each-given (suc n) i =
-      let rest : Each P (given (pick (inside (unit_at s i)) (units n s (i + (unit_at s i).width)) [])) =
-      chosen (λ (us : List Unit). Each P (given us)) (inside (unit_at s i)) _ [] (λ e. each-given n (i + (unit_at s i).width)) (λ e. none) in
-      chosen (Each P) (eqb (unit_at s i).kind GIVES) _ _ (λ e. also _ _ (p i (eqb-true _ _ e)) rest) (λ e. rest)
+      let rest : Each P (given (pick (inside (unit_at s i)) (units n s (i + width (unit_at s i))) [])) =
+      chosen (λ (us : List Unit). Each P (given us)) (inside (unit_at s i)) _ [] (λ e. each-given n (i + width (unit_at s i))) (λ e. none) in
+      chosen (Each P) (eqb (kind (unit_at s i)) GIVES) _ _ (λ e. also _ _ (p i (eqb-true _ _ e)) rest) (λ e. rest)
 
   each-decoded : (start : ℕ) → Each P (decoded_at s start)
   unfolding decoded_at units_at
@@ -47,27 +47,27 @@ Shorter : ℕ → List Unit → Type 0
 Shorter i us = (closing i us ≡ 0 → ⊥) → i + length (given us) < closing i us
 
 pub given-cons : (u : Unit) (us : List Unit) → length (given (u ∷ us)) ≤ suc (length (given us))
-given-cons u us = chosen (λ (xs : List ℕ). length xs ≤ suc (length (given us))) (eqb u.kind GIVES) _ _ (λ e. omega arith) (λ e. omega arith)
+given-cons u us = chosen (λ (xs : List ℕ). length xs ≤ suc (length (given us))) (eqb (kind u) GIVES) _ _ (λ e. omega arith) (λ e. omega arith)
 
-shorter-last : (i : ℕ) (u : Unit) → GIVES < u.kind → Shorter i (u ∷ [])
+shorter-last : (i : ℕ) (u : Unit) → GIVES < kind u → Shorter i (u ∷ [])
 unfolding Shorter
 shorter-last i u h =
-    let g : eqb u.kind GIVES ≡ false = ne_eqb u.kind GIVES (λ e. let no : ⊥ = omega (arith, h, e) in no) in
+    let g : eqb (kind u) GIVES ≡ false = ne_eqb (kind u) GIVES (λ e. let no : ⊥ = omega (arith, h, e) in no) in
     rw g
-    (chosen (λ (e : ℕ). (e ≡ 0 → ⊥) → i + 0 < e) (eqb u.kind CLOSES) (i + 1) 0 (λ e z. omega arith) (λ e z. absurd (z refl)))
+    (chosen (λ (e : ℕ). (e ≡ 0 → ⊥) → i + 0 < e) (eqb (kind u) CLOSES) (i + 1) 0 (λ e z. omega arith) (λ e z. absurd (z refl)))
 
-shorter-more : (i : ℕ) (u : Unit) (us : List Unit) → u.kind ≤ GIVES → 1 ≤ u.width → Shorter (i + u.width) us → Shorter i (u ∷ us)
+shorter-more : (i : ℕ) (u : Unit) (us : List Unit) → kind u ≤ GIVES → 1 ≤ width u → Shorter (i + width u) us → Shorter i (u ∷ us)
 unfolding Shorter
 shorter-more i u us k w h =
-    let c : eqb u.kind CLOSES ≡ false = ne_eqb u.kind CLOSES (λ e. let no : ⊥ = omega (arith, k, e) in no) in
+    let c : eqb (kind u) CLOSES ≡ false = ne_eqb (kind u) CLOSES (λ e. let no : ⊥ = omega (arith, k, e) in no) in
     rw c (λ z. omega (arith, w, h z, given-cons u us))
 
 given-shorter : (n : ℕ) (s : List ℕ) (i : ℕ) → Shorter i (units n s i)
 unfolding units Shorter
 given-shorter zero s i = λ z. absurd (z refl)
 given-shorter (suc n) s i =
-    chosen (λ (us : List Unit). Shorter i (unit_at s i ∷ us)) (inside (unit_at s i)) (units n s (i + (unit_at s i).width)) []
-    (λ e. shorter-more i (unit_at s i) (units n s (i + (unit_at s i).width)) (leb-true _ _ e) (unit-moves s i (leb-true _ _ e)).0 (given-shorter n s (i + (unit_at s i).width)))
+    chosen (λ (us : List Unit). Shorter i (unit_at s i ∷ us)) (inside (unit_at s i)) (units n s (i + width (unit_at s i))) []
+    (λ e. shorter-more i (unit_at s i) (units n s (i + width (unit_at s i))) (leb-true _ _ e) (unit-moves s i (leb-true _ _ e)).0 (given-shorter n s (i + width (unit_at s i))))
     (λ e. shorter-last i (unit_at s i) (leb-false _ _ e))
 
 -- A literal gives at most as many bytes as it has between its quotes.

@@ -6,7 +6,7 @@ use Rattle.std.proofs.Math.ListN.{length}
 use Rattle.std.proofs.lemmas.Bool.{lt-leb}
 use Rattle.text.specs.Choice.{pick-if}
 use Rattle.lexical.specs.declared.unit.Unit.{Unit}
-use Rattle.lexical.specs.Unit.{GIVES, CLOSES, spoils, unit_at}
+use Rattle.lexical.specs.Unit.{GIVES, CLOSES, spoils, kind, width, unit_at}
 use Rattle.lexical.specs.Theorems.UnitLaws.{unit-moves, unit-closing}
 use Rattle.lexical.specs.Literal.{inside, units, units_at, closing, literal_end}
 use Rattle.lexical.specs.Theorems.Bounds.{chosen}
@@ -20,18 +20,18 @@ units-same (suc n) (suc m) s i h k =
     ap (λ (us : List Unit). unit_at s i ∷ us)
     (pick-if (inside (unit_at s i)) []
     (λ e.
-    let p : (1 ≤ (unit_at s i).width) × (i + (unit_at s i).width ≤ length s) = unit-moves s i (leb-true _ _ e) in
-    units-same n m s (i + (unit_at s i).width) (omega (arith, p.0, p.1)) (omega (arith, p.0, p.1))))
+    let p : (1 ≤ width (unit_at s i)) × (i + width (unit_at s i) ≤ length s) = unit-moves s i (leb-true _ _ e) in
+    units-same n m s (i + width (unit_at s i)) (omega (arith, p.0, p.1)) (omega (arith, p.0, p.1))))
 
 module _ (s : List ℕ) (i : ℕ) where
-  pub units-more : (unit_at s i).kind ≤ GIVES → units_at s i ≡ unit_at s i ∷ units_at s (i + (unit_at s i).width)
+  pub units-more : kind (unit_at s i) ≤ GIVES → units_at s i ≡ unit_at s i ∷ units_at s (i + width (unit_at s i))
   unfolding units_at units
   units-more h =
-      let p : (1 ≤ (unit_at s i).width) × (i + (unit_at s i).width ≤ length s) = unit-moves s i h in
+      let p : (1 ≤ width (unit_at s i)) × (i + width (unit_at s i) ≤ length s) = unit-moves s i h in
       rw (le-leb _ _ h) (ap (λ (us : List Unit). unit_at s i ∷ us)
-      (units-same (length s - i) (suc (length s - (i + (unit_at s i).width))) s (i + (unit_at s i).width) (omega (arith, p.0, p.1)) (omega arith)))
+      (units-same (length s - i) (suc (length s - (i + width (unit_at s i)))) s (i + width (unit_at s i)) (omega (arith, p.0, p.1)) (omega arith)))
 
-  pub units-last : GIVES < (unit_at s i).kind → units_at s i ≡ unit_at s i ∷ []
+  pub units-last : GIVES < kind (unit_at s i) → units_at s i ≡ unit_at s i ∷ []
   unfolding units_at units
   units-last h = rw (lt-leb _ _ h)
 
@@ -40,7 +40,7 @@ pub units-end : (s : List ℕ) (i : ℕ) → length s ≤ i → units_at s i ≡
 unfolding unit_at
 units-end s i h =
     let e : spoils ≡ unit_at s i = simp (le-leb _ _ h) in
-    let k : GIVES < (unit_at s i).kind = subst (λ (u : Unit). GIVES < u.kind) e (omega arith) in
+    let k : GIVES < kind (unit_at s i) = subst (λ (u : Unit). GIVES < kind u) e (omega arith) in
     units-last s i k ∙ ap (λ (u : Unit). u ∷ []) (sym e)
 
 -- a literal ends within the text, behind where it starts
@@ -51,13 +51,13 @@ pub closing-within : (n : ℕ) (s : List ℕ) (i : ℕ) → Closed (length s) i 
 unfolding units Closed
 closing-within zero s i = λ z. absurd (z refl)
 closing-within (suc n) s i =
-    chosen (Closed (length s) i) (eqb (unit_at s i).kind CLOSES) (i + 1) _
+    chosen (Closed (length s) i) (eqb (kind (unit_at s i)) CLOSES) (i + 1) _
     (λ e z. let l : i < length s = (unit-closing s i (eqb-true _ _ e)).0 in (omega arith, omega arith))
-    (λ e. chosen (λ (us : List Unit). Closed (length s) i (closing (i + (unit_at s i).width) us)) (inside (unit_at s i)) _ []
+    (λ e. chosen (λ (us : List Unit). Closed (length s) i (closing (i + width (unit_at s i)) us)) (inside (unit_at s i)) _ []
     (λ f z.
-    let p : (1 ≤ (unit_at s i).width) × (i + (unit_at s i).width ≤ length s) = unit-moves s i (leb-true _ _ f) in
-    let q : (i + (unit_at s i).width < closing (i + (unit_at s i).width) (units n s (i + (unit_at s i).width))) × (closing (i + (unit_at s i).width) (units n s (i + (unit_at s i).width)) ≤ length s)
-    = closing-within n s (i + (unit_at s i).width) z in
+    let p : (1 ≤ width (unit_at s i)) × (i + width (unit_at s i) ≤ length s) = unit-moves s i (leb-true _ _ f) in
+    let q : (i + width (unit_at s i) < closing (i + width (unit_at s i)) (units n s (i + width (unit_at s i)))) × (closing (i + width (unit_at s i)) (units n s (i + width (unit_at s i))) ≤ length s)
+    = closing-within n s (i + width (unit_at s i)) z in
     (omega (arith, q.0), q.1))
     (λ f z. absurd (z refl)))
 

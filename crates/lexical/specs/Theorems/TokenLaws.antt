@@ -8,6 +8,7 @@ use Rattle.text.specs.Scan.{past, past_more, past-from, past-within}
 use Rattle.lexical.specs.Theorems.Bounds.{chosen}
 use Rattle.lexical.specs.Kind
 use Rattle.lexical.specs.Class.{class_of, LETTER, DIGIT, QUOTE}
+use Rattle.lexical.specs.declared.scan.Run.{Run}
 use Rattle.lexical.specs.Run.{has_class, in_run, WORD, NUMERALS}
 use Rattle.lexical.specs.Word.{stands}
 use Rattle.lexical.specs.Label.{label_kind}
@@ -147,7 +148,7 @@ module _ (s : List ℕ) (at i : ℕ) (from : at ≤ i) (in-s : i < length s) whe
       real Kind.LITERAL i (literal_end s (i + 1)) (omega arith) from (omega (arith, p.0)) p.1 (λ z. refl))
 
   -- a run whose first byte belongs to it
-  run-fine : (k n : ℕ) → Kind.LITERAL < n → in_run k (get_or s i 0) ≡ true → Fine s at (token n i (past (in_run k) s i))
+  run-fine : (k : Run) (n : ℕ) → Kind.LITERAL < n → in_run k (get_or s i 0) ≡ true → Fine s at (token n i (past (in_run k) s i))
   run-fine k n h e =
       real n i (past (in_run k) s i) (omega (arith, h)) from
       (omega (arith, past_more (in_run k) s i in-s e, past-from (in_run k) s (i + 1)))

@@ -9,7 +9,7 @@ use Rattle.lexical.specs.Theorems.Bounds.{chosen, past-inside, byte-within}
 use Rattle.lexical.specs.Class.{within, class_of}
 use Rattle.lexical.specs.Run.{has_class, in_run, WHITE}
 use Rattle.lexical.specs.declared.unit.Unit.{Unit}
-use Rattle.lexical.specs.Unit.{GIVES, CLOSES, gives, drops, closes, spoils, bare, octal, control, coded, octal_unit, escape_unit, barred, unit_at}
+use Rattle.lexical.specs.Unit.{GIVES, CLOSES, gives, drops, closes, spoils, bare, octal, control, coded, octal_unit, escape_unit, barred, kind, width, byte, unit_at}
 
 within-true : (lo hi b : ℕ) → within lo hi b ≡ true → (lo ≤ b) × (b ≤ hi)
 within-true lo hi b =
@@ -127,25 +127,25 @@ module _ (s : List ℕ) (i : ℕ) (P : Unit → Type 0) (on-spoils : P spoils) (
       (λ b. on-plain (leb-false _ _ z) (eqb-false _ _ q))))
 
 -- A unit that is neither closing nor illegal takes a byte at least, and ends within the text.
-pub unit-moves : (s : List ℕ) (i : ℕ) → (unit_at s i).kind ≤ GIVES → (1 ≤ (unit_at s i).width) × (i + (unit_at s i).width ≤ length s)
+pub unit-moves : (s : List ℕ) (i : ℕ) → kind (unit_at s i) ≤ GIVES → (1 ≤ width (unit_at s i)) × (i + width (unit_at s i) ≤ length s)
 unit-moves s i =
-    unit-case s i (λ u. u.kind ≤ GIVES → (1 ≤ u.width) × (i + u.width ≤ length s))
+    unit-case s i (λ u. kind u ≤ GIVES → (1 ≤ width u) × (i + width u ≤ length s))
     (λ h. let no : ⊥ = omega (arith, h) in absurd no) (λ l q h. let no : ⊥ = omega (arith, h) in absurd no) (λ w h k u z. (h, k)) (λ w b h k n m u z. (h, k))
 
 -- No unit gives a NUL.
-pub unit-solid : (s : List ℕ) (i : ℕ) → (unit_at s i).kind ≡ GIVES → (unit_at s i).byte ≡ 0 → ⊥
+pub unit-solid : (s : List ℕ) (i : ℕ) → kind (unit_at s i) ≡ GIVES → byte (unit_at s i) ≡ 0 → ⊥
 unit-solid s i =
-    unit-case s i (λ u. u.kind ≡ GIVES → u.byte ≡ 0 → ⊥)
+    unit-case s i (λ u. kind u ≡ GIVES → byte u ≡ 0 → ⊥)
     (λ h. let no : ⊥ = omega (arith, h) in absurd no) (λ l q h. let no : ⊥ = omega (arith, h) in absurd no)
     (λ w h k u z. let no : ⊥ = omega (arith, z) in absurd no) (λ w b h k n m u z. n)
 
 -- A unit of bytes gives a byte.
-pub unit-byte : (s : List ℕ) (i : ℕ) → Bytes s → (unit_at s i).byte < 256
-unit-byte s i all = unit-case s i (λ u. u.byte < 256) (omega arith) (λ l q. omega arith) (λ w h k u. omega arith) (λ w b h k n m u. m all)
+pub unit-byte : (s : List ℕ) (i : ℕ) → Bytes s → byte (unit_at s i) < 256
+unit-byte s i all = unit-case s i (λ u. byte u < 256) (omega arith) (λ l q. omega arith) (λ w h k u. omega arith) (λ w b h k n m u. m all)
 
 -- A closing quote is a quote of the text.
-pub unit-closing : (s : List ℕ) (i : ℕ) → (unit_at s i).kind ≡ CLOSES → (i < length s) × (get_or s i 0 ≡ 34)
+pub unit-closing : (s : List ℕ) (i : ℕ) → kind (unit_at s i) ≡ CLOSES → (i < length s) × (get_or s i 0 ≡ 34)
 unit-closing s i =
-    unit-case s i (λ u. u.kind ≡ CLOSES → (i < length s) × (get_or s i 0 ≡ 34))
+    unit-case s i (λ u. kind u ≡ CLOSES → (i < length s) × (get_or s i 0 ≡ 34))
     (λ h. let no : ⊥ = omega (arith, h) in absurd no) (λ l q h. (l, q))
     (λ w h k u z. let no : ⊥ = omega (arith, z) in absurd no) (λ w b h k n m u z. let no : ⊥ = omega (arith, z) in absurd no)

@@ -1,7 +1,7 @@
 -- The bytes that a literal holds as they stand, and a literal's front of such bytes. Assumes nothing.
-use Rattle.std.specs.Prelude.{◌≡◌, Bool, true, not, List, [], ◌∷◌, ℕ, zero, suc, ◌+◌, ◌-◌, ◌≤◌, ◌<◌, ◌^◌, ltb, length, get_or, take, drop}
+use Rattle.std.specs.Prelude.{◌≡◌, Bool, true, not, Option, Some, None, List, [], ◌∷◌, ℕ, zero, suc, ◌+◌, ◌-◌, ◌≤◌, ◌<◌, ◌^◌, ltb, length, get_or, take, drop}
 use Rattle.std.proofs.Math.Path.{refl}
-use Rattle.std.proofs.Common.{ap, ◌∙◌, arith, lt_of_le_of_lt, add-one, Fits, drop-cons}
+use Rattle.std.proofs.Common.{sym, ap, ◌∙◌, arith, lt_of_le_of_lt, add-one, Fits, drop-cons}
 use Rattle.std.proofs.Math.Bool.{false}
 use Rattle.std.specs.Int.{w64}
 use Rattle.std.proofs.Math.Dec.{eqb}
@@ -9,7 +9,7 @@ use borrow.Author.Tests.{lt-leb, eq-eqb, eqb-true, ltb-true, ltb-false}
 use Rattle.text.specs.Choice.{pick, split, clash}
 use Rattle.text.specs.Scan.{past, past_more, past_stop, past_end, past-from}
 use Rattle.lexical.specs.Theorems.Bounds.{chosen, byte-within}
-use Rattle.lexical.specs.Unit.{GIVES, gives, closes, barred, unit_at}
+use Rattle.lexical.specs.Unit.{GIVES, gives, closes, barred, kind, unit_at}
 use Rattle.lexical.specs.Literal.{units_at, given, literal_end, decoded_at}
 use Rattle.lexical.specs.Theorems.LiteralLaws.{units-more, units-last}
 
@@ -45,7 +45,7 @@ module _ (s : List ℕ) (i : ℕ) (h : i < length s) (p : plain (get_or s i 0) �
       simp (lt-leb _ _ h, u, v, w)
 
   plain-units : units_at s i ≡ gives 1 (get_or s i 0) ∷ units_at s (i + 1)
-  plain-units = let k : (unit_at s i).kind ≤ GIVES = rw plain-unit (omega arith) in rw plain-unit at (units-more s i k)
+  plain-units = let k : kind (unit_at s i) ≤ GIVES = rw plain-unit (omega arith) in rw plain-unit at (units-more s i k)
 
 -- a literal ends where it ends behind its plain bytes
 end-behind : (n : ℕ) (s : List ℕ) (i : ℕ) → length s - i ≤ n → literal_end s i ≡ literal_end s (past plain s i)
@@ -71,7 +71,7 @@ module _ (s : List ℕ) (e : ℕ) (q : get_or s e 0 ≡ 34) where
   quote-unit = simp (lt-leb _ _ quote-within, eq-eqb _ _ q)
 
   pub quote-units : units_at s e ≡ closes ∷ []
-  quote-units = let k : GIVES < (unit_at s e).kind = rw quote-unit (omega arith) in rw quote-unit at (units-last s e k)
+  quote-units = let k : GIVES < kind (unit_at s e) = rw quote-unit (omega arith) in rw quote-unit at (units-last s e k)
 
   pub end-quote : literal_end s e ≡ e + 1
   unfolding literal_end
@@ -104,28 +104,29 @@ pub given-plain : (s : List ℕ) (i : ℕ) → get_or s (past plain s i) 0 ≡ 3
 unfolding Whole
 given-plain s i = whole-behind (length s - i) s i (omega arith)
 
--- where the literal at `start` closes, if it holds plain bytes only; else 0
-unfoldable pub bare_end : List ℕ → ℕ → ℕ
-bare_end s start = pick (eqb (get_or s (past plain s (start + 1)) 0) 34) (past plain s (start + 1)) 0
+-- where the literal at `start` closes, if it holds plain bytes only
+unfoldable pub bare_end : List ℕ → ℕ → Option ℕ
+bare_end s start = pick (eqb (get_or s (past plain s (start + 1)) 0) 34) (Some (past plain s (start + 1))) None
 
-Bare : List ℕ → ℕ → ℕ → Type 0
-Bare s start e = (e ≡ 0 → ⊥) → (start + 1 ≤ e) × (e ≤ length s) × (decoded_at s start ≡ take (e - (start + 1)) (drop (start + 1) s))
+Bare : List ℕ → ℕ → Option ℕ → Type 0
+Bare s start r = (e : ℕ) → Some e ≡ r → (start + 1 ≤ e) × (e ≤ length s) × (decoded_at s start ≡ take (e - (start + 1)) (drop (start + 1) s))
 
 -- it gives the bytes up to there
-pub bare-decoded : (s : List ℕ) (start : ℕ) → (bare_end s start ≡ 0 → ⊥)
-    → (start + 1 ≤ bare_end s start) × (bare_end s start ≤ length s) × (decoded_at s start ≡ take (bare_end s start - (start + 1)) (drop (start + 1) s))
+bare-decoded : (s : List ℕ) (start : ℕ) → Bare s start (bare_end s start)
 unfolding bare_end Bare decoded_at
 bare-decoded s start =
-    chosen (Bare s start) (eqb (get_or s (past plain s (start + 1)) 0) 34) (past plain s (start + 1)) 0
-    (λ q z.
-    let e : get_or s (past plain s (start + 1)) 0 ≡ 34 = eqb-true _ _ q in
-    (past-from plain s (start + 1), omega (arith, quote-within s (past plain s (start + 1)) e), given-plain s (start + 1) e))
-    (λ q z. absurd (z refl))
+    chosen (Bare s start) (eqb (get_or s (past plain s (start + 1)) 0) 34) (Some (past plain s (start + 1))) None
+    (λ q e z.
+    let f : get_or s (past plain s (start + 1)) 0 ≡ 34 = eqb-true _ _ q in
+    let k : e ≡ past plain s (start + 1) = cc z in
+    rw k (past-from plain s (start + 1), omega (arith, quote-within s (past plain s (start + 1)) f), given-plain s (start + 1) f))
+    (λ q e z. cc z)
 
--- the same of a place that was found
-module _ (s : List ℕ) (start e : ℕ) (ee : e ≡ bare_end s start) (n : e ≡ 0 → ⊥) where
+-- a place that was found
+module _ (s : List ℕ) (start e : ℕ) (r : Option ℕ) (re : r ≡ bare_end s start) (is : r ≡ Some e) where
   bare : (start + 1 ≤ e) × (e ≤ length s) × (decoded_at s start ≡ take (e - (start + 1)) (drop (start + 1) s))
-  bare = rw ee (bare-decoded s start (λ z. n (ee ∙ z)))
+  unfolding Bare
+  bare = bare-decoded s start e (sym is ∙ re)
 
   pub bare-from : start + 1 ≤ e
   bare-from = bare.0

@@ -7,8 +7,9 @@ use Rattle.std.proofs.lemmas.Bool.{lt-leb}
 use Rattle.text.specs.Choice.{pick, split}
 use Rattle.text.specs.Class.{is_digit, is_letter, is_word}
 use Rattle.text.specs.Table.{at}
-use Rattle.lexical.specs.Class.{class_of, or, within, BLANK, NEWLINE, LETTER, DIGIT, QUOTE, HASH}
+use Rattle.lexical.specs.Class.{class_of, or, within, BLANK, NEWLINE, LETTER, DIGIT, QUOTE, HASH, NUL}
 use Rattle.lexical.specs.Theorems.Classes.{classes, class-rule}
+use Rattle.lexical.specs.declared.scan.Run.{Run}
 use Rattle.lexical.specs.Run.{BLANKS, WHITE, FREE, WORD, NUMERALS, has_class, in_run}
 
 -- space or tab
@@ -46,14 +47,14 @@ same-eq true false t = absurd t
 same-eq false true t = absurd t
 same-eq false false t = refl
 
-module _ (k : ℕ) (f : ℕ → Bool) where
+module _ (f : ℕ → Bool) where
   -- a test that agrees with the run k at each class of the table
-  agrees : ℕ → ℕ → Bool
-  agrees b c = same (f b) (has_class k c)
+  agrees : Run → ℕ → ℕ → Bool
+  agrees k b c = same (f b) (has_class k c)
 
   -- a test that holds at the bytes of class k, and at no others
-  alone : ℕ → ℕ → Bool
-  alone b c = same (f b) (eqb c k)
+  alone : ℕ → ℕ → ℕ → Bool
+  alone k b c = same (f b) (eqb c k)
 
 module _ (b : ℕ) (h : b < 256) where
   of-class : (k : ℕ) → eqb (get_or classes b 0) k ≡ eqb (class_of b) k
@@ -61,55 +62,59 @@ module _ (b : ℕ) (h : b < 256) where
 
   pub blank-class : blank b ≡ eqb (class_of b) BLANK
   unfolding alone blank
-  blank-class = same-eq (blank b) _ (at (alone BLANK blank) classes tt b h) ∙ of-class BLANK
+  blank-class = same-eq (blank b) _ (at (alone blank BLANK) classes tt b h) ∙ of-class BLANK
 
   pub letter-class : letter b ≡ eqb (class_of b) LETTER
   unfolding alone letter
-  letter-class = same-eq (letter b) _ (at (alone LETTER letter) classes tt b h) ∙ of-class LETTER
+  letter-class = same-eq (letter b) _ (at (alone letter LETTER) classes tt b h) ∙ of-class LETTER
 
   pub numeral-class : numeral b ≡ eqb (class_of b) DIGIT
   unfolding alone numeral
-  numeral-class = same-eq (numeral b) _ (at (alone DIGIT numeral) classes tt b h) ∙ of-class DIGIT
+  numeral-class = same-eq (numeral b) _ (at (alone numeral DIGIT) classes tt b h) ∙ of-class DIGIT
 
   pub newline-class : eqb b 10 ≡ eqb (class_of b) NEWLINE
   unfolding alone
-  newline-class = same-eq (eqb b 10) _ (at (alone NEWLINE (λ (x : ℕ). eqb x 10)) classes tt b h) ∙ of-class NEWLINE
+  newline-class = same-eq (eqb b 10) _ (at (alone (λ (x : ℕ). eqb x 10) NEWLINE) classes tt b h) ∙ of-class NEWLINE
 
   pub quote-class : eqb b 34 ≡ eqb (class_of b) QUOTE
   unfolding alone
-  quote-class = same-eq (eqb b 34) _ (at (alone QUOTE (λ (x : ℕ). eqb x 34)) classes tt b h) ∙ of-class QUOTE
+  quote-class = same-eq (eqb b 34) _ (at (alone (λ (x : ℕ). eqb x 34) QUOTE) classes tt b h) ∙ of-class QUOTE
 
   pub hash-class : eqb b 35 ≡ eqb (class_of b) HASH
   unfolding alone
-  hash-class = same-eq (eqb b 35) _ (at (alone HASH (λ (x : ℕ). eqb x 35)) classes tt b h) ∙ of-class HASH
+  hash-class = same-eq (eqb b 35) _ (at (alone (λ (x : ℕ). eqb x 35) HASH) classes tt b h) ∙ of-class HASH
 
-  by-class : (k : ℕ) → has_class k (get_or classes b 0) ≡ in_run k b
+  pub nul-class : eqb b 0 ≡ eqb (class_of b) NUL
+  unfolding alone
+  nul-class = same-eq (eqb b 0) _ (at (alone (λ (x : ℕ). eqb x 0) NUL) classes tt b h) ∙ of-class NUL
+
+  by-class : (k : Run) → has_class k (get_or classes b 0) ≡ in_run k b
   unfolding in_run
   by-class k = ap (has_class k) (class-rule b h)
 
   pub blank-run : blank b ≡ in_run BLANKS b
   unfolding agrees has_class blank
-  blank-run = same-eq (blank b) _ (at (agrees BLANKS blank) classes tt b h) ∙ by-class BLANKS
+  blank-run = same-eq (blank b) _ (at (agrees blank BLANKS) classes tt b h) ∙ by-class BLANKS
 
   pub white-run : white b ≡ in_run WHITE b
   unfolding agrees has_class white blank
-  white-run = same-eq (white b) _ (at (agrees WHITE white) classes tt b h) ∙ by-class WHITE
+  white-run = same-eq (white b) _ (at (agrees white WHITE) classes tt b h) ∙ by-class WHITE
 
   pub free-run : free b ≡ in_run FREE b
   unfolding agrees has_class free
-  free-run = same-eq (free b) _ (at (agrees FREE free) classes tt b h) ∙ by-class FREE
+  free-run = same-eq (free b) _ (at (agrees free FREE) classes tt b h) ∙ by-class FREE
 
   pub word-run : wordly b ≡ in_run WORD b
   unfolding agrees has_class wordly letter numeral
-  word-run = same-eq (wordly b) _ (at (agrees WORD wordly) classes tt b h) ∙ by-class WORD
+  word-run = same-eq (wordly b) _ (at (agrees wordly WORD) classes tt b h) ∙ by-class WORD
 
   pub numeral-run : numeral b ≡ in_run NUMERALS b
   unfolding agrees has_class numeral
-  numeral-run = same-eq (numeral b) _ (at (agrees NUMERALS numeral) classes tt b h) ∙ by-class NUMERALS
+  numeral-run = same-eq (numeral b) _ (at (agrees numeral NUMERALS) classes tt b h) ∙ by-class NUMERALS
 
   word-here : is_word b ≡ in_run WORD b
   unfolding agrees has_class is_word is_letter is_digit
-  word-here = same-eq (is_word b) _ (at (agrees WORD is_word) classes tt b h) ∙ by-class WORD
+  word-here = same-eq (is_word b) _ (at (agrees is_word WORD) classes tt b h) ∙ by-class WORD
 
 -- what is no byte is in no word
 module _ (b : ℕ) (h : 256 ≤ b) where

@@ -5,7 +5,7 @@ use Rattle.std.proofs.Math.ListN.{get_or}
 use borrow.Author.Tests.{eqb-true, eqb-false, leb-true, leb-false, ltb-true, ltb-false}
 use Rattle.text.specs.Choice.{pick, split, clash}
 use Rattle.lexical.specs.Theorems.Bounds.{chosen}
-use Rattle.lexical.specs.Unit.{GIVES, unit_at}
+use Rattle.lexical.specs.Unit.{GIVES, kind, width, unit_at}
 use Rattle.lexical.specs.Theorems.UnitLaws.{Quoteless, unit-case, unit-moves}
 use Rattle.lexical.specs.Literal.{units_at, given, decoded_at}
 use Rattle.lexical.specs.Theorems.LiteralLaws.{units-more, units-last}
@@ -27,21 +27,21 @@ module _ (s : List ℕ) (j : ℕ) (q : get_or s (j + 1) 0 ≡ 34) (n : get_or s 
   before : (i w : ℕ) → i ≤ j + 1 → Quoteless s i w → i + w ≤ j + 1
   before i w h f = split (ltb (j + 1) (i + w)) (λ e. absurd (missed i w h f (ltb-true _ _ e))) (λ e. ltb-false _ _ e)
 
-  unit-before : (i : ℕ) → i ≤ j + 1 → (unit_at s i).kind ≤ GIVES → i + (unit_at s i).width ≤ j + 1
+  unit-before : (i : ℕ) → i ≤ j + 1 → kind (unit_at s i) ≤ GIVES → i + width (unit_at s i) ≤ j + 1
   unit-before i h =
-      unit-case s i (λ u. u.kind ≤ GIVES → i + u.width ≤ j + 1) (λ g. let no : ⊥ = omega (arith, g) in absurd no)
+      unit-case s i (λ u. kind u ≤ GIVES → i + width u ≤ j + 1) (λ g. let no : ⊥ = omega (arith, g) in absurd no)
       (λ l e g. let no : ⊥ = omega (arith, g) in absurd no) (λ w l k f g. before i w h f) (λ w b l k z m f g. before i w h f)
 
   few : (m i : ℕ) → j + 1 - i ≤ m → i ≤ j + 1 → length (given (units_at s i)) ≤ j + 1 - i
   few zero i l h = let e : i ≡ j + 1 = omega (arith, l, h) in rw (e, quote-units s (j + 1) q) (omega arith)
   few (suc m) i l h =
       split (eqb i (j + 1)) (λ e. rw (eqb-true i (j + 1) e, quote-units s (j + 1) q) (omega arith))
-      (λ e. split (leb (unit_at s i).kind GIVES)
+      (λ e. split (leb (kind (unit_at s i)) GIVES)
       (λ g.
-      let b : i + (unit_at s i).width ≤ j + 1 = unit-before i h (leb-true _ _ g) in
-      let w : 1 ≤ (unit_at s i).width = (unit-moves s i (leb-true _ _ g)).0 in
-      let f : length (given (units_at s (i + (unit_at s i).width))) ≤ j + 1 - (i + (unit_at s i).width) = few m (i + (unit_at s i).width) (omega (arith, l, b, w)) b in
-      rw (units-more s i (leb-true _ _ g)) (omega (arith, f, b, w, given-cons (unit_at s i) (units_at s (i + (unit_at s i).width)))))
+      let b : i + width (unit_at s i) ≤ j + 1 = unit-before i h (leb-true _ _ g) in
+      let w : 1 ≤ width (unit_at s i) = (unit-moves s i (leb-true _ _ g)).0 in
+      let f : length (given (units_at s (i + width (unit_at s i)))) ≤ j + 1 - (i + width (unit_at s i)) = few m (i + width (unit_at s i)) (omega (arith, l, b, w)) b in
+      rw (units-more s i (leb-true _ _ g)) (omega (arith, f, b, w, given-cons (unit_at s i) (units_at s (i + width (unit_at s i))))))
       (λ g. rw (units-last s i (leb-false _ _ g)) (omega (arith, given-cons (unit_at s i) [], h, eqb-false i (j + 1) e))))
 
   pub decoded-before : (start : ℕ) → start ≤ j → length (decoded_at s start) ≤ j - start

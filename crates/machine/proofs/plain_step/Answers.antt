@@ -6,10 +6,10 @@ pub returns-then-is_told : goal.returns-then-is_told
 returns-then-is_told c = search plain-quick
 
 pub raise_step-requires : goal.raise_step-requires
-raise_step-requires c = (search numbers-within, search bytes-within)
+raise_step-requires c = let w = c.in_ok-top.was {u = tt} in (search (numbers-within, w), search (bytes-within, w))
 
-pub returns-in-Stuck : goal.returns-in-Stuck
-returns-in-Stuck c = search plain-stuck
+pub returns-in_err-top : goal.returns-in_err-top
+returns-in_err-top c = let w = c.in_err-top.was {u = tt} in rw c.from_residual.ensures (search (plain-stuck, w))
 
-pub returns-in-At : goal.returns-in-At
-returns-in-At c = search plain-raised
+pub returns : goal.returns
+returns c = let w = c.in_ok-top.was {u = tt} in search (plain-raised, w)

@@ -14,17 +14,17 @@ slice_bounds-push_text-start c = search bare-from
 pub slice_bounds-push_text-end : goal.slice_bounds-push_text-end
 slice_bounds-push_text-end c = search bare-within
 
-pub returns-then-e-ne0 : goal.returns-then-e-ne0
-returns-then-e-ne0 c = search literal-bare
+pub returns-in-Some : goal.returns-in-Some
+returns-in-Some c = search literal-bare
 
 pub overflow_add-t : goal.overflow_add-t
 overflow_add-t c = search literal-room
 
-pub returns-in-Long : goal.returns-in-Long
-returns-in-Long c = search (literal-over, literal-in, literal-none)
+pub returns-in-Ok : goal.returns-in-Ok
+returns-in-Ok c = search literal-in
 
-pub returns-in-Full : goal.returns-in-Full
-returns-in-Full c = search (literal-over, literal-in, literal-none)
+pub returns-in-Err-Long : goal.returns-in-Err-Long
+returns-in-Err-Long c = search literal-over
 
-pub returns-in-Put : goal.returns-in-Put
-returns-in-Put c = search (literal-over, literal-in, literal-none)
+pub returns-in-Err-Full : goal.returns-in-Err-Full
+returns-in-Err-Full c = search literal-none

@@ -4,8 +4,8 @@ use Rattle.machine.proofs.run.Goals as goal
 pub top-requires : goal.top-requires
 top-requires c = search numbers-within
 
-pub returns-in-Stuck : goal.returns-in-Stuck
-returns-in-Stuck c = search live-fault
+pub returns-in-None : goal.returns-in-None
+returns-in-None c = search live-fault
 
-pub returns-in-At : goal.returns-in-At
-returns-in-At c = search live-top
+pub returns-in-Some : goal.returns-in-Some
+returns-in-Some c = search live-top

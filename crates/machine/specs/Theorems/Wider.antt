@@ -1,5 +1,5 @@
 -- What is left is the same with more room, but where the machine could not go on. Assumes nothing.
-use Rattle.std.specs.Prelude.{◌≡◌, refl, Bool, true, false, eqb, leb, ltb, take, drop}
+use Rattle.std.specs.Prelude.{◌≡◌, refl, Bool, true, false, eqb, leb, ltb, take, drop, Some}
 use Rattle.std.proofs.Common.{sym, ap, ◌∙◌, arith}
 use mathlib.Core.List.{List, [], ◌∷◌, map}
 use Prim.Native.Nat.{ℕ, zero, suc, ◌+◌, ◌-◌, ◌/◌, ◌%◌, ◌≤◌}
@@ -16,7 +16,6 @@ use Rattle.machine.specs.Working.Machine.{State, on, stuck, placed, text_step, t
 use Rattle.machine.specs.Working.Passing.{exec-stuck}
 use Rattle.machine.specs.Working.Left.{left_in}
 use Rattle.machine.specs.Working.Given.{gave, string_of, string_in}
-use Rattle.machine.specs.declared.Given.TheVariants.{Bytes}
 use Rattle.limits.specs.Limits.{most_string}
 
 -- the machine could not go on, or is where it is with more room
@@ -129,7 +128,7 @@ left-wider depth depth' room room' code s rec consts values names constants d h 
     kept_result _ _
     (exec_kept depth depth' d room room' h (lookup_in rec consts values names constants) s (map (counted rec) values) 0 code (on [] []) (on [] []) same) f
 
--- the ways out of `run_narrow`, `run_middle`, `run_wide` and `run_on`
+-- the ways out of `run_within` and `run_on`
 module _ (code s rec consts values names constants : List ℕ) where
   pub run-left : (depth room : ℕ) (v : Operand)
       → v ≡ result_of (exec depth room s (lookup_in rec consts values names constants) (map (counted rec) values) code (on [] []))
@@ -154,14 +153,14 @@ module _ (code s rec consts values names constants : List ℕ) where
     rank-wide ve = ke ∙ ap rank_in ve
 
 -- a string that is given is given with more room too
-kept-string : (a b : State) → Kept a b → (out : List ℕ) (n : ℕ) (to : List ℕ) → gave (Bytes n) to ≡ string_of a out → gave (Bytes n) to ≡ string_of b out
+kept-string : (a b : State) → Kept a b → (out : List ℕ) (n : ℕ) (to : List ℕ) → gave (Some n) to ≡ string_of a out → gave (Some n) to ≡ string_of b out
 unfolding string_of
 kept-string _ _ lost out n to h = absurd (let z : ◌≡◌ {A = ℕ} 0 1 = cc in omega arith)
 kept-string _ _ same out n to h = h
 
 pub string-wider : (depth depth' room room' : ℕ) (code s rec consts values names constants out : List ℕ) → depth ≤ depth' → room ≤ room' → (n : ℕ) (to : List ℕ)
-    → gave (Bytes n) to ≡ string_in depth room code s rec consts values names constants out
-    → gave (Bytes n) to ≡ string_in depth' room' code s rec consts values names constants out
+    → gave (Some n) to ≡ string_in depth room code s rec consts values names constants out
+    → gave (Some n) to ≡ string_in depth' room' code s rec consts values names constants out
 unfolding string_in
 string-wider depth depth' room room' code s rec consts values names constants out d h n to e =
     kept-string _ _

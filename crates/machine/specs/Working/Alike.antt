@@ -1,5 +1,5 @@
 -- "==" and "!=" of two strings on top, by their numbers and bytes: the ways out of the functions that take them. Assumes nothing.
-use Rattle.std.specs.Prelude.{◌≡◌, Bool, true, false, not, List, ℕ, ◌+◌, ◌-◌, ◌<◌, ◌≤◌, eqb, ltb, length, get_or, take, drop}
+use Rattle.std.specs.Prelude.{◌≡◌, Bool, true, false, not, List, ℕ, ◌+◌, ◌-◌, ◌<◌, ◌≤◌, eqb, ltb, length, get_or, take, drop, None}
 use Rattle.std.proofs.Math.Path.{refl, ap}
 use Rattle.std.proofs.Common.{sym, ◌∙◌, arith, add-zero}
 use Rattle.std.proofs.Math.Seq.{length-take-le, take-take}
@@ -14,11 +14,9 @@ use Rattle.expression.specs.Working.Operating.{does-equal, does-differ}
 use Rattle.expression.specs.declared.value.Operand.TheVariants.{Text, Test}
 use Rattle.expression.specs.declared.value.Packed.{Packed}
 use Rattle.machine.specs.Working.Machine.{State, stuck, placed, put_below_on, binary_on, binary_step}
-use Rattle.machine.specs.Working.Live.{Live, landed}
+use Rattle.machine.specs.Working.Live.{Reached, Live, landed}
 use Rattle.machine.specs.Working.Stepping.{drop-take, live-stuck, put-live, binary-two}
 use Rattle.machine.specs.Working.Quick.{put_two, two-put, top-first, top-second, pick-both}
-use Rattle.machine.specs.declared.Tops.{Tops}
-use Rattle.machine.specs.declared.Tops.TheVariants.{Stuck}
 
 -- "==" or "!=" of strings, and the kinds of strings
 unfoldable pub is_alike : ℕ → ℕ → ℕ → Bool
@@ -70,17 +68,17 @@ module _ (op : ℕ) (s : Bool) where
 
 -- the ways out of `texts_step`
 module _ (op : ℕ) (st m : List ℕ) (n t : ℕ) (two : n + 2 ≤ length st) (ht : t ≤ length m) (wx wy : ℕ) where
-  pub texts-short : t < wy → (st' : List ℕ) → Live Stuck st' m (alike_on (length st) op wx wy (take n st) (take t m))
+  pub texts-short : t < wy → (st' : List ℕ) → Live None st' m (alike_on (length st) op wx wy (take n st) (take t m))
   unfolding alike_on
-  texts-short h st' = live-stuck Stuck st' m _ refl (rw (length-take-le t m ht, lt-ltb t wy h))
+  texts-short h st' = live-stuck None st' m _ refl (rw (length-take-le t m ht, lt-ltb t wy h))
 
   module _ (up : wy ≤ t) where
-    pub texts-shorter : t - wy < wx → (st' : List ℕ) → Live Stuck st' m (alike_on (length st) op wx wy (take n st) (take t m))
+    pub texts-shorter : t - wy < wx → (st' : List ℕ) → Live None st' m (alike_on (length st) op wx wy (take n st) (take t m))
     unfolding alike_on
-    texts-shorter h st' = live-stuck Stuck st' m _ refl (rw (length-take-le t m ht, le-ltb t wy up, lt-ltb (t - wy) wx h))
+    texts-shorter h st' = live-stuck None st' m _ refl (rw (length-take-le t m ht, le-ltb t wy up, lt-ltb (t - wy) wx h))
 
     pub texts-in : wx ≤ t - wy → (s : Bool) → s ≡ equal (take (t - wy - (t - wy - wx)) (drop (t - wy - wx) m)) (take (t - (t - wy)) (drop (t - wy) m))
-        → (z : Bool) → z ≡ agrees op s → (q : Packed) → q ≡ pack (Test z) → (r : Tops) (st' : List ℕ)
+        → (z : Bool) → z ≡ agrees op s → (q : Packed) → q ≡ pack (Test z) → (r : Reached) (st' : List ℕ)
         → landed r st' ≡ put_two st n (t - wy - wx) q.kind q.size → Live r st' m (alike_on (length st) op wx wy (take n st) (take t m))
     unfolding alike_on
     texts-in h s se z ze q qe r st' is =
@@ -121,7 +119,7 @@ text-kind k m e = rw e
 
 -- the way out of `operator_step`
 pub alike-step : (vals : List (List ℕ)) (op : ℕ) (st m : List ℕ) (n t : ℕ) → n ≤ length st → 4 ≤ n → (b : Bool) → b ≡ is_alike op (get_or st (n - 4) 0) (get_or st (n - 2) 0) → b ≡ true
-    → (wx : ℕ) → wx ≡ get_or st (n - 3) 0 → (wy : ℕ) → wy ≡ get_or st (n - 1) 0 → (r : Tops) (st' : List ℕ)
+    → (wx : ℕ) → wx ≡ get_or st (n - 3) 0 → (wy : ℕ) → wy ≡ get_or st (n - 1) 0 → (r : Reached) (st' : List ℕ)
     → Live r st' m (alike_on (length st) op wx wy (take (n - 4) st) (take t m)) → Live r st' m (binary_step (length st) vals op (take n st) (take t m))
 unfolding is_alike
 alike-step vals op st m n t hn four b be bt wx wxe wy wye r st' l =

@@ -1,5 +1,5 @@
 -- "." of two strings on top, by their numbers: the ways out of the functions that take them. Assumes nothing.
-use Rattle.std.specs.Prelude.{◌≡◌, Bool, true, false, List, ◌++◌, ℕ, ◌+◌, ◌-◌, ◌<◌, ◌≤◌, eqb, ltb, get_or, take, drop}
+use Rattle.std.specs.Prelude.{◌≡◌, Bool, true, false, List, ◌++◌, ℕ, ◌+◌, ◌-◌, ◌<◌, ◌≤◌, eqb, ltb, get_or, take, drop, None}
 use Rattle.std.proofs.Math.Path.{refl, ap}
 use Rattle.std.proofs.Common.{sym, ◌∙◌, arith, length-drop}
 use Rattle.std.proofs.Math.Nat.{add-zero}
@@ -16,12 +16,10 @@ use Rattle.expression.specs.Working.Operating.{join-over, join-in}
 use Rattle.expression.specs.declared.value.Operand.{Operand}
 use Rattle.expression.specs.declared.value.Operand.TheVariants.{Text, Fault}
 use Rattle.machine.specs.Working.Machine.{State, stuck, placed, put_below_on, binary_on, binary_step}
-use Rattle.machine.specs.Working.Live.{Live, landed, put_at}
+use Rattle.machine.specs.Working.Live.{Reached, Live, landed, put_at}
 use Rattle.machine.specs.Working.Stepping.{live-stuck, put-live, binary-two}
 use Rattle.machine.specs.Working.Quick.{top-first, top-second, pick-both}
 use Rattle.machine.specs.Working.Alike.{text-kind}
-use Rattle.machine.specs.declared.Tops.{Tops}
-use Rattle.machine.specs.declared.Tops.TheVariants.{Stuck}
 use Rattle.limits.specs.Limits.{most_string}
 
 -- ".", and the kinds of strings
@@ -52,16 +50,16 @@ module _ (op x y : ℕ) where
 
 -- the ways out of `join_step`
 module _ (st m : List ℕ) (n t : ℕ) (two : n + 2 ≤ length st) (ht : t ≤ length m) (wx wy : ℕ) where
-  pub join-short : t < wy → (st' : List ℕ) → Live Stuck st' m (join_on (length st) wx wy (take n st) (take t m))
+  pub join-short : t < wy → (st' : List ℕ) → Live None st' m (join_on (length st) wx wy (take n st) (take t m))
   unfolding join_on
-  join-short h st' = live-stuck Stuck st' m _ refl (rw (length-take-le t m ht, lt-ltb t wy h))
+  join-short h st' = live-stuck None st' m _ refl (rw (length-take-le t m ht, lt-ltb t wy h))
 
   module _ (up : wy ≤ t) where
-    pub join-shorter : t - wy < wx → (st' : List ℕ) → Live Stuck st' m (join_on (length st) wx wy (take n st) (take t m))
+    pub join-shorter : t - wy < wx → (st' : List ℕ) → Live None st' m (join_on (length st) wx wy (take n st) (take t m))
     unfolding join_on
-    join-shorter h st' = live-stuck Stuck st' m _ refl (rw (length-take-le t m ht, le-ltb t wy up, lt-ltb (t - wy) wx h))
+    join-shorter h st' = live-stuck None st' m _ refl (rw (length-take-le t m ht, le-ltb t wy up, lt-ltb (t - wy) wx h))
 
-    module _ (in_bytes : wx ≤ t - wy) (r : Tops) (st' : List ℕ) where
+    module _ (in_bytes : wx ≤ t - wy) (r : Reached) (st' : List ℕ) where
       pub join-long : most_string < wx + wy → landed r st' ≡ put_at st n (t - wy - wx) Fault → Live r st' m (join_on (length st) wx wy (take n st) (take t m))
       unfolding join_on
       join-long h is =
@@ -125,7 +123,7 @@ join-on vals depth wx wy vs bs =
 
 -- the way out of `operator_step`
 pub join_step : (vals : List (List ℕ)) (op : ℕ) (st m : List ℕ) (n t : ℕ) → n ≤ length st → 4 ≤ n → (b : Bool) → b ≡ is_joining op (get_or st (n - 4) 0) (get_or st (n - 2) 0) → b ≡ true
-    → (wx : ℕ) → wx ≡ get_or st (n - 3) 0 → (wy : ℕ) → wy ≡ get_or st (n - 1) 0 → (r : Tops) (st' : List ℕ)
+    → (wx : ℕ) → wx ≡ get_or st (n - 3) 0 → (wy : ℕ) → wy ≡ get_or st (n - 1) 0 → (r : Reached) (st' : List ℕ)
     → Live r st' m (join_on (length st) wx wy (take (n - 4) st) (take t m)) → Live r st' m (binary_step (length st) vals op (take n st) (take t m))
 unfolding is_joining
 join_step vals op st m n t hn four b be bt wx wxe wy wye r st' l =

@@ -1,6 +1,6 @@
 -- Working laws: what holds of faults, integers, floats and tests holds of what operations give; no expression's value is a rank, and a float among
 -- them is one that 32 bits hold. Assumes nothing.
-use Rattle.std.specs.Prelude.{◌≡◌, refl, Bool, true, not, List, ◌++◌, ℕ, eqb, leb, ltb, length, Float}
+use Rattle.std.specs.Prelude.{◌≡◌, refl, Bool, true, not, List, ◌++◌, ℕ, eqb, leb, ltb, length, Float, Some, None}
 use Rattle.std.proofs.Math.Bool.{false}
 use Rattle.text.specs.Choice.{pick, split}
 use Rattle.text.specs.Decimal.{integer as signed, decimal as integer_of}
@@ -8,8 +8,7 @@ use Rattle.text.specs.declared.Integer.{Integer}
 use Rattle.float.specs.Written.{float_of}
 use Rattle.float.specs.Operations as Floats
 use Rattle.float.specs.Theorems.Held.{Fitting, Held, written-fits, plus-held, minus-held, times-held, over-held, negated-held, power-held}
-use Rattle.float.specs.declared.operation.Computed.{Computed}
-use Rattle.float.specs.declared.operation.Computed.TheVariants as computed
+use Rattle.float.specs.Operations.{Computed}
 use Rattle.syntax.specs.Operator.{Unary}
 use Rattle.syntax.specs.Operator as Operator
 use Rattle.syntax.specs.Operation.{binary_number}
@@ -66,8 +65,8 @@ module _ (P : Value → Type 0) where
     -- of floats that 32 bits hold
     module _ (told : (t : Bool) → P (test t)) (single : (x : Float) → Fitting x → P (float x)) where
       pub of-computed : (c : Computed) → Held c → P (valued c)
-      of-computed (computed.Finite x) h = single x h
-      of-computed computed.Error h = faulty
+      of-computed (Some x) h = single x h
+      of-computed None h = faulty
 
       of-floating : (op : ℕ) (a b : Float) → P (floating op a b)
       unfolding floating
@@ -89,8 +88,8 @@ module _ (P : Value → Type 0) where
     -- of any float
     module _ (single : (x : Float) → P (float x)) where
       any-computed : (c : Computed) → P (valued c)
-      any-computed (computed.Finite x) = single x
-      any-computed computed.Error = faulty
+      any-computed (Some x) = single x
+      any-computed None = faulty
 
       pub of-float-negative : (v : Value) → P (float_negative v)
       unfolding float_negative

@@ -2,6 +2,7 @@
 use Rattle.std.specs.Prelude.{Bool, true, false, not, List, [], ◌∷◌, ◌++◌, ℕ, zero, suc, ◌+◌, ◌-◌, ◌/◌, ◌%◌, eqb, leb, ltb, length, get_or, take, drop}
 use Rattle.text.specs.Choice.{pick}
 use Rattle.text.specs.Scan.{run}
+use Rattle.text.specs.declared.Class.{Class}
 use Rattle.text.specs.Class.{in_class, digit, word}
 use Rattle.text.specs.Digits.{value}
 use Rattle.lexical.specs.Literal.{decoded_at}
@@ -77,7 +78,7 @@ raised depth vals (on vs bs) = binary_step depth vals RAISE vs bs
 raised depth vals stuck = stuck
 
 -- the longest part from a place on whose bytes are of a class
-unfoldable pub run_at : ℕ → List ℕ → ℕ → List ℕ
+unfoldable pub run_at : Class → List ℕ → ℕ → List ℕ
 run_at k s at = take (run (in_class k) (drop at s)) (drop at s)
 
 -- a literal, a name, a number, a float literal, a test

@@ -24,16 +24,14 @@ use Rattle.expression.specs.declared.value.Operand.{Operand}
 use Rattle.expression.specs.declared.value.Operand.TheVariants.{Number, Test, Rank}
 use Rattle.expression.specs.declared.value.Packed.{Packed}
 use Rattle.machine.specs.Working.Machine.{placed, top_of, unary_on, unary_step, put_below_on, binary_on, binary_step, raised}
-use Rattle.machine.specs.Working.Live.{Live, Landed, landed, put_at}
+use Rattle.machine.specs.Working.Live.{tops, Reached, Live, Landed, landed, put_at}
 use Rattle.machine.specs.Working.Widths.{front-combined}
 use Rattle.machine.specs.Working.Stacking.{pair, width_is, place_is, binary-is}
 use Rattle.machine.specs.Working.Stepping.{put-live, top-some, below-is, binary-two}
-use Rattle.machine.specs.declared.Tops.{Tops}
-use Rattle.machine.specs.declared.Tops.TheVariants.{At}
 
 -- two numbers put on a stack that has room
 unfoldable pub put_two : List ℕ → ℕ → ℕ → ℕ → ℕ → Landed
-put_two st n t k m = landed (At (n + 2) t) (set (set st n k) (n + 1) m)
+put_two st n t k m = landed (tops (n + 2) t) (set (set st n k) (n + 1) m)
 
 -- an operation on integers, and the kinds of integers without a sign
 unfoldable pub is_integral : ℕ → Bool
@@ -88,7 +86,7 @@ pub rank-unheld : (k n : ℕ) → (k ≡ 4 → ⊥) → 0 ≡ pick (eqb k 4) n 0
 rank-unheld k n h = rw (ne_eqb k 4 h)
 
 -- the way out of `land`
-pub land-in : (st : List ℕ) (n t k m : ℕ) → landed (At (n + 2) t) (set (set st n k) (n + 1) m) ≡ put_two st n t k m
+pub land-in : (st : List ℕ) (n t k m : ℕ) → landed (tops (n + 2) t) (set (set st n k) (n + 1) m) ≡ put_two st n t k m
 unfolding put_two
 land-in st n t k m = refl
 
@@ -149,7 +147,7 @@ module _ (vals : List (List ℕ)) (op : ℕ) (x y : Operand) (sx : Still x) (sy 
       )
 
   module _ (st m : List ℕ) (n t : ℕ) (hn : n ≤ length st) (ht : t ≤ length m) (four : 4 ≤ n) (xe : x ≡ top_of (take (n - 2) st)) (ye : y ≡ top_of (take n st))
-      (v : Operand) (ve : v ≡ made) (r : Tops) (st' : List ℕ) (is : landed r st' ≡ put_two st (n - 4) t (kind_of v) (size_of v)) where
+      (v : Operand) (ve : v ≡ made) (r : Reached) (st' : List ℕ) (is : landed r st' ≡ put_two st (n - 4) t (kind_of v) (size_of v)) where
     still-live : Live r st' m (binary_step (length st) vals op (take n st) (take t m))
     still-live =
         binary-two (length st) vals op st m n t hn st' four y ye x xe r
@@ -227,7 +225,7 @@ raise-pairs vals depth vs bs h a b =
     ∙ binary-is depth vs h vals 47 bs (rank a) (rank b) tt tt ∙ sym (place_is depth vs h bs (rank (max a b)) refl)
 
 -- the quick ways out of `operator_step` and `raise_step`
-module _ (vals : List (List ℕ)) (op : ℕ) (st m : List ℕ) (n t : ℕ) (hn : n ≤ length st) (ht : t ≤ length m) (four : 4 ≤ n) (r : Tops) (st' : List ℕ) where
+module _ (vals : List (List ℕ)) (op : ℕ) (st m : List ℕ) (n t : ℕ) (hn : n ≤ length st) (ht : t ≤ length m) (four : 4 ≤ n) (r : Reached) (st' : List ℕ) where
   pub natural-step : (b : Bool) → b ≡ is_natural op (get_or st (n - 4) 0) (get_or st (n - 2) 0) → b ≡ true
       → (q : Packed) → q ≡ pack (operand (arithmetic op (signed false (get_or st (n - 3) 0)) (signed false (get_or st (n - 1) 0))))
       → landed r st' ≡ put_two st (n - 4) t q.kind q.size → Live r st' m (binary_step (length st) vals op (take n st) (take t m))
@@ -253,7 +251,7 @@ module _ (vals : List (List ℕ)) (op : ℕ) (st m : List ℕ) (n t : ℕ) (hn :
       (Test h) (ap Test he ∙ ap operand (sym (logical-is vals op x y p.0 p'.0))) r st'
       (is ∙ ap (λ (k : Packed). put_two st (n - 4) t k.kind k.size) qe)
 
-module _ (vals : List (List ℕ)) (st m : List ℕ) (n t : ℕ) (hn : n ≤ length st) (ht : t ≤ length m) (four : 4 ≤ n) (r : Tops) (st' : List ℕ) where
+module _ (vals : List (List ℕ)) (st m : List ℕ) (n t : ℕ) (hn : n ≤ length st) (ht : t ≤ length m) (four : 4 ≤ n) (r : Reached) (st' : List ℕ) where
   pub raise-quick : get_or st (n - 4) 0 ≡ 5 → get_or st (n - 2) 0 ≡ 5 → (g : ℕ) → g ≡ max (get_or st (n - 3) 0) (get_or st (n - 1) 0)
       → landed r st' ≡ put_two st (n - 4) t 5 g → Live r st' m (binary_step (length st) vals 47 (take n st) (take t m))
   unfolding value_of operand combined rank_in kind_of size_of
@@ -295,7 +293,7 @@ module _ (vals : List (List ℕ)) (st m : List ℕ) (n t : ℕ) (hn : n ≤ leng
       )
       (put-live st m (n - 4) t (Rank k) (omega (arith, hn)) ht r st' (is ∙ two-put st (n - 4) t (Rank k) (omega (arith, four, hn))))
 
-pub plain-quick : (rec values st m : List ℕ) (n t : ℕ) → n ≤ length st → t ≤ length m → 4 ≤ n → (r : Tops) (st' : List ℕ) → get_or st (n - 4) 0 ≡ 5
+pub plain-quick : (rec values st m : List ℕ) (n t : ℕ) → n ≤ length st → t ≤ length m → 4 ≤ n → (r : Reached) (st' : List ℕ) → get_or st (n - 4) 0 ≡ 5
     → (b : Bool) → b ≡ is_told (get_or st (n - 2) 0) → b ≡ true → (g : ℕ) → g ≡ pick (eqb (get_or st (n - 2) 0) 4) (length values - 1) 0
     → (k : ℕ) → k ≡ max (get_or st (n - 3) 0) g → landed r st' ≡ put_two st (n - 4) t 5 k
     → Live r st' m (raised (length st) (map (counted rec) values) (unary_step (length st) (map (counted rec) values) 44 (take n st) (take t m)))

@@ -1,5 +1,5 @@
 -- Authorizer read by the tables is what the meaning reads. Assumes nothing.
-use Rattle.std.specs.Prelude.{◌≡◌, true, List, map, ℕ, ◌+◌, ◌*◌, ◌<◌, ◌≤◌, eqb, length, get_or, take}
+use Rattle.std.specs.Prelude.{◌≡◌, true, List, map, ℕ, ◌+◌, ◌*◌, ◌<◌, ◌≤◌, eqb, length, get_or, take, Ok, Err}
 use Rattle.std.proofs.Math.Path.{refl}
 use Rattle.std.proofs.Common.{sym, ap, ◌∙◌, arith, get_or-take, le-leb}
 use Rattle.std.proofs.Math.ListN.{get_or-map}
@@ -35,12 +35,11 @@ use Rattle.naming.specs.Fault.{verified, clear, faulty, source_fault, policy_fau
 use Rattle.naming.specs.Working.Faults.{meant}
 use Rattle.syntax.specs.Working.Faults.{against}
 use Rattle.naming.specs.Working.Identifying.{sight, Done, named, of_number, of_kept, string_named, is_plain}
-use Rattle.naming.specs.Working.Authorizing.{Made, made, policy_at, barred_at, bar_fault, authorizer_end, authored_in, on_author, author_named, authorizer_in}
+use Rattle.naming.specs.Working.Authorizing.{Made, made, policy_at, barred_at, bar_fault, authorizer_end, authored_in, on_author, author_named, authorizer_in, authored}
 use Rattle.syntax.specs.declared.fault.Fault.{Fault}
-use Rattle.naming.specs.declared.identifier.Named.TheVariants.{Nobody}
-use Rattle.naming.specs.declared.authorizer.Author.TheVariants.{On, Aside}
 use Rattle.naming.specs.Theorems.StandIn.{entered, entered-is}
 use Rattle.naming.specs.Theorems.Entered.{SourceRead, source-aside, source-nobody, source-at, string-named-read, plain-named-read}
+use Rattle.naming.specs.declared.identifier.Named.TheVariants.{Nobody}
 
 -- whom the tables hold for an authorizer: POLICY stands in for nobody
 abbrev pub author_now : Query → Author → Principal
@@ -49,11 +48,11 @@ author_now q a = entered (environment q a.constants) a.by
 -- the same fault, or the same authorizer and token behind: the index holds the principal, at the number found, and the fault kept is the field's
 pub data AuthorRead (standing : ℕ) (q : Query) (s pool places : List ℕ) (count end : ℕ) (names : List Principal) : Parsed Author → Made → Type 0 where
   author-aside : (r p : ℕ) (pool' places' : List ℕ) → (r ≡ 0 → ⊥) → length pool' ≡ length pool → length places' ≡ length places → Holds pool' places' count end names
-      → AuthorRead standing q s pool places count end names (aside r p) (made (Aside (against r p)) pool' places')
+      → AuthorRead standing q s pool places count end names (aside r p) (made (Err (against r p)) pool' places')
   author-on : (a : Author) (i c e : ℕ) (f : Fault) (n : Token) (pool' places' : List ℕ) → Stood s n
       → i ≡ place (enter names (author_now q a)) (author_now q a) → Holds pool' places' c e (enter names (author_now q a)) → e ≤ most_counted * c → e ≤ end + most_counted
       → meant f ≡ author_fault standing q a → length pool' ≡ length pool → length places' ≡ length places
-      → AuthorRead standing q s pool places count end names (ok a n) (made (On i (index_of c e) f n) pool' places')
+      → AuthorRead standing q s pool places count end names (ok a n) (made (authored i (index_of c e) f n) pool' places')
 
 -- is the principal at a member's number POLICY? as the member is
 policy-is : {pool places : List ℕ} {c e : ℕ} {names : List Principal} → Holds pool places c e names → (p : Principal) → member p names ≡ true
@@ -124,7 +123,7 @@ module _ (standing : ℕ) (q : Query) (constants : List Attribute) (s pool place
         (λ g. rw (f, g))
 
     nobody-read : end ≤ most_counted * count → (x : Source) (n : Token) → Stood s n → source_fault (environment q constants) x ≡ faulty 10 x.place
-        → Read (ended (of_source x) n) (on_author standing count end x.place (named (Nobody n) pool places))
+        → Read (ended (of_source x) n) (on_author standing count end x.place (named (Ok (Nobody n)) pool places))
     unfolding authored_in
     nobody-read low x n sn f =
         let z : author_now q (of_source x) ≡ policy = stand-in x f in

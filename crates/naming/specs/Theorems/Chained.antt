@@ -1,5 +1,5 @@
 -- Licensees joined by operators and in brackets: what is entered and written is what the meaning reads. Assumes nothing.
-use Rattle.std.specs.Prelude.{◌≡◌, List, [], ◌∷◌, ◌++◌, length}
+use Rattle.std.specs.Prelude.{◌≡◌, List, [], ◌∷◌, ◌++◌, length, Err}
 use Rattle.std.proofs.Math.Path.{refl}
 use Rattle.std.proofs.Common.{ap, ◌∙◌, append_assoc, arith, length-append}
 use Rattle.std.proofs.Math.Bool.{true, false}
@@ -31,11 +31,10 @@ use Rattle.naming.specs.Source.{Source, Sources, one, and, or, k_of, sources}
 use Rattle.naming.specs.Licensees.{after, onward, closed, Reader, on_operand, chain_turn, chain_from, chain, expression_of, primary_body, primary}
 use Rattle.naming.specs.Fault.{earlier}
 use Rattle.naming.specs.Working.Identifying.{sight}
-use Rattle.naming.specs.Working.List.{Ran, ran, Loop, sized}
+use Rattle.naming.specs.Working.List.{Ran, ran, Loop, sized, read_to}
 use Rattle.naming.specs.Working.Chain.{joint_of, join_of, Writer, on_on, on_joined, more_turn, more_body, chain_body, operand_of, closed_in, is_longer, behind_in, primary_at}
 use Rattle.naming.specs.Working.Chain.{primary_body as primary_in}
 use Rattle.naming.specs.declared.list.State.{State}
-use Rattle.naming.specs.declared.list.Licensed.TheVariants.{On, Aside}
 use Rattle.naming.specs.Theorems.StandIn.{people_now, faults, faults-one, faults-append, named_count}
 use Rattle.naming.specs.Theorems.Growing.{Ready, Stays, Grown, stays-self, stays_then, stays-ready, stays-again, grown-then, grown-push, grown-ready, grown-again}
 use Rattle.naming.specs.Theorems.Listed.{ExpressionRead, expression-aside, expression-on, LicenseeRead, licensee-aside, licensee-on, licensee-read, threshold-read}
@@ -99,7 +98,7 @@ module _ (env : Environment) where
 
       abbrev Turns : Sources × Token → Loop → Step (Sources × Token) (Parsed Sources) → Step Loop Ran → Type 0
       Turns = Steps (λ x. most_licensees - (st.listed + length (sources x.0))) (λ x. unexpected x.1) (chain_turn s joint join operand st.listed)
-          (λ x. most_licensees - x.0.listed) (λ x. ran (Aside (against 0 0)) x.2 x.3 x.4) (more_turn writer s level)
+          (λ x. most_licensees - x.0.listed) (λ x. ran (Err (against 0 0)) x.2 x.3 x.4) (more_turn writer s level)
           (Operands s pool places code st names) Whole
 
       module _ (x : Sources) (t : Token) (u : State) (pool' places' code' : List ℕ) (st-t : Stood s t) (formed : Formed (people_now env x))
@@ -119,7 +118,7 @@ module _ (env : Environment) where
         joined-turn : (p : Parsed Sources) (r : Ran) → ExpressionRead env s pool' places' code' u (enter_all names (names_of x)) p r
             → Turns (x, t) (u, t, pool', places', code') (on_operand join x p) (on_joined level u r)
         joined-turn _ _ (expression-aside r p pool'' places'' code'' h more) =
-            both-done (aside r p) (ran (Aside (against r p)) pool'' places'' code'') (expression-aside r p pool'' places'' code'' h (stays_then grown more))
+            both-done (aside r p) (ran (Err (against r p)) pool'' places'' code'') (expression-aside r p pool'' places'' code'' h (stays_then grown more))
         joined-turn _ _ (expression-on y w n pool'' places'' code'' sn f more) =
             let some : 0 < length (names_of y) = named_some f in
             let k : length (sources (join x y)) ≡ length (sources x) + length (sources y) = ap length (joins.lists x y) ∙ length-append (sources x) (sources y) in
@@ -135,7 +134,7 @@ module _ (env : Environment) where
             (λ f. joined-turn _ _
             (reads pool' places' code' u (enter_all names (names_of x)) (after s t) (stood-at s Kind.IN_LICENSEES t.end)
             (grown-ready grown ready (omega (arith, compile-short (enter_all names (names_of x)) formed)))))
-            (λ f. both-done (ok x t) (ran (On u t) pool' places' code') (expression-on x u t pool' places' code' st-t formed grown)))
+            (λ f. both-done (ok x t) (ran (read_to u t) pool' places' code') (expression-on x u t pool' places' code' st-t formed grown)))
 
       operand-turns : (x : Sources × Token) (y : Loop) → Operands s pool places code st names x y → Turns x y (chain_turn s joint join operand st.listed x) (more_turn writer s level y)
       operand-turns _ _ (operands x t u pool' places' code' sn formed grown) = operand-turn x t u pool' places' code' sn formed grown
@@ -210,7 +209,7 @@ module _ {rec consts values keys constants : List ℕ} {env : Environment} (show
     -- behind the bracket
     module _ (u : State) (n : Token) (pool' places' code' : List ℕ) (sn : Stood s n) where
       abbrev Behind : Ran
-      Behind = behind_in s (sight rec consts values keys constants) left st t pool' places' code' (On u n)
+      Behind = behind_in s (sight rec consts values keys constants) left st t pool' places' code' (read_to u n)
 
       several : (x : Sources) → Formed (people_now env x) → 2 ≤ length (code_of env names x)
           → Grown pool places code st names (names_of env x) (code_of env names x) (faults env (sources x)) u pool' places' code' → Inside (ok x n) Behind
@@ -261,7 +260,7 @@ module _ {rec consts values keys constants : List ℕ} {env : Environment} (show
 
   pub primary-reads : (left : ℕ) → Reads env s (λ n t. primary s left n t) (λ p q m u n. primary_at left s (sight rec consts values keys constants) p q m u n)
   unfolding primary primary_at
-  primary-reads zero = body_reads 0 (λ n t. unexpected t) (λ p q m u n. ran (Aside (against 0 0)) p q m) (λ h. absurd (h refl))
+  primary-reads zero = body_reads 0 (λ n t. unexpected t) (λ p q m u n. ran (Err (against 0 0)) p q m) (λ h. absurd (h refl))
   primary-reads (suc left) =
       body_reads (suc left) (λ n t. expression_of s (λ n t. primary s left n t) n t)
       (λ p q m u n. operand_of (λ p q m u n. primary_at left s (sight rec consts values keys constants) p q m u n) s 2 p q m u n)

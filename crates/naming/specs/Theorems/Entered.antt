@@ -1,7 +1,7 @@
 -- An expression entered by the tables is the one that the meaning reads: the index holds whom it identifies, or it identifies nobody. Assumes nothing.
-use Rattle.std.specs.Prelude.{◌≡◌, Bool, false, ℕ, zero, suc, ◌+◌, ◌-◌, ◌*◌, ◌<◌, ◌≤◌, eqb, leb, ltb, take, drop, replicate}
+use Rattle.std.specs.Prelude.{◌≡◌, Bool, false, ℕ, zero, suc, ◌+◌, ◌-◌, ◌*◌, ◌<◌, ◌≤◌, eqb, leb, ltb, take, drop, replicate, Ok, Err}
 use Rattle.std.proofs.Math.Path.{refl, subst}
-use Rattle.std.proofs.Common.{sym, ap, arith, take_at}
+use Rattle.std.proofs.Common.{ap, arith, take_at}
 use Rattle.std.proofs.Math.Bool.{true}
 use mathlib.Core.List.{List, []}
 use Rattle.std.proofs.Math.ListN.{length, length-take}
@@ -38,7 +38,7 @@ use Rattle.conditions.specs.Program.{DEPTH}
 use Rattle.index.specs.Index.{Holds}
 use Rattle.index.specs.Working.Entering.{Kept}
 use Rattle.machine.specs.Working.Given.{buffer_of}
-use Rattle.judge.specs.Working.Saying.{Told, said}
+use Rattle.judge.specs.Working.Saying.{Told, said, spoken}
 use Rattle.naming.specs.Working.Whole.{whole, inner, Whole, whole_is}
 use Rattle.naming.specs.Theorems.Entry.{EntryRead, entry_read}
 use Rattle.naming.specs.Source.{Source}
@@ -46,11 +46,10 @@ use Rattle.naming.specs.String.{plain_from, nest_of, source}
 use Rattle.naming.specs.Naming.{identified}
 use Rattle.naming.specs.Fault.{clear, faulty, size_fault, source_fault}
 use Rattle.naming.specs.Working.Identifying.{sight, Done, named, of_kept, entered_in, said_as, string_named, is_plain, plain_named}
-use Rattle.judge.specs.declared.string.Said.TheVariants.{On}
-use Rattle.naming.specs.declared.identifier.Named.TheVariants.{Nobody, Aside}
 use Rattle.naming.specs.Theorems.Says.{Saying, said-not, said-value, string-field-read}
 use Rattle.fields.specs.Theorems.Words.{word-is}
 use Rattle.syntax.specs.Working.Faults.{against}
+use Rattle.naming.specs.declared.identifier.Named.TheVariants.{Nobody}
 
 -- no operator that binds a string goes on behind another token than "."
 not-bound : (k : ℕ) → (k ≡ Kind.DOT → ⊥) → Table.binds 3 (Table.operator (sorted a-string) k) ≡ false
@@ -95,9 +94,9 @@ module _ (s : List ℕ) (nest : ℕ) (t : Token) (other : (next_at s t.end).kind
 
 -- the same fault, or the same expression and token behind, at the same place: it identifies nobody, or the index holds whom it identifies
 pub data SourceRead (env : Environment) (s pool places : List ℕ) (count end : ℕ) (names : List Principal) : ℕ → Parsed Source → Done → Type 0 where
-  source-aside : (at r p : ℕ) → (r ≡ 0 → ⊥) → SourceRead env s pool places count end names at (aside r p) (named (Aside (against r p)) pool places)
+  source-aside : (at r p : ℕ) → (r ≡ 0 → ⊥) → SourceRead env s pool places count end names at (aside r p) (named (Err (against r p)) pool places)
   source-nobody : (x : Source) (n : Token) → Stood s n → source_fault env x ≡ faulty 10 x.place
-      → SourceRead env s pool places count end names x.place (ok x n) (named (Nobody n) pool places)
+      → SourceRead env s pool places count end names x.place (ok x n) (named (Ok (Nobody n)) pool places)
   source-at : (x : Source) (n : Token) → Stood s n → source_fault env x ≡ clear → (k : Kept) → EntryRead pool places count end names (identified env x) k
       → SourceRead env s pool places count end names x.place (ok x n) (of_kept n k)
 
@@ -139,7 +138,7 @@ module _ {rec consts values names constants : List ℕ} {env : Environment} (sho
   -- a string that was run
   said-is : (e : Expr) (place : ℕ) (n : Token) → Stood s n
       → Here place (ok (record { place = place; says = e }) n)
-      (said_as pool places count end (said (On (length (bytes_of (evaluate env e))) n) (buffer_of (copy_at (replicate most_identifier 0) 0 (bytes_of (evaluate env e))))))
+      (said_as pool places count end (said (spoken (length (bytes_of (evaluate env e))) n) (buffer_of (copy_at (replicate most_identifier 0) 0 (bytes_of (evaluate env e))))))
   unfolding identified
   said-is e place n st =
       split (ltb most_identifier (length (bytes_of (evaluate env e))))
@@ -184,7 +183,7 @@ module _ {rec consts values names constants : List ℕ} {env : Environment} (sho
     unfolding evaluate
     literal-read w =
         let g : decoded_at s t.start ≡ inner s t.start t.end
-        = bare-given s t.start (t.end - 1) (sym w.closed) (λ z. let no : ⊥ = omega (arith, z, w.some) in no) in
+        = bare-given s t.start (t.end - 1) _ refl w.closed in
         let l : length (decoded_at s t.start) ≤ 2048
         = rw g (omega (arith, length-take (t.end - 1 - (t.start + 1)) (drop (t.start + 1) s), w.few)) in
         one-named (literal (decoded_at s t.start)) (inner s t.start t.end) (λ d. literal-operand s (nest_of left) t other d w.literal l) (ap held g)
@@ -273,7 +272,7 @@ module _ (s : List ℕ) where
 
 -- a fault in both
 pub data BothAside (pool places : List ℕ) : Parsed Source → Done → Type 0 where
-  both-aside : (r p : ℕ) → (r ≡ 0 → ⊥) → BothAside pool places (aside r p) (named (Aside (against r p)) pool places)
+  both-aside : (r p : ℕ) → (r ≡ 0 → ⊥) → BothAside pool places (aside r p) (named (Err (against r p)) pool places)
 
 is_read : {A : Type 0} → Parsed A → Bool
 is_read (ok x n) = true

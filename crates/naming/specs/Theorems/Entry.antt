@@ -14,8 +14,7 @@ use Rattle.principal.specs.Places.{place}
 use Rattle.compliance.specs.Theorems.Fill.{place-added}
 use Rattle.index.specs.Index.{enter, Holds}
 use Rattle.index.specs.IndexLaws.{walk-known, fresh-entered, holds-front}
-use Rattle.index.specs.Working.Entering.{Kept, numbered, enter_in}
-use Rattle.index.specs.declared.Numbered.TheVariants.{At}
+use Rattle.index.specs.Working.Entering.{Kept, numbered, enter_in, known as numbered_at}
 
 -- what the index held it still holds, where it holds one more
 pub holds-before : {pool places pool' places' : List ℕ} {count end c e : ℕ} (names more : List Principal) → Holds pool places count end names
@@ -26,7 +25,7 @@ holds-before {pool} {places} {pool'} {places'} {count} {end} names more old new 
 -- an identifier entered: its number, and the index with it
 pub data EntryRead (pool places : List ℕ) (count end : ℕ) (names : List Principal) (id : Principal) : Kept → Type 0 where
   entry_at : (c e : ℕ) (pool' places' : List ℕ) → Holds pool' places' c e (enter names id) → e ≤ most_counted * c → c ≤ count + 1 → e ≤ end + most_counted
-      → length pool' ≡ length pool → length places' ≡ length places → EntryRead pool places count end names id (numbered (At c (place (enter names id) id) e) pool' places')
+      → length pool' ≡ length pool → length places' ≡ length places → EntryRead pool places count end names id (numbered (numbered_at c (place (enter names id) id) e) pool' places')
 
 module _ (pool places : List ℕ) (count end : ℕ) (names : List Principal) (holds : Holds pool places count end names) (low : end ≤ most_counted * count) (id : Principal)
     (short : length id ≤ most_identifier) (few : count < most_numbers) (room : count < length places) (fits : end + most_counted ≤ length pool) where
@@ -36,7 +35,7 @@ module _ (pool places : List ℕ) (count end : ℕ) (names : List Principal) (ho
   known m =
       let same : enter names id ≡ names = rw m in
       let h : Holds pool places count end (enter names id) = rw same holds in
-      let r : EntryRead pool places count end names id (numbered (At count (place (enter names id) id) end) pool places)
+      let r : EntryRead pool places count end names id (numbered (numbered_at count (place (enter names id) id) end) pool places)
       = entry_at count end pool places h low (omega arith) (omega arith) refl refl in
       rw (walk-known holds id m) (rw same at r)
 
@@ -48,7 +47,7 @@ module _ (pool places : List ℕ) (count end : ℕ) (names : List Principal) (ho
       let more : enter names id ≡ names ++ (id ∷ []) = rw m in
       let at : place (enter names id) id ≡ count = rw m (place-added names id m ∙ sym holds.counted) in
       let h : Holds (put pool end (string_bytes id)) f.table (count + 1) (end + 2 + length id) (enter names id) = rw more f.held in
-      let r : EntryRead pool places count end names id (numbered (At (count + 1) (place (enter names id) id) (end + 2 + length id)) (put pool end (string_bytes id)) f.table)
+      let r : EntryRead pool places count end names id (numbered (numbered_at (count + 1) (place (enter names id) id) (end + 2 + length id)) (put pool end (string_bytes id)) f.table)
       = entry_at (count + 1) (end + 2 + length id) (put pool end (string_bytes id)) f.table h (omega (arith, low, short)) (omega arith) (omega (arith, short)) (put-length pool end (string_bytes id) (omega (arith, short, fits))) f.long in
       rw f.gives (rw at at r)
 

@@ -1,5 +1,5 @@
 -- Licensees read into the index and written as a postfix program are what the meaning reads. Assumes nothing.
-use Rattle.std.specs.Prelude.{◌≡◌, true, List, ◌++◌, ℕ, ◌+◌, ◌-◌, ◌*◌, ◌<◌, ◌≤◌, length, take}
+use Rattle.std.specs.Prelude.{◌≡◌, true, List, ◌++◌, ℕ, ◌+◌, ◌-◌, ◌*◌, ◌<◌, ◌≤◌, length, take, Err}
 use Rattle.std.proofs.Common.{arith, le-ltb}
 use Rattle.text.specs.Choice.{split}
 use Rattle.limits.specs.Limits.{most_brackets, most_licensees, most_counted, most_numbers, most_code}
@@ -27,10 +27,9 @@ use Rattle.naming.specs.Fault.{licensees_fault}
 use Rattle.naming.specs.Working.Faults.{meant, clear_at}
 use Rattle.syntax.specs.Working.Faults.{against}
 use Rattle.naming.specs.Working.Identifying.{sight}
-use Rattle.naming.specs.Working.List.{Ran, ran, state_of}
+use Rattle.naming.specs.Working.List.{Ran, ran, state_of, read_to}
 use Rattle.naming.specs.Working.Chain.{on_on, primary_at, operand_at, more_at, chain_at, end_in, field_in}
 use Rattle.naming.specs.declared.list.State.{State}
-use Rattle.naming.specs.declared.list.Licensed.TheVariants.{On, Aside}
 use Rattle.naming.specs.Theorems.StandIn.{people_now, licensed_now, faults}
 use Rattle.naming.specs.Theorems.Growing.{Ready, Stays, Grown, grown-none, grown-push}
 use Rattle.naming.specs.Theorems.Listed.{ExpressionRead, expression-aside, expression-on}
@@ -45,7 +44,7 @@ held_by q f = Compliance.licensees (licensed_now q f)
 pub data LicenseesRead (q : Query) (s pool places code : List ℕ) (count end size : ℕ) (names : List Principal) : Parsed Licensees → Ran → Type 0 where
   licensees-aside : (r p : ℕ) (pool' places' code' : List ℕ) → (r ≡ 0 → ⊥)
       → length pool' ≡ length pool → length places' ≡ length places → length code' ≡ length code → Holds pool' places' count end names → take size code' ≡ take size code
-      → LicenseesRead q s pool places code count end size names (aside r p) (ran (Aside (against r p)) pool' places' code')
+      → LicenseesRead q s pool places code count end size names (aside r p) (ran (Err (against r p)) pool' places' code')
   licensees-on : (f : Licensees) (u : State) (n : Token) (pool' places' code' : List ℕ) → Stood s n
       → Holds pool' places' u.index.count u.index.end (enter_all names (held_by q f)) → u.index.end ≤ most_counted * u.index.count
       → u.index.end ≤ end + most_counted * length (held_by q f)
@@ -54,7 +53,7 @@ pub data LicenseesRead (q : Query) (s pool places code : List ℕ) (count end si
       → length (held_by q f) ≤ most_licensees → ((e : Compliance.Expression) → licensed_now q f ≡ Compliance.given e → Formed e) → (licensed_now q f ≡ Compliance.missing → ⊥)
       → meant u.fault ≡ licensees_fault q f
       → length pool' ≡ length pool → length places' ≡ length places → length code' ≡ length code
-      → LicenseesRead q s pool places code count end size names (ok f n) (ran (On u n) pool' places' code')
+      → LicenseesRead q s pool places code count end size names (ok f n) (ran (read_to u n) pool' places' code')
 
 given-formed : (x e : Compliance.Expression) → Formed x → Compliance.given x ≡ Compliance.given e → Formed e
 given-formed x e f h = let z : x ≡ e = cc in rw (← z) f
@@ -75,14 +74,14 @@ module _ (q : Query) (constants : List Attribute) (s pool places code : List ℕ
   abbrev start_state : State
   start_state = state_of count end size 0 clear_at
 
-  set-aside : (r p : ℕ) (pool' places' code' : List ℕ) → (r ≡ 0 → ⊥) → Stays pool places code start_state names pool' places' code' → Read (aside r p) (ran (Aside (against r p)) pool' places' code')
+  set-aside : (r p : ℕ) (pool' places' code' : List ℕ) → (r ≡ 0 → ⊥) → Stays pool places code start_state names pool' places' code' → Read (aside r p) (ran (Err (against r p)) pool' places' code')
   set-aside r p pool' places' code' h more = licensees-aside r p pool' places' code' h more.same_pool more.same_places more.same_code more.held more.front
 
   set-down : (f : Licensees) (u : State) (n : Token) (pool' places' code' : List ℕ) → Stood s n
       → Grown pool places code start_state names (held_by q f) (compiled (enter_all names (held_by q f)) (licensed_now q f)) (licensees_fault q f) u pool' places' code'
       → length (compiled (enter_all names (held_by q f)) (licensed_now q f)) ≤ most_code
       → ((e : Compliance.Expression) → licensed_now q f ≡ Compliance.given e → Formed e) → (licensed_now q f ≡ Compliance.missing → ⊥)
-      → Read (ok f n) (ran (On u n) pool' places' code')
+      → Read (ok f n) (ran (read_to u n) pool' places' code')
   unfolding meant
   set-down f u n pool' places' code' sn grown short formed some =
       licensees-on f u n pool' places' code' sn grown.holds grown.low grown.end_up grown.wrote grown.size (omega (arith, grown.size, short)) (omega (arith, grown.listed, grown.few))
@@ -90,7 +89,7 @@ module _ (q : Query) (constants : List Attribute) (s pool places code : List ℕ
 
   -- "an empty one 0"
   empty-read : Ready pool places code start_state names → size < length code → (t : Token) → Stood s t
-      → Read (ok empty t) (ran (On (state_of count end (above code size) 0 clear_at) t) pool places (pushed code size zero_code))
+      → Read (ok empty t) (ran (read_to (state_of count end (above code size) 0 clear_at) t) pool places (pushed code size zero_code))
   unfolding licensed_now Compliance.licensees compiled licensees_fault
   empty-read ready room t st =
       set-down empty (state_of count end (above code size) 0 clear_at) t pool places (pushed code size zero_code) st (grown-push (grown-none ready) zero_code room) (omega arith) empty-formed empty-some

@@ -1,5 +1,5 @@
 -- Licensees read one by one and in lists: what is entered and written is what the meaning reads. Assumes nothing.
-use Rattle.std.specs.Prelude.{◌≡◌, refl, true, ℕ, ◌+◌, ◌-◌, ◌*◌, ◌<◌, ◌≤◌, eqb, leb, ltb, take}
+use Rattle.std.specs.Prelude.{◌≡◌, refl, true, ℕ, ◌+◌, ◌-◌, ◌*◌, ◌<◌, ◌≤◌, eqb, leb, ltb, take, Ok, Err}
 use Rattle.std.proofs.Math.Path.{sym}
 use Rattle.std.proofs.Common.{ap, ◌∙◌, arith, length-append}
 use mathlib.Core.List.{List, [], ◌∷◌, ◌++◌, map, append-nil}
@@ -37,31 +37,30 @@ use Rattle.naming.specs.Fault.{clear, faulty, source_fault, first_fault}
 use Rattle.naming.specs.Working.Faults.{first_of, meant, first-meant}
 use Rattle.syntax.specs.Working.Faults.{against}
 use Rattle.naming.specs.Working.Identifying.{sight, Done, named, of_number, of_kept, is_plain}
-use Rattle.naming.specs.Working.List.{Ran, ran, refused_licensed, sized, state_of, placed_in, on_wrote, on_named, before_in, is_over, string_in, licensee_in, items_of, listed_in, Loop, on_item, list_in, opened_in, of_in, threshold_of, threshold_in}
+use Rattle.naming.specs.Working.List.{Ran, ran, refused_licensed, sized, state_of, placed_in, on_wrote, on_named, before_in, is_over, string_in, licensee_in, items_of, listed_in, Loop, on_item, list_in, opened_in, of_in, threshold_of, threshold_in, read_to}
 use Rattle.naming.specs.Working.List.{list_turn as item_turn}
-use Rattle.naming.specs.declared.identifier.Named.TheVariants.{Nobody}
 use Rattle.naming.specs.declared.list.State.{State}
-use Rattle.naming.specs.declared.list.Licensed.TheVariants.{On, Aside}
 use Rattle.naming.specs.Theorems.StandIn.{entered, people_now, faults, earlier-clear, faults-one, faults-append, entered-is}
 use Rattle.naming.specs.Theorems.Growing.{Ready, Stays, Grown, stays-self, stays_then, grown-none, grown-then, grown-push, grown-ready}
 use Rattle.naming.specs.Theorems.Entered.{SourceRead, source-aside, source-nobody, source-at, string-named-read, plain-named-read, plain-self, plain-begins, BothAside, both-aside, string-refused}
+use Rattle.naming.specs.declared.identifier.Named.TheVariants.{Nobody}
 
 -- the same fault, or the same expression and token behind: its licensees entered, its code written, what is against them kept
 pub data ExpressionRead (env : Environment) (s pool places code : List ℕ) (st : State) (names : List Principal) : Parsed Sources → Ran → Type 0 where
   expression-aside : (r p : ℕ) (pool' places' code' : List ℕ) → (r ≡ 0 → ⊥) → Stays pool places code st names pool' places' code'
-      → ExpressionRead env s pool places code st names (aside r p) (ran (Aside (against r p)) pool' places' code')
+      → ExpressionRead env s pool places code st names (aside r p) (ran (Err (against r p)) pool' places' code')
   expression-on : (x : Sources) (u : State) (n : Token) (pool' places' code' : List ℕ) → Stood s n → Formed (people_now env x)
       → Grown pool places code st names (Compliance.named (people_now env x)) (compile (enter_all names (Compliance.named (people_now env x))) (people_now env x)) (faults env (sources x)) u
       pool' places' code'
-      → ExpressionRead env s pool places code st names (ok x n) (ran (On u n) pool' places' code')
+      → ExpressionRead env s pool places code st names (ok x n) (ran (read_to u n) pool' places' code')
 
 -- the same of one licensee
 pub data LicenseeRead (env : Environment) (s pool places code : List ℕ) (st : State) (names : List Principal) : Parsed Source → Ran → Type 0 where
   licensee-aside : (r p : ℕ) (pool' places' code' : List ℕ) → (r ≡ 0 → ⊥) → Stays pool places code st names pool' places' code'
-      → LicenseeRead env s pool places code st names (aside r p) (ran (Aside (against r p)) pool' places' code')
+      → LicenseeRead env s pool places code st names (aside r p) (ran (Err (against r p)) pool' places' code')
   licensee-on : (x : Source) (u : State) (n : Token) (pool' places' code' : List ℕ) → Stood s n
       → Grown pool places code st names (entered env x ∷ []) (place (enter_all names (entered env x ∷ [])) (entered env x) ∷ []) (source_fault env x) u pool' places' code'
-      → LicenseeRead env s pool places code st names (ok x n) (ran (On u n) pool' places' code')
+      → LicenseeRead env s pool places code st names (ok x n) (ran (read_to u n) pool' places' code')
 
 module _ (env : Environment) (s pool places code : List ℕ) (st : State) (names : List Principal) (ready : Ready pool places code st names) (more : st.listed < most_licensees) where
   abbrev Here : Parsed Source → Ran → Type 0
@@ -131,7 +130,7 @@ module _ (env : Environment) (s pool places code : List ℕ) (st : State) (names
   unfolding entered
   stand-in x at f = rw f
 
-  nobody-read : (x : Source) (n : Token) → Stood s n → source_fault env x ≡ faulty 10 x.place → Here (ok x n) (on_named code st x.place (named (Nobody n) pool places))
+  nobody-read : (x : Source) (n : Token) → Stood s n → source_fault env x ≡ faulty 10 x.place → Here (ok x n) (on_named code st x.place (named (Ok (Nobody n)) pool places))
   unfolding placed_in
   nobody-read x n sn f =
       let z : place (enter_all names (policy ∷ [])) policy ≡ 0 = rw policy-kept ready.first in
@@ -245,7 +244,7 @@ module _ {rec consts values keys constants : List ℕ} {env : Environment} (show
   module _ (left : ℕ) where
     abbrev Turns : List Source × Token → Loop → Step (List Source × Token) (Parsed Sources) → Step Loop Ran → Type 0
     Turns = Steps (λ x. most_licensees - (st.listed + length x.0)) (λ x. unexpected x.1) (list_turn s left st.listed k)
-        (λ x. most_licensees - x.0.listed) (λ x. ran (Aside (against 0 0)) x.2 x.3 x.4) (item_turn s (sight rec consts values keys constants) left k st.listed)
+        (λ x. most_licensees - x.0.listed) (λ x. ran (Err (against 0 0)) x.2 x.3 x.4) (item_turn s (sight rec consts values keys constants) left k st.listed)
         (Items env s pool places code st names) Whole
 
     module _ (xs : List Source) (t : Token) (u : State) (pool' places' code' : List ℕ) (stood : Stood s t) (grown : Listing env pool places code st names xs u pool' places' code') where
@@ -263,7 +262,7 @@ module _ {rec consts values keys constants : List ℕ} {env : Environment} (show
       item-turned : (x : Parsed Source) (y : Ran) → LicenseeRead env s pool' places' code' u (enter_all names (map (entered env) xs)) x y
           → Turns (xs, t) (u, t, pool', places', code') (on_listed s k xs x) (on_item s k st.listed u y)
       item-turned _ _ (licensee-aside r p pool'' places'' code'' h more) =
-          both-done (aside r p) (ran (Aside (against r p)) pool'' places'' code'') (expression-aside r p pool'' places'' code'' h (stays_then grown more))
+          both-done (aside r p) (ran (Err (against r p)) pool'' places'' code'') (expression-aside r p pool'' places'' code'' h (stays_then grown more))
       item-turned _ _ (licensee-on x w n pool'' places'' code'' sn more) =
           let g : Listing env pool places code st names (xs ++ (x ∷ [])) w pool'' places'' code'' = joined x w pool'' places'' code'' more in
           let j : length (xs ++ (x ∷ [])) ≡ length xs + 1 = length-append xs (x ∷ []) in
@@ -296,7 +295,7 @@ module _ {rec consts values keys constants : List ℕ} {env : Environment} (show
         loop-same _ _ (list_turn s left st.listed k) _ _ (item_turn s (sight rec consts values keys constants) left k st.listed) (Items env s pool places code st names) Whole
         list-turns ([], t) (st, t, pool, places, code) (items [] t st pool places code stood empty-listing)
 
-  set-aside : (r p : ℕ) → (r ≡ 0 → ⊥) → Whole (aside r p) (ran (Aside (against r p)) pool places code)
+  set-aside : (r p : ℕ) → (r ≡ 0 → ⊥) → Whole (aside r p) (ran (Err (against r p)) pool places code)
   set-aside r p h = expression-aside r p pool places code h (stays-self ready)
 
   refused : (t : Token) → Whole (unexpected t) (ran (refused_licensed t) pool places code)

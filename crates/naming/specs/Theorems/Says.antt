@@ -1,5 +1,5 @@
 -- What `string_field` gives is what the string expression says. Assumes nothing.
-use Rattle.std.specs.Prelude.{◌≡◌, ℕ, ◌+◌, ◌-◌, ◌*◌, ◌<◌, ◌≤◌, eqb, ltb, leb, length, take, replicate}
+use Rattle.std.specs.Prelude.{◌≡◌, ℕ, ◌+◌, ◌-◌, ◌*◌, ◌<◌, ◌≤◌, eqb, ltb, leb, length, take, replicate, Ok, Err, Some}
 use Rattle.std.proofs.Math.Path.{refl}
 use Rattle.std.proofs.Common.{sym, ap, ◌∙◌, arith}
 use mathlib.Core.List.{List, [], map, append-nil}
@@ -26,22 +26,20 @@ use Rattle.conditions.specs.Table.{PartSort, sorted, want-string, is_any}
 use Rattle.conditions.specs.Parsed.{Part, part}
 use Rattle.conditions.specs.Expression.{read_expression}
 use Rattle.conditions.specs.Program.{DEPTH}
-use Rattle.conditions.specs.Working.Emit.{Ran, ran}
+use Rattle.conditions.specs.Working.Emit.{found, Ran, ran}
+use Rattle.conditions.specs.declared.emit.Found.{Found}
 use Rattle.conditions.specs.Working.Written.{keeps, grown, Wrote, wrote}
 use Rattle.conditions.specs.Working.Same.{PartCodes, whole, Same, same-aside, same-part}
 use Rattle.conditions.proofs.Working.TieExpression.{expression-same}
 use Rattle.conditions.specs.Working.Pace.{Sound, sound, within, Paced, paced-aside, paced-found}
 use Rattle.conditions.proofs.Working.PaceExpression.{expression-paced}
-use Rattle.conditions.specs.declared.emit.Out.TheVariants.{Found, Aside as Refused}
 use Rattle.machine.specs.Working.Machine.{on, exec_behind, exec}
 use Rattle.machine.specs.Working.Given.{Gave, gave, buffer_of, string_of, string_in}
 use Rattle.machine.specs.Working.Need as Need
 use Rattle.machine.specs.Theorems.Runs.{run-expression}
 use Rattle.machine.specs.Working.Stacking.{topped}
-use Rattle.machine.specs.declared.Given.TheVariants.{Bytes}
 use Rattle.judge.specs.Working.Fit.{Holds, holds-is, Fits, fit, expression-fits}
-use Rattle.judge.specs.Working.Saying.{Told, said, valued_at, on_read, said_in, string_size, said_here}
-use Rattle.judge.specs.declared.string.Said.TheVariants.{On, Aside}
+use Rattle.judge.specs.Working.Saying.{Told, said, valued_at, on_read, said_in, string_size, said_here, spoken}
 use Rattle.naming.specs.Theorems.Strings.{Strung, strung-ok, expression-strung}
 use Rattle.syntax.specs.Working.Faults.{against}
 use Rattle.syntax.specs.declared.fault.Fault.{Fault}
@@ -64,9 +62,9 @@ stood-sound s t st = rw st.is (sound start (λ h. let p : (st.at ≤ u.start) ×
 -- The same reason of document 01 at the same place, nothing written; or the string's value, its bytes counted and put where they fit, before a
 -- token of the text.
 pub data Saying (s : List ℕ) (env : Environment) (out : List ℕ) : Parsed Part → Told → Type 0 where
-  said-not : (r p : ℕ) → (r ≡ 0 → ⊥) → Saying s env out (aside r p) (said (Aside (against r p)) out)
+  said-not : (r p : ℕ) → (r ≡ 0 → ⊥) → Saying s env out (aside r p) (said (Err (against r p)) out)
   said-value : (e : Expr) (n : Token) → Stood s n
-      → Saying s env out (ok (part (sorted a-string) e) n) (said (On (length (bytes_of (evaluate env e))) n) (buffer_of (copy_at out 0 (bytes_of (evaluate env e)))))
+      → Saying s env out (ok (part (sorted a-string) e) n) (said (spoken (length (bytes_of (evaluate env e))) n) (buffer_of (copy_at out 0 (bytes_of (evaluate env e)))))
 
 module _ {rec consts values names constants : List ℕ} {env : Environment} (shows : Shows rec consts values names constants env)
     (s : List ℕ) (short : length s < 65536) (t : Token) (st : Stood s t) (nest : ℕ) (few : nest ≤ 16) (out : List ℕ) where
@@ -91,7 +89,7 @@ module _ {rec consts values names constants : List ℕ} {env : Environment} (sho
         ∙ run-expression 208 77824 s (lookup_in rec consts values names constants) env (lookup-is shows) k [] [] [] (omega (arith, string-fits.0)) (omega (arith, string-fits.1)))
 
     value_read : (b : List ℕ) (u : ℕ) (c : List ℕ) → u ≤ length b → take u b ≡ c → Codes s e c
-        → valued_at b u s rec consts values names constants out ≡ gave (Bytes (length (bytes_of (evaluate env e)))) (buffer_of (copy_at out 0 (bytes_of (evaluate env e))))
+        → valued_at b u s rec consts values names constants out ≡ gave (Some (length (bytes_of (evaluate env e)))) (buffer_of (copy_at out 0 (bytes_of (evaluate env e))))
     unfolding valued_at string_in string_of topped
     value_read b u c room k codes = rw (le-ltb _ _ room, k, string-run c codes)
 
@@ -99,18 +97,21 @@ module _ {rec consts values names constants : List ℕ} {env : Environment} (sho
     abbrev value : List ℕ → ℕ → Gave
     value b u = valued_at b u s rec consts values names constants out
 
-    not_none : (r p : ℕ) (b : List ℕ) (x : Ran) → Paced s 0 t.start t.start x → x ≡ ran (Refused (against r p)) b → r ≡ 0 → ⊥
+    not_none : (r p : ℕ) (b : List ℕ) (x : Ran) → Paced s 0 t.start t.start x → x ≡ ran (Err (against r p)) b → r ≡ 0 → ⊥
     not_none r p b _ (paced-aside r' p' b' h) e z = h (let q : against r' p' ≡ against r p = cc e in ap (λ (f : Fault). f.reason) q ∙ z)
     not_none r p b _ (paced-found _ _ _ _ _ _ _ _) e z = absurd (let q : ◌≡◌ {A = ℕ} 0 1 = cc e in omega (arith, q))
 
-    short-code : (k p u : ℕ) (n : Token) (b : List ℕ) (x : Ran) → Paced s 0 t.start t.start x → x ≡ ran (Found k p u n) b → u + t.start ≤ n.start
+    same-found : (a b : Found) (c d : List ℕ) → ran (Ok a) c ≡ ran (Ok b) d → a ≡ b
+    same-found a b c d e = cc e
+
+    short-code : (k p u : ℕ) (n : Token) (b : List ℕ) (x : Ran) → Paced s 0 t.start t.start x → x ≡ ran (found k p u n) b → u + t.start ≤ n.start
     short-code k p u n b _ (paced-aside r' p' b' h) e = absurd (let q : ◌≡◌ {A = ℕ} 0 1 = cc e in omega (arith, q))
     short-code k p u n b _ (paced-found x' p' u' n' b' s' i j) e =
-        let q : u' ≡ u = cc e in let o : n' ≡ n = cc e in let m : n'.start ≡ n.start = ap (λ (t : Token). t.start) o in omega (arith, q, m, j)
+        let z = same-found _ _ _ _ e in let q : u' ≡ u = ap (λ (f : Found). f.top) z in let m : n'.start ≡ n.start = ap (λ (f : Found). f.next.start) z in omega (arith, q, m, j)
 
     code_of : (p u : ℕ) (e : Expr) (n : Token) (b : List ℕ) → read_expression DEPTH s 3 want-string 0 nest t ≡ ok (part (sorted a-string) e) n → length b ≡ length m → u < length m
         → Wrote m 0 b u (λ c. PartCodes s p e c (sorted a-string))
-        → value b u ≡ gave (Bytes (length (bytes_of (evaluate env e)))) (buffer_of (copy_at out 0 (bytes_of (evaluate env e))))
+        → value b u ≡ gave (Some (length (bytes_of (evaluate env e)))) (buffer_of (copy_at out 0 (bytes_of (evaluate env e))))
     code_of p u e n b is l h (wrote c k (whole _ codes)) = value_read (sorted a-string) e n is b u c (omega (arith, l, h)) k codes
 
     both_say : (q : Parsed Part) (r : Ran) → read_expression DEPTH s 3 want-string 0 nest t ≡ q → Strung s q → Same s m 0 q r → Paced s 0 t.start t.start r

@@ -1,5 +1,5 @@
 -- Working definitions: Authorizer by the tables, and the ways out of its functions. Assumes nothing.
-use Rattle.std.specs.Prelude.{◌≡◌, Bool, true, false, List, [], ◌∷◌, ℕ, ◌<◌, ◌≤◌, eqb, leb, length, get_or}
+use Rattle.std.specs.Prelude.{◌≡◌, Bool, true, false, List, [], ◌∷◌, ℕ, ◌<◌, ◌≤◌, eqb, leb, length, get_or, Ok, Err, Result}
 use Rattle.std.proofs.Math.Path.{sym}
 use Rattle.std.proofs.Common.{◌∙◌}
 use borrow.Author.Tests.{le-leb, lt-leb, eq-eqb, ne_eqb}
@@ -16,14 +16,13 @@ use Rattle.naming.specs.String.{plain_from}
 use Rattle.naming.specs.Fault.{verified}
 use Rattle.naming.specs.Working.Faults.{clear_at}
 use Rattle.syntax.specs.Working.Faults.{against, misplaced_at}
-use Rattle.naming.specs.Working.Identifying.{Sight, Done, named, string_named, is_plain, plain_named}
+use Rattle.naming.specs.Working.Identifying.{Sight, Done, named, string_named, is_plain, plain_named, Naming}
 use Rattle.syntax.specs.declared.fault.Fault.{Fault}
-use Rattle.naming.specs.declared.identifier.Named.{Named}
-use Rattle.naming.specs.declared.identifier.Named.TheVariants.{At, Nobody, Aside as Refused}
-use Rattle.naming.specs.declared.authorizer.Author.{Author}
-use Rattle.naming.specs.declared.authorizer.Author.TheVariants.{On, Aside}
 use Rattle.index.specs.Working.Adding.{index_of}
 use Rattle.index.specs.declared.Index.{Index}
+use Rattle.naming.specs.declared.identifier.Named.TheVariants.{At, Nobody}
+use Rattle.naming.specs.declared.identifier.Named.{Named}
+use Rattle.naming.specs.declared.authorizer.Author.{Author}
 
 unfoldable pub policy_at : List ℕ → List ℕ → ℕ → Bool
 policy_at pool places i = pick (leb (length places) i) false (same (identifier_at pool (get_or places i 0)) policy)
@@ -34,18 +33,25 @@ barred_at standing pool places i = pick (eqb standing verified) (policy_at pool 
 unfoldable pub bar_fault : ℕ → List ℕ → List ℕ → ℕ → ℕ → Fault
 bar_fault standing pool places i place = pick (barred_at standing pool places i) (against 9 place) clear_at
 
-unfoldable pub authorizer_end : ℕ → Index → Fault → Token → Author
-authorizer_end i x f t = pick (ending t.kind) (On i x f t) (Aside (misplaced_at t))
+-- the authorizer's number, the index, what is against the identifier and the token that ends the field, or the first fault
+abbrev pub Authoring : Type 0
+Authoring = Result Author Fault
+
+abbrev pub authored : ℕ → Index → Fault → Token → Authoring
+authored i x f t = Ok (record { number = i; index = x; fault = f; next = t })
+
+unfoldable pub authorizer_end : ℕ → Index → Fault → Token → Authoring
+authorizer_end i x f t = pick (ending t.kind) (authored i x f t) (Err (misplaced_at t))
 
 -- an answer, the pool and the table
 pub data Made : Type 0 where
-  made : Author → List ℕ → List ℕ → Made
+  made : Authoring → List ℕ → List ℕ → Made
 
 -- the field by its name; POLICY, whose number is 0, stands in for nobody
-unfoldable pub authored_in : ℕ → List ℕ → List ℕ → ℕ → ℕ → ℕ → Named → Author
-authored_in standing pool places count end place (Refused f) = Aside f
-authored_in standing pool places count end place (Nobody n) = authorizer_end 0 (index_of count end) (against 10 place) n
-authored_in standing pool places count end place (At i x n) = authorizer_end i x (bar_fault standing pool places i place) n
+unfoldable pub authored_in : ℕ → List ℕ → List ℕ → ℕ → ℕ → ℕ → Naming → Authoring
+authored_in standing pool places count end place (Err f) = Err f
+authored_in standing pool places count end place (Ok (Nobody n)) = authorizer_end 0 (index_of count end) (against 10 place) n
+authored_in standing pool places count end place (Ok (At i x n)) = authorizer_end i x (bar_fault standing pool places i place) n
 
 abbrev pub on_author : ℕ → ℕ → ℕ → ℕ → Done → Made
 on_author standing count end place (named e pool places) = made (authored_in standing pool places count end place e) pool places
@@ -94,29 +100,29 @@ module _ (standing : ℕ) (pool places : List ℕ) (i : ℕ) where
 
 -- `finished`
 module _ (i : ℕ) (x : Index) (f : Fault) (t : Token) (b : Bool) (be : b ≡ ending t.kind) where
-  pub finished_on : b ≡ true → On i x f t ≡ authorizer_end i x f t
+  pub finished_on : b ≡ true → authored i x f t ≡ authorizer_end i x f t
   unfolding authorizer_end
   finished_on y = simp (sym be, y)
 
-  pub finished-not : (w : Fault) → b ≡ false → w ≡ misplaced_at t → Aside w ≡ authorizer_end i x f t
+  pub finished-not : (w : Fault) → b ≡ false → w ≡ misplaced_at t → Err w ≡ authorizer_end i x f t
   unfolding authorizer_end
   finished-not w n we = rw we (simp (sym be, n))
 
 -- `authored`
-module _ (standing : ℕ) (pool places : List ℕ) (count end place : ℕ) (r : Named) where
-  pub authored-aside : (f : Fault) → r ≡ Refused f → Aside f ≡ authored_in standing pool places count end place r
+module _ (standing : ℕ) (pool places : List ℕ) (count end place : ℕ) (r : Naming) where
+  pub authored-aside : (f : Fault) → r ≡ Err f → Err f ≡ authored_in standing pool places count end place r
   unfolding authored_in
   authored-aside f h = rw h
 
-  pub authored-nobody : (n : Token) → r ≡ Nobody n → (f : Fault) → f ≡ against 10 place → (a : Author) → a ≡ authorizer_end 0 (index_of count end) f n
+  pub authored-nobody : (v : Named) (n : Token) → r ≡ Ok v → v ≡ Nobody n → (f : Fault) → f ≡ against 10 place → (a : Authoring) → a ≡ authorizer_end 0 (index_of count end) f n
       → a ≡ authored_in standing pool places count end place r
   unfolding authored_in
-  authored-nobody n h f fe a ae = rw (h, ← fe) ae
+  authored-nobody v n h is f fe a ae = rw (h, is, ← fe) ae
 
-  pub authored-at : (i : ℕ) (x : Index) (n : Token) → r ≡ At i x n → (f : Fault) → f ≡ bar_fault standing pool places i place → (a : Author) → a ≡ authorizer_end i x f n
+  pub authored-at : (v : Named) (i : ℕ) (x : Index) (n : Token) → r ≡ Ok v → v ≡ At i x n → (f : Fault) → f ≡ bar_fault standing pool places i place → (a : Authoring) → a ≡ authorizer_end i x f n
       → a ≡ authored_in standing pool places count end place r
   unfolding authored_in
-  authored-at i x n h f fe a ae = rw (h, ← fe) ae
+  authored-at v i x n h is f fe a ae = rw (h, is, ← fe) ae
 
 -- `author_named`
 module _ (s : List ℕ) (look : Sight) (pool places : List ℕ) (count end : ℕ) (t : Token) (r : Done) (b : Bool) (be : b ≡ is_plain s t) where
@@ -134,7 +140,7 @@ module _ (s : List ℕ) (look : Sight) (pool places : List ℕ) (count end : ℕ
     author-plain h re = re ∙ simp (sym be, y, sym ne, ne_eqb _ _ h)
 
 -- `authorizer`
-pub author-made : (s : List ℕ) (standing : ℕ) (look : Sight) (pool places : List ℕ) (count end : ℕ) (t o : Token) (e : Named) (p q : List ℕ) (a : Author)
+pub author-made : (s : List ℕ) (standing : ℕ) (look : Sight) (pool places : List ℕ) (count end : ℕ) (t o : Token) (e : Naming) (p q : List ℕ) (a : Authoring)
     → o ≡ plain_from most_brackets s t → named e p q ≡ author_named s look pool places count end t → a ≡ authored_in standing p q count end o.start e
     → made a p q ≡ authorizer_in s standing look pool places count end t
 unfolding authorizer_in

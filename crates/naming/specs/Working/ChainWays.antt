@@ -1,5 +1,5 @@
 -- The ways out of the functions that write chains, brackets and the field. Assumes nothing.
-use Rattle.std.specs.Prelude.{◌≡◌, length}
+use Rattle.std.specs.Prelude.{◌≡◌, length, Err, Ok}
 use Rattle.std.proofs.Math.Path.{refl, sym}
 use Rattle.std.proofs.Common.{ap, ◌∙◌, arith}
 use Rattle.std.proofs.Math.Bool.{Bool, true, false}
@@ -21,14 +21,13 @@ use Rattle.naming.specs.Working.Code.{above, pushed}
 use Rattle.naming.specs.Working.Faults.{clear_at}
 use Rattle.syntax.specs.Working.Faults.{against}
 use Rattle.naming.specs.Working.Identifying.{Sight, is_plain}
-use Rattle.naming.specs.Working.List.{Ran, ran, refused_licensed, sized, state_at, state_of, before_in, literal_in, licensee_in, threshold_in}
+use Rattle.naming.specs.Working.List.{Ran, ran, refused_licensed, sized, state_at, state_of, before_in, literal_in, licensee_in, threshold_in, Licensing, read_to}
 use Rattle.naming.specs.Working.ListWays.{licensee-plain, literal-before, before-next}
 use Rattle.naming.specs.Working.Chain.{joint_of, join_of, on_on, single, is_lone, is_longer, closed_in, operand_at, more_at, chain_at, primary_at, primary_body, inner_at, end_in, field_in}
 use Rattle.syntax.specs.declared.fault.Fault.{Fault}
 use Rattle.naming.specs.declared.list.State.{State}
-use Rattle.naming.specs.declared.list.Licensed.{Licensed}
-use Rattle.naming.specs.declared.list.Licensed.TheVariants.{On, Aside}
 use Rattle.index.specs.declared.Index.{Index}
+use Rattle.naming.specs.declared.list.Licensed.{Licensed}
 
 -- `joint_of` and `join_of`
 module _ (level : ℕ) where
@@ -50,11 +49,11 @@ module _ (level : ℕ) where
 
 -- `closed`
 module _ (s : List ℕ) (st : State) (t : Token) where
-  pub closed-not : (r : Licensed) → (t.kind ≡ Kind.CLOSE → ⊥) → r ≡ refused_licensed t → r ≡ closed_in s st t
+  pub closed-not : (r : Licensing) → (t.kind ≡ Kind.CLOSE → ⊥) → r ≡ refused_licensed t → r ≡ closed_in s st t
   unfolding closed_in
   closed-not r h re = re ∙ simp (ne_eqb _ _ h)
 
-  pub closed_on : (n : Token) → t.kind ≡ Kind.CLOSE → n ≡ token_at s Kind.IN_LICENSEES t.end → On st n ≡ closed_in s st t
+  pub closed_on : (n : Token) → t.kind ≡ Kind.CLOSE → n ≡ token_at s Kind.IN_LICENSEES t.end → read_to st n ≡ closed_in s st t
   unfolding closed_in
   closed_on n h ne = rw ne (simp (eq-eqb _ _ h))
 
@@ -78,24 +77,24 @@ operand-chain left (suc level) s look pool places code st t r h re =
     w ∙ operand-up left level s look pool places code st t
 
 -- `chain`
-module _ (left level : ℕ) (s : List ℕ) (look : Sight) (pool places code : List ℕ) (st : State) (t : Token) (r : Licensed) (p q m : List ℕ)
+module _ (left level : ℕ) (s : List ℕ) (look : Sight) (pool places code : List ℕ) (st : State) (t : Token) (r : Licensing) (p q m : List ℕ)
     (re : ran r p q m ≡ operand_at left level s look pool places code st t) where
-  pub chain-aside : (f : Fault) → r ≡ Aside f → ran r p q m ≡ chain_at left level s look pool places code st t
+  pub chain-aside : (f : Fault) → r ≡ Err f → ran (Err f) p q m ≡ chain_at left level s look pool places code st t
   unfolding chain_at
   chain-aside f h = simp (sym re, h)
 
-  pub chain-on : (u : State) (n : Token) (w : Ran) → r ≡ On u n → w ≡ more_at left level s look p q m u n → w ≡ chain_at left level s look pool places code st t
+  pub chain-on : (o : Licensed) (w : Ran) → r ≡ Ok o → w ≡ more_at left level s look p q m o.state o.next → w ≡ chain_at left level s look pool places code st t
   unfolding chain_at
-  chain-on u n w h we = we ∙ simp (sym re, h)
+  chain-on o w h we = we ∙ simp (sym re, h)
 
 -- the loop of `more`, with the invariant `more_at .. ≡ a`
 module _ (left level : ℕ) (s : List ℕ) (look : Sight) (pool places code : List ℕ) (st : State) (t : Token) (a : Ran)
     (inv : more_at left level s look pool places code st t ≡ a) (j : ℕ) (je : j ≡ joint_of level) where
-  pub more-end : (t.kind ≡ j → ⊥) → ran (On st t) pool places code ≡ a
+  pub more-end : (t.kind ≡ j → ⊥) → ran (read_to st t) pool places code ≡ a
   unfolding more_at
   more-end h = let g : t.kind ≡ joint_of level → ⊥ = λ e. h (e ∙ sym je) in sym (loop-done _ _ _ (st, t, pool, places, code) _ (simp (ne_eqb _ _ g))) ∙ inv
 
-  module _ (h : t.kind ≡ j) (n : Token) (ne : n ≡ token_at s Kind.IN_LICENSEES t.end) (r : Licensed) (p q m : List ℕ)
+  module _ (h : t.kind ≡ j) (n : Token) (ne : n ≡ token_at s Kind.IN_LICENSEES t.end) (r : Licensing) (p q m : List ℕ)
       (re : ran r p q m ≡ operand_at left level s look pool places code st n) where
     is : t.kind ≡ joint_of level
     is = h ∙ je
@@ -103,23 +102,23 @@ module _ (left level : ℕ) (s : List ℕ) (look : Sight) (pool places code : Li
     at_next : operand_at left level s look pool places code st (token_at s Kind.IN_LICENSEES t.end) ≡ ran r p q m
     at_next = rw (sym ne) (sym re)
 
-    pub more-aside : (f : Fault) → r ≡ Aside f → ran r p q m ≡ a
+    pub more-aside : (f : Fault) → r ≡ Err f → ran (Err f) p q m ≡ a
     unfolding more_at
-    more-aside f k = sym (loop-done _ _ _ (st, t, pool, places, code) (ran r p q m) (simp (eq-eqb _ _ is, at_next, k))) ∙ inv
+    more-aside f k = sym (loop-done _ _ _ (st, t, pool, places, code) (ran (Err f) p q m) (simp (eq-eqb _ _ is, at_next, k))) ∙ inv
 
-    module _ (u : State) (v : Token) (rv : r ≡ On u v) (x y : ℕ) (xe : x ≡ 16 - st.listed) (ye : y ≡ 16 - u.listed) where
-      pub more-stuck : x ≤ y → ran (Aside (against 0 0)) p q m ≡ a
+    module _ (one : Licensed) (rv : r ≡ Ok one) (x y : ℕ) (xe : x ≡ 16 - st.listed) (ye : y ≡ 16 - one.state.listed) where
+      pub more-stuck : x ≤ y → ran (Err (against 0 0)) p q m ≡ a
       unfolding more_at
-      more-stuck g = sym (loop-done _ _ _ (st, t, pool, places, code) (ran (Aside (against 0 0)) p q m) (simp (eq-eqb _ _ is, at_next, rv, sym xe, sym ye, le-leb _ _ g))) ∙ inv
+      more-stuck g = sym (loop-done _ _ _ (st, t, pool, places, code) (ran (Err (against 0 0)) p q m) (simp (eq-eqb _ _ is, at_next, rv, sym xe, sym ye, le-leb _ _ g))) ∙ inv
 
-      pub more-again : (o z : ℕ) (b : List ℕ) → y < x → o ≡ join_of level → z ≡ above m u.size → b ≡ pushed m u.size o
-          → more_at left level s look p q b (sized u z) v ≡ a
+      pub more-again : (o z : ℕ) (b : List ℕ) → y < x → o ≡ join_of level → z ≡ above m one.state.size → b ≡ pushed m one.state.size o
+          → more_at left level s look p q b (sized one.state z) one.next ≡ a
       unfolding more_at
       more-again o z b g oe ze be =
-          rw (ze, be, oe) (sym (loop-next _ _ _ (st, t, pool, places, code) (sized u (above m u.size), v, p, q, pushed m u.size (join_of level))
+          rw (ze, be, oe) (sym (loop-next _ _ _ (st, t, pool, places, code) (sized one.state (above m one.state.size), one.next, p, q, pushed m one.state.size (join_of level))
           (simp (eq-eqb _ _ is, at_next, rv, sym xe, sym ye, lt-leb _ _ g)) (omega (arith, xe, ye))) ∙ inv)
 
-      pub more-less : y < x → 16 - u.listed < 16 - st.listed
+      pub more-less : y < x → 16 - one.state.listed < 16 - st.listed
       more-less g = omega (arith, xe, ye)
 
 -- `primary`: where a bracket may be opened, what is inside is a chain with one less
@@ -145,26 +144,26 @@ module _ (left : ℕ) (s : List ℕ) (look : Sight) (pool places code : List ℕ
     primary-one r h re = re ∙ simp (primary-unfold left, ne_eqb _ _ nd, ne_eqb _ _ h)
 
     module _ (h : t.kind ≡ Kind.OPEN) where
-      pub primary-most : left ≡ 0 → ran (Aside (against 7 t.start)) pool places code ≡ primary_at left s look pool places code st t
+      pub primary-most : left ≡ 0 → ran (Err (against 7 t.start)) pool places code ≡ primary_at left s look pool places code st t
       primary-most z = simp (primary-unfold left, ne_eqb _ _ nd, eq-eqb _ _ h, eq-eqb _ _ z)
 
-      module _ (nz : left ≡ 0 → ⊥) (n : Token) (ne : n ≡ token_at s Kind.IN_LICENSEES t.end) (r : Licensed) (p q m : List ℕ)
+      module _ (nz : left ≡ 0 → ⊥) (n : Token) (ne : n ≡ token_at s Kind.IN_LICENSEES t.end) (r : Licensing) (p q m : List ℕ)
           (re : ran r p q m ≡ chain_at (left - 1) 1 s look pool places code st n) where
         inside : inner_at left s look pool places code st (token_at s Kind.IN_LICENSEES t.end) ≡ ran r p q m
         inside = inner-is left nz s look pool places code st (token_at s Kind.IN_LICENSEES t.end) ∙ rw (sym ne) (sym re)
 
-        pub primary-aside : (f : Fault) → r ≡ Aside f → ran r p q m ≡ primary_at left s look pool places code st t
+        pub primary-aside : (f : Fault) → r ≡ Err f → ran (Err f) p q m ≡ primary_at left s look pool places code st t
         primary-aside f k = simp (primary-unfold left, ne_eqb _ _ nd, eq-eqb _ _ h, ne_eqb _ _ nz, inside, k)
 
-        module _ (u : State) (v : Token) (k : r ≡ On u v) (c : Licensed) (ce : c ≡ closed_in s u v) where
-          pub primary-open : (f : Fault) → c ≡ Aside f → ran c p q m ≡ primary_at left s look pool places code st t
+        module _ (one : Licensed) (k : r ≡ Ok one) (c : Licensing) (ce : c ≡ closed_in s one.state one.next) where
+          pub primary-open : (f : Fault) → c ≡ Err f → ran (Err f) p q m ≡ primary_at left s look pool places code st t
           primary-open f g = simp (primary-unfold left, ne_eqb _ _ nd, eq-eqb _ _ h, ne_eqb _ _ nz, inside, k, sym ce, g)
 
-          module _ (w : State) (o : Token) (g : c ≡ On w o) (b : Bool) (be : b ≡ is_longer st w o.kind) where
+          module _ (w : Licensed) (g : c ≡ Ok w) (b : Bool) (be : b ≡ is_longer st w.state w.next.kind) where
             pub primary-longer : b ≡ true → (z : Ran) → z ≡ licensee_in s look p q m st left t → z ≡ primary_at left s look pool places code st t
             primary-longer y z ze = ze ∙ simp (primary-unfold left, ne_eqb _ _ nd, eq-eqb _ _ h, ne_eqb _ _ nz, inside, k, sym ce, g, sym be, y)
 
-            pub primary-on : b ≡ false → ran (On w o) p q m ≡ primary_at left s look pool places code st t
+            pub primary-on : b ≡ false → ran (Ok w) p q m ≡ primary_at left s look pool places code st t
             primary-on y = simp (primary-unfold left, ne_eqb _ _ nd, eq-eqb _ _ h, ne_eqb _ _ nz, inside, k, sym ce, g, sym be, y)
 
 -- `is_longer`
@@ -236,10 +235,10 @@ module _ (k : ℕ) where
 -- `operand`: a token alone, before another token than && and "."
 module _ (left : ℕ) (s : List ℕ) (look : Sight) (pool places code : List ℕ) (st : State) (t : Token) where
   -- behind what was read nothing is joined by &&
-  unjoined : (r : Ran) → ((u : State) (v : Token) (p q m : List ℕ) → r ≡ ran (On u v) p q m → v.kind ≡ Kind.AND → ⊥)
+  unjoined : (r : Ran) → ((u : State) (v : Token) (p q m : List ℕ) → r ≡ ran (read_to u v) p q m → v.kind ≡ Kind.AND → ⊥)
       → on_on r (λ u v p q m. more_at left 0 s look p q m u v) ≡ r
-  unjoined (ran (Aside w) p q m) f = refl
-  unjoined (ran (On u v) p q m) f = sym (more-end left 0 s look p q m u v _ refl Kind.AND (joint-all 0 refl) (f u v p q m refl))
+  unjoined (ran (Err w) p q m) f = refl
+  unjoined (ran (Ok w) p q m) f = sym (more-end left 0 s look p q m w.state w.next _ refl Kind.AND (joint-all 0 refl) (f w.state w.next p q m refl))
 
   module _ (level : ℕ) (b : Bool) (be : b ≡ single level t.kind) (y : b ≡ true) (n : Token) (ne : n ≡ token_at s Kind.IN_FIELD t.end) (c : Bool) (ce : c ≡ is_lone n.kind) (o : c ≡ true) (d : Bool) (de : d ≡ is_plain s t) (w : d ≡ true) where
     facts : (level ≡ 1) × (t.kind ≡ Kind.DIGITS → ⊥) × (t.kind ≡ Kind.OPEN → ⊥)
@@ -256,7 +255,7 @@ module _ (left : ℕ) (s : List ℕ) (look : Sight) (pool places code : List ℕ
         sym (operand-primary left 0 s look pool places code st t (licensee_in s look pool places code st left t) refl
         (primary-one left s look pool places code st t facts.1 (licensee_in s look pool places code st left t) facts.2 refl))
 
-    last : (u : State) (v : Token) (p q m : List ℕ) → licensee_in s look pool places code st left t ≡ ran (On u v) p q m → v.kind ≡ Kind.AND → ⊥
+    last : (u : State) (v : Token) (p q m : List ℕ) → licensee_in s look pool places code st left t ≡ ran (read_to u v) p q m → v.kind ≡ Kind.AND → ⊥
     last u v p q m e h = apart.0 (ap (λ (x : Token). x.kind) (sym (before-next s look pool places code st t n u v p q m (sym e ∙ sym plain))) ∙ h)
 
     whole : operand_at left 1 s look pool places code st t ≡ licensee_in s look pool places code st left t
@@ -276,40 +275,40 @@ module _ (left : ℕ) (s : List ℕ) (look : Sight) (pool places code : List ℕ
 
 -- `finished`
 module _ (st : State) (t : Token) (b : Bool) (be : b ≡ ending t.kind) where
-  pub end_on : b ≡ true → On st t ≡ end_in st t
+  pub end_on : b ≡ true → read_to st t ≡ end_in st t
   unfolding end_in
   end_on y = simp (sym be, y)
 
-  pub end-not : (r : Licensed) → b ≡ false → r ≡ refused_licensed t → r ≡ end_in st t
+  pub end-not : (r : Licensing) → b ≡ false → r ≡ refused_licensed t → r ≡ end_in st t
   unfolding end_in
   end-not r y re = re ∙ simp (sym be, y)
 
 -- `licensees`
 module _ (s : List ℕ) (look : Sight) (pool places code : List ℕ) (index : Index) (size : ℕ) (t : Token) where
-  pub field_past : length code < size → ran (Aside (against 0 0)) pool places code ≡ field_in s look pool places code index.count index.end size t
+  pub field_past : length code < size → ran (Err (against 0 0)) pool places code ≡ field_in s look pool places code index.count index.end size t
   unfolding field_in
   field_past h = simp (lt-ltb _ _ h)
 
   module _ (h : size ≤ length code) where
-    pub field-short : length code - size < most_code → ran (Aside (against 0 0)) pool places code ≡ field_in s look pool places code index.count index.end size t
+    pub field-short : length code - size < most_code → ran (Err (against 0 0)) pool places code ≡ field_in s look pool places code index.count index.end size t
     unfolding field_in
     field-short k = simp (le-ltb _ _ h, lt-ltb _ _ k)
 
     module _ (k : most_code ≤ length code - size) (b : Bool) (be : b ≡ ending t.kind) where
       pub field-empty : (z : ℕ) (m : List ℕ) → b ≡ true → z ≡ above code size → m ≡ pushed code size zero_code → (f : Fault) → f ≡ clear_at
-          → ran (On (state_at index z 0 f) t) pool places m ≡ field_in s look pool places code index.count index.end size t
+          → ran (read_to (state_at index z 0 f) t) pool places m ≡ field_in s look pool places code index.count index.end size t
       unfolding field_in
       field-empty z m y ze me f fe = rw (ze, me, fe) (simp (le-ltb _ _ h, le-ltb _ _ k, sym be, y))
 
-      module _ (nb : b ≡ false) (f : Fault) (fe : f ≡ clear_at) (r : Licensed) (p q m : List ℕ)
+      module _ (nb : b ≡ false) (f : Fault) (fe : f ≡ clear_at) (r : Licensing) (p q m : List ℕ)
           (re : ran r p q m ≡ chain_at 16 1 s look pool places code (state_at index size 0 f) t) where
         whole_is : chain_at 16 1 s look pool places code (state_of index.count index.end size 0 clear_at) t ≡ ran r p q m
         whole_is = ap (λ (f : Fault). chain_at 16 1 s look pool places code (state_at index size 0 f) t) (sym fe) ∙ sym re
 
-        pub field-aside : (w : Fault) → r ≡ Aside w → ran r p q m ≡ field_in s look pool places code index.count index.end size t
+        pub field-aside : (w : Fault) → r ≡ Err w → ran (Err w) p q m ≡ field_in s look pool places code index.count index.end size t
         unfolding field_in
         field-aside w g = simp (le-ltb _ _ h, le-ltb _ _ k, sym be, nb, whole_is, g)
 
-        pub field-on : (u : State) (n : Token) (w : Licensed) → r ≡ On u n → w ≡ end_in u n → ran w p q m ≡ field_in s look pool places code index.count index.end size t
+        pub field-on : (o : Licensed) (w : Licensing) → r ≡ Ok o → w ≡ end_in o.state o.next → ran w p q m ≡ field_in s look pool places code index.count index.end size t
         unfolding field_in
-        field-on u n w g we = rw we (simp (le-ltb _ _ h, le-ltb _ _ k, sym be, nb, whole_is, g))
+        field-on o w g we = rw we (simp (le-ltb _ _ h, le-ltb _ _ k, sym be, nb, whole_is, g))

@@ -1,5 +1,5 @@
 -- Working definitions: what an expression gives, entered into the index; and the ways out of the functions that do it. Assumes nothing.
-use Rattle.std.specs.Prelude.{◌≡◌, refl, Bool, List, ℕ, ◌+◌, ◌-◌, ◌<◌, ◌≤◌, ◌^◌, eqb, ltb, length, take, replicate}
+use Rattle.std.specs.Prelude.{◌≡◌, refl, Bool, List, ℕ, ◌+◌, ◌-◌, ◌<◌, ◌≤◌, ◌^◌, eqb, ltb, length, take, replicate, Ok, Err, None, Some, Result}
 use Rattle.std.proofs.Math.Path.{sym}
 use Rattle.std.proofs.Common.{ap, ◌∙◌, Fits, length-take-le}
 use Rattle.std.proofs.Math.Bool.{true}
@@ -14,17 +14,14 @@ use Rattle.expression.specs.Tables.{lookup_in}
 use Rattle.fields.specs.Working.Word.{word_of}
 use Rattle.naming.specs.Working.Whole.{whole, inner, whole-some, whole-fits, whole_from, whole-within}
 use Rattle.index.specs.Working.Adding.{index_of}
-use Rattle.index.specs.Working.Entering.{Kept, numbered, enter_in}
+use Rattle.index.specs.Working.Entering.{Kept, numbered, enter_in, known, Known}
 use Rattle.index.specs.declared.Index.{Index}
-use Rattle.index.specs.declared.Numbered.{Numbered}
-use Rattle.index.specs.declared.Numbered.TheVariants.{At as Known, Full}
-use Rattle.judge.specs.Working.Saying.{Told, said, said_here}
-use Rattle.judge.specs.declared.string.Said.{Said}
-use Rattle.judge.specs.declared.string.Said.TheVariants.{On, Aside as Refused}
-use Rattle.naming.specs.declared.identifier.Named.{Named}
-use Rattle.naming.specs.declared.identifier.Named.TheVariants.{At, Nobody, Aside}
+use Rattle.judge.specs.Working.Saying.{Told, said, said_here, Spoken}
 use Rattle.syntax.specs.Working.Faults.{against}
 use Rattle.syntax.specs.declared.fault.Fault.{Fault}
+use Rattle.judge.specs.declared.string.Said.{Said}
+use Rattle.naming.specs.declared.identifier.Named.TheVariants.{At, Nobody}
+use Rattle.naming.specs.declared.identifier.Named.{Named}
 
 -- where names are looked up: the record, the constants' bytes, and the places of the values, the names and the constants
 pub data Sight : Type 0 where
@@ -36,13 +33,17 @@ looked_up (sight rec consts values names constants) w = lookup_in rec consts val
 abbrev pub said_by : List ℕ → Token → ℕ → Sight → List ℕ → Told
 said_by s t nest (sight rec consts values names constants) out = said_here s t nest rec consts values names constants out
 
+-- whom an expression names, or the first fault
+abbrev pub Naming : Type 0
+Naming = Result Named Fault
+
 -- an answer, the pool and the table
 pub data Done : Type 0 where
-  named : Named → List ℕ → List ℕ → Done
+  named : Naming → List ℕ → List ℕ → Done
 
-unfoldable pub of_number : Token → Numbered → Named
-of_number n Full = Aside (against 0 0)
-of_number n (Known c i e) = At i (index_of c e) n
+unfoldable pub of_number : Token → Known → Naming
+of_number n None = Err (against 0 0)
+of_number n (Some k) = Ok (At k.number (index_of k.count k.end) n)
 
 abbrev pub of_kept : Token → Kept → Done
 of_kept n (numbered r pool places) = named (of_number n r) pool places
@@ -50,13 +51,13 @@ of_kept n (numbered r pool places) = named (of_number n r) pool places
 -- "outside 1 to 256 bytes" is nobody
 unfoldable pub entered_in : List ℕ → List ℕ → ℕ → ℕ → Token → Principal → Done
 entered_in pool places count end n id =
-    pick (eqb (length id) 0) (named (Nobody n) pool places)
-    (pick (ltb most_identifier (length id)) (named (Nobody n) pool places) (of_kept n (enter_in pool places count end id)))
+    pick (eqb (length id) 0) (named (Ok (Nobody n)) pool places)
+    (pick (ltb most_identifier (length id)) (named (Ok (Nobody n)) pool places) (of_kept n (enter_in pool places count end id)))
 
 abbrev pub said_as : List ℕ → List ℕ → ℕ → ℕ → Told → Done
-said_as pool places count end (said (Refused f) out) = named (Aside f) pool places
-said_as pool places count end (said (On k n) out) =
-    pick (ltb most_identifier k) (named (Nobody n) pool places) (entered_in pool places count end n (take k out))
+said_as pool places count end (said (Err f) out) = named (Err f) pool places
+said_as pool places count end (said (Ok q) out) =
+    pick (ltb most_identifier q.count) (named (Ok (Nobody q.next)) pool places) (entered_in pool places count end q.next (take q.count out))
 
 unfoldable pub string_named : List ℕ → Sight → List ℕ → List ℕ → ℕ → ℕ → ℕ → Token → Done
 string_named s look pool places count end nest t = said_as pool places count end (said_by s t nest look (replicate most_identifier 0))
@@ -71,46 +72,46 @@ plain_named s look pool places count end t n =
     pick (eqb t.kind Kind.NAME) (entered_in pool places count end n (looked_up look (word_of s t))) (entered_in pool places count end n (inner s t.start t.end))
 
 -- `of_number`
-pub number-full : (n : Token) (e : Numbered) → e ≡ Full → Aside (against 0 0) ≡ of_number n e
+pub number-full : (n : Token) (e : Known) → e ≡ None → Err (against 0 0) ≡ of_number n e
 unfolding of_number
 number-full n e h = rw h
 
-pub number-known : (n : Token) (e : Numbered) (i c m : ℕ) → e ≡ Known c i m → At i (index_of c m) n ≡ of_number n e
+pub number-known : (n : Token) (e : Known) (i c m : ℕ) → e ≡ known c i m → Ok (At i (index_of c m) n) ≡ of_number n e
 unfolding of_number
 number-known n e i c m h = rw h
 
 -- `entered`
 module _ (pool places : List ℕ) (count end : ℕ) (n : Token) (id : Principal) where
-  pub entered-none : length id ≡ 0 → named (Nobody n) pool places ≡ entered_in pool places count end n id
+  pub entered-none : length id ≡ 0 → named (Ok (Nobody n)) pool places ≡ entered_in pool places count end n id
   unfolding entered_in
   entered-none h = rw (eq-eqb _ _ h)
 
   module _ (some : length id ≡ 0 → ⊥) where
-    pub entered-long : most_identifier < length id → named (Nobody n) pool places ≡ entered_in pool places count end n id
+    pub entered-long : most_identifier < length id → named (Ok (Nobody n)) pool places ≡ entered_in pool places count end n id
     unfolding entered_in
     entered-long h = rw (ne_eqb _ _ some, lt-ltb _ _ h)
 
-    pub entered-one : length id ≤ most_identifier → (e : Numbered) (p q : List ℕ) → numbered e p q ≡ enter_in pool places count end id → (r : Named) → r ≡ of_number n e
+    pub entered-one : length id ≤ most_identifier → (e : Known) (p q : List ℕ) → numbered e p q ≡ enter_in pool places count end id → (r : Naming) → r ≡ of_number n e
         → named r p q ≡ entered_in pool places count end n id
     unfolding entered_in
     entered-one h e p q ee r re = rw (ne_eqb _ _ some, le-ltb _ _ h, ← ee, re)
 
 -- `string_named`
-module _ (s rec consts values names constants pool places : List ℕ) (count end nest : ℕ) (t : Token) (r : Said) (m to : List ℕ) (me : m ≡ replicate most_identifier 0)
+module _ (s rec consts values names constants pool places : List ℕ) (count end nest : ℕ) (t : Token) (r : Spoken) (m to : List ℕ) (me : m ≡ replicate most_identifier 0)
     (re : said r to ≡ said_here s t nest rec consts values names constants m) where
-  pub string-aside : (f : Fault) → r ≡ Refused f → named (Aside f) pool places ≡ string_named s (sight rec consts values names constants) pool places count end nest t
+  pub string-aside : (f : Fault) → r ≡ Err f → named (Err f) pool places ≡ string_named s (sight rec consts values names constants) pool places count end nest t
   unfolding string_named
   string-aside f h = rw (← me, ← re, h)
 
-  module _ (k : ℕ) (n : Token) (h : r ≡ On k n) where
-    pub string-long : most_identifier < k → named (Nobody n) pool places ≡ string_named s (sight rec consts values names constants) pool places count end nest t
+  module _ (q : Said) (h : r ≡ Ok q) where
+    pub string-long : most_identifier < q.count → named (Ok (Nobody q.next)) pool places ≡ string_named s (sight rec consts values names constants) pool places count end nest t
     unfolding string_named
     string-long l = rw (← me, ← re, h) (rw (lt-ltb _ _ l))
 
-    pub string-entered : k ≤ most_identifier → (id : List ℕ) → id ≡ take k to → (v : Named) (p q : List ℕ) → named v p q ≡ entered_in pool places count end n id
-        → named v p q ≡ string_named s (sight rec consts values names constants) pool places count end nest t
+    pub string-entered : q.count ≤ most_identifier → (id : List ℕ) → id ≡ take q.count to → (v : Naming) (p l : List ℕ) → named v p l ≡ entered_in pool places count end q.next id
+        → named v p l ≡ string_named s (sight rec consts values names constants) pool places count end nest t
     unfolding string_named
-    string-entered l id ie v p q e = rw (← me, ← re, h) (rw (le-ltb _ _ l, ← ie) e)
+    string-entered h2 id ie v p l e = rw (← me, ← re, h) (rw (le-ltb _ _ h2, ← ie) e)
 
 -- `is_plain`
 module _ (s : List ℕ) (t : Token) where
@@ -147,7 +148,7 @@ module _ (s : List ℕ) (t : Token) where
       plain-within = whole-within s t true is_whole refl
 
 -- `plain_named`
-module _ (s rec consts values names constants pool places : List ℕ) (count end : ℕ) (t n : Token) (r : Named) (p q : List ℕ) where
+module _ (s rec consts values names constants pool places : List ℕ) (count end : ℕ) (t n : Token) (r : Naming) (p q : List ℕ) where
   pub plain-name : t.kind ≡ Kind.NAME → (w : List ℕ) → w ≡ word_of s t → (id : List ℕ) → id ≡ lookup_in rec consts values names constants w
       → named r p q ≡ entered_in pool places count end n id → named r p q ≡ plain_named s (sight rec consts values names constants) pool places count end t n
   unfolding plain_named
@@ -160,14 +161,14 @@ module _ (s rec consts values names constants pool places : List ℕ) (count end
 
 -- the token behind what was named
 abbrev behind : Token → Done → Token
-behind d (named (At i x n) pool places) = n
-behind d (named (Nobody n) pool places) = n
-behind d (named (Aside f) pool places) = d
+behind d (named (Ok (At i x n)) pool places) = n
+behind d (named (Ok (Nobody n)) pool places) = n
+behind d (named (Err f) pool places) = d
 
 kept-behind : (n : Token) (k : Kept) → behind n (of_kept n k) ≡ n
 unfolding of_number
-kept-behind n (numbered (Known c i e) pool places) = refl
-kept-behind n (numbered Full pool places) = refl
+kept-behind n (numbered (Some k) pool places) = refl
+kept-behind n (numbered None pool places) = refl
 
 entered-behind : (pool places : List ℕ) (count end : ℕ) (n : Token) (id : Principal) → behind n (entered_in pool places count end n id) ≡ n
 unfolding entered_in
@@ -181,11 +182,11 @@ plain-behind s look pool places count end t n =
     split (eqb t.kind Kind.NAME) (λ e. rw e (entered-behind pool places count end n _)) (λ e. rw e (entered-behind pool places count end n _))
 
 pub plain_at_lem : (s : List ℕ) (look : Sight) (pool places : List ℕ) (count end : ℕ) (t n : Token) (p q : List ℕ) (i : ℕ) (x : Index) (m : Token)
-    → named (At i x m) p q ≡ plain_named s look pool places count end t n → m ≡ n
+    → named (Ok (At i x m)) p q ≡ plain_named s look pool places count end t n → m ≡ n
 plain_at_lem s look pool places count end t n p q i x m h = ap (behind n) h ∙ plain-behind s look pool places count end t n
 
 pub plain-nobody : (s : List ℕ) (look : Sight) (pool places : List ℕ) (count end : ℕ) (t n : Token) (p q : List ℕ) (m : Token)
-    → named (Nobody m) p q ≡ plain_named s look pool places count end t n → m ≡ n
+    → named (Ok (Nobody m)) p q ≡ plain_named s look pool places count end t n → m ≡ n
 plain-nobody s look pool places count end t n p q m h = ap (behind n) h ∙ plain-behind s look pool places count end t n
 
 -- the front of the buffer

@@ -1,6 +1,6 @@
 -- Working definitions: literals that give their bytes as they stand, told by a test in blocks; and the ways out of the functions that make it.
 -- Assumes nothing.
-use Rattle.std.specs.Prelude.{◌≡◌, Bool, true, false, not, eqb, leb, ltb, length, get_or, take, drop}
+use Rattle.std.specs.Prelude.{Some, ◌≡◌, Bool, true, false, not, eqb, leb, ltb, length, get_or, take, drop}
 use Rattle.std.proofs.Math.Path.{refl}
 use Rattle.std.proofs.Common.{sym, ap, ◌∙◌, lt_of_le_of_lt, Fits, length-drop, get_or-drop, get_or-take, length-take-le}
 use mathlib.Core.List.{List, [], ◌∷◌}
@@ -278,9 +278,9 @@ pub record Whole (s : List ℕ) (t : Token) : Type 0 where
   pub in_text : t.end ≤ length s
   pub some : 3 ≤ t.end - t.start
   pub few : t.end - t.start ≤ 258
-  pub closed : bare_end s t.start ≡ t.end - 1
+  pub closed : bare_end s t.start ≡ Some (t.end - 1)
 
-closes : (s : List ℕ) (start stop : ℕ) → stop ≤ length s → 3 ≤ stop - start → get_or s (stop - 1) 0 ≡ 34 → all clear (inner s start stop) ≡ true → bare_end s start ≡ stop - 1
+closes : (s : List ℕ) (start stop : ℕ) → stop ≤ length s → 3 ≤ stop - start → get_or s (stop - 1) 0 ≡ 34 → all clear (inner s start stop) ≡ true → bare_end s start ≡ Some (stop - 1)
 unfolding bare_end plain
 closes s start stop l n q h =
     let z : start + 1 + (stop - 1 - (start + 1)) ≡ stop - 1 = omega (arith, n) in

@@ -1,12 +1,14 @@
 -- The ways out of the functions that compare two names in other orders. Assumes nothing.
-use Rattle.std.specs.Prelude.{◌≡◌, refl, Bool, true, false, List, [], ◌∷◌, ℕ, suc, ◌-◌, ◌<◌, ◌≤◌, eqb, length, get_or, take}
-use Rattle.std.proofs.Common.{sym, ap, ◌∙◌, arith, length-take-le, ne_eqb}
+use Rattle.std.specs.Prelude.{◌≡◌, refl, Option, Some, None, slice_get, Bool, true, false, List, [], ◌∷◌, ℕ, suc, ◌-◌, ◌<◌, ◌≤◌, eqb, length, get_or, take}
+use Rattle.std.proofs.Common.{Bor, sym, ap, ◌∙◌, arith, length-take-le, eq-eqb, ne_eqb}
+use Rattle.std.specs.Option.{option_copied, option_eq}
+use Rattle.std.specs.Ordering.{is_eq}
 use Rattle.text.specs.Choice.{split, clash}
 use Rattle.text.specs.Equal.{equal, equal-refl, equal-true}
 use Rattle.text.specs.Order.{order}
 use Rattle.text.specs.OrderLaws.{order-refl, order-equal}
-use Rattle.text.specs.declared.Order.{Order}
-use Rattle.text.specs.declared.Order.TheVariants.{Less, Equal, Greater}
+use Rattle.std.specs.declared.cmp.Ordering.{Ordering as Order}
+use Rattle.std.specs.declared.cmp.Ordering.TheVariants.{Less, Equal, Greater}
 use Rattle.text.specs.Working.Backward.{same-unlike, same-like}
 
 -- two names that differ in something
@@ -35,7 +37,26 @@ module _ (a b : List ℕ) (o : Order) (oe : o ≡ order a b) where
   pub front-greater : o ≡ Greater → false ≡ equal a b
   front-greater e = unequal (λ f. clash (ap is_equal f) (ap is_equal e))
 
+pub front-same : (a b : List ℕ) (o : Order) → o ≡ order a b → is_eq o ≡ equal a b
+front-same a b Less e = front_less a b Less e refl
+front-same a b Equal e = front-equal a b Equal e refl
+front-same a b Greater e = front-greater a b Greater e refl
+
+pub long-unlike : (a b : List ℕ) → (length a ≡ length b → ⊥) → eqb (length a) (length b) ≡ equal a b
+long-unlike a b h = ne_eqb (length a) (length b) h ∙ front_long a b h
+
 -- `same_from_last`
+lasts-alike : (o p : Option (Bor ℕ)) → option_copied o ≡ option_copied p → option_eq (λ (x y : Bor ℕ). eqb x.now y.now) o p ≡ true
+lasts-alike None None e = refl
+lasts-alike None (Some y) e = cc
+lasts-alike (Some x) None e = cc
+lasts-alike (Some x) (Some y) e = let z : x.now ≡ y.now = cc in eq-eqb x.now y.now z
+
+pub last-other : (a b : List ℕ) (o p : Option (Bor ℕ)) → option_copied o ≡ slice_get a (length a - 1) → option_copied p ≡ slice_get b (length b - 1)
+    → (t : Bool) → t ≡ option_eq (λ (x y : Bor ℕ). eqb x.now y.now) o p → t ≡ false → t ≡ equal a b
+last-other a b o p oe pe t te tf =
+    tf ∙ differ a b (λ e. clash (te ∙ lasts-alike o p (oe ∙ ap (λ (c : List ℕ). slice_get c (length c - 1)) e ∙ sym pe)) tf)
+
 pub last_none : (a b : List ℕ) → length a ≡ 0 → eqb (length b) 0 ≡ equal a b
 unfolding equal
 last_none [] [] h = refl

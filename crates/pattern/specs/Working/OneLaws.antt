@@ -1,5 +1,5 @@
 -- The scan of an atom for one byte finds exactly those of the grammar, and they accept what their class says. Assumes nothing.
-use Rattle.std.specs.Prelude.{◌≡◌, refl, Bool, true, false, not, List, ℕ, ◌+◌, ◌<◌, eqb, leb, length, get_or}
+use Rattle.std.specs.Prelude.{◌≡◌, refl, Bool, true, false, not, List, ℕ, ◌+◌, ◌<◌, eqb, leb, length, get_or, Some, None}
 use Rattle.std.proofs.Common.{sym, ap, ◌∙◌, subst, arith, lt-ltb, ne_eqb, leb-false, eqb-true}
 use Rattle.std.proofs.lemmas.Bool.{lt-leb, eqb-false}
 use Rattle.text.specs.Choice.{clash, split}
@@ -9,13 +9,12 @@ use Rattle.pattern.specs.Working.Scan
 use Rattle.pattern.specs.Bytes.{special, stands}
 use Rattle.pattern.specs.Working.Scan.{set_rest, set_at, negated, hit_of, accepts_at, one_end}
 use Rattle.pattern.specs.Working.SetLaws.{set-shows, set-sound, unfit-end, end-at}
-use Rattle.pattern.specs.declared.atoms.Scan.{Scan as Scanned}
-use Rattle.pattern.specs.declared.atoms.Scan.TheVariants.{Unfit, End}
+use Rattle.pattern.specs.Working.Scan.{Scan as Scanned, fits}
 
-set-of : (p : List ℕ) (c : ℕ) {i j : ℕ} {xs : List Item} → At p i 91 → i + 1 < length p → (get_or p (i + 1) 0 ≡ 94 → ⊥) → Items p true (i + 1) j xs → set_at p i c ≡ End j (in_items xs c)
+set-of : (p : List ℕ) (c : ℕ) {i j : ℕ} {xs : List Item} → At p i 91 → i + 1 < length p → (get_or p (i + 1) 0 ≡ 94 → ⊥) → Items p true (i + 1) j xs → set_at p i c ≡ fits j (in_items xs c)
 set-of p c {i} a l n x = sym (Scan.way-set-plain p i a.inside c l n _ refl) ∙ set-shows p c x false
 
-set-not : (p : List ℕ) (c : ℕ) {i j : ℕ} {xs : List Item} → At p i 91 → At p (i + 1) 94 → Items p true (i + 2) j xs → set_at p i c ≡ End j (not (in_items xs c))
+set-not : (p : List ℕ) (c : ℕ) {i j : ℕ} {xs : List Item} → At p i 91 → At p (i + 1) 94 → Items p true (i + 2) j xs → set_at p i c ≡ fits j (not (in_items xs c))
 unfolding negated
 set-not p c {i} a b x = sym (Scan.way-set-other p i a.inside c b.inside b.byte _ (sym (set-shows p c x false)) _ refl)
 
@@ -66,7 +65,7 @@ special-63 = refl
 pub other : {b c : ℕ} → special b ≡ false → special c ≡ true → b ≡ c → ⊥
 other f t e = clash (subst (λ (x : ℕ). special x ≡ true) (sym e) t) f
 
-hit-is : (j : ℕ) (h : Bool) → hit_of (End j h) ≡ h
+hit-is : (j : ℕ) (h : Bool) → hit_of (fits j h) ≡ h
 unfolding hit_of
 hit-is j h = refl
 
@@ -84,7 +83,7 @@ accepts-is p (o-not {i = i} {j = j} {xs = xs} a f x) b = rw (lt-leb (length p) i
 
 pub record EndOf (p : List ℕ) (i j : ℕ) : Type 0 where
   pub hit : Bool
-  pub ended : one_end p i ≡ End j hit
+  pub ended : one_end p i ≡ fits j hit
 
 pub one-shows : (p : List ℕ) {i j : ℕ} {c : Class} → One p i j c → EndOf p i j
 unfolding one_end
@@ -100,14 +99,14 @@ pub record OneOf (p : List ℕ) (i j : ℕ) : Type 0 where
 
 record Ended (x : Scanned) (j : ℕ) : Type 0 where
   pub hit : Bool
-  pub ended : x ≡ End j hit
+  pub ended : x ≡ fits j hit
 
-negated-end : (x : Scanned) (j : ℕ) (h : Bool) → negated x ≡ End j h → Ended x j
+negated-end : (x : Scanned) (j : ℕ) (h : Bool) → negated x ≡ fits j h → Ended x j
 unfolding negated
-negated-end Unfit j h e = unfit-end e
-negated-end (End k g) j h e = record { hit = g; ended = ap (λ (m : ℕ). End m g) (end-at e) }
+negated-end None j h e = unfit-end e
+negated-end (Some x) j h e = record { hit = x.hit; ended = ap (λ (m : ℕ). fits m x.hit) (end-at e) }
 
-set-at-sound : (p : List ℕ) (i j : ℕ) (h : Bool) → get_or p i 0 ≡ 91 → set_at p i 0 ≡ End j h → OneOf p i j
+set-at-sound : (p : List ℕ) (i j : ℕ) (h : Bool) → get_or p i 0 ≡ 91 → set_at p i 0 ≡ fits j h → OneOf p i j
 unfolding set_at
 set-at-sound p i j h b e = split (leb (length p) i) (λ a. unfit-end (rw a at e))
     (λ a. split (leb (length p) (i + 1)) (λ k. unfit-end (rw (a, k) at e))
@@ -118,7 +117,7 @@ set-at-sound p i j h b e = split (leb (length p) i) (λ a. unfit-end (rw a at e)
     (λ g. let s = set-sound p 0 (length p) true (i + 1) j false h (omega arith) (rw (a, k, g) at e) in
     record { class = among s.items; derived = o-set at (leb-false _ _ k) (eqb-false _ _ g) s.derived })))
 
-pub one-sound : (p : List ℕ) (i j : ℕ) (h : Bool) → one_end p i ≡ End j h → OneOf p i j
+pub one-sound : (p : List ℕ) (i j : ℕ) (h : Bool) → one_end p i ≡ fits j h → OneOf p i j
 unfolding one_end
 one-sound p i j h e = split (leb (length p) i) (λ a. unfit-end (rw a at e))
     (λ a. let l = leb-false (length p) i a in split (eqb (get_or p i 0) 46)

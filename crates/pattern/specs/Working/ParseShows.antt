@@ -13,7 +13,7 @@ use Rattle.pattern.specs.Working.Meaning.{part_of, table_of}
 use Rattle.pattern.specs.Working.Parse
 use Rattle.pattern.specs.Working.Parse.{eat_at, Ran, ran, repeated, atom_at, piece_at, branch_rest_at, branch_at, expr_rest_at, expr_at}
 use Rattle.pattern.specs.declared.places.Part.{Part}
-use Rattle.pattern.specs.declared.reader.Parsed.TheVariants.{Got}
+use Rattle.pattern.specs.Working.Parse.{got}
 
 eat-at : {p : List ℕ} {i b : ℕ} → At p i b → eat_at p i b ≡ i + 1
 unfolding eat_at
@@ -54,7 +54,7 @@ stop-plain (s-end h) = record { no-star = λ a. omega (arith, a.inside); no_plus
 stop-plain (s-bar b) = record { no-star = apart 42 b (λ e. omega arith); no_plus = apart 43 b (λ e. omega arith); no-opt = apart 63 b (λ e. omega arith) }
 stop-plain (s-close b) = record { no-star = apart 42 b (λ e. omega arith); no_plus = apart 43 b (λ e. omega arith); no-opt = apart 63 b (λ e. omega arith) }
 
-branch-stops : (p : List ℕ) (d : ℕ) (f : Part) (n : ℕ) (u : List ℕ) → (d ≡ 0 → ⊥) → Stop p n → branch_rest_at d p f n u ≡ ran (Got f n) u
+branch-stops : (p : List ℕ) (d : ℕ) (f : Part) (n : ℕ) (u : List ℕ) → (d ≡ 0 → ⊥) → Stop p n → branch_rest_at d p f n u ≡ ran (got f n) u
 branch-stops p d f n u z (s-end h) = sym (Parse.branch-start d z p f n u) ∙ sym (Parse.branch-end (d - 1) p f n u _ refl h)
 branch-stops p d f n u z (s-bar a) = sym (Parse.branch-start d z p f n u) ∙ sym (Parse.branch-bar (d - 1) p f n u _ refl a.inside a.byte)
 branch-stops p d f n u z (s-close a) = sym (Parse.branch-start d z p f n u) ∙ sym (Parse.branch-closed (d - 1) p f n u _ refl a.inside (λ e. omega (arith, a.byte, e)) a.byte)
@@ -68,7 +68,7 @@ stop-all : {p : List ℕ} {n : ℕ} → StopAll p n → Stop p n
 stop-all (t-end h) = s-end h
 stop-all (t-close a) = s-close a
 
-expr-stops : (p : List ℕ) (d : ℕ) (f : Part) (n : ℕ) (u : List ℕ) → (d ≡ 0 → ⊥) → StopAll p n → expr_rest_at d p f n u ≡ ran (Got f n) u
+expr-stops : (p : List ℕ) (d : ℕ) (f : Part) (n : ℕ) (u : List ℕ) → (d ≡ 0 → ⊥) → StopAll p n → expr_rest_at d p f n u ≡ ran (got f n) u
 expr-stops p d f n u z (t-end h) = sym (Parse.expr-start d z p f n u) ∙ sym (Parse.expr-end (d - 1) p f n u _ refl h)
 expr-stops p d f n u z (t-close a) = sym (Parse.expr-start d z p f n u) ∙ sym (Parse.expr-other (d - 1) p f n u _ refl a.inside (λ e. omega (arith, a.byte, e)))
 
@@ -77,46 +77,46 @@ atom-not (a_one x) b s u v w y a = (one-begins x).not b s u v w a.byte
 atom-not (a-group c e d z) b s u v w y a = y (sym a.byte ∙ c.byte)
 
 -- an atom and what stands behind it
-module _ (p : List ℕ) {i m : ℕ} {r : Re} (x : Atom p i m r) (d : ℕ) (z : d ≡ 0 → ⊥) (t : List ℕ) (w : atom_at (d - 1) p i t ≡ ran (Got (part_of r) m) (table_of r t)) where
+module _ (p : List ℕ) {i m : ℕ} {r : Re} (x : Atom p i m r) (d : ℕ) (z : d ≡ 0 → ⊥) (t : List ℕ) (w : atom_at (d - 1) p i t ≡ ran (got (part_of r) m) (table_of r t)) where
   behind : (y : Ran) → y ≡ repeated p (part_of r) m (table_of r t) → piece_at d p i t ≡ y
-  behind y ye = sym (Parse.piece-atom d p i t z (eat_at p i 94) refl (eat-not p i 94 (atom-not x 94 special-94 (λ e. omega arith) (λ e. omega arith) (λ e. omega arith) (λ e. omega arith)))
-      (eat_at p i 36) refl (eat-not p i 36 (atom-not x 36 special-36 (λ e. omega arith) (λ e. omega arith) (λ e. omega arith) (λ e. omega arith)))
-      (Got (part_of r) m) (table_of r t) (sym w) (part_of r) m refl y ye)
+  behind y ye = sym (Parse.piece-atom d p i t z (eat-not p i 94 (atom-not x 94 special-94 (λ e. omega arith) (λ e. omega arith) (λ e. omega arith) (λ e. omega arith)))
+      (eat-not p i 36 (atom-not x 36 special-36 (λ e. omega arith) (λ e. omega arith) (λ e. omega arith) (λ e. omega arith)))
+      (got (part_of r) m) (table_of r t) (sym w) (record { part = part_of r; next = m }) refl y ye)
 
 mutual
   unfolding part_of table_of
 
-  atom-shows : (p : List ℕ) {i n : ℕ} {r : Re} → Atom p i n r → (d : ℕ) → 6 * (n - i) ≤ d → (t : List ℕ) → atom_at d p i t ≡ ran (Got (part_of r) n) (table_of r t)
+  atom-shows : (p : List ℕ) {i n : ℕ} {r : Re} → Atom p i n r → (d : ℕ) → 6 * (n - i) ≤ d → (t : List ℕ) → atom_at d p i t ≡ ran (got (part_of r) n) (table_of r t)
   atom-shows p (a_one {i = i} {j = j} x) d l t =
       let o = one-shows p x in let b = one-begins x in
-      sym (Parse.atom-one d p i t (λ z. omega (arith, one_less x)) (eat_at p i 40) refl
-      (eat-not p i 40 (λ a. b.not 40 special-40 (λ e. omega arith) (λ e. omega arith) (λ e. omega arith) a.byte)) (one_end p i) refl j o.hit o.ended (byte_part i) refl)
+      sym (Parse.atom-one d p i t (λ z. omega (arith, one_less x))
+      (eat-not p i 40 (λ a. b.not 40 special-40 (λ e. omega arith) (λ e. omega arith) (λ e. omega arith) a.byte)) (one_end p i) refl (record { at = j; hit = o.hit }) o.ended (byte_part i) refl)
   atom-shows p (a-group {i = i} {j = j} {k = k} {a = r} a e b z) d l t =
       let w = expr-shows p e (s-close b) (d - 1) (omega (arith, expr-less e)) t ∙ expr-stops p (d - 1 - 1) (part_of r) j (table_of r t) (λ y. omega (arith, expr-less e)) (t-close b) in
-      sym (Parse.atom-group d p i t (λ y. omega (arith, expr-less e)) (eat_at p i 40) refl (moved a) (Got (part_of r) j) (table_of r t)
-      (sym (ap (λ (m : ℕ). expr_at (d - 1) p m t) (eat-at a) ∙ w)) (part_of r) j refl k (z ∙ sym (eat-at b)) (λ y. omega arith))
+      sym (Parse.atom-group d p i t (λ y. omega (arith, expr-less e)) (eat_at p i 40) (refl, moved a) (got (part_of r) j) (table_of r t)
+      (sym (ap (λ (m : ℕ). expr_at (d - 1) p m t) (eat-at a) ∙ w)) (record { part = part_of r; next = j }) refl k (z ∙ sym (eat-at b), λ y. omega arith))
 
-  piece-shows : (p : List ℕ) {i n : ℕ} {r : Re} → Piece p i n r → NoRepeat p n → (d : ℕ) → 6 * (n - i) + 1 ≤ d → (t : List ℕ) → piece_at d p i t ≡ ran (Got (part_of r) n) (table_of r t)
-  piece-shows p (p-bol {i = i} {j = j} a z) q d l t = sym (Parse.piece-bol d p i t (λ y. omega arith) j (z ∙ sym (eat-at a)) (λ y. omega arith) start_part refl)
+  piece-shows : (p : List ℕ) {i n : ℕ} {r : Re} → Piece p i n r → NoRepeat p n → (d : ℕ) → 6 * (n - i) + 1 ≤ d → (t : List ℕ) → piece_at d p i t ≡ ran (got (part_of r) n) (table_of r t)
+  piece-shows p (p-bol {i = i} {j = j} a z) q d l t = sym (Parse.piece-bol d p i t (λ y. omega arith) j (z ∙ sym (eat-at a), λ y. omega arith) start_part refl)
   piece-shows p (p-eol {i = i} {j = j} a z) q d l t =
-      sym (Parse.piece-eol d p i t (λ y. omega arith) (eat_at p i 94) refl (eat-not p i 94 (apart 94 a (λ e. omega arith))) j (z ∙ sym (eat-at a)) (λ y. omega arith) end_part refl)
+      sym (Parse.piece-eol d p i t (λ y. omega arith) (eat-not p i 94 (apart 94 a (λ e. omega arith))) j (z ∙ sym (eat-at a), λ y. omega arith) end_part refl)
   piece-shows p (p_atom {i = i} {j = j} {a = r} x) q d l t =
       behind p x d (λ y. omega arith) t (atom-shows p x (d - 1) (omega arith) t) _
-      (Parse.way-once p (part_of r) j (table_of r t) (eat_at p j 42) refl (eat-not p j 42 q.no-star) (eat_at p j 43) refl (eat-not p j 43 q.no_plus) (eat_at p j 63) refl (eat-not p j 63 q.no-opt))
+      (Parse.way-once p (part_of r) j (table_of r t) (eat-not p j 42 q.no-star) (eat-not p j 43 q.no_plus) (eat-not p j 63 q.no-opt))
   piece-shows p (p-star {i = i} {j = j} {k = k} {a = r} x a z) q d l t =
       behind p x d (λ y. omega arith) t (atom-shows p x (d - 1) (omega arith) t) _
-      (Parse.way-star p (part_of r) j (table_of r t) k (z ∙ sym (eat-at a)) (λ y. omega arith) _ refl _ refl)
+      (Parse.way-star p (part_of r) j (table_of r t) k (z ∙ sym (eat-at a), λ y. omega arith) _ refl _ refl)
   piece-shows p (p-plus {i = i} {j = j} {k = k} {a = r} x a z) q d l t =
       behind p x d (λ y. omega arith) t (atom-shows p x (d - 1) (omega arith) t) _
-      (Parse.way-plus p (part_of r) j (table_of r t) (eat_at p j 42) refl (eat-not p j 42 (apart 42 a (λ e. omega arith))) k (z ∙ sym (eat-at a)) (λ y. omega arith) _ refl)
+      (Parse.way-plus p (part_of r) j (table_of r t) (eat-not p j 42 (apart 42 a (λ e. omega arith))) k (z ∙ sym (eat-at a), λ y. omega arith) _ refl)
   piece-shows p (p_opt {i = i} {j = j} {k = k} {a = r} x a z) q d l t =
       behind p x d (λ y. omega arith) t (atom-shows p x (d - 1) (omega arith) t) _
-      (Parse.way-opt p (part_of r) j (table_of r t) (eat_at p j 42) refl (eat-not p j 42 (apart 42 a (λ e. omega arith))) (eat_at p j 43) refl (eat-not p j 43 (apart 43 a (λ e. omega arith)))
-      k (z ∙ sym (eat-at a)) (λ y. omega arith) _ refl)
+      (Parse.way-opt p (part_of r) j (table_of r t) (eat-not p j 42 (apart 42 a (λ e. omega arith))) (eat-not p j 43 (apart 43 a (λ e. omega arith)))
+      k (z ∙ sym (eat-at a), λ y. omega arith) _ refl)
 
   branch-shows : (p : List ℕ) {i n : ℕ} {r : Re} → Branch p i n r → NoRepeat p n → (d : ℕ) → 6 * (n - i) + 3 ≤ d → (t : List ℕ) → branch_at d p i t ≡ branch_rest_at (d - 1) p (part_of r) n (table_of r t)
   branch-shows p (b-one {i = i} {j = n} {a = r} x) q d l t =
-      sym (Parse.branch-more d p i t (λ y. omega arith) (Got (part_of r) n) (table_of r t) (sym (piece-shows p x q (d - 1) (omega arith) t)) (part_of r) n refl _ refl)
+      sym (Parse.branch-more d p i t (λ y. omega arith) (got (part_of r) n) (table_of r t) (sym (piece-shows p x q (d - 1) (omega arith) t)) (record { part = part_of r; next = n }) refl _ refl)
   branch-shows p (b-more {i = i} {j = j} {k = n} {a = a} {b = b} x y) q d l t =
       let g = piece-begins y in
       branch-shows p x (begins-plain g) d (omega (arith, piece-less y, branch_less x)) t
@@ -124,20 +124,20 @@ mutual
       ∙ sym (Parse.branch-next (d - 1 - 1) p (part_of a) j (table_of a t) _ refl g.inside
       (λ e. g.not 124 special-124 (λ z. omega arith) (λ z. omega arith) (λ z. omega arith) (λ z. omega arith) (λ z. omega arith) (λ z. omega arith) e)
       (λ e. g.not 41 special-41 (λ z. omega arith) (λ z. omega arith) (λ z. omega arith) (λ z. omega arith) (λ z. omega arith) (λ z. omega arith) e)
-      (Got (part_of b) n) (table_of b (table_of a t)) (sym (piece-shows p y q (d - 1 - 1) (omega (arith, branch_less x, piece-less y)) (table_of a t))) (part_of b) n refl (piece-less y) _ refl _ refl)
+      (got (part_of b) n) (table_of b (table_of a t)) (sym (piece-shows p y q (d - 1 - 1) (omega (arith, branch_less x, piece-less y)) (table_of a t))) (record { part = part_of b; next = n }) refl (piece-less y) _ refl _ refl)
       ∙ Parse.branch-start (d - 1) (λ z. omega arith) p (sequence (part_of a) (part_of b)) n (link (table_of b (table_of a t)) (part_of a).lm (part_of b).fm)
 
   expr-shows : (p : List ℕ) {i n : ℕ} {r : Re} → Expr p i n r → Stop p n → (d : ℕ) → 6 * (n - i) + 5 ≤ d → (t : List ℕ) → expr_at d p i t ≡ expr_rest_at (d - 1) p (part_of r) n (table_of r t)
   expr-shows p (e-one {i = i} {j = n} {a = r} b) s d l t =
-      sym (Parse.expr-more d p i t (λ y. omega arith) (Got (part_of r) n) (table_of r t)
-      (sym (branch-shows p b (stop-plain s) (d - 1) (omega arith) t ∙ branch-stops p (d - 1 - 1) (part_of r) n (table_of r t) (λ z. omega arith) s)) (part_of r) n refl _ refl)
+      sym (Parse.expr-more d p i t (λ y. omega arith) (got (part_of r) n) (table_of r t)
+      (sym (branch-shows p b (stop-plain s) (d - 1) (omega arith) t ∙ branch-stops p (d - 1 - 1) (part_of r) n (table_of r t) (λ z. omega arith) s)) (record { part = part_of r; next = n }) refl _ refl)
   expr-shows p (e-or {i = i} {j = j} {k = n} {a = a} {b = b} x c y) s d l t =
       expr-shows p x (s-bar c) d (omega (arith, branch_less y, expr-less x)) t
       ∙ sym (Parse.expr-start (d - 1) (λ z. omega arith) p (part_of a) j (table_of a t))
-      ∙ sym (Parse.expr-next (d - 1 - 1) p (part_of a) j (table_of a t) _ refl c.inside c.byte (Got (part_of b) n) (table_of b (table_of a t))
+      ∙ sym (Parse.expr-next (d - 1 - 1) p (part_of a) j (table_of a t) _ refl c.inside c.byte (got (part_of b) n) (table_of b (table_of a t))
       (sym (branch-shows p y (stop-plain s) (d - 1 - 1) (omega (arith, expr-less x, branch_less y)) (table_of a t)
-      ∙ branch-stops p (d - 1 - 1 - 1) (part_of b) n (table_of b (table_of a t)) (λ z. omega (arith, expr-less x, branch_less y)) s)) (part_of b) n refl (omega (arith, branch_less y)) _ refl)
+      ∙ branch-stops p (d - 1 - 1 - 1) (part_of b) n (table_of b (table_of a t)) (λ z. omega (arith, expr-less x, branch_less y)) s)) (record { part = part_of b; next = n }) refl (omega (arith, branch_less y)) _ refl)
       ∙ Parse.expr-start (d - 1) (λ z. omega arith) p (choice (part_of a) (part_of b)) n (table_of b (table_of a t))
 
-pub expr-all : (p : List ℕ) {i n : ℕ} {r : Re} → Expr p i n r → StopAll p n → (d : ℕ) → 6 * (n - i) + 5 ≤ d → (t : List ℕ) → expr_at d p i t ≡ ran (Got (part_of r) n) (table_of r t)
+pub expr-all : (p : List ℕ) {i n : ℕ} {r : Re} → Expr p i n r → StopAll p n → (d : ℕ) → 6 * (n - i) + 5 ≤ d → (t : List ℕ) → expr_at d p i t ≡ ran (got (part_of r) n) (table_of r t)
 expr-all p {i} {n} {r} e s d l t = expr-shows p e (stop-all s) d l t ∙ expr-stops p (d - 1) (part_of r) n (table_of r t) (λ z. omega arith) s

@@ -1,5 +1,5 @@
 -- What the parser accepts is a pattern of the grammar, and what it leaves is its tree's. Assumes nothing.
-use Rattle.std.specs.Prelude.{◌≡◌, refl, false, ℕ, zero, suc, ◌+◌, ◌-◌, ◌<◌, ◌≤◌, eqb, ltb, leb, length, get_or}
+use Rattle.std.specs.Prelude.{◌≡◌, refl, false, ℕ, zero, suc, ◌+◌, ◌-◌, ◌<◌, ◌≤◌, eqb, ltb, leb, length, get_or, Some, None}
 use Rattle.std.proofs.Math.Path.{sym, ap}
 use Rattle.std.proofs.Common.{◌∙◌, subst, arith, eq-eqb, ltb-true, leb-true, leb-false, eqb-true}
 use mathlib.Core.List.{List}
@@ -8,26 +8,31 @@ use Rattle.text.specs.Choice.{clash, split}
 use Rattle.pattern.specs.Tree.{Re, bol, eol, one, cat, alt, star, plus, opt}
 use Rattle.pattern.specs.Grammar.{At, Expr, e-one, e-or, Branch, b-one, b-more, Piece, p-bol, p-eol, p_atom, p-star, p-plus, p_opt, Atom, a_one, a-group}
 use Rattle.pattern.specs.Working.Places.{start_part, end_part, sequence, choice, or_empty, link}
-use Rattle.pattern.specs.Working.Scan.{one_end}
+use Rattle.pattern.specs.Working.Scan.{Scan, fits, one_end}
 use Rattle.pattern.specs.Working.OneLaws.{one-sound}
 use Rattle.pattern.specs.Working.Meaning.{part_of, table_of}
 use Rattle.pattern.specs.Working.Parse
-use Rattle.pattern.specs.Working.Parse.{eat_at, Ran, ran, on_got, on_end, atom_body, repeated, piece_body, atom_at, piece_at, branch_rest_at, branch_at, expr_rest_at, expr_at}
+use Rattle.pattern.specs.Working.Parse.{eat_at, Ran, ran, got, on_got, on_end, atom_body, repeated, piece_body, atom_at, piece_at, branch_rest_at, branch_at, expr_rest_at, expr_at}
 use Rattle.pattern.specs.declared.places.Part.{Part}
-use Rattle.pattern.specs.declared.atoms.Scan.{Scan}
-use Rattle.pattern.specs.declared.atoms.Scan.TheVariants.{Unfit, End}
-use Rattle.pattern.specs.declared.reader.Parsed.TheVariants.{Bad, Got}
 
-pub bad-got : {P : Type 0} {t u : List ℕ} {f : Part} {n : ℕ} → ran Bad t ≡ ran (Got f n) u → P
+pub bad-got : {P : Type 0} {t u : List ℕ} {f : Part} {n : ℕ} → ran None t ≡ ran (got f n) u → P
 bad-got e = absurd (let z : ◌≡◌ {A = ℕ} 0 1 = cc in omega arith)
 
-pub got-part : {t u : List ℕ} {f g : Part} {m n : ℕ} → ran (Got f m) t ≡ ran (Got g n) u → f ≡ g
-got-part e = cc
+pub got-part : {t u : List ℕ} {f g : Part} {m n : ℕ} → ran (got f m) t ≡ ran (got g n) u → f ≡ g
+got-part {g = g} e = ap (λ (x : Ran). part_in g x) e
+  where
+    part_in : Part → Ran → Part
+    part_in g (ran None t) = g
+    part_in g (ran (Some x) t) = x.part
 
-pub got-next : {t u : List ℕ} {f g : Part} {m n : ℕ} → ran (Got f m) t ≡ ran (Got g n) u → m ≡ n
-got-next e = cc
+pub got-next : {t u : List ℕ} {f g : Part} {m n : ℕ} → ran (got f m) t ≡ ran (got g n) u → m ≡ n
+got-next {n = n} e = ap (λ (x : Ran). next_in n x) e
+  where
+    next_in : ℕ → Ran → ℕ
+    next_in n (ran None t) = n
+    next_in n (ran (Some x) t) = x.next
 
-pub got-table : {t u : List ℕ} {f g : Part} {m n : ℕ} → ran (Got f m) t ≡ ran (Got g n) u → t ≡ u
+pub got-table : {t u : List ℕ} {f g : Part} {m n : ℕ} → ran (got f m) t ≡ ran (got g n) u → t ≡ u
 got-table e = cc
 
 record Moved (p : List ℕ) (i b : ℕ) : Type 0 where
@@ -49,26 +54,26 @@ pub record As (G : ℕ → ℕ → Re → Type 0) (i n : ℕ) (t : List ℕ) (f 
   pub table : u ≡ table_of tree t
 
 abbrev Sure : (ℕ → ℕ → Re → Type 0) → (ℕ → List ℕ → Ran) → Type 0
-Sure G r = (i : ℕ) (t : List ℕ) (f : Part) (n : ℕ) (u : List ℕ) → r i t ≡ ran (Got f n) u → As G i n t f u
+Sure G r = (i : ℕ) (t : List ℕ) (f : Part) (n : ℕ) (u : List ℕ) → r i t ≡ ran (got f n) u → As G i n t f u
 
 -- what was got before
 record Before (x : Ran) (k : Part → ℕ → List ℕ → Ran) (f : Part) (n : ℕ) (u : List ℕ) : Type 0 where
   pub part : Part
   pub place : ℕ
   pub table : List ℕ
-  pub was : x ≡ ran (Got part place) table
-  pub then : k part place table ≡ ran (Got f n) u
+  pub was : x ≡ ran (got part place) table
+  pub then : k part place table ≡ ran (got f n) u
 
-before : (x : Ran) (k : Part → ℕ → List ℕ → Ran) (f : Part) (n : ℕ) (u : List ℕ) → on_got x k ≡ ran (Got f n) u → Before x k f n u
-before (ran Bad t) k f n u e = bad-got e
-before (ran (Got g m) t) k f n u e = record { part = g; place = m; table = t; was = refl; then = e }
+before : (x : Ran) (k : Part → ℕ → List ℕ → Ran) (f : Part) (n : ℕ) (u : List ℕ) → on_got x k ≡ ran (got f n) u → Before x k f n u
+before (ran None t) k f n u e = bad-got e
+before (ran (Some x) t) k f n u e = record { part = x.part; place = x.next; table = t; was = refl; then = e }
 
 module _ (p : List ℕ) where
-  end-atom : (x : Scan) (i : ℕ) (t : List ℕ) (f : Part) (n : ℕ) (u : List ℕ) → one_end p i ≡ x → on_end x i t ≡ ran (Got f n) u → As (Atom p) i n t f u
+  end-atom : (x : Scan) (i : ℕ) (t : List ℕ) (f : Part) (n : ℕ) (u : List ℕ) → one_end p i ≡ x → on_end x i t ≡ ran (got f n) u → As (Atom p) i n t f u
   unfolding part_of table_of
-  end-atom Unfit i t f n u w e = bad-got e
-  end-atom (End m h) i t f n u w e =
-      let o = one-sound p i n h (w ∙ ap (λ (k : ℕ). End k h) (got-next e)) in
+  end-atom None i t f n u w e = bad-got e
+  end-atom (Some x) i t f n u w e =
+      let o = one-sound p i n x.hit (w ∙ ap (λ (k : ℕ). fits k x.hit) (got-next e)) in
       record { tree = one i o.class; derived = a_one o.derived; known = sym (got-part e); table = sym (got-table e) }
 
   atom-sure : (E : ℕ → List ℕ → Ran) → Sure (Expr p) E → Sure (Atom p) (λ i t. atom_body E p i t)
@@ -80,20 +85,20 @@ module _ (p : List ℕ) where
       split (eqb (eat_at p b.place 41) b.place)
       (λ c. bad-got (rw c at b.then))
       (λ c. let o = eat-moved p b.place 41 c in
-      let w : ran (Got b.part (eat_at p b.place 41)) b.table ≡ ran (Got f n) u = rw c at b.then in
+      let w : ran (got b.part (eat_at p b.place 41)) b.table ≡ ran (got f n) u = rw c at b.then in
       record { tree = x.tree; derived = a-group m.at (subst (λ (k : ℕ). Expr p k b.place x.tree) m.to x.derived) o.at (sym (got-next w) ∙ o.to); known = sym (got-part w) ∙ x.known; table = sym (got-table w) ∙ x.table }))
 
-  repeat-sure : (i m : ℕ) (t₀ : List ℕ) (g : Part) (t : List ℕ) → As (Atom p) i m t₀ g t → (f : Part) (n : ℕ) (u : List ℕ) → repeated p g m t ≡ ran (Got f n) u → As (Piece p) i n t₀ f u
+  repeat-sure : (i m : ℕ) (t₀ : List ℕ) (g : Part) (t : List ℕ) → As (Atom p) i m t₀ g t → (f : Part) (n : ℕ) (u : List ℕ) → repeated p g m t ≡ ran (got f n) u → As (Piece p) i n t₀ f u
   unfolding repeated part_of table_of
   repeat-sure i m t₀ g t x f n u e = split (eqb (eat_at p m 42) m)
       (λ a. split (eqb (eat_at p m 43) m)
       (λ b. split (eqb (eat_at p m 63) m)
-      (λ c. let w : ran (Got g m) t ≡ ran (Got f n) u = rw (a, b, c) at e in
+      (λ c. let w : ran (got g m) t ≡ ran (got f n) u = rw (a, b, c) at e in
       record { tree = x.tree; derived = p_atom (subst (λ (k : ℕ). Atom p i k x.tree) (got-next w) x.derived); known = sym (got-part w) ∙ x.known; table = sym (got-table w) ∙ x.table })
-      (λ c. let w : ran (Got (or_empty g) (eat_at p m 63)) t ≡ ran (Got f n) u = rw (a, b, c) at e in
+      (λ c. let w : ran (got (or_empty g) (eat_at p m 63)) t ≡ ran (got f n) u = rw (a, b, c) at e in
       let o = eat-moved p m 63 c in
       record { tree = opt x.tree; derived = p_opt x.derived o.at (sym (got-next w) ∙ o.to); known = sym (got-part w) ∙ ap or_empty x.known; table = sym (got-table w) ∙ x.table }))
-      (λ b. let w : ran (Got g (eat_at p m 43)) (link t g.lm g.fm) ≡ ran (Got f n) u = rw (a, b) at e in
+      (λ b. let w : ran (got g (eat_at p m 43)) (link t g.lm g.fm) ≡ ran (got f n) u = rw (a, b) at e in
       let o = eat-moved p m 43 b in
       record {
         tree = plus x.tree;
@@ -101,7 +106,7 @@ module _ (p : List ℕ) where
         known = sym (got-part w) ∙ x.known;
         table = sym (got-table w) ∙ linked x.known x.table;
       }))
-      (λ a. let w : ran (Got (or_empty g) (eat_at p m 42)) (link t g.lm g.fm) ≡ ran (Got f n) u = rw a at e in
+      (λ a. let w : ran (got (or_empty g) (eat_at p m 42)) (link t g.lm g.fm) ≡ ran (got f n) u = rw a at e in
       let o = eat-moved p m 42 a in
       record {
         tree = star x.tree;
@@ -119,14 +124,14 @@ module _ (p : List ℕ) where
       (λ a. split (eqb (eat_at p i 36) i)
       (λ b. let c = before (A i t) _ f n u (rw (a, b) at e) in
       repeat-sure i c.place t c.part c.table (hA i t c.part c.place c.table c.was) f n u c.then)
-      (λ b. let w : ran (Got end_part (eat_at p i 36)) t ≡ ran (Got f n) u = rw (a, b) at e in
+      (λ b. let w : ran (got end_part (eat_at p i 36)) t ≡ ran (got f n) u = rw (a, b) at e in
       let o = eat-moved p i 36 b in
       record { tree = eol; derived = p-eol o.at (sym (got-next w) ∙ o.to); known = sym (got-part w); table = sym (got-table w) }))
-      (λ a. let w : ran (Got start_part (eat_at p i 94)) t ≡ ran (Got f n) u = rw a at e in
+      (λ a. let w : ran (got start_part (eat_at p i 94)) t ≡ ran (got f n) u = rw a at e in
       let o = eat-moved p i 94 a in
       record { tree = bol; derived = p-bol o.at (sym (got-next w) ∙ o.to); known = sym (got-part w); table = sym (got-table w) })
 
-as_is : {G : ℕ → ℕ → Re → Type 0} {i n : ℕ} {t : List ℕ} {f : Part} {u : List ℕ} (g : Part) (m : ℕ) (v : List ℕ) → As G i n t f u → ran (Got f n) u ≡ ran (Got g m) v → As G i m t g v
+as_is : {G : ℕ → ℕ → Re → Type 0} {i n : ℕ} {t : List ℕ} {f : Part} {u : List ℕ} (g : Part) (m : ℕ) (v : List ℕ) → As G i n t f u → ran (got f n) u ≡ ran (got g m) v → As G i m t g v
 as_is {G} {i} g m v x e = record { tree = x.tree; derived = subst (λ (k : ℕ). G i k x.tree) (got-next e) x.derived; known = sym (got-part e) ∙ x.known; table = sym (got-table e) ∙ x.table }
 
 module _ (p : List ℕ) (k : ℕ) where
@@ -147,16 +152,16 @@ module _ (p : List ℕ) (k : ℕ) where
         tables e₁ e₂ e₃ = cc
 
     branch-case : (f : Part) (i : ℕ) (t : List ℕ)
-        → ((h : Part) (n : ℕ) (v : List ℕ) → i < n → As (Branch p) i₀ n t₀ h v → Parse.branch_rest k p h n v ≡ ran (Got g m) w → As (Branch p) i₀ m t₀ g w)
+        → ((h : Part) (n : ℕ) (v : List ℕ) → i < n → As (Branch p) i₀ n t₀ h v → Parse.branch_rest k p h n v ≡ ran (got g m) w → As (Branch p) i₀ m t₀ g w)
         → i < length p → (get_or p i 0 ≡ 124 → ⊥) → (get_or p i 0 ≡ 41 → ⊥) → As (Branch p) i₀ i t₀ f t → (x : Ran) → x ≡ piece_at k p i t
-        → Parse.branch_rest k p f i t ≡ ran (Got g m) w → As (Branch p) i₀ m t₀ g w
-    branch-case f i t ih h n₁ n₂ y (ran Bad v) xe e = bad-got (Parse.branch-piece-bad k p f i t _ refl h n₁ n₂ Bad v xe refl ∙ e)
-    branch-case f i t ih h n₁ n₂ y (ran (Got q n) v) xe e = split (leb n i)
-        (λ l. bad-got (Parse.branch_stuck k p f i t _ refl h n₁ n₂ (Got q n) v xe q n refl (leb-true _ _ l) ∙ e))
-        (λ l. ih (sequence f q) n (link v f.lm q.fm) (leb-false _ _ l) (longer y (hP i t q n v (sym xe)))
-        (Parse.branch-next k p f i t _ refl h n₁ n₂ (Got q n) v xe q n refl (leb-false _ _ l) _ refl _ refl ∙ e))
+        → Parse.branch_rest k p f i t ≡ ran (got g m) w → As (Branch p) i₀ m t₀ g w
+    branch-case f i t ih h n₁ n₂ y (ran None v) xe e = bad-got (Parse.branch-piece-bad k p f i t _ refl h n₁ n₂ None v xe refl ∙ e)
+    branch-case f i t ih h n₁ n₂ y (ran (Some x) v) xe e = split (leb x.next i)
+        (λ l. bad-got (Parse.branch_stuck k p f i t _ refl h n₁ n₂ (Some x) v xe x refl (leb-true _ _ l) ∙ e))
+        (λ l. ih (sequence f x.part) x.next (link v f.lm x.part.fm) (leb-false _ _ l) (longer y (hP i t x.part x.next v (sym xe)))
+        (Parse.branch-next k p f i t _ refl h n₁ n₂ (Some x) v xe x refl (leb-false _ _ l) _ refl _ refl ∙ e))
 
-    branch-sure : (c : ℕ) (f : Part) (i : ℕ) (t : List ℕ) → length p - i ≤ c → As (Branch p) i₀ i t₀ f t → Parse.branch_rest k p f i t ≡ ran (Got g m) w → As (Branch p) i₀ m t₀ g w
+    branch-sure : (c : ℕ) (f : Part) (i : ℕ) (t : List ℕ) → length p - i ≤ c → As (Branch p) i₀ i t₀ f t → Parse.branch_rest k p f i t ≡ ran (got g m) w → As (Branch p) i₀ m t₀ g w
     branch-sure zero f i t l y e = as_is g m w y (Parse.branch-end k p f i t _ refl (omega arith) ∙ e)
     branch-sure (suc c) f i t l y e = split (leb (length p) i)
         (λ a. as_is g m w y (Parse.branch-end k p f i t _ refl (leb-true _ _ a) ∙ e))
@@ -180,16 +185,16 @@ module _ (p : List ℕ) (k : ℕ) where
         both e₁ e₂ = cc
 
     expr-case : (f : Part) (i : ℕ) (t : List ℕ)
-        → ((h : Part) (n : ℕ) (v : List ℕ) → i < n → As (Expr p) i₀ n t₀ h v → Parse.expr_rest k p h n v ≡ ran (Got g m) w → As (Expr p) i₀ m t₀ g w)
+        → ((h : Part) (n : ℕ) (v : List ℕ) → i < n → As (Expr p) i₀ n t₀ h v → Parse.expr_rest k p h n v ≡ ran (got g m) w → As (Expr p) i₀ m t₀ g w)
         → i < length p → get_or p i 0 ≡ 124 → As (Expr p) i₀ i t₀ f t → (x : Ran) → x ≡ branch_at k p (i + 1) t
-        → Parse.expr_rest k p f i t ≡ ran (Got g m) w → As (Expr p) i₀ m t₀ g w
-    expr-case f i t ih h b y (ran Bad v) xe e = bad-got (Parse.expr-branch-bad k p f i t _ refl h b Bad v xe refl ∙ e)
-    expr-case f i t ih h b y (ran (Got q n) v) xe e = split (leb n i)
-        (λ l. bad-got (Parse.expr-stuck k p f i t _ refl h b (Got q n) v xe q n refl (leb-true _ _ l) ∙ e))
-        (λ l. ih (choice f q) n v (leb-false _ _ l) (other-branch (record { inside = h; byte = b }) y (hB (i + 1) t q n v (sym xe)))
-        (Parse.expr-next k p f i t _ refl h b (Got q n) v xe q n refl (leb-false _ _ l) _ refl ∙ e))
+        → Parse.expr_rest k p f i t ≡ ran (got g m) w → As (Expr p) i₀ m t₀ g w
+    expr-case f i t ih h b y (ran None v) xe e = bad-got (Parse.expr-branch-bad k p f i t _ refl h b None v xe refl ∙ e)
+    expr-case f i t ih h b y (ran (Some x) v) xe e = split (leb x.next i)
+        (λ l. bad-got (Parse.expr-stuck k p f i t _ refl h b (Some x) v xe x refl (leb-true _ _ l) ∙ e))
+        (λ l. ih (choice f x.part) x.next v (leb-false _ _ l) (other-branch (record { inside = h; byte = b }) y (hB (i + 1) t x.part x.next v (sym xe)))
+        (Parse.expr-next k p f i t _ refl h b (Some x) v xe x refl (leb-false _ _ l) _ refl ∙ e))
 
-    expr-sure : (c : ℕ) (f : Part) (i : ℕ) (t : List ℕ) → length p - i ≤ c → As (Expr p) i₀ i t₀ f t → Parse.expr_rest k p f i t ≡ ran (Got g m) w → As (Expr p) i₀ m t₀ g w
+    expr-sure : (c : ℕ) (f : Part) (i : ℕ) (t : List ℕ) → length p - i ≤ c → As (Expr p) i₀ i t₀ f t → Parse.expr_rest k p f i t ≡ ran (got g m) w → As (Expr p) i₀ m t₀ g w
     expr-sure zero f i t l y e = as_is g m w y (Parse.expr-end k p f i t _ refl (omega arith) ∙ e)
     expr-sure (suc c) f i t l y e = split (leb (length p) i)
         (λ a. as_is g m w y (Parse.expr-end k p f i t _ refl (leb-true _ _ a) ∙ e))
@@ -214,31 +219,31 @@ expr-of x = record { tree = x.tree; derived = e-one x.derived; known = x.known; 
 mutual
   unfolding atom_at
 
-  pub atom-at-sure : (p : List ℕ) (d : ℕ) (i : ℕ) (t : List ℕ) (f : Part) (n : ℕ) (u : List ℕ) → atom_at d p i t ≡ ran (Got f n) u → As (Atom p) i n t f u
+  pub atom-at-sure : (p : List ℕ) (d : ℕ) (i : ℕ) (t : List ℕ) (f : Part) (n : ℕ) (u : List ℕ) → atom_at d p i t ≡ ran (got f n) u → As (Atom p) i n t f u
   atom-at-sure p zero i t f n u e = bad-got e
   atom-at-sure p (suc d) i t f n u e = atom-sure p (λ j v. expr_at d p j v) (λ j v g m w x. expr-at-sure p d j v g m w x) i t f n u e
 
-  pub piece-at-sure : (p : List ℕ) (d : ℕ) (i : ℕ) (t : List ℕ) (f : Part) (n : ℕ) (u : List ℕ) → piece_at d p i t ≡ ran (Got f n) u → As (Piece p) i n t f u
+  pub piece-at-sure : (p : List ℕ) (d : ℕ) (i : ℕ) (t : List ℕ) (f : Part) (n : ℕ) (u : List ℕ) → piece_at d p i t ≡ ran (got f n) u → As (Piece p) i n t f u
   piece-at-sure p zero i t f n u e = bad-got e
   piece-at-sure p (suc d) i t f n u e = piece-sure p (λ j v. atom_at d p j v) (λ j v g m w x. atom-at-sure p d j v g m w x) i t f n u e
 
   pub branch-rest-sure : (p : List ℕ) (d : ℕ) (i₀ : ℕ) (t₀ : List ℕ) (g : Part) (m : ℕ) (w : List ℕ) (f : Part) (i : ℕ) (t : List ℕ)
-      → As (Branch p) i₀ i t₀ f t → branch_rest_at d p f i t ≡ ran (Got g m) w → As (Branch p) i₀ m t₀ g w
+      → As (Branch p) i₀ i t₀ f t → branch_rest_at d p f i t ≡ ran (got g m) w → As (Branch p) i₀ m t₀ g w
   branch-rest-sure p zero i₀ t₀ g m w f i t y e = bad-got e
   branch-rest-sure p (suc d) i₀ t₀ g m w f i t y e = branch-sure p d (λ j v h n z x. piece-at-sure p d j v h n z x) i₀ t₀ g m w (length p) f i t (omega arith) y (sym (rest-suc d p f i t) ∙ e)
 
-  pub branch-at-sure : (p : List ℕ) (d : ℕ) (i : ℕ) (t : List ℕ) (f : Part) (n : ℕ) (u : List ℕ) → branch_at d p i t ≡ ran (Got f n) u → As (Branch p) i n t f u
+  pub branch-at-sure : (p : List ℕ) (d : ℕ) (i : ℕ) (t : List ℕ) (f : Part) (n : ℕ) (u : List ℕ) → branch_at d p i t ≡ ran (got f n) u → As (Branch p) i n t f u
   branch-at-sure p zero i t f n u e = bad-got e
   branch-at-sure p (suc d) i t f n u e =
       let b = before (piece_at d p i t) (λ g m w. branch_rest_at d p g m w) f n u e in
       branch-rest-sure p d i t f n u b.part b.place b.table (branch-of (piece-at-sure p d i t b.part b.place b.table b.was)) b.then
 
   pub expr-rest-sure : (p : List ℕ) (d : ℕ) (i₀ : ℕ) (t₀ : List ℕ) (g : Part) (m : ℕ) (w : List ℕ) (f : Part) (i : ℕ) (t : List ℕ)
-      → As (Expr p) i₀ i t₀ f t → expr_rest_at d p f i t ≡ ran (Got g m) w → As (Expr p) i₀ m t₀ g w
+      → As (Expr p) i₀ i t₀ f t → expr_rest_at d p f i t ≡ ran (got g m) w → As (Expr p) i₀ m t₀ g w
   expr-rest-sure p zero i₀ t₀ g m w f i t y e = bad-got e
   expr-rest-sure p (suc d) i₀ t₀ g m w f i t y e = expr-sure p d (λ j v h n z x. branch-at-sure p d j v h n z x) i₀ t₀ g m w (length p) f i t (omega arith) y (sym (rest-suc-expr d p f i t) ∙ e)
 
-  pub expr-at-sure : (p : List ℕ) (d : ℕ) (i : ℕ) (t : List ℕ) (f : Part) (n : ℕ) (u : List ℕ) → expr_at d p i t ≡ ran (Got f n) u → As (Expr p) i n t f u
+  pub expr-at-sure : (p : List ℕ) (d : ℕ) (i : ℕ) (t : List ℕ) (f : Part) (n : ℕ) (u : List ℕ) → expr_at d p i t ≡ ran (got f n) u → As (Expr p) i n t f u
   expr-at-sure p zero i t f n u e = bad-got e
   expr-at-sure p (suc d) i t f n u e =
       let b = before (branch_at d p i t) (λ g m w. expr_rest_at d p g m w) f n u e in

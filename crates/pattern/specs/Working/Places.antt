@@ -3,9 +3,10 @@
 use Rattle.std.specs.Prelude.{◌≡◌, Bool, true, false, ◌&&◌, ◌||◌, List, ℕ, ◌+◌, ◌-◌, ◌*◌, ◌/◌, ◌%◌, ◌^◌, ◌<◌, ◌≤◌, eqb, ltb, leb, length, get_or, set}
 use Rattle.std.proofs.Math.Path.{sym}
 use Rattle.std.proofs.Common.{◌∙◌, arith}
+use Rattle.std.proofs.Math.ListN.{get_or-eq_default}
 use Rattle.std.specs.Int.Bits.{bit_or}
-use borrow.Author.Tests.{lt-ltb, le-ltb, le-leb, lt-leb, eq-eqb, ne_eqb}
-use Rattle.text.specs.Choice.{pick}
+use borrow.Author.Tests.{ltb-false, lt-ltb, le-ltb, le-leb, lt-leb, eq-eqb, ne_eqb}
+use Rattle.text.specs.Choice.{pick, split}
 use Rattle.text.specs.Loop.{Step, next, done, loop, loop-next, loop-done}
 use Rattle.pattern.specs.declared.places.Places.{Places}
 use Rattle.pattern.specs.declared.places.Part.{Part}
@@ -70,6 +71,10 @@ or_at t i x = pick (ltb i (length t)) (set t i (bit_or (get_or t i 0) x)) t
 
 unfoldable pub word_at : List ℕ → ℕ → ℕ
 word_at t i = pick (ltb i (length t)) (get_or t i 0) 0
+
+pub way-word : (t : List ℕ) (i : ℕ) → get_or t i 0 ≡ word_at t i
+unfolding word_at
+way-word t i = split (ltb i (length t)) (λ e. rw e) (λ e. rw e (get_or-eq_default t 0 (ltb-false _ _ e)))
 
 -- the row q of the table is at 4 q
 unfoldable pub add_row : List ℕ → ℕ → Places → List ℕ

@@ -1,5 +1,5 @@
 -- The matcher as the code has it. Assumes nothing.
-use Rattle.std.specs.Prelude.{◌≡◌, refl, Bool, List, ℕ, zero, suc, ◌+◌, ◌-◌, ◌/◌, ◌%◌, ◌^◌, ◌<◌, ◌≤◌, eqb, ltb, leb, length, get_or}
+use Rattle.std.specs.Prelude.{◌≡◌, refl, Bool, List, ℕ, zero, suc, ◌+◌, ◌-◌, ◌/◌, ◌%◌, ◌^◌, ◌<◌, ◌≤◌, eqb, ltb, leb, length, get_or, Option, Some, None}
 use Rattle.std.proofs.Math.Path.{sym}
 use Rattle.std.proofs.Common.{ap, ◌∙◌, arith, div-one, add-zero}
 use Rattle.std.proofs.Math.Bool.{true, false}
@@ -15,9 +15,6 @@ use Rattle.pattern.specs.declared.places.Places.{Places}
 use Rattle.pattern.specs.declared.places.Part.{Part}
 use Rattle.pattern.specs.declared.run.Swept.{Swept}
 use Rattle.pattern.specs.declared.reader.Parsed.{Parsed}
-use Rattle.pattern.specs.declared.reader.Parsed.TheVariants.{Bad, Got}
-use Rattle.pattern.specs.declared.Answer.{Answer}
-use Rattle.pattern.specs.declared.Answer.TheVariants.{Yes, No, Error}
 
 abbrev pub swept : Places → ℕ → Swept
 swept x h = record { places = x; hit = h }
@@ -60,20 +57,22 @@ run_from p s t fm lm le i at = loop (λ x. length s - x.0) (λ x. false) (run_tu
 unfoldable pub runs : List ℕ → List ℕ → List ℕ → Part → Bool
 runs p s t f = pick (eqb (length s) 0) f.nb (pick f.ns true (pick f.ne true (run_from p s t f.fm f.lm f.le 0 f.fs)))
 
-unfoldable pub answered : Bool → Answer
-answered b = pick b Yes No
-
-abbrev pub on_parsed : List ℕ → List ℕ → Ran → Answer
-on_parsed p s (ran Bad t) = Error
-on_parsed p s (ran (Got f n) t) = pick (eqb n (length p)) (answered (runs p s t f)) Error
+abbrev pub on_parsed : List ℕ → List ℕ → Ran → Option Bool
+on_parsed p s (ran None t) = None
+on_parsed p s (ran (Some x) t) = pick (eqb x.next (length p)) (Some (runs p s t x.part)) None
 
 -- the answer, from what the parser leaves on a table t of zeros
-unfoldable pub test_with : List ℕ → List ℕ → List ℕ → Answer
-test_with t p s = pick (ltb 256 (length p)) Error (on_parsed p s (expr_at 2000 p 0 t))
+unfoldable pub test_with : List ℕ → List ℕ → List ℕ → Option Bool
+test_with t p s = pick (ltb 256 (length p)) None (on_parsed p s (expr_at 2000 p 0 t))
 
-pub way-visit : (t : List ℕ) (q : ℕ) (last : Bool) (x : Swept) (y z : Places) (h : ℕ) → y ≡ row t q → z ≡ join x.places y → h ≡ flag x.hit last → swept z h ≡ visit t q last x
-unfolding visit
-way-visit t q last x y z h ye ze he = rw (ze, ye, he)
+module _ (t : List ℕ) (q : ℕ) (last : Bool) (x : Swept) (y z : Places) (ye : y ≡ row t q) (ze : z ≡ join x.places y) where
+  pub way-visit-last : last ≡ true → swept z 1 ≡ visit t q last x
+  unfolding visit flag
+  way-visit-last h = rw (ze, ye, h)
+
+  pub way-visit-on : last ≡ false → swept z x.hit ≡ visit t q last x
+  unfolding visit flag
+  way-visit-on h = rw (ze, ye, h)
 
 module _ (p t : List ℕ) (x l q c : ℕ) (a : Swept) where
   module _ (e : x % 2 ≡ 1) (b : Bool) (be : b ≡ accepts_at p q c) where
@@ -195,20 +194,20 @@ module _ (p s t : List ℕ) (f : Part) where
       way-runs-from e r re = simp (ne_eqb _ _ n, m, e) re
 
 module _ (t p s : List ℕ) where
-  pub way-test-long : 256 < length p → Error ≡ test_with t p s
+  pub way-test-long : 256 < length p → None ≡ test_with t p s
   unfolding test_with
   way-test-long h = simp (lt-ltb _ _ h)
 
-  module _ (h : length p ≤ 256) (r : Parsed) (u : List ℕ) (re : ran r u ≡ expr_at 2000 p 0 t) where
-    pub way-test-bad : r ≡ Bad → Error ≡ test_with t p s
+  module _ (h : length p ≤ 256) (r : Option Parsed) (u : List ℕ) (re : ran r u ≡ expr_at 2000 p 0 t) where
+    pub way-test-bad : r ≡ None → None ≡ test_with t p s
     unfolding test_with
     way-test-bad e = simp (le-ltb _ _ h, sym re, e)
 
-    module _ (f : Part) (n : ℕ) (rv : r ≡ Got f n) where
-      pub way-test-short : (n ≡ length p → ⊥) → Error ≡ test_with t p s
+    module _ (x : Parsed) (rv : r ≡ Some x) where
+      pub way-test-short : (x.next ≡ length p → ⊥) → None ≡ test_with t p s
       unfolding test_with
       way-test-short e = simp (le-ltb _ _ h, sym re, rv, ne_eqb _ _ e)
 
-      pub way_test : n ≡ length p → (b : Bool) → b ≡ runs p s u f → (a : Answer) → a ≡ answered b → a ≡ test_with t p s
+      pub way_test : x.next ≡ length p → (b : Bool) → b ≡ runs p s u x.part → Some b ≡ test_with t p s
       unfolding test_with
-      way_test e b be a ae = simp (le-ltb _ _ h, sym re, rv, eq-eqb _ _ e, sym be) ae
+      way_test e b be = simp (le-ltb _ _ h, sym re, rv, eq-eqb _ _ e, sym be)

@@ -1,10 +1,10 @@
 -- Bytes at which no match begins, and going past them. Assumes nothing.
 use Rattle.std.proofs.Math.Path.{◌≡◌}
-use Rattle.std.specs.Prelude.{refl, Bool, true, false, List, ℕ, zero, suc, ◌+◌, ◌-◌, ◌<◌, ◌≤◌, eqb, ltb, leb, length, get_or, set}
-use Rattle.std.proofs.Common.{sym, ap, ◌∙◌, arith, length-set, get_or-set_same}
+use Rattle.std.specs.Prelude.{refl, Bool, true, false, ◌&&◌, List, ℕ, zero, suc, ◌+◌, ◌-◌, ◌<◌, ◌≤◌, eqb, ltb, leb, length, get_or, set, max}
+use Rattle.std.proofs.Common.{sym, ap, ◌∙◌, arith, get_or-set_same}
 use Rattle.std.proofs.Math.Nat.{le_refl}
 use Rattle.std.proofs.Math.Seq.{get_or-set_other}
-use borrow.Author.Tests.{le-ltb, le-leb, lt-leb, eq-eqb, ne_eqb, ltb-true, eqb-true, eqb-false, leb-true, leb-false}
+use borrow.Author.Tests.{lt-ltb, le-leb, lt-leb, eq-eqb, ne_eqb, ltb-true, eqb-true, eqb-false, leb-true, leb-false}
 use Rattle.text.specs.Choice.{pick, split, clash}
 use Rattle.text.specs.Loop.{Step, next, done, loop, loop-next, loop-done}
 use Rattle.pattern.specs.Working.Sim.{swept, step_at, chosen, run_from, way-run-end, way-run-hit, way-run-more}
@@ -13,27 +13,24 @@ use Rattle.pattern.specs.declared.run.Swept.{Swept}
 
 -- two sets are the same
 unfoldable pub same_places : Places → Places → Bool
-same_places x y = pick (eqb x.a y.a) (pick (eqb x.b y.b) (pick (eqb x.c y.c) (eqb x.d y.d) false) false) false
+same_places x y = eqb x.a y.a && (eqb x.b y.b && (eqb x.c y.c && eqb x.d y.d))
 
 -- nothing has come or ended: the set is the one at which a match begins
 unfoldable pub idle : Swept → Places → Bool
 idle x fm = pick (eqb x.hit 0) (same_places x.places fm) false
 
-unfoldable pub mark : Swept → Places → ℕ
-mark x fm = pick (idle x fm) 1 0
-
 -- the byte c is marked in the table
-unfoldable pub marked : List ℕ → ℕ → Bool
-marked m c = pick (ltb c 256) (pick (ltb c (length m)) (eqb (get_or m c 0) 1) false) false
+unfoldable pub marked : List Bool → ℕ → Bool
+marked m c = pick (ltb c 256) (get_or m c false) false
 
 -- past marked bytes, at most to the last
-abbrev pub skip_turn : List ℕ → List ℕ → ℕ → Step ℕ ℕ
+abbrev pub skip_turn : List Bool → List ℕ → ℕ → Step ℕ ℕ
 skip_turn m s i = pick (leb (length s) (i + 1)) (done i) (pick (marked m (get_or s i 0)) (next (i + 1)) (done i))
 
-unfoldable pub skipped : List ℕ → List ℕ → ℕ → ℕ
+unfoldable pub skipped : List Bool → List ℕ → ℕ → ℕ
 skipped m s i = loop (λ x. length s - x) (λ x. x) (skip_turn m s) i
 
-unfoldable pub skip_from : List ℕ → List ℕ → ℕ → Places → Places → ℕ
+unfoldable pub skip_from : List Bool → List ℕ → ℕ → Places → Places → ℕ
 skip_from m s i at fm = pick (same_places at fm) (skipped m s i) i
 
 -- laws of these
@@ -41,15 +38,19 @@ both-picked : (a b : Bool) → pick a b false ≡ true → (a ≡ true) × (b �
 both-picked true b h = (refl, h)
 both-picked false b h = clash h refl
 
+both-held : (a b : Bool) → (a && b) ≡ true → (a ≡ true) × (b ≡ true)
+both-held true b h = (refl, h)
+both-held false b h = clash h refl
+
 places_same : (a b c d a' b' c' d' : ℕ) → a ≡ a' → b ≡ b' → c ≡ c' → d ≡ d' → ◌≡◌ {A = Places} (record { a = a; b = b; c = c; d = d }) (record { a = a'; b = b'; c = c'; d = d' })
 places_same a b c d a' b' c' d' e f g h = rw (e, f, g, h)
 
 same-places : (x y : Places) → same_places x y ≡ true → x ≡ y
 unfolding same_places
 same-places x y h =
-    let p = both-picked _ _ h in
-    let q = both-picked _ _ p.1 in
-    let r = both-picked _ _ q.1 in
+    let p = both-held _ _ h in
+    let q = both-held _ _ p.1 in
+    let r = both-held _ _ q.1 in
     places_same x.a x.b x.c x.d y.a y.b y.c y.d (eqb-true _ _ p.0) (eqb-true _ _ q.0) (eqb-true _ _ r.0) (eqb-true _ _ r.1)
 
 swept_same : (x : Swept) (fm : Places) → x.hit ≡ 0 → x.places ≡ fm → x ≡ swept fm 0
@@ -62,84 +63,63 @@ idle-is : (x : Swept) (fm : Places) → idle x fm ≡ true → x ≡ swept fm 0
 unfolding idle
 idle-is x fm h = let p = both-picked _ _ h in swept_same x fm (eqb-true _ _ p.0) (same-places x.places fm p.1)
 
--- a way out of `is_marked`
-pub way-no-byte : (m : List ℕ) (c : ℕ) → 256 ≤ c → false ≡ marked m c
+-- the way out of `is_marked`
+pub way-byte : (m : List Bool) (c k : ℕ) → c < 256 → k ≡ c → get_or m k false ≡ marked m c
 unfolding marked
-way-no-byte m c h = rw (le-ltb c 256 h)
+way-byte m c k h e = rw (e, lt-ltb c 256 h)
 
--- the ways out of `is_idle`, `mark` and `skip_from`
+-- the ways out of `is_idle` and `skip_from`
 module _ (x : Swept) (fm : Places) where
-  pub way-idle : x.hit ≡ 0 → (b : Bool) → b ≡ same_places x.places fm → b ≡ idle x fm
+  pub way-idle : x.hit ≡ 0 → same_places x.places fm ≡ idle x fm
   unfolding idle
-  way-idle h b e = rw (eq-eqb _ _ h) e
+  way-idle h = rw (eq-eqb _ _ h)
 
-  pub way-busy : (x.hit ≡ 0 → ⊥) → false ≡ idle x fm
+  pub way-busy : (x.hit ≡ 0 → ⊥) → eqb x.hit 0 ≡ idle x fm
   unfolding idle
   way-busy h = rw (ne_eqb _ _ h)
 
-  module _ (b : Bool) (be : b ≡ idle x fm) where
-    pub way-mark : b ≡ true → 1 ≡ mark x fm
-    unfolding mark
-    way-mark h = rw (← be, h)
-
-    pub way-unmarked : b ≡ false → 0 ≡ mark x fm
-    unfolding mark
-    way-unmarked h = rw (← be, h)
-
-module _ (m s : List ℕ) (i : ℕ) (at fm : Places) (b : Bool) (be : b ≡ same_places at fm) where
+module _ (m : List Bool) (s : List ℕ) (i : ℕ) (at fm : Places) (b : Bool)
+    (be : b ≡ (eqb at.a fm.a && (eqb at.b fm.b && (eqb at.c fm.c && eqb at.d fm.d)))) where
   pub way-from-skip : b ≡ true → (r : ℕ) → r ≡ skipped m s i → r ≡ skip_from m s i at fm
-  unfolding skip_from
+  unfolding skip_from same_places
   way-from-skip h r e = rw (← be, h) e
 
   pub way-from-here : b ≡ false → i ≡ skip_from m s i at fm
-  unfolding skip_from
+  unfolding skip_from same_places
   way-from-here h = rw (← be, h)
 
 module _ (p t : List ℕ) (fm lm : Places) where
   -- a marked byte is one at which no match begins inside the string, so far as the table goes
-  pub record Noted (k : ℕ) (m : List ℕ) : Type 0 where
+  pub record Noted (k : ℕ) (m : List Bool) : Type 0 where
     pub sure : (c : ℕ) → c < k → marked m c ≡ true → idle (step_at p t fm lm fm c) fm ≡ true
 
   -- the ways through `note_idle`
-  pub note-start : (m : List ℕ) → Noted 0 m
+  pub note-start : (m : List Bool) → Noted 0 m
   note-start m = record { sure = λ c l h. let bad : ⊥ = omega arith in absurd bad }
 
-  mark-one : (x : Swept) → mark x fm ≡ 1 → idle x fm ≡ true
-  unfolding mark
-  mark-one x e = split (idle x fm) (λ h. h) (λ h. let z : ◌≡◌ {A = ℕ} 0 1 = rw h at e in let bad : ⊥ = omega (arith, z) in absurd bad)
-
-  marked-value : (m : List ℕ) (c : ℕ) → marked m c ≡ true → (c < length m) × (get_or m c 0 ≡ 1)
+  marked-value : (m : List Bool) (c : ℕ) → marked m c ≡ true → get_or m c false ≡ true
   unfolding marked
-  marked-value m c h =
-      let a = both-picked (ltb c 256) _ h in
-      let b = both-picked (ltb c (length m)) _ a.1 in
-      (ltb-true _ _ b.0, eqb-true _ _ b.1)
+  marked-value m c h = (both-picked (ltb c 256) _ h).1
 
-  marked_other : (m : List ℕ) (k c v : ℕ) → (c ≡ k → ⊥) → marked (set m k v) c ≡ true → marked m c ≡ true
+  marked_other : (m : List Bool) (k c : ℕ) (v : Bool) → (c ≡ k → ⊥) → marked (set m k v) c ≡ true → marked m c ≡ true
   unfolding marked
-  marked_other m k c v n h = rw (length-set m k v, get_or-set_other m k c v 0 n) at h
+  marked_other m k c v n h = rw (get_or-set_other m k c v false n) at h
 
-  pub note-more : (m : List ℕ) (k : ℕ) → Noted k m → k < length m → (x : Swept) → x ≡ step_at p t fm lm fm k → (v : ℕ) → v ≡ mark x fm → Noted (k + 1) (set m k v)
-  note-more m k n h x xe v ve = record { sure = λ c l e. split (eqb c k) (λ f. here c (eqb-true c k f) e) (λ f. n.sure c (omega (arith, l, eqb-false c k f)) (marked_other m k c v (eqb-false c k f) e)) }
+  pub note-more : (m : List Bool) (k : ℕ) → Noted k m → length m ≡ 256 → k < 256 → (x : Swept) → x ≡ step_at p t fm lm fm k → (v : Bool) → v ≡ idle x fm → Noted (k + 1) (set m k v)
+  note-more m k n l₀ h₀ x xe v ve = record { sure = λ c l e. split (eqb c k) (λ f. here c (eqb-true c k f) e) (λ f. n.sure c (omega (arith, l, eqb-false c k f)) (marked_other m k c v (eqb-false c k f) e)) }
     where
       here : (c : ℕ) → c ≡ k → marked (set m k v) c ≡ true → idle (step_at p t fm lm fm c) fm ≡ true
       here c z e =
-          let w : get_or (set m k v) c 0 ≡ 1 = (marked-value (set m k v) c e).1 in
-          let y : get_or (set m k v) k 0 ≡ v = get_or-set_same m k v 0 h in
-          let one : v ≡ 1 = sym y ∙ ap (λ (i : ℕ). get_or (set m k v) i 0) (sym z) ∙ w in
-          rw z (mark-one (step_at p t fm lm fm k) (ap (λ (s : Swept). mark s fm) (sym xe) ∙ sym ve ∙ one))
+          let w : get_or (set m k v) c false ≡ true = marked-value (set m k v) c e in
+          let y : get_or (set m k v) k false ≡ v = get_or-set_same m k v false (omega (arith, l₀, h₀)) in
+          let one : v ≡ true = sym y ∙ ap (λ (i : ℕ). get_or (set m k v) i false) (sym z) ∙ w in
+          rw z (ap (λ (s : Swept). idle s fm) (sym xe) ∙ sym ve ∙ one)
 
-  pub note-less : (m : List ℕ) (k n : ℕ) → length m ≡ n → k < length m → n - (k + 1) < n - k
-  note-less m k n e h = omega (arith, e, h)
-
-  pub note-end : (m : List ℕ) (k : ℕ) → Noted k m → length m ≤ k → Noted 256 m
-  note-end m k n h = record { sure = λ c l e. n.sure c (omega (arith, h, (marked-value m c e).0)) e }
-
-  pub note-all : (m : List ℕ) (k : ℕ) → Noted k m → 255 < k → Noted 256 m
+  pub note-all : (m : List Bool) (k : ℕ) → Noted k m → 256 ≤ k → Noted 256 m
   note-all m k n h = record { sure = λ c l e. n.sure c (omega (arith, h, l)) e }
 
 -- the ways through `skip`
-module _ (m s : List ℕ) (i : ℕ) where
+module _ (m : List Bool) (s : List ℕ) (i : ℕ) where
   pub skip_stop : length s ≤ i + 1 → skipped m s i ≡ i
   unfolding skipped
   skip_stop h = loop-done _ _ _ i i (simp (le-leb _ _ h))
@@ -154,21 +134,26 @@ module _ (m s : List ℕ) (i : ℕ) where
     skip-on e = loop-next _ _ _ i (i + 1) (simp (lt-leb _ _ h, e)) (omega (arith, h))
 
   module _ (r : ℕ) (inv : skipped m s i ≡ r) where
-    pub way-skip-stop : length s ≤ i + 1 → i ≡ r
-    way-skip-stop h = sym (skip_stop h) ∙ inv
+    module _ (last : ℕ) (le : last ≡ length s - 1) where
+      pub way-skip-stop : last ≤ i → i ≤ last → last ≡ r
+      way-skip-stop h g = let e : last ≡ i = omega arith in e ∙ sym (skip_stop (omega (arith, le, h))) ∙ inv
 
-    pub way-skip-out : length s ≤ i → i ≡ r
-    way-skip-out h = way-skip-stop (omega (arith, h))
+      module _ (h : i < last) (b : Bool) (be : b ≡ marked m (get_or s i 0)) where
+        pub way-skip-here : b ≡ false → i ≡ r
+        way-skip-here e = sym (skip-here (omega (arith, le, h)) (sym be ∙ e)) ∙ inv
 
-    module _ (h : i + 1 < length s) (b : Bool) (be : b ≡ marked m (get_or s i 0)) where
-      pub way-skip-here : b ≡ false → i ≡ r
-      way-skip-here e = sym (skip-here h (sym be ∙ e)) ∙ inv
+        pub way-skip-on : b ≡ true → skipped m s (i + 1) ≡ r
+        way-skip-on e = sym (skip-on (omega (arith, le, h)) (sym be ∙ e)) ∙ inv
 
-      pub way-skip-on : b ≡ true → skipped m s (i + 1) ≡ r
-      way-skip-on e = sym (skip-on h (sym be ∙ e)) ∙ inv
+-- past the last, or from it on
+pub way-skip-end : (m : List Bool) (s : List ℕ) (from i last r : ℕ) → last ≡ length s - 1 → (from ≤ last → i ≤ last) → last ≤ i
+    → skipped m s i ≡ skipped m s from → r ≡ max from last → r ≡ skipped m s from
+way-skip-end m s from i last r le high low inv e = split (leb from last)
+    (λ t. let h : from ≤ last = leb-true from last t in let z : r ≡ last = omega (arith, e, h) in z ∙ way-skip-stop m s i _ inv last le low (high h))
+    (λ t. let h : last < from = leb-false from last t in let z : r ≡ from = omega (arith, e, h) in z ∙ sym (skip_stop m s from (omega (arith, le, h))))
 
 -- a way past a marked byte, and the rest of a run from where it leads
-module _ (p s t : List ℕ) (fm lm le : Places) (m : List ℕ) (noted : Noted p t fm lm 256 m) where
+module _ (p s t : List ℕ) (fm lm le : Places) (m : List Bool) (noted : Noted p t fm lm 256 m) where
   chosen-inside : (i : ℕ) → i + 1 < length s → lm ≡ chosen (eqb (i + 1) (length s)) le lm
   unfolding chosen
   chosen-inside i h = rw (ne_eqb (i + 1) (length s) (λ z. let bad : ⊥ = omega (arith, h, z) in bad))

@@ -1,5 +1,5 @@
 -- What the code's test answers is a verdict. Assumes nothing.
-use Rattle.std.specs.Prelude.{◌≡◌, refl, Bool, ◌||◌, List, ℕ, zero, ◌+◌, ◌*◌, ◌<◌, ◌≤◌, eqb, ltb, length, replicate}
+use Rattle.std.specs.Prelude.{◌≡◌, refl, Bool, ◌||◌, List, ℕ, zero, ◌+◌, ◌*◌, ◌<◌, ◌≤◌, eqb, ltb, length, replicate, Some, None}
 use Rattle.std.proofs.Common.{sym, ap, ◌∙◌, subst, arith, le_refl}
 use Rattle.std.proofs.Math.Bool.{true, false}
 use Rattle.std.proofs.lemmas.List.{length-replicate, get_or-replicate}
@@ -15,14 +15,12 @@ use Rattle.pattern.specs.Working.Bits.{has, has-nowhere}
 use Rattle.pattern.specs.Working.Meaning.{part_of, table_of}
 use Rattle.pattern.specs.Working.Table.{table-has}
 use Rattle.pattern.specs.Working.Decide.{runs-sound, runs-shows}
-use Rattle.pattern.specs.Working.Parse.{Ran, ran, expr_at}
+use Rattle.pattern.specs.Working.Parse.{Ran, ran, got, expr_at}
 use Rattle.pattern.specs.Working.ParseSound.{expr-at-sure, bad-got, got-next}
 use Rattle.pattern.specs.Working.ParseShows.{expr-all, t-end}
-use Rattle.pattern.specs.Working.Sim.{runs, answered, on_parsed, test_with}
+use Rattle.pattern.specs.Working.Sim.{runs, on_parsed, test_with}
 use Rattle.pattern.specs.declared.places.Part.{Part}
-use Rattle.pattern.specs.declared.reader.Parsed.TheVariants.{Bad, Got}
-use Rattle.pattern.specs.declared.Answer.{Answer}
-use Rattle.pattern.specs.Verdict.{Verdict, v-yes, v-no, v-error}
+use Rattle.pattern.specs.Verdict.{Answer, Verdict, v-yes, v-no, v-error}
 
 -- an empty table
 abbrev pub zeros : List ℕ
@@ -56,23 +54,22 @@ module _ (t : List ℕ) (empty : (i : ℕ) → word_at t i ≡ 0) (size : 1024 �
     pub answer-shows : Found s r → runs p s (table_of r t) (part_of r) ≡ true
     answer-shows f = runs-shows p s r 0 (length p) (expr-fits pattern.whole) pattern.short (table_of r t) follows f
 
-    pub parsed : expr_at 2000 p 0 t ≡ ran (Got (part_of r) (length p)) (table_of r t)
+    pub parsed : expr_at 2000 p 0 t ≡ ran (got (part_of r) (length p)) (table_of r t)
     parsed = expr-all p pattern.whole (t-end (le_refl (length p))) 2000 (omega (arith, pattern.short)) t
 
-  answered-verdict : (p s : List ℕ) (r : Re) → Pattern p r → (b : Bool) → runs p s (table_of r t) (part_of r) ≡ b → Verdict p s (answered b)
-  unfolding answered
+  answered-verdict : (p s : List ℕ) (r : Re) → Pattern p r → (b : Bool) → runs p s (table_of r t) (part_of r) ≡ b → Verdict p s (Some b)
   answered-verdict p s r w true e = v-yes r w (answer-sound p s r w e)
   answered-verdict p s r w false e = v-no r w (λ f. clash (answer-shows p s r w f) e)
 
-  got-verdict : (p s : List ℕ) (r : Re) → Pattern p r → (f : Part) (u : List ℕ) → f ≡ part_of r → u ≡ table_of r t → Verdict p s (answered (runs p s u f))
+  got-verdict : (p s : List ℕ) (r : Re) → Pattern p r → (f : Part) (u : List ℕ) → f ≡ part_of r → u ≡ table_of r t → Verdict p s (Some (runs p s u f))
   got-verdict p s r w f u ef eu = rw (ef, eu) (answered-verdict p s r w (runs p s (table_of r t) (part_of r)) refl)
 
   parsed-verdict : (p s : List ℕ) → length p ≤ 256 → (x : Ran) → expr_at 2000 p 0 t ≡ x → Verdict p s (on_parsed p s x)
-  parsed-verdict p s h (ran Bad u) e = v-error (λ r w. bad-got (sym e ∙ parsed p s r w))
-  parsed-verdict p s h (ran (Got f n) u) e = split (eqb n (length p))
-      (λ a. let x = expr-at-sure p 2000 0 t f n u e in
+  parsed-verdict p s h (ran None u) e = v-error (λ r w. bad-got (sym e ∙ parsed p s r w))
+  parsed-verdict p s h (ran (Some y) u) e = split (eqb y.next (length p))
+      (λ a. let x = expr-at-sure p 2000 0 t y.part y.next u e in
       let w : Pattern p x.tree = record { short = h; whole = subst (λ (k : ℕ). Expr p 0 k x.tree) (eqb-true _ _ a) x.derived } in
-      rw a (got-verdict p s x.tree w f u x.known x.table))
+      rw a (got-verdict p s x.tree w y.part u x.known x.table))
       (λ a. rw a (v-error (λ r w. eqb-false _ _ a (got-next (sym e ∙ parsed p s r w)))))
 
   pub test-verdict : (p s : List ℕ) → Verdict p s (test_with t p s)

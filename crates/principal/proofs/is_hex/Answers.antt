@@ -1,8 +1,8 @@
-use Rattle.principal.specs.Working.Comparing.{hex-rsa, hex-dsa}
+use Rattle.principal.specs.Working.Comparing.{hex-either, hex-dsa}
 use Rattle.principal.proofs.is_hex.Goals as goal
 
 pub returns-then-same_folded : goal.returns-then-same_folded
-returns-then-same_folded c = search hex-rsa
+returns-then-same_folded c = search hex-either
 
-pub returns : goal.returns
-returns c = search hex-dsa
+pub returns-else-same_folded : goal.returns-else-same_folded
+returns-else-same_folded c = search hex-dsa

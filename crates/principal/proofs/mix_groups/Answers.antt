@@ -1,9 +1,9 @@
-use Rattle.principal.specs.Working.Tagging.{groups-on, groups-done}
-use borrow.Author.Rules.{rules}
+use Rattle.std.proofs.Common.{rules}
+use Rattle.principal.specs.Working.Tagging.{groups-end, groups-step}
 use Rattle.principal.proofs.mix_groups.Goals as goal
 
-pub loop-left-preserved : goal.loop-left-preserved
-loop-left-preserved c = (search groups-on, (search rules, search rules))
+pub loop-j-preserved : goal.loop-j-preserved
+loop-j-preserved c = (search groups-step, search rules)
 
-pub returns : goal.returns
-returns c = record { value = search groups-done; upper_bound = search rules }
+pub returns-clause-value : goal.returns-clause-value
+returns-clause-value c = search groups-end

@@ -1,11 +1,6 @@
-use mathlib.Core.Path.{◌≡◌}
-use Prim.Native.Nat.{◌+◌, ◌*◌, ◌<◌, ◌≤◌}
-use lib.ListN.{length}
+use Rattle.std.proofs.Common.{◌≡◌, ◌+◌, ◌-◌, ◌*◌, ◌<◌}
 use Rattle.principal.specs.Tag.{mixed_with}
 use Rattle.principal.proofs.mix_groups.Given as goal
 
-abbrev pub invariant-loop-left : goal.invariant-loop-left
-invariant-loop-left l = (mixed_with l.id l.left l.i l.sum ≡ mixed_with l.id l.k l.from l.h) × ((l.sum < 4294967296) × (l.i + 4 * l.left ≤ length l.id))
-
-abbrev pub decreases-loop-left : goal.decreases-loop-left
-decreases-loop-left l = l.left
+abbrev pub invariant-loop-j : goal.invariant-loop-j
+invariant-loop-j l = (mixed_with l.id (l.k - l.j) (l.from + 4 * l.j) l.sum ≡ mixed_with l.id l.k l.from l.h) × (l.sum < 4294967296)

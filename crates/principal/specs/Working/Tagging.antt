@@ -50,6 +50,17 @@ module _ (p : Principal) (left i sum r : ℕ) where
       let w : mixed_with p (suc (left - 1)) i sum ≡ r = subst (λ (k : ℕ). mixed_with p k i sum ≡ r) z inv in
       rw (se, ve) w
 
+-- the loop over k groups, at group j
+module _ (p : Principal) (k j i sum r : ℕ) (inv : mixed_with p (k - j) (i + 4 * j) sum ≡ r) where
+  pub groups-end : k ≤ j → sum ≡ r
+  groups-end h = groups-done p (k - j) (i + 4 * j) sum r inv (omega arith)
+
+  pub groups-step : j < k → (v : ℕ) → v ≡ group p (i + 4 * j) → (s : ℕ) → s ≡ mixed sum v → mixed_with p (k - (j + 1)) (i + 4 * (j + 1)) s ≡ r
+  groups-step h v ve s se =
+      let a : k - (j + 1) ≡ k - j - 1 = omega arith in
+      let b : i + 4 * (j + 1) ≡ i + 4 * j + 4 = omega arith in
+      rw (a, b) (groups-on p (k - j) (i + 4 * j) sum r inv (omega arith) v ve s se)
+
 -- `short_tag`
 pub short-is : (p : Principal) → length p < 4 → (a b c d v m r : ℕ) → a ≡ caseless p 0 → b ≡ caseless p 1 → c ≡ caseless p 2 → d ≡ caseless p 3
     → v ≡ a + 128 * b + 16384 * c + 2097152 * d → m ≡ mixed (length p) v → r ≡ m * 2654435761 / 16777216 % 1048576 → r ≡ tag p

@@ -1,9 +1,5 @@
-use Rattle.printed.specs.Working.Filling.{cut_all, cut_short}
-use borrow.Author.Rules.{rules}
+use Rattle.printed.specs.Working.Filling.{cut_is}
 use Rattle.printed.proofs.cut.Goals as goal
 
-pub returns-then-text-n : goal.returns-then-text-n
-returns-then-text-n c = search cut_all
-
-pub slice_bounds-result-end : goal.slice_bounds-result-end
-slice_bounds-result-end c = search (rules, cut_short)
+pub returns : goal.returns
+returns c = search cut_is

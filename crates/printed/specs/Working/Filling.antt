@@ -6,7 +6,7 @@ use mathlib.Core.List.{List, [], ◌++◌}
 use Prim.Native.Nat.{ℕ, ◌+◌, ◌-◌, ◌<◌, ◌≤◌, min}
 use Rattle.std.proofs.Math.ListN.{length, take, length-append, length-take}
 use Rattle.std.proofs.Math.Seq.{take-nil, take-append-add}
-use Rattle.std.proofs.lemmas.List.{take-append-le}
+use Rattle.std.proofs.lemmas.List.{take-append-le, take_min}
 use Rattle.text.specs.Choice.{pick, split}
 use Rattle.text.specs.Copy.{Copied, copied, put, copy_at}
 use Rattle.text.specs.CopyLaws.{put-nil, put-append, put-length}
@@ -55,11 +55,11 @@ module _ (out : List ℕ) (at : ℕ) where
       both (omega (arith, l)) (copy-fits out at part b o (omega (arith, l, h)) e ∙ ap (put out at) pe)
 
 -- `cut`
-pub cut_all : (x : List ℕ) (n : ℕ) → length x ≤ n → x ≡ take n x
-cut_all x n h = sym (take_all n x h)
-
-pub cut_short : (x : List ℕ) (n : ℕ) → n < length x → n ≡ length (take n x)
-cut_short x n h = sym (length-take-le n x (omega (arith, h)))
+pub cut_is : (x : List ℕ) (n k : ℕ) → k ≡ min (length x) n → take k x ≡ take n x
+cut_is x n k h = ap (λ (i : ℕ). take i x) (h ∙ min-turned (length x) n) ∙ take_min n x
+  where
+    min-turned : (a b : ℕ) → min a b ≡ min b a
+    min-turned a b = omega arith
 
 -- a text behind what is written
 abbrev on_filled : List ℕ → Filled → Filled

@@ -9,11 +9,10 @@ use Rattle.text.specs.CopyLaws.{put-length}
 use Rattle.limits.specs.Limits.{most_items}
 use Rattle.record.specs.Record.{read_record}
 use Rattle.record.specs.Places.{places}
-use Rattle.record.specs.Reading.{told, group_ends, leaves, read_into, tabled, tabled_verdict}
+use Rattle.record.specs.Reading.{Reading, Accepted, accepted-last, told, group_ends, leaves, read_into, tabled, tabled_verdict}
 use Rattle.record.specs.Working.Groups.{table_into}
 use Rattle.record.proofs.Working.Tables.{table-tie}
-use Rattle.record.specs.declared.Reading.{Reading}
-use Rattle.record.specs.declared.Reading.TheVariants.{Accepted, Refused}
+use Rattle.record.specs.Refusal.{Refused}
 use Rattle.record.specs.Working.Entry.{Took, accepted-of, all-places, empty, front_of, refused-of, room}
 
 module _ (s table : List ℕ) (m : Reading) (u : List ℕ) (me : told m u ≡ table_into s (replicate most_items 0)) where
@@ -37,7 +36,10 @@ module _ (s table : List ℕ) (m : Reading) (u : List ℕ) (me : told m u ≡ ta
     unfolding group_ends
     count-is =
         let f : Accepted v r a c ≡ group_ends took.query = took.ends in
-        let g : c ≡ length took.query.values + length took.query.requesters + length took.query.attributes + length took.query.assertions = cc in
+        let g : c ≡ length took.query.values + length took.query.requesters + length took.query.attributes + length took.query.assertions
+        = accepted-last v r a c (length took.query.values) (length took.query.values + length took.query.requesters)
+        (length took.query.values + length took.query.requesters + length took.query.attributes)
+        (length took.query.values + length took.query.requesters + length took.query.attributes + length took.query.assertions) f in
         g ∙ sym (all-places took.query)
 
     pub read-few : c ≤ most_items

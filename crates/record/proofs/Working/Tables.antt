@@ -19,17 +19,16 @@ use Rattle.record.specs.Item.{value_at, requester_at, attribute_at, assertion_at
 use Rattle.record.specs.Record.{query_at, ended, read_record}
 use Rattle.record.specs.Places.{string_size, attribute_size, assertion_size, places_from, end_from, requesters_start, attributes_start, assertions_start, places}
 use Rattle.record.specs.Lies.{StringAt, AttributeAt, AssertionAt, Lie, lie[], lie∷, Lies}
-use Rattle.record.specs.Reading.{Told, told, group_ends}
-use Rattle.record.specs.Working.Moves.{cursor, seen_of, item_move}
-use Rattle.record.specs.Working.Groups.{Ran, ran, by_group, least_count, most_count, on_move, items_into, group_into, both, on_ran, groups_into, on_both, rest_into, table_into}
+use Rattle.record.specs.Reading.{Accepted, Told, told, group_ends}
+use Rattle.record.specs.Working.Moves.{Moved, To, cursor, seen_of, item_move}
+use Rattle.record.specs.Working.Groups.{Ran, ran, Paired, by_group, least_count, most_count, on_move, items_into, group_into, both, on_ran, groups_into, on_both, rest_into, table_into}
 use Rattle.record.specs.Working.Ties.{Ties, tie-to, tie-no, Spot, itself, name_of, text_of, count-tie, value-tie, requester-tie, attribute-tie, assertion-tie}
-use Rattle.record.specs.declared.Moved.{Moved}
-use Rattle.record.specs.declared.Moved.TheVariants.{To}
-use Rattle.record.specs.declared.Groups.TheVariants as groups
-use Rattle.record.specs.declared.Reading.TheVariants as reading
+use Rattle.record.specs.Refusal.{Refused}
+use Rattle.record.specs.declared.Group.{Group as Kind}
+use Rattle.record.specs.declared.Group.TheVariants.{Values, Requesters, Attributes, Assertions}
 use Rattle.record.specs.Working.Tables.{Group, Runs, Whole, group-no, group-to, lies-of, map-itself, map-snoc-key, places-length, put-cons, put_next, run-no, run-to, seen_more, seen_none, whole-no, whole_to}
 
-module _ {A : Type 0} (key : A → List ℕ) (At : ℕ → A → Type 0) (size : A → ℕ) (lead g : ℕ) (s : List ℕ) (item : List A → ℕ → Read A)
+module _ {A : Type 0} (key : A → List ℕ) (At : ℕ → A → Type 0) (size : A → ℕ) (lead : ℕ) (g : Kind) (s : List ℕ) (item : List A → ℕ → Read A)
     (tied : (seen : List A) (at : ℕ) → Ties (Spot s key At size lead at) (item seen at) (item_move g s (map key seen) at)) (from : ℕ) where
   run_none : (t : List ℕ) (i at : ℕ) (seen : List A) → Runs At size lead t i at seen 0 (got seen at) (ran (To i (cursor at)) t)
   unfolding end_from places_from
@@ -69,7 +68,7 @@ module _ {A : Type 0} (key : A → List ℕ) (At : ℕ → A → Type 0) (size :
   items-tie (suc n) t i at seen room h se =
       rw (lt-leb (length t) i (omega arith), se) (step-tie n (items-tie n) t i at seen room h se (tied seen at))
 
-module _ {A : Type 0} (key : A → List ℕ) (At : ℕ → A → Type 0) (size : A → ℕ) (lead g : ℕ) (s : List ℕ) (item : List A → ℕ → Read A)
+module _ {A : Type 0} (key : A → List ℕ) (At : ℕ → A → Type 0) (size : A → ℕ) (lead : ℕ) (g : Kind) (s : List ℕ) (item : List A → ℕ → Read A)
     (tied : (seen : List A) (at : ℕ) → Ties (Spot s key At size lead at) (item seen at) (item_move g s (map key seen) at)) where
   group_of : (t : List ℕ) (from at most n : ℕ) → n ≤ most → {r : Read (List A)} {m : Ran} → Runs At size lead t from (at + 1) [] n r m → Group At size lead t from at most r m
   group_of t from at most n h (run-to new l lies) = group-to new (omega arith) lies
@@ -87,19 +86,19 @@ module _ {A : Type 0} (key : A → List ℕ) (At : ℕ → A → Type 0) (size :
   group-tie least most le me t from at room = rw (← le, ← me) (group-counted t from at most room (count-tie s least most at))
 
 module _ (s : List ℕ) where
-  values-tied : (seen : List (List ℕ)) (at : ℕ) → Ties (Spot s itself (StringAt s) string_size 2 at) (value_at s seen at) (item_move 0 s (map itself seen) at)
+  values-tied : (seen : List (List ℕ)) (at : ℕ) → Ties (Spot s itself (StringAt s) string_size 2 at) (value_at s seen at) (item_move Values s (map itself seen) at)
   unfolding item_move
   values-tied seen at = rw (map-itself seen) (value-tie s seen at)
 
-  requesters-tied : (seen : List (List ℕ)) (at : ℕ) → Ties (Spot s itself (StringAt s) string_size 2 at) (requester_at s seen at) (item_move 1 s (map itself seen) at)
+  requesters-tied : (seen : List (List ℕ)) (at : ℕ) → Ties (Spot s itself (StringAt s) string_size 2 at) (requester_at s seen at) (item_move Requesters s (map itself seen) at)
   unfolding item_move
   requesters-tied seen at = requester-tie s seen at
 
-  attributes-tied : (seen : List Attribute) (at : ℕ) → Ties (Spot s name_of (AttributeAt s) attribute_size 2 at) (attribute_at s seen at) (item_move 2 s (map name_of seen) at)
+  attributes-tied : (seen : List Attribute) (at : ℕ) → Ties (Spot s name_of (AttributeAt s) attribute_size 2 at) (attribute_at s seen at) (item_move Attributes s (map name_of seen) at)
   unfolding item_move
   attributes-tied seen at = attribute-tie s seen at
 
-  assertions-tied : (seen : List Supplied) (at : ℕ) → Ties (Spot s text_of (AssertionAt s) assertion_size 3 at) (assertion_at s seen at) (item_move 3 s (map text_of seen) at)
+  assertions-tied : (seen : List Supplied) (at : ℕ) → Ties (Spot s text_of (AssertionAt s) assertion_size 3 at) (assertion_at s seen at) (item_move Assertions s (map text_of seen) at)
   unfolding item_move
   assertions-tied seen at = assertion-tie s seen at
 
@@ -130,8 +129,8 @@ module _ (s t : List ℕ) (room : most_items ≤ length t) (v r : List (List ℕ
 
     whole-last : {x : Read (List Supplied)} {m : Ran} → Group (AssertionAt s) assertion_size 3 (put t 0 first_three) (length v + length r + length a) last_at most_assertions x m
         → Whole s t (ended s (and_then x (λ c u. got (made a c) u)))
-        (on_both (on_ran m (λ w q y. both (groups.Ends (length v + length r + length a) w (cursor q)) y))
-        (λ y z p u. pick (ltb p (length s)) (told (reading.Refused 3 p) u) (told (reading.Accepted (length v) (length v + length r) y z) u)))
+        (on_both (on_ran m (λ w q y. both (Paired (length v + length r + length a) w (cursor q)) y))
+        (λ y z p u. pick (ltb p (length s)) (told (Refused 3 p) u) (told (Accepted (length v) (length v + length r) y z) u)))
     unfolding group_ends places assertions_start attributes_start requesters_start
     whole-last group-no = whole-no
     whole-last (group-to c h lie-c) =
@@ -145,7 +144,7 @@ module _ (s t : List ℕ) (room : most_items ≤ length t) (v r : List (List ℕ
   read_last a p = and_then (group_at s least_assertions most_assertions (assertion_at s) p) (λ c u. got (made a c) u)
 
   abbrev end_last : ℕ → ℕ → ℕ → List ℕ → Told
-  end_last y z p u = pick (ltb p (length s)) (told (reading.Refused 3 p) u) (told (reading.Accepted (length v) (length v + length r) y z) u)
+  end_last y z p u = pick (ltb p (length s)) (told (Refused 3 p) u) (told (Accepted (length v) (length v + length r) y z) u)
 
   abbrev third_at : ℕ
   third_at = end_from string_size 2 (requesters_start (made [] [])) r
@@ -158,7 +157,7 @@ module _ (s t : List ℕ) (room : most_items ≤ length t) (v r : List (List ℕ
 
   whole-third : {x : Read (List Attribute)} {m : Ran} → Group (AttributeAt s) attribute_size 2 (put t 0 first_two) (length v + length r) third_at most_attributes x m
       → Whole s t (ended s (and_then x (λ a p. read_last a p)))
-      (on_both (on_ran m (λ w p u. on_ran (group_into 3 s u w p) (λ z q y. both (groups.Ends w z (cursor q)) y))) (λ y z p u. end_last y z p u))
+      (on_both (on_ran m (λ w p u. on_ran (group_into Assertions s u w p) (λ z q y. both (Paired w z (cursor q)) y))) (λ y z p u. end_last y z p u))
   unfolding attributes_start by_group
   whole-third group-no = whole-no
   whole-third (group-to a h la) =
@@ -166,7 +165,7 @@ module _ (s t : List ℕ) (room : most_items ≤ length t) (v r : List (List ℕ
       = put_next t first_two (places_from attribute_size 2 (third_at + 1) a) (length v + length r) two-length in
       rw e
       (whole-last a h la
-      (group-tie text_of (AssertionAt s) assertion_size 3 3 s (assertion_at s) (assertions-tied s) least_assertions most_assertions refl refl (put t 0 (first_three a h la))
+      (group-tie text_of (AssertionAt s) assertion_size 3 Assertions s (assertion_at s) (assertions-tied s) least_assertions most_assertions refl refl (put t 0 (first_three a h la))
       (length v + length r + length a) (last_at a h la) (third-room a h la)))
 
 module _ (s t : List ℕ) (room : most_items ≤ length t) where
@@ -174,7 +173,7 @@ module _ (s t : List ℕ) (room : most_items ≤ length t) where
       → Group (StringAt s) string_size 2 (put t 0 (places_from string_size 2 2 v)) (length v) (end_from string_size 2 2 v) most_requesters x m
       → Whole s t (ended s (and_then x (λ r q. and_then (group_at s least_attributes most_attributes (attribute_at s) q) (λ a p.
       and_then (group_at s least_assertions most_assertions (assertion_at s) p) (λ c u. got (record { values = v; requesters = r; attributes = a; assertions = c }) u)))))
-      (on_both (on_ran m (λ w q y. both (groups.Ends (length v) w (cursor q)) y)) (λ y w p u. rest_into s u y w p))
+      (on_both (on_ran m (λ w q y. both (Paired (length v) w (cursor q)) y)) (λ y w p u. rest_into s u y w p))
   unfolding rest_into groups_into requesters_start by_group
   whole-second v h lv group-no = whole-no
   whole-second v h lv (group-to r k lr) =
@@ -184,14 +183,14 @@ module _ (s t : List ℕ) (room : most_items ≤ length t) where
       let n : length (put t 0 (first_two s t room v r h k lv lr)) ≡ length t = put-length t 0 (first_two s t room v r h k lv lr) (omega arith) in
       rw e
       (whole-third s t room v r h k lv lr
-      (group-tie name_of (AttributeAt s) attribute_size 2 2 s (attribute_at s) (attributes-tied s) least_attributes most_attributes refl refl (put t 0 (first_two s t room v r h k lv lr))
+      (group-tie name_of (AttributeAt s) attribute_size 2 Attributes s (attribute_at s) (attributes-tied s) least_attributes most_attributes refl refl (put t 0 (first_two s t room v r h k lv lr))
       (length v + length r) (third_at s t room v r h k lv lr) (omega arith)))
 
   whole-first : {x : Read (List (List ℕ))} {m : Ran} → Group (StringAt s) string_size 2 t 0 1 most_values x m
       → Whole s t (ended s (and_then x (λ v p. and_then (group_at s least_requesters most_requesters (requester_at s) p) (λ r q.
       and_then (group_at s least_attributes most_attributes (attribute_at s) q) (λ a t.
       and_then (group_at s least_assertions most_assertions (assertion_at s) t) (λ c u. got (record { values = v; requesters = r; attributes = a; assertions = c }) u))))))
-      (on_both (on_ran m (λ v p u. on_ran (group_into 1 s u v p) (λ w q x. both (groups.Ends v w (cursor q)) x))) (λ y w p u. rest_into s u y w p))
+      (on_both (on_ran m (λ v p u. on_ran (group_into Requesters s u v p) (λ w q x. both (Paired v w (cursor q)) x))) (λ y w p u. rest_into s u y w p))
   unfolding by_group
   whole-first group-no = whole-no
   whole-first (group-to v h lv) =
@@ -200,7 +199,7 @@ module _ (s t : List ℕ) (room : most_items ≤ length t) where
       let z : 0 + length v ≡ length v = omega arith in
       rw z
       (whole-second v h lv
-      (group-tie itself (StringAt s) string_size 2 1 s (requester_at s) (requesters-tied s) least_requesters most_requesters refl refl (put t 0 (places_from string_size 2 2 v))
+      (group-tie itself (StringAt s) string_size 2 Requesters s (requester_at s) (requesters-tied s) least_requesters most_requesters refl refl (put t 0 (places_from string_size 2 2 v))
       (length v) (end_from string_size 2 2 v) (omega arith)))
 
   -- the working definition is what the record says
@@ -210,7 +209,7 @@ module _ (s t : List ℕ) (room : most_items ≤ length t) where
       split (ltb most_record (length s)) (λ e. rw e whole-no)
       (λ e. split (eqb (length s) 0) (λ f. rw (e, f) whole-no)
       (λ f. split (eqb (get_or s 0 0) 1)
-      (λ g. rw (e, f, g) (whole-first (group-tie itself (StringAt s) string_size 2 0 s (value_at s) (values-tied s) least_values most_values refl refl t 0 1 (omega arith))))
+      (λ g. rw (e, f, g) (whole-first (group-tie itself (StringAt s) string_size 2 Values s (value_at s) (values-tied s) least_values most_values refl refl t 0 1 (omega arith))))
       (λ g. rw (e, f, g) whole-no)))
 
 pub tables-lie : (s : List ℕ) (q : Query) → read_record s ≡ accepted q → Lies s q

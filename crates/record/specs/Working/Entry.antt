@@ -14,10 +14,10 @@ use Rattle.limits.specs.Limits.{most_items}
 use Rattle.record.specs.Query.{Query}
 use Rattle.record.specs.Read.{Verdict, accepted, refused}
 use Rattle.record.specs.Places.{places_from, string_size, attribute_size, assertion_size, requesters_start, attributes_start, assertions_start, places}
-use Rattle.record.specs.Reading.{Told, told, group_ends}
+use Rattle.record.specs.Reading.{Reading, Accepted, Told, told, group_ends}
 use Rattle.record.specs.Working.Tables.{Whole, whole_to, whole-no, places-length}
-use Rattle.record.specs.declared.Reading.{Reading}
-use Rattle.record.specs.declared.Reading.TheVariants.{Accepted, Refused}
+use Rattle.record.specs.Refusal.{Refused, refused_number, refused_place}
+use Rattle.record.specs.declared.Ends.{Ends}
 
 -- `copy_entries`: the first i entries are in place
 unfoldable pub entered : List ℕ → List ℕ → ℕ → List ℕ
@@ -42,6 +42,10 @@ module _ (dst src : List ℕ) where
   pub enter-done : (v : List ℕ) (i n : ℕ) → i ≤ n → n ≤ i → v ≡ entered dst src i → v ≡ put dst 0 (take n src)
   unfolding entered
   enter-done v i n h k e = let z : i ≡ n = omega arith in rw (← z) e
+
+pub entries-put : (dst src : List ℕ) (n : ℕ) → n ≤ length src → (v : List ℕ) → v ≡ take n src → v ++ drop n dst ≡ put dst 0 (take n src)
+unfolding put
+entries-put dst src n h v e = let z : 0 + length (take n src) ≡ n = omega (arith, length-take-le n src h) in rw (e, z) refl
 
 -- a query has as many places as its groups' entries end at
 pub all-places : (q : Query) → length (places q) ≡ length q.values + length q.requesters + length q.attributes + length q.assertions
@@ -72,7 +76,8 @@ pub record Took (t : List ℕ) (w : Verdict) (u : List ℕ) (v r a c : ℕ) : Ty
 pub refused-of : {s t : List ℕ} {w : Verdict} {x : Told} → Whole s t w x → (m : Reading) (u : List ℕ) → told m u ≡ x → (k p : ℕ) → m ≡ Refused k p → w ≡ refused k p
 unfolding group_ends
 refused-of (whole_to q l lies) m u e k p f = cc
-refused-of whole-no m u e k p f = cc
+refused-of (whole-no {k = i} {p = j}) m u e k p f =
+    let z : Refused {A = Ends} i j ≡ Refused {A = Ends} k p = cc in cc (refused_number i j k p z, refused_place i j k p z)
 
 pub accepted-of : {s t : List ℕ} {w : Verdict} {x : Told} → Whole s t w x → (m : Reading) (u : List ℕ) → told m u ≡ x → (v r a c : ℕ) → m ≡ Accepted v r a c → Took t w u v r a c
 accepted-of (whole_to q l lies) m u e v r a c f = record { query = q; is = refl; ends = cc; holds = cc; few = l }

@@ -1,6 +1,6 @@
 -- Working definitions: the cursor's steps, by places, and the ways out of each. `Ties` says what they have to do with the readers of
 -- Field and Item. Assumes nothing.
-use Rattle.std.specs.Prelude.{List, map, ℕ, ◌+◌, ◌-◌, eqb, ltb, leb, length, get_or}
+use Rattle.std.specs.Prelude.{Result, Ok, Err, List, map, ℕ, ◌+◌, ◌-◌, ltb, leb, length, get_or}
 use Rattle.text.specs.Choice.{pick}
 use Rattle.text.specs.Scan.{run}
 use Rattle.text.specs.Class.{in_class, plain}
@@ -10,15 +10,25 @@ use Rattle.limits.specs.Limits.{least_value, most_value, least_requester, most_r
 use Rattle.principal.specs.Principal.{policy}
 use Rattle.record.specs.Field.{name_front, among}
 use Rattle.record.specs.declared.Cursor.{Cursor}
-use Rattle.record.specs.declared.Moved.{Moved}
-use Rattle.record.specs.declared.Moved.TheVariants.{To, Refused}
+use Rattle.record.specs.Refusal.{Refused}
+use Rattle.record.specs.declared.Step.{Step}
+use Rattle.record.specs.declared.Refusal.{Refusal}
+use Rattle.record.specs.declared.Group.{Group}
+use Rattle.record.specs.declared.Group.TheVariants.{Values, Requesters, Attributes, Assertions}
+
+-- what a step gives: a number and the moved cursor, or a refusal
+abbrev pub Moved : Type 0
+Moved = Result Step Refusal
+
+abbrev pub To : ℕ → Cursor → Moved
+To v c = Ok (record { value = v; next = c })
 
 abbrev pub cursor : ℕ → Cursor
 cursor p = record { at = p }
 
 abbrev pub on_to : Moved → (ℕ → ℕ → Moved) → Moved
-on_to (To v c) k = k v c.at
-on_to (Refused n p) k = Refused n p
+on_to (Ok m) k = k m.value m.next.at
+on_to (Err r) k = Err r
 
 -- the strings at the table's entries from..upto
 unfoldable pub seen_of : List ℕ → List ℕ → ℕ → ℕ → List (List ℕ)
@@ -70,8 +80,8 @@ assertion_move s at =
     pick (leb (length s) at) (Refused 3 at)
     (pick (ltb most_standing (get_or s at 0)) (Refused 8 at) (field_move s least_text most_text (at + 1)))
 
-unfoldable pub item_move : ℕ → List ℕ → List (List ℕ) → ℕ → Moved
-item_move group s seen at =
-    pick (eqb group 0) (value_move s seen at)
-    (pick (eqb group 1) (requester_move s at)
-    (pick (eqb group 2) (attribute_move s seen at) (assertion_move s at)))
+unfoldable pub item_move : Group → List ℕ → List (List ℕ) → ℕ → Moved
+item_move Values s seen at = value_move s seen at
+item_move Requesters s seen at = requester_move s at
+item_move Attributes s seen at = attribute_move s seen at
+item_move Assertions s seen at = assertion_move s at

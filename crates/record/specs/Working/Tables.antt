@@ -16,11 +16,10 @@ use Rattle.record.specs.Read.{Read, got, bad, Verdict, accepted, refused}
 use Rattle.record.specs.Places.{places_from, end_from, places}
 use Rattle.record.specs.Lies.{Lie, Lies}
 use Rattle.record.specs.Reading.{Told, told, group_ends}
-use Rattle.record.specs.Working.Moves.{cursor, seen_of}
+use Rattle.record.specs.Working.Moves.{To, cursor, seen_of}
 use Rattle.record.specs.Working.Groups.{Ran, ran}
 use Rattle.record.specs.Working.Ties.{itself}
-use Rattle.record.specs.declared.Moved.TheVariants.{To, Refused}
-use Rattle.record.specs.declared.Reading.TheVariants as reading
+use Rattle.record.specs.Refusal.{Refused}
 
 -- lists
 map_snoc : (f : ℕ → List ℕ) (l : List ℕ) (v : ℕ) → map f (l ++ (v ∷ [])) ≡ map f l ++ (f v ∷ [])
@@ -79,7 +78,7 @@ places-length size lead at (a ∷ l) = ap suc (places-length size lead (at + siz
 -- both refuse alike, or the table has the places of the query
 pub data Whole (s t : List ℕ) : Verdict → Told → Type 0 where
   whole_to : (q : Query) → length (places q) ≤ most_items → Lies s q → Whole s t (accepted q) (told (group_ends q) (put t 0 (places q)))
-  whole-no : {k p : ℕ} {u : List ℕ} → Whole s t (refused k p) (told (reading.Refused k p) u)
+  whole-no : {k p : ℕ} {u : List ℕ} → Whole s t (refused k p) (told (Refused k p) u)
 
 pub put_next : (t a b : List ℕ) (n : ℕ) → length a ≡ n → put (put t 0 a) n b ≡ put t 0 (a ++ b)
 put_next t a b n e = let z : n ≡ 0 + length a = omega arith in rw z (sym (put-append t 0 a b (omega arith)))

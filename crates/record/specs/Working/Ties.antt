@@ -18,9 +18,8 @@ use Rattle.record.specs.Field.{count_at, length_at, content_at, field_at, name_f
 use Rattle.record.specs.Item.{plain_at, value_at, requester_at, attribute_name_at, attribute_at, assertion_at}
 use Rattle.record.specs.Places.{string_size, attribute_size, assertion_size}
 use Rattle.record.specs.Lies.{StringAt, AttributeAt, AssertionAt}
-use Rattle.record.specs.Working.Moves.{cursor, on_to, count_move, length_move, content_move, field_move, permitted_move, askable_move, distinct_move, plain_move, value_move, requester_move, name_move, attribute_move, assertion_move}
-use Rattle.record.specs.declared.Moved.{Moved}
-use Rattle.record.specs.declared.Moved.TheVariants.{To, Refused}
+use Rattle.record.specs.Working.Moves.{Moved, To, cursor, on_to, count_move, length_move, content_move, field_move, permitted_move, askable_move, distinct_move, plain_move, value_move, requester_move, name_move, attribute_move, assertion_move}
+use Rattle.record.specs.Refusal.{Refused}
 
 -- both refuse with one number and place, or both go on to one place and `Sees` relates the number to what is read
 pub data Ties {A : Type 0} (Sees : ℕ → ℕ → A → Type 0) : Read A → Moved → Type 0 where

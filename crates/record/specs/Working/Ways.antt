@@ -2,24 +2,25 @@
 use Rattle.std.specs.Prelude.{◌≡◌, refl, Bool, true, false, List, map, ltb, length, get_or, take, drop}
 use Rattle.std.proofs.Math.Path.{sym}
 use Rattle.std.proofs.Common.{ap, ◌∙◌, drop_of_length-le, length-take, length-drop}
-use Prim.Native.Nat.{ℕ, suc, ◌+◌, ◌-◌, ◌<◌, ◌≤◌}
+use Prim.Native.Nat.{ℕ, suc, min, ◌+◌, ◌-◌, ◌<◌, ◌≤◌}
 use native.Mathlib.Omega.{arith}
 use Rattle.std.proofs.Math.Numerals.{add-one}
 use Rattle.std.proofs.Math.ListN.{get_or-eq_default}
 use Rattle.std.proofs.Math.Seq.{drop-cons, take-nil}
-use borrow.Author.Tests.{lt-ltb, le-ltb, le-leb, lt-leb, eq-eqb, ne_eqb}
+use borrow.Author.Tests.{ltb-true, ltb-false, lt-ltb, le-ltb, le-leb, lt-leb}
 use Rattle.text.specs.Choice.{pick, split}
 use Rattle.text.specs.Scan.{run}
-use Rattle.text.specs.Class.{is_letter, in_class}
+use Rattle.text.specs.Class.{is_letter, in_class, plain, word}
 use Rattle.text.specs.Equal.{equal}
 use Rattle.text.specs.Counted.{part, pair_at, counted}
 use Rattle.limits.specs.Limits.{least_value, most_value, least_requester, most_requester, least_name, most_name, least_setting, most_setting, least_text, most_text, most_standing}
 use Rattle.principal.specs.Principal.{policy}
 use Rattle.record.specs.Field.{name_front, among}
-use Rattle.record.specs.Working.Moves.{cursor, seen_of, count_move, length_move, content_move, field_move, plain_move, value_move, requester_move, name_move, attribute_move, assertion_move, item_move}
+use Rattle.record.specs.Working.Moves.{Moved, To, cursor, seen_of, count_move, length_move, content_move, field_move, plain_move, value_move, requester_move, name_move, attribute_move, assertion_move, item_move}
 use Rattle.record.specs.declared.Cursor.{Cursor}
-use Rattle.record.specs.declared.Moved.{Moved}
-use Rattle.record.specs.declared.Moved.TheVariants.{To, Refused}
+use Rattle.record.specs.Refusal.{Refused}
+use Rattle.record.specs.declared.Group.{Group}
+use Rattle.record.specs.declared.Group.TheVariants.{Values, Requesters, Attributes, Assertions}
 
 -- `name_front`
 module _ (b : List ℕ) where
@@ -28,7 +29,7 @@ module _ (b : List ℕ) where
   name-empty h = rw (get_or-eq_default b 0 h)
 
   module _ (l : Bool) (le : l ≡ is_letter (get_or b 0 0)) where
-    pub name-letter : l ≡ true → (k : ℕ) → k ≡ run (in_class 2) b → k ≡ name_front b
+    pub name-letter : l ≡ true → (k : ℕ) → k ≡ run (in_class word) b → k ≡ name_front b
     unfolding name_front
     name-letter t k e = simp (sym le, t) e
 
@@ -67,6 +68,12 @@ module _ (s t : List ℕ) (start upto i : ℕ) (r : Bool) (inv : among_rest s t 
 
       pub among-more : e ≡ false → among_rest s t start upto (i + 1) ≡ r
       among-more q = let z : pick e true (among_rest s t start upto (i + 1)) ≡ r = sym among-step ∙ inv in rw q at z
+
+pub among-out : (s t : List ℕ) (start upto i : ℕ) (r : Bool) → among_rest s t start upto i ≡ r → min upto (length t) ≤ i → false ≡ r
+among-out s t start upto i r inv h =
+    split (ltb i upto)
+    (λ e. let l : i < upto = ltb-true i upto e in among-past s t start upto i r inv l (omega arith))
+    (λ e. let l : upto ≤ i = ltb-false i upto e in among-end s t start upto i r inv l)
 
 -- `count`
 module _ (s : List ℕ) (least most at : ℕ) where
@@ -158,7 +165,7 @@ module _ (s : List ℕ) (least most at : ℕ) (m : Moved) (me : m ≡ field_move
   unfolding plain_move
   plain-refused n p e = simp (sym me, e)
 
-  module _ (v : ℕ) (c : Cursor) (e : m ≡ To v c) (b : List ℕ) (be : b ≡ counted s v) (k : ℕ) (ke : k ≡ run (in_class 0) b) where
+  module _ (v : ℕ) (c : Cursor) (e : m ≡ To v c) (b : List ℕ) (be : b ≡ counted s v) (k : ℕ) (ke : k ≡ run (in_class plain) b) where
     pub plain_byte : k < length b → Refused 6 (v + k) ≡ plain_move s least most at
     unfolding plain_move
     plain_byte h = simp (sym me, e, sym be, sym ke, lt-ltb _ _ h)
@@ -248,21 +255,19 @@ module _ (s : List ℕ) (at : ℕ) where
     assertion-field k r e = simp (lt-leb _ _ h, le-ltb _ _ k) e
 
 -- `item`
-module _ (g : ℕ) (s : List ℕ) (seen : List (List ℕ)) (at : ℕ) (r : Moved) where
-  pub item-value : g ≡ 0 → r ≡ value_move s seen at → r ≡ item_move g s seen at
+module _ (g : Group) (s : List ℕ) (seen : List (List ℕ)) (at : ℕ) (r : Moved) where
+  pub item-value : g ≡ Values → r ≡ value_move s seen at → r ≡ item_move g s seen at
   unfolding item_move
-  item-value h e = simp (eq-eqb _ _ h) e
+  item-value h e = rw h e
 
-  module _ (n : g ≡ 0 → ⊥) where
-    pub item-requester : g ≡ 1 → r ≡ requester_move s at → r ≡ item_move g s seen at
-    unfolding item_move
-    item-requester h e = simp (ne_eqb _ _ n, eq-eqb _ _ h) e
+  pub item-requester : g ≡ Requesters → r ≡ requester_move s at → r ≡ item_move g s seen at
+  unfolding item_move
+  item-requester h e = rw h e
 
-    module _ (n₁ : g ≡ 1 → ⊥) where
-      pub item-attribute : g ≡ 2 → r ≡ attribute_move s seen at → r ≡ item_move g s seen at
-      unfolding item_move
-      item-attribute h e = simp (ne_eqb _ _ n, ne_eqb _ _ n₁, eq-eqb _ _ h) e
+  pub item-attribute : g ≡ Attributes → r ≡ attribute_move s seen at → r ≡ item_move g s seen at
+  unfolding item_move
+  item-attribute h e = rw h e
 
-      pub item-assertion : (g ≡ 2 → ⊥) → r ≡ assertion_move s at → r ≡ item_move g s seen at
-      unfolding item_move
-      item-assertion h e = simp (ne_eqb _ _ n, ne_eqb _ _ n₁, ne_eqb _ _ h) e
+  pub item-assertion : g ≡ Assertions → r ≡ assertion_move s at → r ≡ item_move g s seen at
+  unfolding item_move
+  item-assertion h e = rw h e

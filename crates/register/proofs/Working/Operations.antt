@@ -11,25 +11,25 @@ use Rattle.register.specs.Entries.{Entry, free, held, known, moves_of, principal
 use Rattle.register.specs.Calls as calls
 use Rattle.register.specs.Calls.{Call, issues, passes, spends, removes, damaged, outside, bad_amount, unknown, exceeding, over_issue, crowded, holding, effect, Outcome, called}
 use Rattle.register.specs.Find.{find}
-use Rattle.register.specs.Told.{entry_of, contents, told, Tells}
+use Rattle.register.specs.Told.{entry_of, contents, Tells}
 use Rattle.register.specs.Theorems.Entries.{moves-other}
 use Rattle.register.specs.Theorems.Find.{find-replaced}
 use Rattle.register.specs.Theorems.Oneself.{gained-lost}
-use Rattle.register.specs.Working.Places.{nobody, at, found, free_from, sound, amount, moves_at, with_moves, with_new, with_issued, issue_of, spend_of, pass_at, pass_of, remove_of}
+use Rattle.register.specs.Working.Places.{Made, after_of, known_place, credit_of, free_place, nobody, at, found, free_from, sound, amount, moves_at, with_moves, with_new, with_issued, issue_of, spend_of, pass_at, pass_of, remove_of}
 use Rattle.register.specs.Working.Ways.{holds}
 use Rattle.register.specs.Working.Ties.{found-is, room-is, amount-is}
 use Rattle.register.specs.declared.Place.{Place}
 use Rattle.register.specs.declared.Register.{Register}
 use Rattle.register.specs.declared.After.{After}
 use Rattle.register.specs.declared.Found.TheVariants.{At}
-use Rattle.register.specs.Working.Operations.{by-found, contents-are, entries, freed-told, issue-keeps, known-missing, known_at, moves-at, moves-issued, moves-told, new-issued, new_told, no_of, pass-keeps, remove-keeps, sound-no, sound-yes, spend-keeps, tells, yes_of}
+use Rattle.register.specs.Working.Operations.{by-found, contents-are, entries, freed-told, known-missing, known_at, moves-at, moves-issued, moves-told, new-issued, new_told, no_of, sound-no, sound-yes, tells, made_told, yes_of}
 
 module _ (r : Register) (e : length r.places ≡ 64) where
-  abbrev Says : Call → After → Type 0
-  Says c a = told a.answer (contents a.register) ≡ called (contents r) c
+  abbrev Says : Call → Made → Type 0
+  Says c m = made_told m ≡ called (contents r) c
 
   spend-says : (x n : ℕ) → Says (spends x n) (spend_of r x n)
-  unfolding spend_of called bad_amount unknown exceeding over_issue crowded holding effect contents
+  unfolding spend_of known_place called bad_amount unknown exceeding over_issue crowded holding effect contents
   spend-says x n =
       split (sound r)
       (λ t. let d : damaged (contents r) ≡ false = sound-no r e t in
@@ -48,7 +48,7 @@ module _ (r : Register) (e : length r.places ≡ 64) where
       (λ t. let d : damaged (contents r) ≡ true = sound-yes r e t in rw (t, d) refl)
 
   issue-says : (x n : ℕ) → Says (issues x n) (issue_of r x n)
-  unfolding issue_of called bad_amount unknown exceeding over_issue crowded holding effect contents with_issued
+  unfolding issue_of credit_of free_place called bad_amount unknown exceeding over_issue crowded holding effect contents with_issued
   issue-says x n =
       split (sound r)
       (λ t. let d : damaged (contents r) ≡ false = sound-no r e t in
@@ -75,7 +75,7 @@ module _ (r : Register) (e : length r.places ≡ 64) where
       (λ t. let d : damaged (contents r) ≡ true = sound-yes r e t in rw (t, d) refl)
 
   remove-says : (x : ℕ) → Says (removes x) (remove_of r x)
-  unfolding remove_of called bad_amount unknown exceeding over_issue crowded holding effect contents
+  unfolding remove_of known_place called bad_amount unknown exceeding over_issue crowded holding effect contents
   remove-says x =
       split (sound r)
       (λ t. let d : damaged (contents r) ≡ false = sound-no r e t in
@@ -120,7 +120,7 @@ module _ (r : Register) (e : length r.places ≡ 64) where
       ∙ ap (λ (z : ℕ). replaced y (held y (z + n)) (lost x n (entries r))) m
 
   pass-says : (x y n : ℕ) → Says (passes x y n) (pass_of r x y n)
-  unfolding pass_of pass_at called bad_amount unknown exceeding over_issue crowded holding effect contents
+  unfolding pass_of pass_at known_place called bad_amount unknown exceeding over_issue crowded holding effect contents
   pass-says x y n =
       split (sound r)
       (λ t. let d : damaged (contents r) ≡ false = sound-no r e t in
@@ -149,15 +149,15 @@ module _ (r : Register) (e : length r.places ≡ 64) where
       (λ u. let o : outside n ≡ true = yes_of (amount n) _ (amount-is n) u in rw (t, u, d, o) refl))
       (λ t. let d : damaged (contents r) ≡ true = sound-yes r e t in rw (t, d) refl)
 
-module _ (r : Register) (e : length r.places ≡ 64) (a : After) where
-  pub issue-tells : (x n : ℕ) → a ≡ issue_of r x n → Tells r a (called (contents r) (issues x n))
-  issue-tells x n h = tells r a _ _ h (issue-says r e x n) (issue-keeps r x n)
+module _ (r : Register) (e : length r.places ≡ 64) (a : After) (m : Made) (ae : a ≡ after_of r m) where
+  pub issue-tells : (x n : ℕ) → m ≡ issue_of r x n → Tells r a (called (contents r) (issues x n))
+  issue-tells x n h = tells r a m _ _ ae h (issue-says r e x n)
 
-  pub pass-tells : (x y n : ℕ) → a ≡ pass_of r x y n → Tells r a (called (contents r) (passes x y n))
-  pass-tells x y n h = tells r a _ _ h (pass-says r e x y n) (pass-keeps r x y n)
+  pub pass-tells : (x y n : ℕ) → m ≡ pass_of r x y n → Tells r a (called (contents r) (passes x y n))
+  pass-tells x y n h = tells r a m _ _ ae h (pass-says r e x y n)
 
-  pub spend-tells : (x n : ℕ) → a ≡ spend_of r x n → Tells r a (called (contents r) (spends x n))
-  spend-tells x n h = tells r a _ _ h (spend-says r e x n) (spend-keeps r x n)
+  pub spend-tells : (x n : ℕ) → m ≡ spend_of r x n → Tells r a (called (contents r) (spends x n))
+  spend-tells x n h = tells r a m _ _ ae h (spend-says r e x n)
 
-  pub remove-tells : (x : ℕ) → a ≡ remove_of r x → Tells r a (called (contents r) (removes x))
-  remove-tells x h = tells r a _ _ h (remove-says r e x) (remove-keeps r x)
+  pub remove-tells : (x : ℕ) → m ≡ remove_of r x → Tells r a (called (contents r) (removes x))
+  remove-tells x h = tells r a m _ _ ae h (remove-says r e x)

@@ -4,8 +4,8 @@ use Rattle.register.proofs.lampsickle_register_find.Goals as goal
 pub read-requires : goal.read-requires
 read-requires c = search checked-long
 
-pub returns-in-Refused : goal.returns-in-Refused
-returns-in-Refused c = search unread-find
+pub returns-in-Err : goal.returns-in-Err
+returns-in-Err c = search unread-find
 
 pub returns-in-At : goal.returns-in-At
 returns-in-At c = search found_at

@@ -7,8 +7,8 @@ read-requires c = search checked-long
 pub finish-requires : goal.finish-requires
 finish-requires c = search checked-long
 
-pub returns-in-Refused : goal.returns-in-Refused
-returns-in-Refused c = search unread
+pub returns-in-Err : goal.returns-in-Err
+returns-in-Err c = search unread
 
-pub returns-in-Granted : goal.returns-in-Granted
-returns-in-Granted c = search call-done
+pub returns-in-Ok : goal.returns-in-Ok
+returns-in-Ok c = search call-done

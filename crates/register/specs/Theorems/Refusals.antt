@@ -3,7 +3,9 @@ use Rattle.std.specs.Prelude.{◌≡◌, refl, true, false, List, [], ◌∷◌,
 use Rattle.std.proofs.Common.{sym, ap, ◌∙◌, arith}
 use Rattle.text.specs.Choice.{pick, split}
 use Rattle.register.specs.Entries.{Contents}
-use Rattle.register.specs.Calls.{Call, Reason, damaged_register, amount_outside, unknown_principal, more_than_held, issue_limit, no_place, moves_left, number, applies, effect, granted, refused, tested, order, called}
+use Rattle.register.specs.declared.Reason.{Reason}
+use Rattle.register.specs.declared.Reason.TheVariants.{DamagedRegister, AmountOutside, UnknownPrincipal, MoreThanHeld, IssueLimit, NoPlace, MovesLeft}
+use Rattle.register.specs.Calls.{Call, number, applies, effect, granted, refused, tested, order, called}
 
 -- a reason that is there, while none before it in a list of reasons is
 pub data First (r : Contents) (c : Call) (k : Reason) : List Reason → Type 0 where
@@ -83,20 +85,20 @@ module _ (r : Contents) (c : Call) where
 -- a number has one reason
 unfoldable pub reason_of : ℕ → Reason
 reason_of n =
-    pick (eqb n 14) amount_outside
-    (pick (eqb n 15) unknown_principal
-    (pick (eqb n 16) more_than_held
-    (pick (eqb n 17) issue_limit (pick (eqb n 18) no_place (pick (eqb n 19) moves_left damaged_register)))))
+    pick (eqb n 14) AmountOutside
+    (pick (eqb n 15) UnknownPrincipal
+    (pick (eqb n 16) MoreThanHeld
+    (pick (eqb n 17) IssueLimit (pick (eqb n 18) NoPlace (pick (eqb n 19) MovesLeft DamagedRegister)))))
 
 pub reason-of : (k : Reason) → reason_of (number k) ≡ k
 unfolding reason_of
-reason-of damaged_register = refl
-reason-of amount_outside = refl
-reason-of unknown_principal = refl
-reason-of more_than_held = refl
-reason-of issue_limit = refl
-reason-of no_place = refl
-reason-of moves_left = refl
+reason-of DamagedRegister = refl
+reason-of AmountOutside = refl
+reason-of UnknownPrincipal = refl
+reason-of MoreThanHeld = refl
+reason-of IssueLimit = refl
+reason-of NoPlace = refl
+reason-of MovesLeft = refl
 
 pub one-reason : (j k : Reason) → number j ≡ number k → j ≡ k
 one-reason j k e = sym (reason-of j) ∙ ap reason_of e ∙ reason-of k

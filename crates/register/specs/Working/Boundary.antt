@@ -1,27 +1,29 @@
 -- Working laws of calls on bytes. Assumes nothing.
-use Rattle.std.specs.Prelude.{◌≡◌, true, false, List, ℕ, zero, suc, ◌+◌, ◌*◌, eqb, ltb, length, get_or}
+use Rattle.std.specs.Prelude.{◌≡◌, true, false, List, ℕ, zero, suc, ◌+◌, ◌*◌, eqb, ltb, length, get_or, Ok, Err}
 use Rattle.std.proofs.Math.Path.{refl, sym, ap}
 use Rattle.std.proofs.Common.{◌∙◌, arith, eqb-true, eq-eqb, ne_eqb}
 use Rattle.text.specs.Choice.{split}
 use Rattle.register.specs.Entries.{Contents, empty}
-use Rattle.register.specs.Calls.{Call, Outcome, called}
+use Rattle.register.specs.Calls.{Call, Outcome, called, number}
 use Rattle.register.specs.Find.{find}
 use Rattle.register.specs.Layout.{encode, eight_at, entries_at, Decoded, register, unreadable, marked, decode}
 use Rattle.register.specs.OnBytes.{written, settled, on_bytes, emptied, searched, find_on}
-use Rattle.register.specs.Told.{contents, told, Tells}
-use Rattle.register.specs.Working.Bytes.{marks_in, readable_at, readable}
+use Rattle.register.specs.Told.{contents, Answer, told, Tells, unfit_number, unfit_place}
+use Rattle.register.specs.Working.Bytes.{Check, marks_in, readable_at, readable}
 use Rattle.register.specs.declared.Register.{Register}
 use Rattle.register.specs.declared.After.{After}
-use Rattle.register.specs.declared.Answer.{Answer}
-use Rattle.register.specs.declared.Answer.TheVariants.{Granted, Refused}
+use Rattle.register.specs.declared.Reason.{Reason}
+use Rattle.register.specs.declared.Reply.{Reply}
+use Rattle.register.specs.declared.layout.Unfit.{Unfit}
+use Rattle.register.specs.declared.layout.Unfit.TheVariants.{Length}
 use Rattle.register.specs.declared.Found.{Found}
 use Rattle.register.specs.declared.Found.TheVariants.{At, Missing}
 use Rattle.register.specs.declared.Search.{Search}
 
 -- what was checked, as what is decoded
-abbrev judged : Answer → Decoded → Decoded
-judged Granted d = d
-judged (Refused n p) d = unreadable n p
+abbrev judged : Check → Decoded → Decoded
+judged (Ok u) d = d
+judged (Err e) d = unreadable (unfit_number e) (unfit_place e)
 
 marks-are : (n : ℕ) (s : List ℕ) (i : ℕ) (d : Decoded) → marked n s (9 + i * 13) d ≡ judged (marks_in n s i) d
 unfolding marked
@@ -40,27 +42,28 @@ decode_is s =
     (λ t. split (eqb (get_or s 0 0) 1) (λ u. rw (t, u) (marks-are 64 s 0 (register (all s)))) (λ u. rw (t, u) refl))
     (λ t. rw t refl)
 
-granted-not : {P : Type 0} {k p : ℕ} → Refused k p ≡ Granted → P
+granted-not : {P : Type 0} {e : Unfit} → ◌≡◌ {A = Check} (Err e) (Ok tt) → P
 granted-not h = let z : ◌≡◌ {A = ℕ} 0 1 = cc in let no : ⊥ = omega arith in absurd no
 
-readable-long : (s : List ℕ) → readable s ≡ Granted → length s ≡ 841
+readable-long : (s : List ℕ) → readable s ≡ Ok tt → length s ≡ 841
 unfolding readable
 readable-long s h = split (eqb (length s) 841) (λ t. eqb-true _ _ t) (λ t. granted-not (rw t at h))
 
-module _ (s : List ℕ) (a : Answer) (ae : a ≡ readable s) where
-  pub checked-long : a ≡ Granted → length s ≡ 841
+module _ (s : List ℕ) (a : Check) (ae : a ≡ readable s) where
+  pub checked-long : a ≡ Ok tt → length s ≡ 841
   checked-long h = readable-long s (sym ae ∙ h)
 
   -- bytes that are no register
-  pub unread : (c : Call) (n p : ℕ) → a ≡ Refused n p → written n p s ≡ on_bytes s c
+  pub unread : (c : Call) (e : Unfit) → a ≡ Err e → (y : Reply) → y ≡ record { number = unfit_number e; place = unfit_place e } → written y.number y.place s ≡ on_bytes s c
   unfolding on_bytes
-  unread c n p h = rw (decode_is s, sym ae, h) refl
+  unread c e h y ye = rw (ye, decode_is s, sym ae, h) refl
 
-  pub unread-find : (x n p : ℕ) → a ≡ Refused n p → ◌≡◌ {A = Search} (record { number = n; place = p; held = false; at = 0; work = 0 }) (find_on s x)
+  pub unread-find : (x : ℕ) (e : Unfit) → a ≡ Err e → (n : ℕ) → n ≡ unfit_number e → (p : ℕ) → p ≡ unfit_place e
+      → ◌≡◌ {A = Search} (record { number = n; place = p; held = false; at = 0; work = 0 }) (find_on s x)
   unfolding find_on
-  unread-find x n p h = rw (decode_is s, sym ae, h) refl
+  unread-find x e h n ne p pe = rw (ne, pe, decode_is s, sym ae, h) refl
 
-  module _ (h : a ≡ Granted) (r : Register) (re : contents r ≡ all s) where
+  module _ (h : a ≡ Ok tt) (r : Register) (re : contents r ≡ all s) where
     -- a call on the register that the bytes are
     pub call-done : (c : Call) (f : After) → Tells r f (called (contents r) c) → (n p : ℕ) (s' : List ℕ)
         → written n p s' ≡ settled s (told f.answer (contents f.register)) → written n p s' ≡ on_bytes s c
@@ -83,16 +86,16 @@ module _ (s : List ℕ) (a : Answer) (ae : a ≡ readable s) where
 
 -- the end of a call
 module _ (s : List ℕ) (f : After) (a : Answer) (ae : a ≡ f.answer) where
-  pub finish-granted : a ≡ Granted → (s' : List ℕ) → s' ≡ encode (contents f.register) → written 0 0 s' ≡ settled s (told f.answer (contents f.register))
+  pub finish-granted : a ≡ Ok tt → (s' : List ℕ) → s' ≡ encode (contents f.register) → written 0 0 s' ≡ settled s (told f.answer (contents f.register))
   finish-granted h s' e = rw (sym ae, h) (ap (λ (x : List ℕ). written 0 0 x) e)
 
-  pub finish-refused : (n p : ℕ) → a ≡ Refused n p → written n p s ≡ settled s (told f.answer (contents f.register))
-  finish-refused n p h = rw (sym ae, h) refl
+  pub finish-refused : (k : Reason) → a ≡ Err k → (n : ℕ) → n ≡ number k → written n 0 s ≡ settled s (told f.answer (contents f.register))
+  finish-refused k h n ne = rw (sym ae, h, ne) refl
 
 -- the empty register
-pub empty-length : (s : List ℕ) → (length s ≡ 841 → ⊥) → written 5 0 s ≡ emptied s
+pub empty-length : (s : List ℕ) → (length s ≡ 841 → ⊥) → (y : Reply) → y ≡ record { number = unfit_number Length; place = unfit_place Length } → written y.number y.place s ≡ emptied s
 unfolding emptied
-empty-length s h = rw (ne_eqb (length s) 841 h) refl
+empty-length s h y ye = rw (ye, ne_eqb (length s) 841 h) refl
 
 pub empty-done : (s s' : List ℕ) (r : Register) → length s ≡ 841 → contents r ≡ empty → s' ≡ encode (contents r) → written 0 0 s' ≡ emptied s
 unfolding emptied

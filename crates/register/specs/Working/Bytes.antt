@@ -1,9 +1,9 @@
 -- Working definitions and laws of the register's bytes. Assumes nothing.
-use Rattle.std.specs.Prelude.{◌≡◌, Bool, true, false, eqb, ltb, get_or, set, take, drop, replicate}
+use Rattle.std.specs.Prelude.{◌≡◌, Bool, true, false, eqb, ltb, get_or, set, take, drop, replicate, Result, Ok, Err}
 use Rattle.std.proofs.Math.Path.{refl, sym, ap, subst}
 use Rattle.std.proofs.Common.{◌∙◌, length-append, drop_at, length-take-le, take-take}
 use mathlib.Core.List.{List, [], ◌∷◌, ◌++◌, map, append_assoc, append-nil}
-use Prim.Native.Nat.{ℕ, zero, suc, ◌+◌, ◌-◌, ◌*◌, ◌/◌, ◌%◌, ◌<◌, ◌≤◌}
+use Prim.Native.Nat.{ℕ, zero, suc, ◌+◌, ◌-◌, ◌*◌, ◌<◌, ◌≤◌}
 use native.Mathlib.Omega.{arith}
 use Rattle.std.proofs.Math.ListN.{length}
 use Rattle.std.proofs.lemmas.List.{take-append-le}
@@ -14,25 +14,29 @@ use Rattle.text.specs.Copy.{copied, put, copy_at}
 use Rattle.text.specs.CopyLaws.{put-length, put-nil}
 use Rattle.text.specs.Counted.{pair_at}
 use Rattle.register.specs.Entries.{Entry, free, held}
-use Rattle.register.specs.Layout.{four_bytes, entry_bytes, entries_bytes, head, encode, four_at, eight_at, entry_at, entries_at}
+use Rattle.register.specs.Layout.{four_bytes, eight_bytes, entry_bytes, entries_bytes, head, encode, four_at, eight_at, entry_at, entries_at}
 use Rattle.register.specs.Told.{entry_of, contents}
 use Rattle.register.specs.Working.Places.{at}
 use Rattle.register.specs.Working.Ties.{entries_in, entries-map, stored_here}
 use Rattle.register.specs.declared.Place.{Place}
 use Rattle.register.specs.declared.Register.{Register}
-use Rattle.register.specs.declared.Answer.{Answer}
-use Rattle.register.specs.declared.Answer.TheVariants.{Granted, Refused}
+use Rattle.register.specs.declared.layout.Unfit.{Unfit}
+use Rattle.register.specs.declared.layout.Unfit.TheVariants.{Length, Version, Mark}
+
+-- whether bytes are a register
+abbrev pub Check : Type 0
+Check = Result (Unit {0}) Unfit
 
 -- the marks of n places from a number on
-abbrev pub marks_in : ℕ → List ℕ → ℕ → Answer
-marks_in zero s i = Granted
-marks_in (suc n) s i = pick (ltb 1 (get_or s (9 + i * 13) 0)) (Refused 6 (9 + i * 13)) (marks_in n s (i + 1))
+abbrev pub marks_in : ℕ → List ℕ → ℕ → Check
+marks_in zero s i = Ok tt
+marks_in (suc n) s i = pick (ltb 1 (get_or s (9 + i * 13) 0)) (Err (Mark (9 + i * 13))) (marks_in n s (i + 1))
 
-unfoldable pub readable_at : List ℕ → ℕ → Answer
+unfoldable pub readable_at : List ℕ → ℕ → Check
 readable_at s i = marks_in (64 - i) s i
 
-unfoldable pub readable : List ℕ → Answer
-readable s = pick (eqb (length s) 841) (pick (eqb (get_or s 0 0) 1) (readable_at s 0) (Refused 2 0)) (Refused 5 0)
+unfoldable pub readable : List ℕ → Check
+readable s = pick (eqb (length s) 841) (pick (eqb (get_or s 0 0) 1) (readable_at s 0) (Err Version)) (Err Length)
 
 -- numbers read
 pub two-read : (s : List ℕ) (i a b : ℕ) → a ≡ get_or s i 0 → b ≡ get_or s (i + 1) 0 → a * 256 + b ≡ pair_at s i
@@ -91,12 +95,12 @@ module _ (s : List ℕ) (l : List Place) (i : ℕ) (long : length l ≡ 64) (inv
 
 -- whether the bytes are a register
 module _ (s : List ℕ) where
-  pub check-length : (length s ≡ 841 → ⊥) → Refused 5 0 ≡ readable s
+  pub check-length : (length s ≡ 841 → ⊥) → Err Length ≡ readable s
   unfolding readable
   check-length h = rw (ne_eqb (length s) 841 h) refl
 
   module _ (h : length s ≡ 841) where
-    pub check-version : (get_or s 0 0 ≡ 1 → ⊥) → Refused 2 0 ≡ readable s
+    pub check-version : (get_or s 0 0 ≡ 1 → ⊥) → Err Version ≡ readable s
     unfolding readable
     check-version v = rw (eq-eqb (length s) 841 h, ne_eqb (get_or s 0 0) 1 v) refl
 
@@ -104,13 +108,13 @@ module _ (s : List ℕ) where
     unfolding readable
     check-start v = rw (eq-eqb (length s) 841 h, eq-eqb (get_or s 0 0) 1 v) refl
 
-  module _ (i : ℕ) (r : Answer) (inv : readable_at s i ≡ r) where
-    pub check-end : 64 ≤ i → Granted ≡ r
+  module _ (i : ℕ) (r : Check) (inv : readable_at s i ≡ r) where
+    pub check-end : 64 ≤ i → Ok tt ≡ r
     unfolding readable_at
     check-end h = let n : 64 - i ≡ zero = omega arith in (rw n refl) ∙ inv
 
     module _ (h : i < 64) where
-      pub check-bad : 1 < get_or s (9 + i * 13) 0 → Refused 6 (9 + i * 13) ≡ r
+      pub check-bad : 1 < get_or s (9 + i * 13) 0 → Err (Mark (9 + i * 13)) ≡ r
       unfolding readable_at
       check-bad b = let n : 64 - i ≡ suc (64 - (i + 1)) = omega arith in (rw (n, lt-ltb 1 (get_or s (9 + i * 13) 0) b) refl) ∙ inv
 
@@ -119,9 +123,9 @@ module _ (s : List ℕ) where
       check-more b = let n : 64 - i ≡ suc (64 - (i + 1)) = omega arith in (rw (n, le-ltb 1 (get_or s (9 + i * 13) 0) b) refl) ∙ inv
 
 -- bytes of a place
-pub held_bytes : (p : Place) → p.held ≡ true
-    → (1 ∷ four_bytes p.principal) ++ (four_bytes (p.moves / 4294967296) ++ four_bytes (p.moves % 4294967296)) ≡ entry_bytes (entry_of p)
-held_bytes p h = rw h refl
+pub held_bytes : (p : Place) → p.held ≡ true → (x m : List ℕ) → x ≡ four_bytes p.principal → m ≡ eight_bytes p.moves
+    → ◌≡◌ {A = List ℕ} (1 ∷ get_or x 0 0 ∷ get_or x 1 0 ∷ get_or x 2 0 ∷ get_or x 3 0 ∷ get_or m 0 0 ∷ get_or m 1 0 ∷ get_or m 2 0 ∷ get_or m 3 0 ∷ get_or m 4 0 ∷ get_or m 5 0 ∷ get_or m 6 0 ∷ get_or m 7 0 ∷ []) (entry_bytes (entry_of p))
+held_bytes p h x m xe me = rw (h, xe, me) refl
 
 pub free_bytes : (p : Place) → p.held ≡ false → replicate 13 0 ≡ entry_bytes (entry_of p)
 free_bytes p h = rw h refl
@@ -199,9 +203,6 @@ module _ (d m : List ℕ) (l : List Place) (i : ℕ) (long : length d ≡ 841) (
       rw (n, j)
       (e ∙ ap (λ (x : List ℕ). put x (9 + (i - 1) * 13) (entry_bytes (entry_of (at l (i - 1))))) inv'
       ∙ put-before d (9 + (i - 1) * 13) (entry_bytes (entry_of (at l (i - 1)))) (entries_bytes (entries_in (64 - i) l i)) (omega arith))
-
-pub put-same-length : (d m : List ℕ) (i : ℕ) (e : Entry) → length d ≡ 841 → i + 13 ≤ 841 → m ≡ put d i (entry_bytes e) → length m ≡ 841
-put-same-length d m i e h k q = ap length q ∙ put-length d i (entry_bytes e) (let b : i + length (entry_bytes e) ≤ length d = omega (arith, entry_length e) in b) ∙ h
 
 pub put-done : (d m : List ℕ) (r : Register) (i : ℕ) → length r.places ≡ 64 → i ≤ 0
     → m ≡ put d (9 + i * 13) (entries_bytes (entries_in (64 - i) r.places i)) → m ≡ put d 9 (entries_bytes (contents r).entries)

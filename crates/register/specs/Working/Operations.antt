@@ -1,18 +1,18 @@
 -- The operations on places tell what the calls on contents give. Assumes nothing.
-use Rattle.std.specs.Prelude.{◌≡◌, Bool, not, ℕ, zero, suc, ◌+◌, ◌<◌, eqb, ltb, length}
+use Rattle.std.specs.Prelude.{◌≡◌, Bool, not, ℕ, zero, suc, ◌<◌, ltb, length, Ok, Err}
 use Rattle.std.proofs.Math.Path.{refl, sym, ap, subst}
 use Rattle.std.proofs.Common.{◌∙◌, arith}
 use Rattle.std.proofs.Math.Bool.{true, false}
 use mathlib.Core.List.{List, [], ◌∷◌, map}
 use Rattle.std.proofs.Math.ListN.{get_or, length-set}
 use borrow.Author.Tests.{lt-ltb}
-use Rattle.text.specs.Choice.{pick, split, clash}
+use Rattle.text.specs.Choice.{split, clash}
 use Rattle.register.specs.Entries.{Entry, free, held, known, moves_of, added, replaced}
-use Rattle.register.specs.Calls.{damaged, Outcome}
+use Rattle.register.specs.Calls.{damaged, Outcome, granted, refused, number}
 use Rattle.register.specs.Find.{find}
-use Rattle.register.specs.Told.{entry_of, contents, told, Tells}
+use Rattle.register.specs.Told.{entry_of, contents, Answer, Tells}
 use Rattle.register.specs.Theorems.Find.{find_at, find-missing}
-use Rattle.register.specs.Working.Places.{nobody, at, found, free_from, sound, amount, moves_at, with_moves, with_new, granted, refused, on_found, issue_of, spend_of, pass_at, pass_of, remove_of}
+use Rattle.register.specs.Working.Places.{nobody, at, found, free_from, sound, moves_at, with_moves, with_new, Made, after_of}
 use Rattle.register.specs.Working.Ways.{holds}
 use Rattle.register.specs.Working.Ties.{found-is, replaced-is, added_is, sound-is}
 use Rattle.register.specs.declared.Place.{Place}
@@ -20,7 +20,7 @@ use Rattle.register.specs.declared.Register.{Register}
 use Rattle.register.specs.declared.After.{After}
 use Rattle.register.specs.declared.Found.{Found}
 use Rattle.register.specs.declared.Found.TheVariants.{At, Missing}
-use Rattle.register.specs.declared.Answer.TheVariants.{Granted, Refused}
+use Rattle.register.specs.declared.Reason.{Reason}
 
 -- goes by cases on what was found
 pub by-found : {P : Type 0} (f : Found) → ((i w : ℕ) → f ≡ At i w → P) → ((w : ℕ) → f ≡ Missing w → P) → P
@@ -110,75 +110,23 @@ pub contents-are : (q : Register) (l : List Entry) (n : ℕ) → map entry_of q.
 unfolding contents
 contents-are q l n a b = rw (a, b) refl
 
+-- what was made, as the outcome of a call
+abbrev pub made_told : Made → Outcome
+made_told (Ok q) = granted (contents q)
+made_told (Err k) = refused (number k) 0
+
 -- "Refusals change nothing": each refusal has the register that was handed in
-pick_all : (P : After → Type 0) (b : Bool) (x y : After) → P x → P y → P (pick b x y)
-pick_all P true x y f g = f
-pick_all P false x y f g = g
+err-kept : {k : Reason} {q r : Register} → ◌≡◌ {A = Answer} (Ok tt) (Err k) → q ≡ r
+err-kept h = let z : ◌≡◌ {A = ℕ} 0 1 = cc in let no : ⊥ = omega arith in absurd no
 
-found_all : (P : After → Type 0) (f : Found) (k : ℕ → After) (m : After) → ((i : ℕ) → P (k i)) → P m → P (on_found f k m)
-found_all P (At i w) k m g h = g i
-found_all P (Missing w) k m g h = h
+after-tells : (r : Register) (m : Made) → Tells r (after_of r m) (made_told m)
+after-tells r (Ok q) = record { outcome = refl; kept = λ k h. err-kept h }
+after-tells r (Err k) = record { outcome = refl; kept = λ j h. refl }
 
-granted-not : {P : Type 0} {k p : ℕ} → Granted ≡ Refused k p → P
-granted-not h = let z : ◌≡◌ {A = ℕ} 0 1 = cc in let no : ⊥ = omega arith in absurd no
-
-module _ (r : Register) where
-  abbrev Keeps : After → Type 0
-  Keeps a = (n p : ℕ) → a.answer ≡ Refused n p → a.register ≡ r
-
-  keeps-refused : (k : ℕ) → Keeps (refused k r)
-  keeps-refused k n p h = refl
-
-  keeps-granted : (q : Register) → Keeps (granted q)
-  keeps-granted q n p h = granted-not h
-
-  pub issue-keeps : (x n : ℕ) → Keeps (issue_of r x n)
-  unfolding issue_of
-  issue-keeps x n =
-      pick_all Keeps (sound r) _ _
-      (pick_all Keeps (amount n) _ _
-      (pick_all Keeps (ltb 1000000 (r.issued + n)) _ _ (keeps-refused 17)
-      (found_all Keeps (found r.places x) _ _ (λ i. keeps-granted _)
-      (pick_all Keeps (ltb (free_from r.places 0) 64) _ _ (keeps-granted _) (keeps-refused 18))))
-      (keeps-refused 14))
-      (keeps-refused 20)
-
-  pub spend-keeps : (x n : ℕ) → Keeps (spend_of r x n)
-  unfolding spend_of
-  spend-keeps x n =
-      pick_all Keeps (sound r) _ _
-      (pick_all Keeps (amount n) _ _
-      (found_all Keeps (found r.places x) _ _
-      (λ i. pick_all Keeps (ltb (moves_at r i) n) _ _ (keeps-refused 16) (keeps-granted _)) (keeps-refused 15))
-      (keeps-refused 14))
-      (keeps-refused 20)
-
-  pub pass-keeps : (x y n : ℕ) → Keeps (pass_of r x y n)
-  unfolding pass_of pass_at
-  pass-keeps x y n =
-      pick_all Keeps (sound r) _ _
-      (pick_all Keeps (amount n) _ _
-      (found_all Keeps (found r.places x) _ _
-      (λ i. found_all Keeps (found r.places y) _ _
-      (λ j. pick_all Keeps (ltb (moves_at r i) n) _ _ (keeps-refused 16) (pick_all Keeps (eqb i j) _ _ (keeps-granted r) (keeps-granted _)))
-      (keeps-refused 15))
-      (keeps-refused 15))
-      (keeps-refused 14))
-      (keeps-refused 20)
-
-  pub remove-keeps : (x : ℕ) → Keeps (remove_of r x)
-  unfolding remove_of
-  remove-keeps x =
-      pick_all Keeps (sound r) _ _
-      (found_all Keeps (found r.places x) _ _
-      (λ i. pick_all Keeps (ltb 0 (moves_at r i)) _ _ (keeps-refused 19) (keeps-granted _)) (keeps-refused 15))
-      (keeps-refused 20)
-
--- what the public functions promise, by their twins
-pub tells : (r : Register) (a b : After) (o : Outcome) → a ≡ b → told b.answer (contents b.register) ≡ o
-    → ((n p : ℕ) → b.answer ≡ Refused n p → b.register ≡ r) → Tells r a o
-tells r a b o h s k =
-    subst (λ (c : After). Tells r c o) (sym h) (record { outcome = s; kept = k })
+-- what the public functions promise, by what they make
+pub tells : (r : Register) (a : After) (m b : Made) (o : Outcome) → a ≡ after_of r m → m ≡ b → made_told b ≡ o → Tells r a o
+tells r a m b o h g s =
+    subst (λ (c : After). Tells r c o) (sym (h ∙ ap (after_of r) g)) (subst (λ (x : Outcome). Tells r (after_of r b) x) s (after-tells r b))
 
 pub find-tells : (r : Register) → length r.places ≡ 64 → (x : ℕ) (f : Found) → f ≡ found r.places x → f ≡ find (contents r).entries x
 unfolding contents

@@ -1,15 +1,16 @@
 -- Working laws: the turns of the register's loops. Assumes nothing.
-use Rattle.std.specs.Prelude.{◌≡◌, Bool, true, false, List, ℕ, zero, suc, ◌+◌, ◌-◌, ◌<◌, ◌≤◌, eqb, ltb, leb, get_or, set}
+use Rattle.std.specs.Prelude.{◌≡◌, Bool, true, false, List, ℕ, zero, suc, ◌+◌, ◌-◌, ◌<◌, ◌≤◌, Option, Some, None, Ok, Err, eqb, ltb, leb, get_or, set}
 use Rattle.std.proofs.Math.Path.{refl, sym}
 use Rattle.std.proofs.Common.{ap, ◌∙◌, lit<, Fits, lt_of_le_of_lt}
 use native.Mathlib.Omega.{arith}
 use Rattle.std.specs.Int.{w64}
 use borrow.Author.Tests.{leb-true, eqb-true, eqb-false, lt-ltb, le-ltb, le-leb, lt-leb, eq-eqb, ne_eqb}
 use Rattle.text.specs.Choice.{split, clash}
-use Rattle.register.specs.Working.Places.{nobody, find_in, find_from, found, free_from, worth, sum_in, sum_from, sum, distinct_from, at, sound, amount, moves_at, with_moves, with_new, with_issued, granted, refused, issue_of, spend_of, pass_at, pass_of, remove_of}
+use Rattle.register.specs.Working.Places.{nobody, find_in, find_from, found, free_from, free_place, worth, sum_in, sum_from, sum, distinct_from, at, sound, amount, moves_at, with_moves, with_new, with_issued, Made, granted, refused, Known, place_in, known_place, credit_of, issue_of, spend_of, pass_at, pass_of, remove_of}
 use Rattle.register.specs.declared.Place.{Place}
 use Rattle.register.specs.declared.Register.{Register}
-use Rattle.register.specs.declared.After.{After}
+use Rattle.register.specs.declared.Reason.{Reason}
+use Rattle.register.specs.declared.Reason.TheVariants.{DamagedRegister, AmountOutside, UnknownPrincipal, MoreThanHeld, IssueLimit, NoPlace, MovesLeft}
 use Rattle.register.specs.declared.Found.{Found}
 use Rattle.register.specs.declared.Found.TheVariants.{At, Missing}
 
@@ -42,16 +43,24 @@ pub find-whole : (l : List Place) (x : ℕ) (r : Found) → r ≡ find_from l x 
 unfolding found
 find-whole l x r e = e
 
-module _ (l : List Place) (i r : ℕ) (inv : free_from l i ≡ r) where
-  pub free-end : 64 ≤ i → i ≡ r
+module _ (l : List Place) (i : ℕ) (inv : free_from l i ≡ free_from l 0) where
+  free-stop : 64 ≤ i → free_from l i ≡ i
   unfolding free_from
-  free-end h = (rw (no_more i h) refl) ∙ inv
+  free-stop h = rw (no_more i h) refl
 
-  pub free-here : i < 64 → (get_or l i nobody).held ≡ false → i ≡ r
+  free-at : i < 64 → (get_or l i nobody).held ≡ false → free_from l i ≡ i
   unfolding free_from
-  free-here h f = (rw (one_more i h, f) refl) ∙ inv
+  free-at h f = rw (one_more i h, f) refl
 
-  pub free_more : i < 64 → (get_or l i nobody).held ≡ true → free_from l (i + 1) ≡ r
+  pub free-end : 64 ≤ i → None ≡ free_place l
+  unfolding free_place
+  free-end h = simp (sym inv, free-stop h, le-ltb i 64 h)
+
+  pub free-here : i < 64 → (get_or l i nobody).held ≡ false → Some i ≡ free_place l
+  unfolding free_place
+  free-here h f = simp (sym inv, free-at h f, lt-ltb i 64 h)
+
+  pub free_more : i < 64 → (get_or l i nobody).held ≡ true → free_from l (i + 1) ≡ free_from l 0
   unfolding free_from
   free_more h f = (rw (one_more i h, f) refl) ∙ inv
 
@@ -155,19 +164,6 @@ sound-facts r h =
     (λ t. clash h (rw t refl))
 
 module _ (r : Register) where
-  pub sound-many : 1000000 < r.issued → false ≡ sound r
-  unfolding sound
-  sound-many h = simp (lt-leb _ _ h)
-
-  module _ (h : r.issued ≤ 1000000) (t : Bool) (te : t ≡ leb (sum r.places) r.issued) where
-    pub sound-over : t ≡ false → false ≡ sound r
-    unfolding sound
-    sound-over f = simp (le-leb _ _ h, sym te, f)
-
-    pub sound-rest : t ≡ true → (u : Bool) → u ≡ distinct_from r.places 0 → u ≡ sound r
-    unfolding sound
-    sound-rest f u ue = simp (le-leb _ _ h, sym te, f) ue
-
   pub moves-in : (i : ℕ) → i < 64 → (at r.places i).moves ≡ moves_at r i
   unfolding moves_at
   moves-in i h = simp (lt-ltb _ _ h)
@@ -175,6 +171,12 @@ module _ (r : Register) where
   pub moves_out : (i : ℕ) → 64 ≤ i → 0 ≡ moves_at r i
   unfolding moves_at
   moves_out i h = simp (le-ltb _ _ h)
+
+ok-same : {i j : ℕ} → ◌≡◌ {A = Known} (Ok i) (Ok j) → i ≡ j
+ok-same h = cc
+
+err-ok : {P : Type 0} {k : Reason} {j : ℕ} → ◌≡◌ {A = Known} (Err k) (Ok j) → P
+err-ok h = let z : ◌≡◌ {A = ℕ} 0 1 = cc in let no : ⊥ = omega arith in absurd no
 
 small : (k : ℕ) → k ≤ 2000000 → Fits w64 k
 small k h = record { fits = lt_of_le_of_lt h (lit< tt) }
@@ -184,6 +186,9 @@ unfolding amount
 amount-few n t te th =
     split (leb n 1000000) (λ e. leb-true _ _ e)
     (λ e. split (ltb n 1) (λ u. clash th (te ∙ (rw u refl))) (λ u. clash th (te ∙ (rw (u, e) refl))))
+
+pub is-true : (t s : Bool) → t ≡ s → t ≡ true → s ≡ true
+is-true t s e h = sym e ∙ h
 
 -- sums that fit
 module _ (r : Register) (t : Bool) (te : t ≡ sound r) (th : t ≡ true) where
@@ -199,117 +204,142 @@ module _ (r : Register) (t : Bool) (te : t ≡ sound r) (th : t ≡ true) where
       let g : m ≡ (at r.places i).moves = me ∙ (rw (lt-ltb i 64 k.within) refl) in
       omega (arith, worth-le r.places i k.within, s.few, s.covers)
 
-  pub place-few : (x : ℕ) (f : Found) → f ≡ found r.places x → (i w : ℕ) → f ≡ At i w → moves_at r i ≤ 1000000
-  place-few x f fe i w fa = moves-few x f fe i w fa (moves_at r i) refl
+  pub place-few : (x : ℕ) (f : Known) → f ≡ known_place r x → (i : ℕ) → f ≡ Ok i → moves_at r i ≤ 1000000
+  unfolding known_place
+  place-few x f fe i fa =
+      known-at (found r.places x) i (sym fe ∙ fa) (λ w e. moves-few x (found r.places x) refl i w e (moves_at r i) refl)
+    where
+      known-at : {P : Type 0} (g : Found) (i : ℕ) → place_in g ≡ Ok i → ((w : ℕ) → g ≡ At i w → P) → P
+      known-at (At j w) i h k = k w (ap (λ (z : ℕ). At z w) (ok-same h))
+      known-at (Missing w) i h k = err-ok h
 
   pub issued-fits : (n : ℕ) (u : Bool) → u ≡ amount n → u ≡ true → Fits w64 (r.issued + n)
   issued-fits n u ue uh = small (r.issued + n) (omega (arith, issued-few, amount-few n u ue uh))
 
-  pub moves-fit : (n : ℕ) (u : Bool) → u ≡ amount n → u ≡ true → (x : ℕ) (f : Found) → f ≡ found r.places x → (i w : ℕ) → f ≡ At i w
-      → (m : ℕ) → m ≡ moves_at r i → Fits w64 (m + n)
-  moves-fit n u ue uh x f fe i w fa m me = small (m + n) (omega (arith, moves-few x f fe i w fa m me, amount-few n u ue uh))
+pub credit-fits : (r : Register) → sound r ≡ true → (n : ℕ) → n ≤ 1000000 → (x : ℕ) (f : Found) → f ≡ found r.places x → (i w : ℕ) → f ≡ At i w
+    → (m : ℕ) → m ≡ moves_at r i → Fits w64 (m + n)
+credit-fits r h n k x f fe i w fa m me = small (m + n) (omega (arith, moves-few r (sound r) refl h x f fe i w fa m me))
 
 pub pass_fits : (r : Register) (j n k : ℕ) → moves_at r j ≤ 1000000 → n ≤ 1000000 → k ≡ moves_at r j → Fits w64 (k + n)
 pass_fits r j n k a b e = small (k + n) (omega arith)
 
+-- a principal that has to be held
+pub known-is : (r : Register) (x : ℕ) (f : Found) → f ≡ found r.places x → (i w : ℕ) → f ≡ At i w → ◌≡◌ {A = Known} (Ok i) (known_place r x)
+unfolding known_place
+known-is r x f fe i w h = simp (sym fe, h)
+
+pub known-not : (r : Register) (x : ℕ) (f : Found) → f ≡ found r.places x → (w : ℕ) → f ≡ Missing w
+    → ◌≡◌ {A = Known} (Err UnknownPrincipal) (known_place r x)
+unfolding known_place
+known-not r x f fe w h = simp (sym fe, h)
+
+-- more moves at a principal
+module _ (r : Register) (x n : ℕ) (f : Found) (fe : f ≡ found r.places x) where
+  pub credit-held : (i w : ℕ) → f ≡ At i w → (m : ℕ) → m ≡ moves_at r i → (q : Register) → q ≡ with_moves r i (m + n) → granted q ≡ credit_of r x n
+  unfolding credit_of
+  credit-held i w fa m me q qe = simp (sym fe, fa, sym me, sym qe)
+
+  module _ (w : ℕ) (fm : f ≡ Missing w) (p : Option ℕ) (pe : p ≡ free_place r.places) where
+    pub credit-new : (i : ℕ) → p ≡ Some i → (q : Register) → q ≡ with_new r i (record { held = true; principal = x; moves = n })
+        → granted q ≡ credit_of r x n
+    unfolding credit_of
+    credit-new i h q qe = simp (sym fe, fm, sym pe, h, sym qe)
+
+    pub credit-full : p ≡ None → refused NoPlace ≡ credit_of r x n
+    unfolding credit_of
+    credit-full h = simp (sym fe, fm, sym pe, h)
+
 -- the ways out of the four operations
 module _ (r : Register) (t : Bool) (te : t ≡ sound r) where
-  pub issue-unsound : (x n : ℕ) → t ≡ false → (a : After) → a ≡ refused 20 r → a ≡ issue_of r x n
+  pub issue-unsound : (x n : ℕ) → t ≡ false → refused DamagedRegister ≡ issue_of r x n
   unfolding issue_of
-  issue-unsound x n h a ae = ae ∙ (simp (sym te, h))
+  issue-unsound x n h = simp (sym te, h)
 
-  pub spend-unsound : (x n : ℕ) → t ≡ false → (a : After) → a ≡ refused 20 r → a ≡ spend_of r x n
+  pub spend-unsound : (x n : ℕ) → t ≡ false → refused DamagedRegister ≡ spend_of r x n
   unfolding spend_of
-  spend-unsound x n h a ae = ae ∙ (simp (sym te, h))
+  spend-unsound x n h = simp (sym te, h)
 
-  pub pass-unsound : (x y n : ℕ) → t ≡ false → (a : After) → a ≡ refused 20 r → a ≡ pass_of r x y n
+  pub pass-unsound : (x y n : ℕ) → t ≡ false → refused DamagedRegister ≡ pass_of r x y n
   unfolding pass_of
-  pass-unsound x y n h a ae = ae ∙ (simp (sym te, h))
+  pass-unsound x y n h = simp (sym te, h)
 
-  pub remove-unsound : (x : ℕ) → t ≡ false → (a : After) → a ≡ refused 20 r → a ≡ remove_of r x
+  pub remove-unsound : (x : ℕ) → t ≡ false → refused DamagedRegister ≡ remove_of r x
   unfolding remove_of
-  remove-unsound x h a ae = ae ∙ (simp (sym te, h))
+  remove-unsound x h = simp (sym te, h)
 
-  module _ (th : t ≡ true) (x : ℕ) (f : Found) (fe : f ≡ found r.places x) where
-    pub remove-unknown : (w : ℕ) → f ≡ Missing w → (a : After) → a ≡ refused 15 r → a ≡ remove_of r x
+  module _ (th : t ≡ true) (x : ℕ) (f : Known) (fe : f ≡ known_place r x) where
+    pub remove-unknown : (k : Reason) → f ≡ Err k → refused k ≡ remove_of r x
     unfolding remove_of
-    remove-unknown w h a ae = ae ∙ (simp (sym te, th, sym fe, h))
+    remove-unknown k h = simp (sym te, th, sym fe, h)
 
-    module _ (i w : ℕ) (fa : f ≡ At i w) (m : ℕ) (me : m ≡ moves_at r i) where
-      pub remove-holds : 0 < m → (a : After) → a ≡ refused 19 r → a ≡ remove_of r x
+    module _ (i : ℕ) (fa : f ≡ Ok i) (m : ℕ) (me : m ≡ moves_at r i) where
+      pub remove-holds : 0 < m → refused MovesLeft ≡ remove_of r x
       unfolding remove_of
-      remove-holds h a ae = ae ∙ (simp (sym te, th, sym fe, fa, sym me, lt-ltb _ _ h))
+      remove-holds h = simp (sym te, th, sym fe, fa, sym me, lt-ltb _ _ h)
 
       pub remove-done : m ≤ 0 → (q : Register) → q ≡ with_new r i nobody → granted q ≡ remove_of r x
       unfolding remove_of
       remove-done h q qe = simp (sym te, th, sym fe, fa, sym me, le-ltb _ _ h, qe)
 
   module _ (th : t ≡ true) (n : ℕ) (u : Bool) (ue : u ≡ amount n) where
-    pub issue-amount : (x : ℕ) → u ≡ false → (a : After) → a ≡ refused 14 r → a ≡ issue_of r x n
+    pub issue-amount : (x : ℕ) → u ≡ false → refused AmountOutside ≡ issue_of r x n
     unfolding issue_of
-    issue-amount x h a ae = ae ∙ (simp (sym te, th, sym ue, h))
+    issue-amount x h = simp (sym te, th, sym ue, h)
 
-    pub spend-amount : (x : ℕ) → u ≡ false → (a : After) → a ≡ refused 14 r → a ≡ spend_of r x n
+    pub spend-amount : (x : ℕ) → u ≡ false → refused AmountOutside ≡ spend_of r x n
     unfolding spend_of
-    spend-amount x h a ae = ae ∙ (simp (sym te, th, sym ue, h))
+    spend-amount x h = simp (sym te, th, sym ue, h)
 
-    pub pass-amount : (x y : ℕ) → u ≡ false → (a : After) → a ≡ refused 14 r → a ≡ pass_of r x y n
+    pub pass-amount : (x y : ℕ) → u ≡ false → refused AmountOutside ≡ pass_of r x y n
     unfolding pass_of
-    pass-amount x y h a ae = ae ∙ (simp (sym te, th, sym ue, h))
+    pass-amount x y h = simp (sym te, th, sym ue, h)
 
     module _ (uh : u ≡ true) where
-      pub issue-over : (x : ℕ) → 1000000 < r.issued + n → (a : After) → a ≡ refused 17 r → a ≡ issue_of r x n
+      pub issue-over : (x : ℕ) → 1000000 < r.issued + n → refused IssueLimit ≡ issue_of r x n
       unfolding issue_of
-      issue-over x h a ae = ae ∙ (simp (sym te, th, sym ue, uh, lt-ltb _ _ h))
+      issue-over x h = simp (sym te, th, sym ue, uh, lt-ltb _ _ h)
 
-      module _ (x : ℕ) (f : Found) (fe : f ≡ found r.places x) where
-        pub spend-unknown : (w : ℕ) → f ≡ Missing w → (a : After) → a ≡ refused 15 r → a ≡ spend_of r x n
+      module _ (x : ℕ) (f : Made) (fe : f ≡ credit_of r x n) (o : r.issued + n ≤ 1000000) where
+        pub issue-more : (q : Register) → f ≡ Ok q → (s : Register) → s ≡ with_issued q (r.issued + n) → granted s ≡ issue_of r x n
+        unfolding issue_of
+        issue-more q h s se = simp (sym te, th, sym ue, uh, le-ltb _ _ o, sym fe, h, sym se)
+
+        pub issue-full : (k : Reason) → f ≡ Err k → refused k ≡ issue_of r x n
+        unfolding issue_of
+        issue-full k h = simp (sym te, th, sym ue, uh, le-ltb _ _ o, sym fe, h)
+
+      module _ (x : ℕ) (f : Known) (fe : f ≡ known_place r x) where
+        pub spend-unknown : (k : Reason) → f ≡ Err k → refused k ≡ spend_of r x n
         unfolding spend_of
-        spend-unknown w h a ae = ae ∙ (simp (sym te, th, sym ue, uh, sym fe, h))
+        spend-unknown k h = simp (sym te, th, sym ue, uh, sym fe, h)
 
-        pub pass-unknown : (y w : ℕ) → f ≡ Missing w → (a : After) → a ≡ refused 15 r → a ≡ pass_of r x y n
+        pub pass-unknown : (y : ℕ) (k : Reason) → f ≡ Err k → refused k ≡ pass_of r x y n
         unfolding pass_of
-        pass-unknown y w h a ae = ae ∙ (simp (sym te, th, sym ue, uh, sym fe, h))
+        pass-unknown y k h = simp (sym te, th, sym ue, uh, sym fe, h)
 
-        module _ (o : r.issued + n ≤ 1000000) where
-          pub issue-more : (i w : ℕ) → f ≡ At i w → (m : ℕ) → m ≡ moves_at r i → (q : Register) → q ≡ with_moves r i (m + n)
-              → (s : Register) → s ≡ with_issued q (r.issued + n) → granted s ≡ issue_of r x n
-          unfolding issue_of
-          issue-more i w fa m me q qe s se = simp (sym te, th, sym ue, uh, le-ltb _ _ o, sym fe, fa, sym me, sym qe, sym se)
-
-          module _ (w : ℕ) (fm : f ≡ Missing w) (i : ℕ) (ie : i ≡ free_from r.places 0) where
-            pub issue-full : 64 ≤ i → (a : After) → a ≡ refused 18 r → a ≡ issue_of r x n
-            unfolding issue_of
-            issue-full h a ae = ae ∙ (simp (sym te, th, sym ue, uh, le-ltb _ _ o, sym fe, fm, sym ie, le-ltb _ _ h))
-
-            pub issue-new : i < 64 → (q : Register) → q ≡ with_new r i (record { held = true; principal = x; moves = n })
-                → (s : Register) → s ≡ with_issued q (r.issued + n) → granted s ≡ issue_of r x n
-            unfolding issue_of
-            issue-new h q qe s se = simp (sym te, th, sym ue, uh, le-ltb _ _ o, sym fe, fm, sym ie, lt-ltb _ _ h, sym qe, sym se)
-
-        module _ (i w : ℕ) (fa : f ≡ At i w) where
+        module _ (i : ℕ) (fa : f ≡ Ok i) where
           module _ (m : ℕ) (me : m ≡ moves_at r i) where
-            pub spend-over : m < n → (a : After) → a ≡ refused 16 r → a ≡ spend_of r x n
+            pub spend-over : m < n → refused MoreThanHeld ≡ spend_of r x n
             unfolding spend_of
-            spend-over h a ae = ae ∙ (simp (sym te, th, sym ue, uh, sym fe, fa, sym me, lt-ltb _ _ h))
+            spend-over h = simp (sym te, th, sym ue, uh, sym fe, fa, sym me, lt-ltb _ _ h)
 
             pub spend-done : n ≤ m → (q : Register) → q ≡ with_moves r i (m - n) → granted q ≡ spend_of r x n
             unfolding spend_of
             spend-done h q qe = simp (sym te, th, sym ue, uh, sym fe, fa, sym me, le-ltb _ _ h, sym qe)
 
-          module _ (y : ℕ) (g : Found) (ge : g ≡ found r.places y) where
-            pub pass-unknown-2 : (v : ℕ) → g ≡ Missing v → (a : After) → a ≡ refused 15 r → a ≡ pass_of r x y n
+          module _ (y : ℕ) (g : Known) (ge : g ≡ known_place r y) where
+            pub pass-unknown-2 : (k : Reason) → g ≡ Err k → refused k ≡ pass_of r x y n
             unfolding pass_of
-            pass-unknown-2 v h a ae = ae ∙ (simp (sym te, th, sym ue, uh, sym fe, fa, sym ge, h))
+            pass-unknown-2 k h = simp (sym te, th, sym ue, uh, sym fe, fa, sym ge, h)
 
-            pub pass-found : (j v : ℕ) → g ≡ At j v → (a : After) → a ≡ pass_at r i j n → a ≡ pass_of r x y n
+            pub pass-found : (j : ℕ) → g ≡ Ok j → (a : Made) → a ≡ pass_at r i j n → a ≡ pass_of r x y n
             unfolding pass_of
-            pass-found j v ga a ae = simp (sym te, th, sym ue, uh, sym fe, fa, sym ge, ga) ae
+            pass-found j ga a ae = simp (sym te, th, sym ue, uh, sym fe, fa, sym ge, ga) ae
 
 module _ (r : Register) (i j n m : ℕ) (me : m ≡ moves_at r i) where
-  pub pass-over : m < n → (a : After) → a ≡ refused 16 r → a ≡ pass_at r i j n
+  pub pass-over : m < n → refused MoreThanHeld ≡ pass_at r i j n
   unfolding pass_at
-  pass-over h a ae = ae ∙ (simp (sym me, lt-ltb _ _ h))
+  pass-over h = simp (sym me, lt-ltb _ _ h)
 
   module _ (h : n ≤ m) where
     pub pass-self : i ≡ j → granted r ≡ pass_at r i j n
@@ -338,11 +368,3 @@ module _ (r : Register) (i : ℕ) where
   pub new-kept : (p : Place) → 64 ≤ i → r ≡ with_new r i p
   unfolding with_new
   new-kept p h = simp (le-ltb _ _ h)
-
-pub amount-none : (n : ℕ) → n < 1 → false ≡ amount n
-unfolding amount
-amount-none n h = simp (lt-ltb _ _ h)
-
-pub amount-rest : (n : ℕ) → 1 ≤ n → leb n 1000000 ≡ amount n
-unfolding amount
-amount-rest n h = simp (le-ltb _ _ h)

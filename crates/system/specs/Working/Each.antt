@@ -8,8 +8,7 @@ use Rattle.limits.specs.Limits.{most_constants, most_named, most_entered, most_l
 use Rattle.text.specs.Choice.{pick, split}
 use Rattle.text.specs.Counted.{counted}
 use Rattle.assertion.specs.Working.Field.{given, tabled}
-use Rattle.assertion.specs.Working.Reading.{Result, read_by, read_in}
-use Rattle.assertion.specs.declared.Assessment.{Assessment}
+use Rattle.assertion.specs.Working.Reading.{Assessment, ReadInto, read_by, read_in}
 use Rattle.system.specs.Working.Noting.{Noted, noted, note_in}
 use Rattle.system.specs.declared.note.Ends.{Ends}
 
@@ -37,7 +36,7 @@ store consts pool places code = record { consts = consts; pool = pool; places = 
 pub data One : Type 0 where
   one_by : Assessment → Store → One
 
-abbrev pub one_of : Result → One
+abbrev pub one_of : ReadInto → One
 one_of (read_by r x) = one_by r (store x.consts x.pool x.places x.code)
 
 -- the assertion at a place, with entries for its constants
@@ -89,13 +88,6 @@ pub one-is : (bytes values names : List ℕ) (top start at : ℕ) (x : Store) (c
     → one_by r (store consts pool places code) ≡ one_in (fixed bytes values names top start) at x count end size
 unfolding one_in
 one-is bytes values names top start at x count end size text standing r consts constants pool places code te se e = rw (← te, ← se, ← e)
-
--- `behind`
-pub behind-on : (i n : ℕ) → i < n → i + 1 ≡ pick (ltb i n) (i + 1) i
-behind-on i n h = rw (lt-ltb _ _ h)
-
-pub behind-all : (i n : ℕ) → n ≤ i → i ≡ pick (ltb i n) (i + 1) i
-behind-all i n h = rw (le-ltb _ _ h)
 
 -- `is_full`
 module _ (consts start text pool end places count : ℕ) where
@@ -158,12 +150,9 @@ module _ (bytes values names : List ℕ) (top start : ℕ) (ps : List ℕ) (i : 
     each-full k = rw k at here
 
     module _ (k : b ≡ false) (r : Assessment) (y : Store) (re : one_by r y ≡ one_in f at x e.index.count e.index.end e.size) (u : Ends) (a' c' d' page' : List ℕ)
-        (ne : noted u a' c' d' page' ≡ note_in a c d page i e r) (j : ℕ) (je : j ≡ pick (ltb i (length ps)) (i + 1) i) where
-      pub each_more : each_from f (drop j ps) j (each_by u y a' c' d' page') ≡ z
+        (ne : noted u a' c' d' page' ≡ note_in a c d page i e r) where
+      pub each_more : each_from f (drop (i + 1) ps) (i + 1) (each_by u y a' c' d' page') ≡ z
       each_more =
-          let on : j ≡ suc i = je ∙ rw (lt-ltb _ _ h, add-one i) in
+          let on : i + 1 ≡ suc i = add-one i in
           let w : each_from f (drop (suc i) ps) (suc i) (on_one a c d page i e (one_in f at x e.index.count e.index.end e.size)) ≡ z = rw k at here in
           rw on (rw (← re, ← ne) at w)
-
-pub each-less : (n i j : ℕ) → i < n → j ≡ pick (ltb i n) (i + 1) i → n - j < n - i
-each-less n i j h je = let z : j ≡ i + 1 = je ∙ rw (lt-ltb _ _ h) in omega (arith, h, z)

@@ -1,9 +1,8 @@
 -- Working definitions: what became of an assertion noted, and the ways out of the functions that do it. Assumes nothing.
-use Rattle.std.specs.Prelude.{List, [], ◌∷◌, ℕ, ◌+◌, ◌*◌, ◌/◌, ◌%◌, leb, ltb, length, set}
+use Rattle.std.specs.Prelude.{List, [], ◌∷◌, ℕ, ◌+◌, ◌*◌, ◌/◌, ◌%◌, leb, ltb, length, set, Ok, Err}
 use Rattle.text.specs.Choice.{pick}
 use Rattle.text.specs.Copy.{put}
-use Rattle.assertion.specs.declared.Assessment.{Assessment}
-use Rattle.assertion.specs.declared.Assessment.TheVariants.{Kept, Dropped}
+use Rattle.assertion.specs.Working.Reading.{Assessment}
 use Rattle.system.specs.declared.note.Ends.{Ends}
 use Rattle.syntax.specs.declared.fault.Fault.{Fault}
 use Rattle.index.specs.declared.Index.{Index}
@@ -35,8 +34,8 @@ abbrev pub on_rowed : Index → ℕ → List ℕ → Rowed → Noted
 on_rowed index size page (rowed k a c d) = noted (ends_at index size k) a c d page
 
 unfoldable pub note_in : List ℕ → List ℕ → List ℕ → List ℕ → ℕ → Ends → Assessment → Noted
-note_in a c d page i e (Dropped f) = noted e a c d (entry_into page i f)
-note_in a c d page i e (Kept author index size rank) = on_rowed index size (entry_into page i clear_at) (row_into a c d e.kept author rank size)
+note_in a c d page i e (Err f) = noted e a c d (entry_into page i f)
+note_in a c d page i e (Ok r) = on_rowed r.index r.size (entry_into page i clear_at) (row_into a c d e.kept r.author r.rank r.size)
 
 -- the report's first three bytes, where the page has room for them
 unfoldable pub header_into : List ℕ → ℕ → List ℕ

@@ -1,5 +1,5 @@
 -- The ways out of the functions that note what became of an assertion. Assumes nothing.
-use Rattle.std.specs.Prelude.{◌≡◌, Bool, List, [], ◌∷◌, length, set}
+use Rattle.std.specs.Prelude.{◌≡◌, Bool, List, [], ◌∷◌, length, set, Ok, Err}
 use Prim.Native.Nat.{ℕ, ◌+◌, ◌-◌, ◌*◌, ◌/◌, ◌%◌, ◌<◌, ◌≤◌}
 use Rattle.std.proofs.Common.{arith}
 use borrow.Author.Tests.{le-leb, lt-leb, lt-ltb, le-ltb}
@@ -8,8 +8,8 @@ use Rattle.text.specs.CopyLaws.{put_front}
 use Rattle.text.specs.Counted.{pair_bytes}
 use Rattle.text.specs.Put.{put_pair}
 use Rattle.text.specs.CountedLaws.{pair_put}
-use Rattle.assertion.specs.declared.Assessment.{Assessment}
-use Rattle.assertion.specs.declared.Assessment.TheVariants.{Kept, Dropped}
+use Rattle.assertion.specs.Working.Reading.{Assessment}
+use Rattle.assertion.specs.declared.Assessed.{Assessed}
 use Rattle.system.specs.Working.Noting.{entry_into, header_into, rowed, row_into, noted, ends_at, note_in}
 use Rattle.system.specs.declared.note.Ends.{Ends}
 use Rattle.syntax.specs.declared.fault.Fault.{Fault}
@@ -78,11 +78,11 @@ module _ (a c d : List ℕ) (k author rank size : ℕ) where
 
 -- `note`
 module _ (a c d page : List ℕ) (i : ℕ) (e : Ends) where
-  pub note-dropped : (r : Assessment) (f : Fault) (q : List ℕ) → r ≡ Dropped f → q ≡ entry_into page i f → noted e a c d q ≡ note_in a c d page i e r
+  pub note-dropped : (r : Assessment) (f : Fault) (q : List ℕ) → r ≡ Err f → q ≡ entry_into page i f → noted e a c d q ≡ note_in a c d page i e r
   unfolding note_in
   note-dropped r f q k qe = rw (k, qe)
 
-  pub note-kept : (r : Assessment) (author : ℕ) (index : Index) (size rank : ℕ) (q : List ℕ) → r ≡ Kept author index size rank → (f : Fault) → f ≡ clear_at → q ≡ entry_into page i f
-      → (k : ℕ) (a' c' d' : List ℕ) → rowed k a' c' d' ≡ row_into a c d e.kept author rank size → noted (ends_at index size k) a' c' d' q ≡ note_in a c d page i e r
+  pub note-kept : (r : Assessment) (x : Assessed) (q : List ℕ) → r ≡ Ok x → (f : Fault) → f ≡ clear_at → q ≡ entry_into page i f
+      → (k : ℕ) (a' c' d' : List ℕ) → rowed k a' c' d' ≡ row_into a c d e.kept x.author x.rank x.size → noted (ends_at x.index x.size k) a' c' d' q ≡ note_in a c d page i e r
   unfolding note_in
-  note-kept r author index size rank q g f fe qe k a' c' d' re = rw (g, qe, fe, ← re)
+  note-kept r x q g f fe qe k a' c' d' re = rw (g, qe, fe, ← re)

@@ -1,8 +1,4 @@
-use mathlib.Core.Path.{◌≡◌}
-use mathlib.Core.List.{map}
-use Prim.Native.Nat.{◌-◌}
-use lib.Dec.{leb}
-use lib.ListN.{length}
+use Rattle.std.proofs.Common.{◌≡◌, length, leb, map}
 use Rattle.text.specs.Counted.{counted}
 use Rattle.text.specs.Join.{joined}
 use Rattle.text.specs.Working.Joining.{fits_rest}
@@ -10,6 +6,3 @@ use Rattle.text.proofs.joined_fits.Given as goal
 
 abbrev pub invariant-loop-i : goal.invariant-loop-i
 invariant-loop-i l = fits_rest l.s l.places l.i l.left ≡ leb (length (joined (map (counted l.s) l.places))) l.room
-
-abbrev pub decreases-loop-i : goal.decreases-loop-i
-decreases-loop-i l = length l.places - l.i

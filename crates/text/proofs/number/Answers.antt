@@ -1,11 +1,9 @@
-use Rattle.text.specs.Working.Holding.{hold-start, hold-more, hold-end}
+use Rattle.std.specs.Prelude.{fold}
+use Rattle.std.proofs.Common.{◌≡◌, ◌∙◌, rules}
+use Rattle.text.specs.Working.Holding.{hold, held-fold}
 use Rattle.text.proofs.number.Goals as goal
 
-pub loop-i-init : goal.loop-i-init
-loop-i-init c = search hold-start
-
-pub loop-i-preserved : goal.loop-i-preserved
-loop-i-preserved c = search hold-more
-
 pub returns : goal.returns
-returns c = search hold-end
+returns c =
+    let e : c.fold.result ≡ fold hold 0 c.args.digits.now = search rules in
+    e ∙ held-fold c.args.digits.now

@@ -4,11 +4,11 @@ use Rattle.text.proofs.number_from.Goals as goal
 pub loop-i-init : goal.loop-i-init
 loop-i-init c = search digits-start
 
+pub returns-then-not-is_digit : goal.returns-then-not-is_digit
+returns-then-not-is_digit c = search digits-stop
+
 pub loop-i-preserved : goal.loop-i-preserved
 loop-i-preserved c = search digits_more
-
-pub returns-else-is_digit : goal.returns-else-is_digit
-returns-else-is_digit c = search digits-stop
 
 pub returns : goal.returns
 returns c = search digits-end

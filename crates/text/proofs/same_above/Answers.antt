@@ -1,21 +1,20 @@
-use Rattle.text.specs.Working.Backward.{same_start, above-like, above-unlike, above-done, above-few, above-last}
-use borrow.Author.Rules.{rules}
+use Rattle.std.proofs.Common.{rules, arith, length, ◌+◌, ◌-◌, ◌%◌}
+use Rattle.text.specs.Working.Backward.{above-all, eights-unlike, eights-like, above-end, above-lowest}
 use Rattle.text.proofs.same_above.Goals as goal
 
-pub loop-i-init : goal.loop-i-init
-loop-i-init c = search (rules, same_start)
+pub loop-k-init : goal.loop-k-init
+loop-k-init c = search (rules, above-all)
 
-pub loop-i-preserved : goal.loop-i-preserved
-loop-i-preserved c = search (rules, above-like)
+pub returns-then-not-same_part : goal.returns-then-not-same_part
+returns-then-not-same_part c = search (rules, eights-unlike)
 
-pub returns-else-same_part : goal.returns-else-same_part
-returns-else-same_part c = search above-unlike
+pub loop-k-preserved : goal.loop-k-preserved
+loop-k-preserved c = search (rules, eights-like)
 
 pub returns-then-i-low : goal.returns-then-i-low
-returns-then-i-low c = search above-done
+returns-then-i-low c = search (rules, above-end)
 
-pub returns-then-i-lt8 : goal.returns-then-i-lt8
-returns-then-i-lt8 c = search above-few
-
-pub returns : goal.returns
-returns c = search above-last
+pub returns-else-i-low : goal.returns-else-i-low
+returns-else-i-low c =
+    above-lowest c.args.a.now c.args.b.now c.args.low (c.args.low + (length c.args.a.now - c.args.low) % 8) c.loop-k.k c.loop-k.invariant c.loop-k-test.false
+    (omega arith) (omega arith) (omega arith) (omega arith) c.requires.0 _ c.saturating_sub.ensures _ c.same_part-else-i-low.ensures

@@ -1,11 +1,6 @@
-use mathlib.Core.Path.{◌≡◌}
-use Prim.Native.Nat.{◌≤◌}
-use lib.ListN.{length, take}
+use Rattle.std.proofs.Common.{◌≡◌, ◌+◌, ◌*◌, take}
 use Rattle.text.specs.Equal.{equal}
 use Rattle.text.proofs.same_above.Given as goal
 
-abbrev pub invariant-loop-i : goal.invariant-loop-i
-invariant-loop-i l = (l.low ≤ l.i) × (l.i ≤ length l.a) × (length l.a ≡ length l.b) × (8 ≤ length l.a) × (equal (take l.i l.a) (take l.i l.b) ≡ equal l.a l.b)
-
-abbrev pub decreases-loop-i : goal.decreases-loop-i
-decreases-loop-i l = l.i
+abbrev pub invariant-loop-k : goal.invariant-loop-k
+invariant-loop-k l = equal (take (l.i + l.k * 8) l.a) (take (l.i + l.k * 8) l.b) ≡ equal l.a l.b

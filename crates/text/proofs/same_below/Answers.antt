@@ -1,12 +1,12 @@
+use Rattle.std.proofs.Common.{rules}
 use Rattle.text.specs.Working.Blocks.{below_none, below-unlike, below-like}
-use borrow.Author.Rules.{rules}
 use Rattle.text.proofs.same_below.Goals as goal
 
-pub loop-k-preserved : goal.loop-k-preserved
-loop-k-preserved c = (search rules, search rules, search below-like)
+pub returns-then-not-same_part : goal.returns-then-not-same_part
+returns-then-not-same_part c = search (rules, below-unlike)
 
-pub returns-else-same_part : goal.returns-else-same_part
-returns-else-same_part c = search below-unlike
+pub loop-k-preserved : goal.loop-k-preserved
+loop-k-preserved c = search (rules, below-like)
 
 pub returns : goal.returns
-returns c = search below_none
+returns c = search (rules, below_none)

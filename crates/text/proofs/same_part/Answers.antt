@@ -1,12 +1,11 @@
-use Rattle.text.specs.Working.Blocks.{alike-none, alike-done, alike-more}
-use borrow.Author.Rules.{rules}
+use Rattle.text.specs.Working.Blocks.{alike-none, alike-more, alike-done}
 use Rattle.text.proofs.same_part.Goals as goal
 
 pub loop-j-init : goal.loop-j-init
-loop-j-init c = (search rules, search alike-none)
+loop-j-init c = search alike-none
 
 pub loop-j-preserved : goal.loop-j-preserved
-loop-j-preserved c = (search rules, search alike-more)
+loop-j-preserved c = search alike-more
 
 pub returns : goal.returns
 returns c = search alike-done

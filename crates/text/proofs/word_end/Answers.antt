@@ -1,11 +1,14 @@
-use Rattle.text.specs.Scan.{scan-more, scan-stop, scan-end}
+use Rattle.std.proofs.Common.{sym, rules}
+use Rattle.text.specs.Scan.{past_end}
+use Rattle.text.specs.Class.{is_word}
+use Rattle.text.specs.Working.Classes.{word-from, word-fits}
 use Rattle.text.proofs.word_end.Goals as goal
 
-pub loop-i-preserved : goal.loop-i-preserved
-loop-i-preserved c = search scan-more
+pub returns-then-s-at : goal.returns-then-s-at
+returns-then-s-at c = sym (past_end is_word c.args.s.now c.args.at c.if-s-at.true)
 
-pub returns-else-is_word : goal.returns-else-is_word
-returns-else-is_word c = search scan-stop
+pub overflow_add-result : goal.overflow_add-result
+overflow_add-result c = let w = word-fits c.args.s.now c.args.at c.front.result c.if-s-at.false c.front.ensures in search rules
 
 pub returns : goal.returns
-returns c = search scan-end
+returns c = word-from c.args.s.now c.args.at c.front.result c.if-s-at.false c.front.ensures

@@ -1,7 +1,8 @@
--- Equality tested from the last bytes on, and the ways out of `same_few`, `same_above` and `same_bytes`. Assumes nothing.
-use Rattle.std.specs.Prelude.{◌≡◌, refl, Bool, false, ◌&&◌, List, [], ◌∷◌, ◌++◌, ℕ, zero, suc, ◌+◌, ◌-◌, ◌*◌, ◌<◌, ◌≤◌, length, get_or, take, drop}
+-- Equality tested from the last bytes on, and the ways out of `same_above` and `same_bytes`. Assumes nothing.
+use Rattle.std.specs.Prelude.{◌≡◌, refl, Bool, false, ◌&&◌, List, [], ◌∷◌, ◌++◌, ℕ, zero, suc, ◌+◌, ◌-◌, ◌*◌, ◌/◌, ◌%◌, ◌<◌, ◌≤◌, eqb, length, get_or, take, drop}
 use Rattle.std.proofs.Math.Path.{sym}
-use Rattle.std.proofs.Common.{ap, ◌∙◌, arith, zero-add, suc-add, take_all, take-suc, take-take, drop-drop, length-take-le}
+use Rattle.std.proofs.Common.{ap, ◌∙◌, arith, zero-add, suc-add, take_all, take-suc, eq-eqb, take-take, drop-drop, length-take-le}
+use Rattle.std.specs.Cmp.Lexicographic.{pointwise}
 use Rattle.std.proofs.Math.Bool.{true}
 use Rattle.std.proofs.Math.Seq.{take-nil}
 use Rattle.text.specs.Choice.{split, clash}
@@ -14,7 +15,7 @@ same-apart a b h = split (equal a b) (λ e. absurd (h (ap length (equal-true a b
 pub same_start : (a b : List ℕ) → length a ≡ length b → equal (take (length a) a) (take (length a) b) ≡ equal a b
 same_start a b h = rw (take_all (length a) a (omega arith), take_all (length a) b (omega (arith, h)))
 
--- `same_few`: one byte less
+-- one byte less
 module _ (a b : List ℕ) (i : ℕ) (r : Bool) (inv : equal (take i a) (take i b) ≡ r) (more : 0 < i) (inside : i ≤ length a) (long : length a ≡ length b) where
   last : (c : List ℕ) → i ≤ length c → take i c ≡ take (i - 1) c ++ (get_or c (i - 1) 0 ∷ [])
   last c h = let z : suc (i - 1) ≡ i = omega (arith, more) in ap (λ (n : ℕ). take n c) (sym z) ∙ take-suc c (i - 1) 0 (omega (arith, more, h))
@@ -132,3 +133,42 @@ same_blocks a b k t e tt r re = re ∙ sym (rw tt at e)
 
 pub same-differ : (a b : List ℕ) (k : ℕ) (t : Bool) → equal a b ≡ (t && equal (take (k * 64) a) (take (k * 64) b)) → t ≡ false → false ≡ equal a b
 same-differ a b k t e tf = sym (rw tf at e)
+
+-- eight bytes less, in the loop over the eights above i
+module _ (a b : List ℕ) (i k : ℕ) (inv : equal (take (i + k * 8) a) (take (i + k * 8) b) ≡ equal a b) (more : 0 < k) (ha : i + k * 8 ≤ length a)
+    (long : length a ≡ length b) (t : Bool) (te : t ≡ alike a b (i + (k - 1) * 8) 8) where
+  lower : i + (k - 1) * 8 ≡ i + k * 8 - 8
+  lower = omega (arith, more)
+
+  te' : t ≡ alike a b (i + k * 8 - 8) 8
+  te' = te ∙ ap (λ (n : ℕ). alike a b n 8) lower
+
+  pub eights-unlike : t ≡ false → equal a b ≡ false
+  eights-unlike tf = part-unlike a b (i + k * 8) 8 (equal a b) inv (omega (arith, more)) ha long t te' tf
+
+  pub eights-like : t ≡ true → equal (take (i + (k - 1) * 8) a) (take (i + (k - 1) * 8) b) ≡ equal a b
+  eights-like tt = rw lower (part-like a b (i + k * 8) 8 (equal a b) inv (omega (arith, more)) ha long t te' tt)
+
+pub above-all : (a b : List ℕ) (low : ℕ) → low ≤ length a → length a ≡ length b
+    → equal (take (low + (length a - low) % 8 + (length a - low) / 8 * 8) a) (take (low + (length a - low) % 8 + (length a - low) / 8 * 8) b) ≡ equal a b
+above-all a b low h long = let z : low + (length a - low) % 8 + (length a - low) / 8 * 8 ≡ length a = omega (arith, h) in rw z (same_start a b long)
+
+module _ (a b : List ℕ) (low i k : ℕ) (inv : equal (take (i + k * 8) a) (take (i + k * 8) b) ≡ equal a b) (done : k ≤ 0) where
+  inv₀ : equal (take i a) (take i b) ≡ equal a b
+  inv₀ = let z : i + k * 8 ≡ i = omega (arith, done) in rw z at inv
+
+  pub above-end : i ≡ low → equal a b ≡ (eqb i low && equal (take low a) (take low b))
+  above-end h = sym inv₀ ∙ rw (h, eq-eqb low low refl)
+
+  pub above-lowest : low ≤ i → i ≤ length a → i - low < 8 → 8 ≤ length a → length a ≡ length b → (s : ℕ) → s ≡ i - 8 → (t : Bool) → t ≡ alike a b s 8
+      → equal a b ≡ (t && equal (take low a) (take low b))
+  above-lowest from ha near e long s se t te =
+      above_cases a b i low inv₀ from ha long (i - 8) (omega (arith, e, ha)) (omega (arith, near)) (omega arith) t (te ∙ ap (λ (n : ℕ). alike a b n 8) se)
+
+-- the library's equality of lists of numbers is this equality
+pub same-pointwise : (a b : List ℕ) → pointwise eqb a b ≡ equal a b
+unfolding equal
+same-pointwise [] [] = refl
+same-pointwise [] (y ∷ b) = refl
+same-pointwise (x ∷ a) [] = refl
+same-pointwise (x ∷ a) (y ∷ b) = ap (λ (t : Bool). eqb x y && t) (same-pointwise a b)

@@ -81,7 +81,7 @@ module _ (a b : List ℕ) (i j n : ℕ) (ha : i + n ≤ length a) (hb : i + n �
       (sym (equal-append (take j (drop i a)) (take j (drop i b)) (get_or a (i + j) 0 ∷ []) (get_or b (i + j) 0 ∷ []) same_length
       ∙ ap (λ (x : Bool). equal (take j (drop i a)) (take j (drop i b)) && x) (equal-byte (get_or a (i + j) 0) (get_or b (i + j) 0))))
 
--- the ways out of `same_blocks`
+-- a common front, and the blocks behind it
 common-front : (x u v : List ℕ) → common (x ++ u) (x ++ v) ≡ length x + common u v
 unfolding common
 common-front [] u v = sym (zero-add (common u v))
@@ -150,3 +150,17 @@ pub long_rest : (a b : List ℕ) (i : ℕ) (r : Bool) → equal (drop i a) (drop
 long_rest a b i r inv t e =
     let w : (c : List ℕ) → take (length c - i) (drop i c) ≡ drop i c = λ c. take_all (length c - i) (drop i c) (rw (length-drop i c) (omega arith)) in
     e ∙ (rw (w a, w b) inv)
+
+-- the loop of `same_long`
+module _ (a b : List ℕ) (k : ℕ) (r : Bool) (inv : equal (drop (k * 1024) a) (drop (k * 1024) b) ≡ r) where
+  module _ (ha : (k + 1) * 1024 ≤ length a) (long : length a ≡ length b) (t : Bool) (te : t ≡ alike a b (k * 1024) 1024) where
+    pub ahead-like : t ≡ true → equal (drop ((k + 1) * 1024) a) (drop ((k + 1) * 1024) b) ≡ r
+    ahead-like tt =
+        let z : (k + 1) * 1024 ≡ k * 1024 + 1024 = omega arith in
+        rw z (long-like a b (k * 1024) 1024 r inv (omega (arith, ha)) long t te tt)
+
+    pub ahead-unlike : t ≡ false → false ≡ r
+    ahead-unlike tf = long-unlike a b (k * 1024) 1024 r inv (omega (arith, ha)) long t te tf
+
+  pub ahead_rest : (n : ℕ) → k ≤ n → n ≤ k → (t : Bool) → t ≡ equal (take (length a - n * 1024) (drop (n * 1024) a)) (take (length b - n * 1024) (drop (n * 1024) b)) → t ≡ r
+  ahead_rest n l h t e = let z : k ≡ n = omega (arith, l, h) in long_rest a b (n * 1024) r (rw z at inv) t e

@@ -1,10 +1,13 @@
--- Working laws: the ways out of `is_word` and `in_class`. Assumes nothing.
-use Rattle.std.specs.Prelude.{◌≡◌, Bool, false, not, ℕ, ◌<◌, ◌≤◌, eqb, leb}
+-- Working laws: what a byte of a class is, and words from a place on. Assumes nothing.
+use Rattle.std.specs.Prelude.{◌≡◌, Bool, false, not, List, ℕ, ◌+◌, ◌<◌, ◌≤◌, eqb, leb, ◌-◌, length, take, drop}
 use Rattle.std.proofs.Math.Path.{refl, ap}
-use Rattle.std.proofs.Common.{sym, ◌∙◌, arith}
+use Rattle.std.proofs.Common.{sym, ◌∙◌, arith, take_all, length-drop}
 use Rattle.std.proofs.Math.Bool.{true}
-use borrow.Author.Tests.{eq-eqb, ne_eqb, le-leb, lt-leb}
+use borrow.Author.Tests.{ne_eqb, le-leb, lt-leb}
 use Rattle.text.specs.Choice.{pick}
+use Rattle.text.specs.Scan.{run, past, past-within}
+use Rattle.text.specs.declared.Class.{Class}
+use Rattle.text.specs.declared.Class.TheVariants.{Plain, Digit, Word}
 use Rattle.text.specs.Class.{is_digit, is_letter, is_word, is_plain, in_class}
 
 pick_same : (t : Bool) → t ≡ pick t true false
@@ -30,16 +33,26 @@ module _ (b : ℕ) where
       unfolding is_word is_digit
       word-letter n r e = rw (sym e, lt-leb b 57 (omega (arith, h)), le-leb 48 b (omega (arith, h)), ne_eqb b 95 n) (pick_same r)
 
-module _ (k b : ℕ) where
-  pub class-plain : k ≡ 0 → not (eqb b 0) ≡ in_class k b
+module _ (k : Class) (b : ℕ) where
+  pub class-plain : k ≡ Plain → not (eqb b 0) ≡ in_class k b
   unfolding in_class is_plain
-  class-plain h = simp (eq-eqb _ _ h)
+  class-plain h = rw h
 
-  module _ (n : k ≡ 0 → ⊥) (r : Bool) where
-    pub class-digit : k ≡ 1 → r ≡ is_digit b → r ≡ in_class k b
+  module _ (r : Bool) where
+    pub class-digit : k ≡ Digit → r ≡ is_digit b → r ≡ in_class k b
     unfolding in_class
-    class-digit h e = simp (ne_eqb _ _ n, eq-eqb _ _ h) e
+    class-digit h e = rw h e
 
-    pub class-word : (k ≡ 1 → ⊥) → r ≡ is_word b → r ≡ in_class k b
+    pub class-word : k ≡ Word → r ≡ is_word b → r ≡ in_class k b
     unfolding in_class
-    class-word m e = simp (ne_eqb _ _ n, ne_eqb _ _ m) e
+    class-word h e = rw h e
+
+-- a word from a place on
+pub word-from : (s : List ℕ) (at k : ℕ) → at < length s → k ≡ run (in_class Word) (take (length s - at) (drop at s)) → at + k ≡ past is_word s at
+unfolding past in_class
+word-from s at k h e =
+    let w : take (length s - at) (drop at s) ≡ drop at s = take_all (length s - at) (drop at s) (rw (length-drop at s) (omega arith)) in
+    ap (λ (n : ℕ). at + n) (e ∙ ap (run (in_class Word)) w)
+
+pub word-fits : (s : List ℕ) (at k : ℕ) → at < length s → k ≡ run (in_class Word) (take (length s - at) (drop at s)) → at + k ≤ length s
+word-fits s at k h e = rw (word-from s at k h e) (past-within is_word s at (omega arith))

@@ -1,13 +1,15 @@
 -- Working definition: how far two byte strings agree. The code compares by one scan; these laws turn its stop into equality and order.
 -- Assumes nothing.
-use Rattle.std.specs.Prelude.{◌≡◌, refl, List, [], ◌∷◌, ℕ, suc, ◌+◌, ◌<◌, ◌≤◌, eqb, length, get_or, drop}
+use Rattle.std.specs.Prelude.{◌≡◌, refl, List, [], ◌∷◌, ℕ, suc, ◌+◌, ◌<◌, ◌≤◌, eqb, ltb, length, get_or, drop}
 use Rattle.std.proofs.Math.Path.{sym}
 use Rattle.std.proofs.Common.{◌∙◌, arith, add-one, add-zero, not-suc-le-zero, le_of_suc-le-suc, drop_of_length-le}
 use Rattle.std.proofs.Math.Seq.{drop-cons}
-use borrow.Author.Tests.{lt-ltb, le-ltb, eq-eqb, ne_eqb, eqb-true, eqb-false}
+use Rattle.std.specs.Cmp.Lexicographic.{slice_cmp}
+use Rattle.std.specs.Ordering.{nat_cmp}
+use borrow.Author.Tests.{ltb-true, ltb-false, lt-ltb, le-ltb, eq-eqb, ne_eqb, eqb-true, eqb-false}
 use Rattle.text.specs.Choice.{pick, split}
 use Rattle.text.specs.Order.{order}
-use Rattle.text.specs.declared.Order.TheVariants.{Less, Equal, Greater}
+use Rattle.std.specs.declared.cmp.Ordering.TheVariants.{Less, Equal, Greater}
 
 -- the length of the longest front that both share
 unfoldable pub common : List ℕ → List ℕ → ℕ
@@ -123,3 +125,20 @@ module _ (a b : List ℕ) (i : ℕ) (is : i ≡ common a b) where
 
   pub stop-same : length a ≤ i → length b ≤ i → Equal ≡ order a b
   stop-same h k = sym (order_same a b (rw is at h) (rw is at k))
+
+-- the library's order of lists of numbers is this order
+pub order_cmp : (a b : List ℕ) → slice_cmp nat_cmp a b ≡ order a b
+unfolding order
+order_cmp [] [] = refl
+order_cmp [] (y ∷ ys) = refl
+order_cmp (x ∷ xs) [] = refl
+order_cmp (x ∷ xs) (y ∷ ys) =
+    split (ltb x y) (λ h. rw h)
+    (λ h. split (ltb y x)
+    (λ k. let l : y < x = ltb-true y x k in
+    let n : x ≡ y → ⊥ = λ e. omega arith in
+    rw (h, k, ne_eqb x y n))
+    (λ k. let l₁ : y ≤ x = ltb-false x y h in
+    let l₂ : x ≤ y = ltb-false y x k in
+    let q : x ≡ y = omega arith in
+    rw (h, k, eq-eqb x y q) (order_cmp xs ys)))

@@ -1,6 +1,7 @@
 -- Working laws of the loop that copies. Assumes nothing.
 use Rattle.std.specs.Prelude.{◌≡◌, refl, true, false, List, ◌++◌, ℕ, ◌+◌, ◌-◌, ◌<◌, ◌≤◌, get_or, take, drop, set}
-use Rattle.std.proofs.Common.{sym, ap, ◌∙◌, take_at, length-take-le}
+use Rattle.std.proofs.Common.{sym, ap, ◌∙◌, take_at, length-take-le, append_assoc, drop-drop}
+use borrow.Rule.Slice.PartMut.{put_mid}
 use native.Mathlib.Omega.{arith}
 use Rattle.std.proofs.Math.Numerals.{add-one}
 use Rattle.std.proofs.Math.ListN.{length}
@@ -42,7 +43,7 @@ module _ (dst : List ℕ) (at : ℕ) (src : List ℕ) where
       pub paste-done : (v : List ℕ) (i : ℕ) → v ≡ pasted dst at src i → i ≤ length src → length src ≤ i → copied true v ≡ copy_at dst at src
       paste-done v i e l h = copy_done v (paste-put v i e l h)
 
--- by way of a table: its front, and the ways out of `transfer`
+-- a string that stands at the front of a longer one
 pub front_long : (b : List ℕ) (k n : ℕ) → k ≤ n → length b ≡ n → k ≡ length (take k b)
 front_long b k n h l = sym (length-take-le k b (omega arith))
 
@@ -54,3 +55,10 @@ unfolding put
 transfer-done dst at src z b v be ve =
     let e : take (length src) b ≡ src = rw be (take_at src (drop (0 + length src) z) (length src) refl) in
     ve ∙ ap (λ (x : List ℕ). take at dst ++ x ++ drop (at + length x) dst) e
+
+-- a part that is written over: the string in its place
+pub paste-mid : (d : List ℕ) (at : ℕ) (src v : List ℕ) → v ≡ src → put_mid at (at + length src - at) d v ≡ put d at src
+unfolding put
+paste-mid d at src v e =
+    let n : at + length src - at ≡ length src = omega arith in
+    rw (e, n) (ap (λ (x : List ℕ). take at d ++ (src ++ x)) (drop-drop (length src) at d) ∙ sym (append_assoc (take at d) src (drop (at + length src) d)))

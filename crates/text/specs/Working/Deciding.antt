@@ -1,11 +1,11 @@
 -- Working laws: the ways out of the functions that read a decimal number. The code holds a number at a limit; below it nothing is lost.
 -- Assumes nothing.
 use Rattle.std.specs.Prelude.{◌≡◌, refl, Bool, true, false, List, [], ◌∷◌, ℕ, ◌+◌, ◌-◌, ◌<◌, ◌≤◌, min, eqb, length, get_or, take, drop}
-use Rattle.std.proofs.Common.{sym, ◌∙◌, arith, not-suc-le-zero, length-drop, take_all, length-take-le}
+use Rattle.std.proofs.Common.{sym, ap, ◌∙◌, arith, not-suc-le-zero, length-drop, take_all, length-take-le}
 use borrow.Author.Tests.{lt-ltb, le-ltb, le-leb, lt-leb, eq-eqb, ne_eqb, eqb-true, eqb-false}
 use Rattle.text.specs.Choice.{pick, split}
 use Rattle.text.specs.Scan.{run}
-use Rattle.text.specs.Class.{in_class}
+use Rattle.text.specs.Class.{in_class, digit}
 use Rattle.text.specs.Digits.{value}
 use Rattle.text.specs.Decimal.{integer, in_range, rounded_down, with_fraction, unsigned, decimal}
 use Rattle.text.specs.Working.Holding.{most_held}
@@ -93,8 +93,12 @@ module _ (n : Bool) (w f : ℕ) where
       unfolding rounded_down
       down-part r e = e ∙ simp (t, ne_eqb _ _ nz)
 
+      -- one further, held where a `u64` ends
+      pub down-further : (r : Integer) → r ≡ in_range n (min (w + 1) 18446744073709551615) → r ≡ rounded_down n w f
+      down-further r e = down-part r (e ∙ held-either n (min (w + 1) 18446744073709551615) (w + 1) (omega arith))
+
 -- the ways out of `with_fraction`
-module _ (n : Bool) (w : ℕ) (ds : List ℕ) (j : ℕ) (je : j ≡ run (in_class 1) ds) where
+module _ (n : Bool) (w : ℕ) (ds : List ℕ) (j : ℕ) (je : j ≡ run (in_class digit) ds) where
   pub fraction-none : j ≡ 0 → integer false 0 ≡ with_fraction n w ds
   unfolding with_fraction
   fraction-none h = simp (sym je, eq-eqb _ _ h)
@@ -116,7 +120,7 @@ tail-is : (s : List ℕ) (k : ℕ) → take (length s - k) (drop k s) ≡ drop k
 tail-is s k = take_all (length s - k) (drop k s) (simp length-drop (omega arith))
 
 -- the ways out of `without_sign`
-module _ (n : Bool) (s : List ℕ) (k : ℕ) (ke : k ≡ run (in_class 1) s) where
+module _ (n : Bool) (s : List ℕ) (k : ℕ) (ke : k ≡ run (in_class digit) s) where
   pub unsigned-none : k ≡ 0 → integer false 0 ≡ unsigned n s
   unfolding unsigned
   unsigned-none h = simp (sym ke, eq-eqb _ _ h)
@@ -151,3 +155,11 @@ pub decimal-plain : (s : List ℕ) (r : Integer) → 0 < length s → (get_or s 
 unfolding decimal
 decimal-plain [] r h m e = absurd (not-suc-le-zero h)
 decimal-plain (b ∷ bs) r h m e = e ∙ simp (ne_eqb _ _ m)
+
+pub decimal-signed : (s rest : List ℕ) (r : Integer) (b : ℕ) → s ≡ b ∷ rest → b ≡ 45 → r ≡ unsigned true rest → r ≡ decimal s
+unfolding decimal
+decimal-signed s rest r b h m e = e ∙ rw (h, m) refl
+
+pub decimal-unsigned : (s rest : List ℕ) (r : Integer) (b : ℕ) → s ≡ b ∷ rest → (b ≡ 45 → ⊥) → r ≡ unsigned false s → r ≡ decimal s
+unfolding decimal
+decimal-unsigned s rest r b h m e = e ∙ rw h (sym (ap (λ (t : Bool). pick t (unsigned true rest) (unsigned false (b ∷ rest))) (ne_eqb b 45 m)))

@@ -1,5 +1,5 @@
 -- Working definition: a decimal number held at a limit while its digits are read, and what it is. Assumes nothing.
-use Rattle.std.specs.Prelude.{◌≡◌, refl, Bool, true, false, List, [], ◌∷◌, ℕ, ◌+◌, ◌-◌, ◌*◌, ◌<◌, ◌≤◌, min, length, get_or, drop}
+use Rattle.std.specs.Prelude.{◌≡◌, refl, Bool, true, false, List, [], ◌∷◌, ℕ, ◌+◌, ◌-◌, ◌*◌, ◌<◌, ◌≤◌, min, length, get_or, drop, fold}
 use Rattle.std.proofs.Math.Path.{sym}
 use Rattle.std.proofs.Common.{◌∙◌, add-one, drop_of_length-le, drop-cons}
 use native.Mathlib.Omega.{arith}
@@ -80,3 +80,13 @@ module _ (v b : ℕ) where
     pub hold-in : v * 10 + d ≤ 4294967295 → v * 10 + d ≡ hold v b
     unfolding hold
     hold-in h = omega arith
+
+-- the library's fold of that step
+fold_all : (bs : List ℕ) (v : ℕ) → fold hold v bs ≡ hold_all v bs
+unfolding hold_all
+fold_all [] v = refl
+fold_all (b ∷ bs) v = fold_all bs (hold v b)
+
+pub held-fold : (s : List ℕ) → fold hold 0 s ≡ min (value s) most_held
+unfolding value
+held-fold s = fold_all s 0 ∙ hold-all s 0

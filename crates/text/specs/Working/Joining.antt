@@ -1,12 +1,13 @@
 -- Working laws: the loops that join strings with commas. Assumes nothing.
-use Rattle.std.specs.Prelude.{◌≡◌, refl, Bool, List, [], ◌∷◌, ◌++◌, map, leb, get_or, drop, set}
+use Rattle.std.specs.Prelude.{◌≡◌, refl, Bool, List, [], ◌∷◌, ◌++◌, map, leb, ltb, get_or, drop, set}
 use Rattle.std.proofs.Math.Path.{sym}
 use Rattle.std.proofs.Common.{ap, ◌∙◌, add-one, length-append, drop_of_length-le, drop-cons}
 use Rattle.std.proofs.Math.Bool.{true, false}
+use mir.Val.{bool_byte}
 use Prim.Native.Nat.{ℕ, zero, suc, ◌+◌, ◌-◌, ◌<◌, ◌≤◌}
 use native.Mathlib.Omega.{arith}
 use Rattle.std.proofs.Math.ListN.{length}
-use borrow.Author.Tests.{le-leb, lt-leb, leb-true, leb-false}
+use borrow.Author.Tests.{lt-ltb, le-leb, lt-leb, leb-true, leb-false}
 use Rattle.text.specs.Choice.{split, clash}
 use Rattle.text.specs.Copy.{copied, put, copy_at}
 use Rattle.text.specs.CopyLaws.{put-nil, put-append, put_front, put-length}
@@ -211,3 +212,8 @@ lead-first i z = rw z
 
 pub lead-other : (i : ℕ) → (i ≡ 0 → ⊥) → 1 ≡ length (comma i)
 lead-other i nz = rw (comma-is i nz)
+
+pub lead-byte : (i : ℕ) → bool_byte (ltb 0 i) ≡ length (comma i)
+unfolding comma
+lead-byte zero = refl
+lead-byte (suc i) = rw (lt-ltb 0 (suc i) (omega arith)) refl

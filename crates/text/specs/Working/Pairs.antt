@@ -1,7 +1,7 @@
 -- The ways out of the functions that write two-byte numbers and counted strings. Assumes nothing.
 use Rattle.std.specs.Prelude.{◌≡◌, Bool, List, [], ◌∷◌, ◌++◌, ◌≢◌, ℕ, ◌+◌, ◌-◌, ◌/◌, ◌%◌, ◌<◌, ◌≤◌, leb, set}
 use Rattle.std.proofs.Common.{sym, ◌∙◌, add-one, length-set}
-use Rattle.std.proofs.Math.Path.{ap}
+use Rattle.std.proofs.Math.Path.{ap, refl}
 use Rattle.std.proofs.Math.Bool.{true, false}
 use native.Mathlib.Omega.{arith}
 use Rattle.std.proofs.Math.ListN.{length}
@@ -57,6 +57,12 @@ module _ (d : List ℕ) (at n : ℕ) where
           let e : n / 256 % 256 ≡ n / 256 = omega arith in
           rw (pair-room d at n small (omega arith), e) (ap (copied true) (set-two d at (n / 256) (n % 256) (omega arith)))
 
+    pub pair-copied : (m : ℕ) → m ≡ n → (u : Bool) (e : List ℕ) → copied u e ≡ copy_at d at (m / 256 % 256 ∷ m % 256 ∷ []) → copied u e ≡ put_pair d at n
+    unfolding put_pair pair_bytes
+    pair-copied m is u e ce =
+        let z : n / 256 % 256 ≡ n / 256 = omega arith in
+        ce ∙ rw (is, z, le-ltb 65535 n small) refl
+
 counted-length : (b : List ℕ) → length (counted_bytes b) ≡ 2 + length b
 unfolding counted_bytes pair_bytes
 counted-length b = omega arith
@@ -92,6 +98,19 @@ module _ (d : List ℕ) (at : ℕ) (b : List ℕ) where
             let fb : f ≡ put e at (length b / 256 ∷ length b % 256 ∷ []) = cc in
             rw (le-ltb 65535 (length b) small, le-leb (at + length (counted_bytes b)) (length d) (omega (arith, counted-length b)), fb, ee)
             (ap (copied true) (put_two d at b (length b / 256) (length b % 256) (omega arith) l)))
+            (λ g. let q : copied t e ≡ copied false d = rw g at is in
+            let no : t ≡ false = cc in clash y no)
+
+        pub counted-both : t ≡ true → (u : Bool) (f : List ℕ) → copied u f ≡ put_pair e at (length b) → copied u f ≡ put_counted d at b
+        unfolding copy_at
+        counted-both y u f fe =
+            split (leb (at + 2 + length b) (length d))
+            (λ g. let q : copied t e ≡ copied true (put d (at + 2) b) = rw g at is in
+            let ee : e ≡ put d (at + 2) b = cc in
+            let l : length (put d (at + 2) b) ≡ length d = put-length d (at + 2) b (leb-true _ _ g) in
+            let k : copied u f ≡ copied true (put e at (pair_bytes (length b))) = fe ∙ pair-room e at (length b) small (omega (arith, ap length ee, l)) in
+            let ut : u ≡ true = cc in
+            ap (λ (v : Bool). copied v f) ut ∙ counted-put y u f fe)
             (λ g. let q : copied t e ≡ copied false d = rw g at is in
             let no : t ≡ false = cc in clash y no)
 

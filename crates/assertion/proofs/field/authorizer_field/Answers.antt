@@ -1,8 +1,11 @@
+use Rattle.std.proofs.lemmas.Result.{err_from_is_err_and}
 use Rattle.assertion.specs.Working.FieldWays.{author-on, author-not}
 use Rattle.assertion.proofs.field.authorizer_field.Goals as goal
 
-pub returns-in-Aside : goal.returns-in-Aside
-returns-in-Aside c = search author-not
+pub returns-in_err-named : goal.returns-in_err-named
+returns-in_err-named c =
+    let p = err_from_is_err_and c.from_residual.result c.from_residual.ensures.1 in
+    let w = c.in_err-named.was {u = tt} in rw (p.1, p.2) (search (author-not, w))
 
-pub returns-in-On : goal.returns-in-On
-returns-in-On c = search author-on
+pub returns : goal.returns
+returns c = let w = c.in_ok-named.was {u = tt} in search (author-on, w)

@@ -1,12 +1,8 @@
-use Rattle.compliance.specs.Working.Highest.{count-start, count-more, count-end}
-use borrow.Author.Rules.{rules}
+use Rattle.std.proofs.Common.{rules, ◌≡◌, count_by, leb, ◌∙◌, sym}
+use Rattle.compliance.specs.Working.Highest.{counted}
 use Rattle.compliance.proofs.highest.at_least.Goals as goal
 
-pub loop-i-init : goal.loop-i-init
-loop-i-init c = (search rules, search count-start)
-
-pub loop-i-preserved : goal.loop-i-preserved
-loop-i-preserved c = (search rules, search count-more)
-
 pub returns : goal.returns
-returns c = search count-end
+returns c =
+    let e : c.count.result ≡ count_by (leb c.args.v) c.args.values.now = search rules in
+    e ∙ sym (counted c.args.v c.args.values.now)

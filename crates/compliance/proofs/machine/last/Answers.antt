@@ -1,8 +1,9 @@
-use Rattle.compliance.specs.Working.Machine.{last_none, last_some}
+use Rattle.std.proofs.Common.{arith}
+use Rattle.std.proofs.lemmas.Grind.{common_steps}
+use Rattle.std.proofs.lemmas.Option.{unwrap_or-slice_get}
+use Rattle.compliance.specs.Working.Machine.{last_of}
 use Rattle.compliance.proofs.machine.last.Goals as goal
 
-pub returns-then-sp-eq0 : goal.returns-then-sp-eq0
-returns-then-sp-eq0 c = search last_none
-
 pub returns : goal.returns
-returns c = search last_some
+unfolding last_of
+returns c = grind (arith, common_steps, unwrap_or-slice_get)

@@ -1,12 +1,15 @@
 use Rattle.compliance.specs.Working.Reach.{mark-in, mark-spare, mark-far, mark-none}
-use borrow.Author.Rules.{rules}
+use Rattle.compliance.proofs.reach.mark.Goals.{else-op-lt-TOP-via-then-op-lt-TOP+else-i-n, else-op-lt-TOP-via-else-op-lt-TOP}
 use Rattle.compliance.proofs.reach.mark.Goals as goal
 
-pub returns-then-i-n : goal.returns-then-i-n
-returns-then-i-n c = record { reach_after = search mark-in; reach_unchanged = search mark-spare }
+pub returns-then-i-n-clause-reach_after : goal.returns-then-i-n-clause-reach_after
+returns-then-i-n-clause-reach_after c = search mark-in
 
-pub returns-else-i-n : goal.returns-else-i-n
-returns-else-i-n c = record { reach_after = search mark-far; reach_unchanged = search rules }
+pub returns-then-i-n-clause-reach_unchanged : goal.returns-then-i-n-clause-reach_unchanged
+returns-then-i-n-clause-reach_unchanged c = search mark-spare
 
-pub returns-else-op-lt-TOP : goal.returns-else-op-lt-TOP
-returns-else-op-lt-TOP c = record { reach_after = search mark-none; reach_unchanged = search rules }
+pub returns-else-op-lt-TOP-clause-reach_after : goal.returns-else-op-lt-TOP-clause-reach_after
+returns-else-op-lt-TOP-clause-reach_after c = elim c.else-op-lt-TOP.branch [
+  | else-op-lt-TOP-via-then-op-lt-TOP+else-i-n w ↦ search mark-far
+  | else-op-lt-TOP-via-else-op-lt-TOP w ↦ search mark-none
+]

@@ -1,12 +1,9 @@
-use Rattle.compliance.specs.Working.Words.{count_none, count-more, count-all}
-use borrow.Author.Rules.{rules}
+use Rattle.std.proofs.Common.{rules, ◌≡◌, sum_by, ◌∙◌}
+use Rattle.std.specs.Int.Count.{ones}
+use Rattle.compliance.specs.Working.Words.{ones-are}
 use Rattle.compliance.proofs.words.count.Goals as goal
 
-pub loop-i-init : goal.loop-i-init
-loop-i-init c = (search rules, search rules, search count_none)
-
-pub loop-i-preserved : goal.loop-i-preserved
-loop-i-preserved c = (search rules, search rules, search count-more)
-
 pub returns : goal.returns
-returns c = search count-all
+returns c =
+    let e : c.sum.result ≡ sum_by ones c.args.words.now = search rules in
+    e ∙ ones-are c.args.words.now (λ k. (c.type_inv.words k).fits)

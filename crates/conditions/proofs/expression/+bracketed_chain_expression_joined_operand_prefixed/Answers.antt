@@ -1,3 +1,4 @@
+use Rattle.std.proofs.lemmas.Result.{err_from_is_err_and}
 use Rattle.conditions.proofs.ExpressionWays.{bracketed-0, bracketed-full, bracketed-aside, bracketed-found, chain-0, chain-start, chain-other, chain-aside, chain-stuck, chain_more, chain-end, expr-0, expr-aside, expr-found, joined-0, joined-aside, joined-found, operand-0, operand-prefixed, operand-bracketed, operand-leaf, operand-not, prefixed-0, prefixed-row, prefixed-aside, prefixed-found}
 use borrow.Author.Rules.{rules}
 use Rattle.conditions.proofs.expression.+bracketed_chain_expression_joined_operand_prefixed.Goals as goal
@@ -8,11 +9,13 @@ bracketed-returns-then-d-eq0 t c = search bracketed-0
 pub bracketed-returns-then-nest-ge-MOST_BRACKETS : goal.bracketed-returns-then-nest-ge-MOST_BRACKETS
 bracketed-returns-then-nest-ge-MOST_BRACKETS t c = search bracketed-full
 
-pub bracketed-returns-in-Found : goal.bracketed-returns-in-Found
-bracketed-returns-in-Found t c = search bracketed-found
+pub bracketed-returns : goal.bracketed-returns
+bracketed-returns t c = let w = c.in_ok-q.was {u = tt} in search (bracketed-found, w)
 
-pub bracketed-returns-in-Aside : goal.bracketed-returns-in-Aside
-bracketed-returns-in-Aside t c = search bracketed-aside
+pub bracketed-returns-in_err-q : goal.bracketed-returns-in_err-q
+bracketed-returns-in_err-q t c =
+    let p = err_from_is_err_and c.from_residual.result c.from_residual.ensures.1 in
+    let w = c.in_err-q.was {u = tt} in rw (p.1, p.2) (search (bracketed-aside, w))
 
 pub chain-returns-then-d-eq0 : goal.chain-returns-then-d-eq0
 chain-returns-then-d-eq0 t c = search chain-0
@@ -23,14 +26,16 @@ chain-loop-t-init t c = (search rules, search chain-start)
 pub chain-returns-then-is_loose : goal.chain-returns-then-is_loose
 chain-returns-then-is_loose t c = search chain-other
 
-pub chain-returns-then-next-t : goal.chain-returns-then-next-t
-chain-returns-then-next-t t c = search chain-stuck
+pub chain-returns-then-q-t : goal.chain-returns-then-q-t
+chain-returns-then-q-t t c = let w = c.in_ok-q.was {u = tt} in search (chain-stuck, w)
 
-pub chain-returns-in-Aside : goal.chain-returns-in-Aside
-chain-returns-in-Aside t c = search chain-aside
+pub chain-returns-in_err-q : goal.chain-returns-in_err-q
+chain-returns-in_err-q t c =
+    let p = err_from_is_err_and c.from_residual.result c.from_residual.ensures.1 in
+    let w = c.in_err-q.was {u = tt} in rw (p.1, p.2) (search (chain-aside, w))
 
 pub chain-loop-t-preserved : goal.chain-loop-t-preserved
-chain-loop-t-preserved t c = (search rules, search chain_more)
+chain-loop-t-preserved t c = let w = c.in_ok-q.was {u = tt} in (search rules, search (chain_more, w))
 
 pub chain-returns : goal.chain-returns
 chain-returns t c = search chain-end
@@ -38,20 +43,24 @@ chain-returns t c = search chain-end
 pub expression-returns-then-d-eq0 : goal.expression-returns-then-d-eq0
 expression-returns-then-d-eq0 t c = search expr-0
 
-pub expression-returns-in-Found : goal.expression-returns-in-Found
-expression-returns-in-Found t c = search expr-found
+pub expression-returns : goal.expression-returns
+expression-returns t c = let w = c.in_ok-q.was {u = tt} in search (expr-found, w)
 
-pub expression-returns-in-Aside : goal.expression-returns-in-Aside
-expression-returns-in-Aside t c = search expr-aside
+pub expression-returns-in_err-q : goal.expression-returns-in_err-q
+expression-returns-in_err-q t c =
+    let p = err_from_is_err_and c.from_residual.result c.from_residual.ensures.1 in
+    let w = c.in_err-q.was {u = tt} in rw (p.1, p.2) (search (expr-aside, w))
 
 pub joined-returns-then-d-eq0 : goal.joined-returns-then-d-eq0
 joined-returns-then-d-eq0 t c = search joined-0
 
-pub joined-returns-in-Found : goal.joined-returns-in-Found
-joined-returns-in-Found t c = search joined-found
+pub joined-returns : goal.joined-returns
+joined-returns t c = let w = c.in_ok-q.was {u = tt} in search (joined-found, w)
 
-pub joined-returns-in-Aside : goal.joined-returns-in-Aside
-joined-returns-in-Aside t c = search joined-aside
+pub joined-returns-in_err-q : goal.joined-returns-in_err-q
+joined-returns-in_err-q t c =
+    let p = err_from_is_err_and c.from_residual.result c.from_residual.ensures.1 in
+    let w = c.in_err-q.was {u = tt} in rw (p.1, p.2) (search (joined-aside, w))
 
 pub operand-returns-then-d-eq0 : goal.operand-returns-then-d-eq0
 operand-returns-then-d-eq0 t c = search operand-0
@@ -74,8 +83,10 @@ prefixed-returns-then-d-eq0 t c = search prefixed-0
 pub prefixed-returns-then-row-ge-MOST_PREFIXES : goal.prefixed-returns-then-row-ge-MOST_PREFIXES
 prefixed-returns-then-row-ge-MOST_PREFIXES t c = search prefixed-row
 
-pub prefixed-returns-in-Found : goal.prefixed-returns-in-Found
-prefixed-returns-in-Found t c = search prefixed-found
+pub prefixed-returns : goal.prefixed-returns
+prefixed-returns t c = let w = c.in_ok-q.was {u = tt} in search (prefixed-found, w)
 
-pub prefixed-returns-in-Aside : goal.prefixed-returns-in-Aside
-prefixed-returns-in-Aside t c = search prefixed-aside
+pub prefixed-returns-in_err-q : goal.prefixed-returns-in_err-q
+prefixed-returns-in_err-q t c =
+    let p = err_from_is_err_and c.from_residual.result c.from_residual.ensures.1 in
+    let w = c.in_err-q.was {u = tt} in rw (p.1, p.2) (search (prefixed-aside, w))

@@ -1,3 +1,4 @@
+use Rattle.std.proofs.lemmas.Result.{err_from_is_err_and}
 use Rattle.conditions.proofs.ProgramWays.{clause-0, clause-aside, clause-found, tested-0, tested-value, tested-plain, tested-not, value-0, value-nested, value-aside, value_found, nested-0, nested-full, nested-aside, nested-found, program-0, program-made, clauses-0, clauses-start, clauses-stop, clauses-aside, clauses-stuck, clauses-more, clauses-end}
 use borrow.Author.Rules.{rules}
 use Rattle.conditions.proofs.program.+clause_clauses_nested_program_tested_value.Goals as goal
@@ -5,11 +6,13 @@ use Rattle.conditions.proofs.program.+clause_clauses_nested_program_tested_value
 pub clause-returns-then-d-eq0 : goal.clause-returns-then-d-eq0
 clause-returns-then-d-eq0 t c = search clause-0
 
-pub clause-returns-in-Found : goal.clause-returns-in-Found
-clause-returns-in-Found t c = search clause-found
+pub clause-returns : goal.clause-returns
+clause-returns t c = let w = c.in_ok-q.was {u = tt} in search (clause-found, w)
 
-pub clause-returns-in-Aside : goal.clause-returns-in-Aside
-clause-returns-in-Aside t c = search clause-aside
+pub clause-returns-in_err-q : goal.clause-returns-in_err-q
+clause-returns-in_err-q t c =
+    let p = err_from_is_err_and c.from_residual.result c.from_residual.ensures.1 in
+    let w = c.in_err-q.was {u = tt} in rw (p.1, p.2) (search (clause-aside, w))
 
 pub clauses-returns-then-d-eq0 : goal.clauses-returns-then-d-eq0
 clauses-returns-then-d-eq0 t c = search clauses-0
@@ -20,14 +23,16 @@ clauses-loop-t-init t c = (search rules, search clauses-start)
 pub clauses-returns-then-is_stop : goal.clauses-returns-then-is_stop
 clauses-returns-then-is_stop t c = search clauses-stop
 
-pub clauses-returns-then-next-t : goal.clauses-returns-then-next-t
-clauses-returns-then-next-t t c = search clauses-stuck
+pub clauses-returns-then-q-t : goal.clauses-returns-then-q-t
+clauses-returns-then-q-t t c = let w = c.in_ok-q.was {u = tt} in search (clauses-stuck, w)
 
-pub clauses-returns-in-Aside : goal.clauses-returns-in-Aside
-clauses-returns-in-Aside t c = search clauses-aside
+pub clauses-returns-in_err-q : goal.clauses-returns-in_err-q
+clauses-returns-in_err-q t c =
+    let p = err_from_is_err_and c.from_residual.result c.from_residual.ensures.1 in
+    let w = c.in_err-q.was {u = tt} in rw (p.1, p.2) (search (clauses-aside, w))
 
 pub clauses-loop-t-preserved : goal.clauses-loop-t-preserved
-clauses-loop-t-preserved t c = (search rules, search clauses-more)
+clauses-loop-t-preserved t c = let w = c.in_ok-q.was {u = tt} in (search rules, search (clauses-more, w))
 
 pub clauses-returns : goal.clauses-returns
 clauses-returns t c = search clauses-end
@@ -38,11 +43,13 @@ nested-returns-then-d-eq0 t c = search nested-0
 pub nested-returns-then-nest-ge-MOST_BRACKETS : goal.nested-returns-then-nest-ge-MOST_BRACKETS
 nested-returns-then-nest-ge-MOST_BRACKETS t c = search nested-full
 
-pub nested-returns-in-Found : goal.nested-returns-in-Found
-nested-returns-in-Found t c = search nested-found
+pub nested-returns : goal.nested-returns
+nested-returns t c = let w = c.in_ok-q.was {u = tt} in search (nested-found, w)
 
-pub nested-returns-in-Aside : goal.nested-returns-in-Aside
-nested-returns-in-Aside t c = search nested-aside
+pub nested-returns-in_err-q : goal.nested-returns-in_err-q
+nested-returns-in_err-q t c =
+    let p = err_from_is_err_and c.from_residual.result c.from_residual.ensures.1 in
+    let w = c.in_err-q.was {u = tt} in rw (p.1, p.2) (search (nested-aside, w))
 
 pub program-returns-then-d-eq0 : goal.program-returns-then-d-eq0
 program-returns-then-d-eq0 t c = search program-0
@@ -68,8 +75,10 @@ value-returns-then-d-eq0 t c = search value-0
 pub value-returns-then-t-eq-OPEN_BRACE : goal.value-returns-then-t-eq-OPEN_BRACE
 value-returns-then-t-eq-OPEN_BRACE t c = search value-nested
 
-pub value-returns-in-Found : goal.value-returns-in-Found
-value-returns-in-Found t c = search value_found
+pub value-returns : goal.value-returns
+value-returns t c = let w = c.in_ok-q.was {u = tt} in search (value_found, w)
 
-pub value-returns-in-Aside : goal.value-returns-in-Aside
-value-returns-in-Aside t c = search value-aside
+pub value-returns-in_err-q : goal.value-returns-in_err-q
+value-returns-in_err-q t c =
+    let p = err_from_is_err_and c.from_residual.result c.from_residual.ensures.1 in
+    let w = c.in_err-q.was {u = tt} in rw (p.1, p.2) (search (value-aside, w))

@@ -4,7 +4,4 @@ use Rattle.expression.specs.Integers.{raised_to}
 use Rattle.expression.proofs.integer.raise.Given as goal
 
 abbrev pub invariant-loop-left : goal.invariant-loop-left
-invariant-loop-left l = (l.v ≤ 2147483648) × (raised_to l.v l.x l.left ≡ raised_to 1 l.x l.n)
-
-abbrev pub decreases-loop-left : goal.decreases-loop-left
-decreases-loop-left l = l.left
+invariant-loop-left l = (l.v ≤ 2147483648) × (raised_to l.v l.x l._left ≡ raised_to 1 l.x l.n)

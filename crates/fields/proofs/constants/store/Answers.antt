@@ -3,13 +3,13 @@ use borrow.Author.Rules.{rules}
 use Rattle.fields.proofs.constants.store.Goals as goal
 
 pub returns-then-put_literal : goal.returns-then-put_literal
-returns-then-put_literal c = search store-done
+returns-then-put_literal c = let w = c.in_ok-named.was {u = tt} in search (store-done, w)
 
-pub returns-in-Full : goal.returns-in-Full
-returns-in-Full c = search store-full
+pub returns-in_err-named : goal.returns-in_err-named
+returns-in_err-named c = let w = c.in_err-named.was {u = tt} in rw c.from_residual.ensures (search (store-full, w))
 
-pub returns-else-put_literal : goal.returns-else-put_literal
-returns-else-put_literal c = search store-none
+pub returns : goal.returns
+returns c = let w = c.in_ok-named.was {u = tt} in search (store-none, w)
 
 pub overflow_add-result : goal.overflow_add-result
 overflow_add-result c = let w = put-room _ _ _ _ _ c.put_literal.ensures c.if-put_literal.true in search rules

@@ -7,8 +7,8 @@ returns-then-v-ne-LITERAL c = search value_none
 pub returns-then-not-is_fitting : goal.returns-then-not-is_fitting
 returns-then-not-is_fitting c = search value-long
 
-pub returns-in-Full : goal.returns-in-Full
-returns-in-Full c = search value-full
+pub returns-in-None : goal.returns-in-None
+returns-in-None c = search value-full
 
-pub returns-in-Now : goal.returns-in-Now
-returns-in-Now c = search value_on
+pub returns-in-Some : goal.returns-in-Some
+returns-in-Some c = search value_on

@@ -1,6 +1,5 @@
 use Rattle.float.specs.Working.Converting.{digits-fit, digit-fits, divide-step, rest_below}
 use Rattle.float.proofs.Working.Converting.{divided-made}
-use borrow.Author.Rules.{rules}
 use Rattle.float.proofs.decimal.divided.Goals as goal
 
 -- src/lib.rt:81:13
@@ -12,8 +11,8 @@ pub overflow_add-q : goal.overflow_add-q
 overflow_add-q c = search digit-fits
 
 -- src/lib.rt:79:5
-pub loop-i-preserved : goal.loop-i-preserved
-loop-i-preserved c = (search rules, search rest_below, search divide-step)
+pub loop-preserved : goal.loop-preserved
+loop-preserved c = (search rest_below, search divide-step)
 
 -- src/lib.rt:72:1
 pub returns : goal.returns

@@ -6,5 +6,5 @@ pub returns-then-is_finite : goal.returns-then-is_finite
 returns-then-is_finite c = search check-kept
 
 -- src/lib.rt:28:1
-pub returns : goal.returns
-returns c = search check-refused
+pub returns-else-is_finite : goal.returns-else-is_finite
+returns-else-is_finite c = search check-refused

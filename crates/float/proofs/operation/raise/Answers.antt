@@ -1,18 +1,14 @@
-use Rattle.float.specs.Working.Computing.{raise-start, raise-more, raise-stop, raise-done}
+use Rattle.float.specs.Working.Computing.{raise-start, raise-next, raise-error, raise-done}
 use Rattle.float.proofs.operation.raise.Goals as goal
 
--- src/lib.rt:73:5
-pub loop-left-init : goal.loop-left-init
-loop-left-init c = search raise-start
+pub loop-init : goal.loop-init
+loop-init c = search raise-start
 
--- src/lib.rt:73:5
-pub loop-left-preserved : goal.loop-left-preserved
-loop-left-preserved c = search raise-more
+pub loop-preserved : goal.loop-preserved
+loop-preserved c = search (raise-next, c.in_ok-v.was)
 
--- src/lib.rt:78:13
-pub returns-else-is_finite : goal.returns-else-is_finite
-returns-else-is_finite c = search raise-stop
+pub returns-in_err-v : goal.returns-in_err-v
+returns-in_err-v c = rw c.from_residual.ensures (search (raise-error, c.in_err-v.was))
 
--- src/lib.rt:68:1
 pub returns : goal.returns
 returns c = search raise-done

@@ -1,27 +1,19 @@
-use Rattle.float.specs.Working.Reading.{amount-long, amount-deep, amount-both, whole-small, value-small, amount-is}
-use borrow.Author.Rules.{rules}
+use Rattle.std.proofs.Common.{rules, arith}
+use Rattle.float.specs.Working.Reading.{amount-over, amount-few, whole-small, value-small, amount-is}
 use Rattle.float.proofs.written.amount.Goals as goal
 
--- src/lib.rt:42:9
-pub returns-then-k-gt18 : goal.returns-then-k-gt18
-returns-then-k-gt18 c = search amount-long
+pub returns-then-saturating_add-gt18 : goal.returns-then-saturating_add-gt18
+returns-then-saturating_add-gt18 c = search amount-over
 
--- src/lib.rt:45:9
-pub returns-then-j-gt18 : goal.returns-then-j-gt18
-returns-then-j-gt18 c = search amount-deep
-
--- src/lib.rt:48:9
-pub returns-then-k-j-gt18 : goal.returns-then-k-j-gt18
-returns-then-k-j-gt18 c = search amount-both
-
--- src/lib.rt:51:9
 pub more-w-requires : goal.more-w-requires
-more-w-requires c = (search whole-small, search rules, search rules)
+more-w-requires c = (search whole-small, search amount-few, search rules)
 
--- src/lib.rt:52:5
 pub nearest_to-requires : goal.nearest_to-requires
-nearest_to-requires c = (search value-small, search rules)
+nearest_to-requires c =
+    let few = amount-few c.args.whole.now c.args.fraction.now _ c.saturating_add.ensures c.if-saturating_add-gt18.false in
+    (value-small _ _ _ _ few c.more-w.ensures, omega (arith, few))
 
--- src/lib.rt:35:1
 pub returns : goal.returns
-returns c = search amount-is
+returns c =
+    let few = amount-few c.args.whole.now c.args.fraction.now _ c.saturating_add.ensures c.if-saturating_add-gt18.false in
+    amount-is _ _ _ few _ _ c.more-v.ensures c.more-w.ensures _ c.nearest_to.ensures

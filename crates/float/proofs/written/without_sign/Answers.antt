@@ -1,4 +1,4 @@
-use Rattle.float.specs.Working.Reading.{unsigned-none, unsigned-all, unsigned-other, unsigned-point, digits-all, digits-none, digits-front}
+use Rattle.float.specs.Working.Reading.{unsigned-none, unsigned-all, unsigned-other, unsigned-point, digits-all, no-digits, digits-front}
 use Rattle.text.specs.Working.Deciding.{front-room}
 use borrow.Author.Rules.{rules}
 use Rattle.float.proofs.written.without_sign.Goals as goal
@@ -9,7 +9,7 @@ returns-then-k-eq0 c = search unsigned-none
 
 -- src/lib.rt:78:9
 pub amount-requires : goal.amount-requires
-amount-requires c = (search digits-all, search digits-none)
+amount-requires c = (search digits-all, search no-digits)
 
 -- src/lib.rt:78:9
 pub returns-then-s-k : goal.returns-then-s-k

@@ -1,14 +1,13 @@
-use Rattle.lexical.proofs.ClassWays.{name-low, name-small, name-capital, name-bar}
+use Rattle.std.proofs.Common.{arith}
+use Rattle.text.specs.Choice.{tests}
+use Rattle.lexical.specs.Working.Runs.{letter}
+use Rattle.lexical.proofs.ClassWays.{by-letter}
 use Rattle.lexical.proofs.class.begins_name.Goals as goal
 
-pub returns-then-b-lt65 : goal.returns-then-b-lt65
-returns-then-b-lt65 c = search name-low
+pub returns-then-is_ascii_alphabetic : goal.returns-then-is_ascii_alphabetic
+unfolding letter
+returns-then-is_ascii_alphabetic c = by-letter _ c.ranges.b.fits _ (grind (arith, tests))
 
-pub returns-then-b-ge97 : goal.returns-then-b-ge97
-returns-then-b-ge97 c = search name-small
-
-pub returns-then-b-le90 : goal.returns-then-b-le90
-returns-then-b-le90 c = search name-capital
-
-pub returns : goal.returns
-returns c = search name-bar
+pub returns-else-is_ascii_alphabetic : goal.returns-else-is_ascii_alphabetic
+unfolding letter
+returns-else-is_ascii_alphabetic c = by-letter _ c.ranges.b.fits _ (grind (arith, tests))

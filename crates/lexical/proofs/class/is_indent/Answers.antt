@@ -1,5 +1,13 @@
-use Rattle.lexical.proofs.ClassWays.{has-blank}
+use Rattle.std.proofs.Common.{rules}
+use Rattle.text.specs.Choice.{tests}
+use Rattle.lexical.specs.Working.Runs.{blank}
+use Rattle.lexical.proofs.ClassWays.{by-blank}
 use Rattle.lexical.proofs.class.is_indent.Goals as goal
 
-pub returns : goal.returns
-returns c = search has-blank
+pub returns-then-b-eq32 : goal.returns-then-b-eq32
+unfolding blank
+returns-then-b-eq32 c = by-blank _ c.ranges.b.fits _ (search (rules, tests))
+
+pub returns-else-b-eq32 : goal.returns-else-b-eq32
+unfolding blank
+returns-else-b-eq32 c = by-blank _ c.ranges.b.fits _ (search (rules, tests))

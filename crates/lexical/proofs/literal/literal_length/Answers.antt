@@ -1,27 +1,12 @@
-use Rattle.lexical.proofs.LiteralWays.{width_fits, width-less, length_none, length-start, length-quote, length_last, length_more, length-low, length-end}
-use borrow.Author.Rules.{rules}
+use Rattle.std.proofs.Common.{arith}
+use Rattle.lexical.proofs.LiteralWays.{length-drops, length-gives, low-gives, length-last}
 use Rattle.lexical.proofs.literal.literal_length.Goals as goal
 
-pub returns-then-s-start : goal.returns-then-s-start
-returns-then-s-start c = search length_none
+pub loop-width-preserved-in-Drops : goal.loop-width-preserved-in-Drops
+loop-width-preserved-in-Drops c = (length-drops _ _ _ _ c.loop-width.invariant.0 _ c.in-Drops.ensures, omega (arith, c.loop-width.invariant.1))
 
-pub loop-i-init : goal.loop-i-init
-loop-i-init c = (search length-start, search rules)
+pub loop-width-preserved : goal.loop-width-preserved
+loop-width-preserved c = (length-gives _ _ _ _ c.loop-width.invariant.0 _ _ c.in-Gives.ensures, low-gives _ _ _ c.loop-width.invariant.1 _ _ c.in-Gives.ensures)
 
-pub returns-then-s-i-eq34 : goal.returns-then-s-i-eq34
-returns-then-s-i-eq34 c = search length-quote
-
-pub returns-then-u-gt-GIVES : goal.returns-then-u-gt-GIVES
-returns-then-u-gt-GIVES c = search length_last
-
-pub overflow_add-i-in-loop-i : goal.overflow_add-i-in-loop-i
-overflow_add-i-in-loop-i c = search width_fits
-
-pub loop-i-smaller : goal.loop-i-smaller
-loop-i-smaller c = search width-less
-
-pub loop-i-preserved : goal.loop-i-preserved
-loop-i-preserved c = (search length_more, search length-low)
-
-pub returns : goal.returns
-returns c = search length-end
+pub returns-in-Closes : goal.returns-in-Closes
+returns-in-Closes c = search length-last

@@ -5,8 +5,8 @@ use Prim.Native.Nat.{◌-◌}
 use mathlib.Core.Path.{◌≡◌}
 use Rattle.lexical.proofs.literal.literal_length.Given as goal
 
-abbrev pub invariant-loop-i : goal.invariant-loop-i
-invariant-loop-i l = (l.n + length (given (units_at l.s l.i)) ≡ length (decoded_at l.s l.start)) × (l.n ≤ l.i)
+abbrev pub invariant-loop-width : goal.invariant-loop-width
+invariant-loop-width l = (l.n + length (given (units_at l.s l.i)) ≡ length (decoded_at l.s l.start)) × (l.n ≤ l.i)
 
-abbrev pub decreases-loop-i : goal.decreases-loop-i
-decreases-loop-i l = length l.s - l.i
+abbrev pub decreases-loop-width : goal.decreases-loop-width
+decreases-loop-width l = length l.s - l.i

@@ -6,8 +6,8 @@ use Prim.Native.Nat.{◌-◌}
 use mathlib.Core.Path.{◌≡◌}
 use Rattle.lexical.proofs.literal.write.Given as goal
 
-abbrev pub invariant-loop-i : goal.invariant-loop-i
-invariant-loop-i l = (sets l.buf l.top (given (units_at l.s l.i)) ≡ sets l.initial.buf l.at (given (units_at l.s l.from))) × (l.top + length (given (units_at l.s l.i)) ≤ length l.buf) × (length l.buf ≡ length l.initial.buf)
+abbrev pub invariant-loop-width : goal.invariant-loop-width
+invariant-loop-width l = (sets l.buf l.top (given (units_at l.s l.i)) ≡ sets l.initial.buf l.at (given (units_at l.s l.from))) × (l.top + length (given (units_at l.s l.i)) ≤ length l.buf)
 
-abbrev pub decreases-loop-i : goal.decreases-loop-i
-decreases-loop-i l = length l.s - l.i
+abbrev pub decreases-loop-width : goal.decreases-loop-width
+decreases-loop-width l = length l.s - l.i

@@ -1,3 +1,4 @@
+use Rattle.std.proofs.lemmas.Result.{err_from_is_err_and}
 use Rattle.naming.specs.Working.ListWays.{plain-asked}
 use Rattle.naming.specs.Working.ChainWays.{more-again, more-less, chain-aside, chain-on, more-aside, more-end, more-stuck, operand-chain, operand-primary, operand-name, operand-literal, primary-aside, primary-digits, primary-most, primary-open, primary-longer, primary-on, primary-one}
 use borrow.Author.Rules.{rules}
@@ -6,14 +7,18 @@ use Rattle.naming.proofs.licensees.+chain_more_operand_primary.Goals as goal
 pub chain-more-requires : goal.chain-more-requires
 chain-more-requires t c = let w = c.requires in search rules
 
-pub chain-returns-in_default : goal.chain-returns-in_default
-chain-returns-in_default t c = search chain-aside
+pub chain-returns-in_err-one : goal.chain-returns-in_err-one
+chain-returns-in_err-one t c =
+    let p = err_from_is_err_and c.from_residual.result c.from_residual.ensures.1 in
+    let w = c.in_err-one.was {u = tt} in rw (p.1, p.2) (search (chain-aside, w))
 
-pub chain-returns-in-On : goal.chain-returns-in-On
-chain-returns-in-On t c = search chain-on
+pub chain-returns : goal.chain-returns
+chain-returns t c = let w = c.in_ok-one.was {u = tt} in search (chain-on, w)
 
-pub more-returns-in_default : goal.more-returns-in_default
-more-returns-in_default t c = search more-aside
+pub more-returns-in_err-one : goal.more-returns-in_err-one
+more-returns-in_err-one t c =
+    let p = err_from_is_err_and c.from_residual.result c.from_residual.ensures.1 in
+    let w = c.in_err-one.was {u = tt} in rw (p.1, p.2) (search (more-aside, w))
 
 pub more-shape_of-pool-then-rest : goal.more-shape_of-pool-then-rest
 more-shape_of-pool-then-rest t c = let w = c.loop-t.invariant.0 in search rules
@@ -25,13 +30,13 @@ pub more-shape_of-code-then-rest : goal.more-shape_of-code-then-rest
 more-shape_of-code-then-rest t c = let w = c.loop-t.invariant.2 in search rules
 
 pub more-returns-then-rest : goal.more-returns-then-rest
-more-returns-then-rest t c = let f = more-stuck _ _ _ _ _ _ _ _ _ _ c.loop-t.invariant.3 _ c.joint_of-joint.ensures c.loop-t-test.true _ c.token_at-n.ensures _ _ _ _ c.operand.ensures in search f
+more-returns-then-rest t c = let f = more-stuck _ _ _ _ _ _ _ _ _ _ c.loop-t.invariant.3 _ c.joint_of-joint.ensures c.loop-t-test.true _ c.token_at-n.ensures _ _ _ _ c.operand.ensures in let w = c.in_ok-one.was {u = tt} in search (f, w)
 
 pub more-loop-t-smaller : goal.more-loop-t-smaller
-more-loop-t-smaller t c = let f = more-less _ _ _ _ _ _ _ _ _ _ c.loop-t.invariant.3 _ c.joint_of-joint.ensures c.loop-t-test.true _ c.token_at-n.ensures _ _ _ _ c.operand.ensures in search f
+more-loop-t-smaller t c = let f = more-less _ _ _ _ _ _ _ _ _ _ c.loop-t.invariant.3 _ c.joint_of-joint.ensures c.loop-t-test.true _ c.token_at-n.ensures _ _ _ _ c.operand.ensures in let w = c.in_ok-one.was {u = tt} in search (f, w)
 
 pub more-loop-t-preserved : goal.more-loop-t-preserved
-more-loop-t-preserved t c = ((let w = c.loop-t.invariant.0 in search rules), (let w = c.loop-t.invariant.1 in search rules), (let w = c.loop-t.invariant.2 in search rules), (let f = more-again _ _ _ _ _ _ _ _ _ _ c.loop-t.invariant.3 _ c.joint_of-joint.ensures c.loop-t-test.true _ c.token_at-n.ensures _ _ _ _ c.operand.ensures in search f))
+more-loop-t-preserved t c = ((let w = c.loop-t.invariant.0 in search rules), (let w = c.loop-t.invariant.1 in search rules), (let w = c.loop-t.invariant.2 in search rules), (let f = more-again _ _ _ _ _ _ _ _ _ _ c.loop-t.invariant.3 _ c.joint_of-joint.ensures c.loop-t-test.true _ c.token_at-n.ensures _ _ _ _ c.operand.ensures in let w = c.in_ok-one.was {u = tt} in search (f, w)))
 
 pub more-returns : goal.more-returns
 more-returns t c = search more-end
@@ -70,22 +75,28 @@ pub primary-shape_of-code-then-is_longer : goal.primary-shape_of-code-then-is_lo
 primary-shape_of-code-then-is_longer t c = let v = c.chain.new in let w = c.chain.auto in search rules
 
 pub primary-returns-then-is_longer : goal.primary-returns-then-is_longer
-primary-returns-then-is_longer t c = let a = c.if-t-eq-DIGITS.false in let b = c.if-t-ne-OPEN.false in let d = c.if-left-eq0.false in let e = c.token_at-n.ensures in let f = c.chain.ensures in search primary-longer
+primary-returns-then-is_longer t c = let a = c.if-t-eq-DIGITS.false in let b = c.if-t-ne-OPEN.false in let d = c.if-left-eq0.false in let e = c.token_at-n.ensures in let f = c.chain.ensures in let v = c.in_ok-held.was {u = tt} in let w = c.in_ok-behind.was {u = tt} in search (primary-longer, v, w)
 
-pub primary-returns-in_default : goal.primary-returns-in_default
-primary-returns-in_default t c = search primary-aside
+pub primary-returns-in_err-held : goal.primary-returns-in_err-held
+primary-returns-in_err-held t c =
+    let p = err_from_is_err_and c.from_residual.result c.from_residual.ensures.1 in
+    let w = c.in_err-held.was {u = tt} in rw (p.1, p.2) (search (primary-aside, w))
 
-pub primary-returns-in_default-closed : goal.primary-returns-in_default-closed
-primary-returns-in_default-closed t c = let a = c.if-t-eq-DIGITS.false in let b = c.if-t-ne-OPEN.false in let d = c.if-left-eq0.false in let e = c.token_at-n.ensures in let f = c.chain.ensures in search primary-open
+pub primary-returns-in_err-behind : goal.primary-returns-in_err-behind
+primary-returns-in_err-behind t c =
+    let p = err_from_is_err_and c.from_residual-in_err-behind.result c.from_residual-in_err-behind.ensures.1 in
+    let v = c.in_ok-held.was {u = tt} in
+    let w = c.in_err-behind.was {u = tt} in
+    let a = c.if-t-eq-DIGITS.false in let b = c.if-t-ne-OPEN.false in let d = c.if-left-eq0.false in let e = c.token_at-n.ensures in let f = c.chain.ensures in rw (p.1, p.2) (search (primary-open, v, w))
 
-pub primary-shape_of-pool-else-is_longer : goal.primary-shape_of-pool-else-is_longer
-primary-shape_of-pool-else-is_longer t c = let v = c.chain.new in let w = c.chain.auto in search rules
+pub primary-shape_of-pool : goal.primary-shape_of-pool
+primary-shape_of-pool t c = let v = c.chain.new in let w = c.chain.auto in search rules
 
-pub primary-shape_of-places-else-is_longer : goal.primary-shape_of-places-else-is_longer
-primary-shape_of-places-else-is_longer t c = let v = c.chain.new in let w = c.chain.auto in search rules
+pub primary-shape_of-places : goal.primary-shape_of-places
+primary-shape_of-places t c = let v = c.chain.new in let w = c.chain.auto in search rules
 
-pub primary-shape_of-code-else-is_longer : goal.primary-shape_of-code-else-is_longer
-primary-shape_of-code-else-is_longer t c = let v = c.chain.new in let w = c.chain.auto in search rules
+pub primary-shape_of-code : goal.primary-shape_of-code
+primary-shape_of-code t c = let v = c.chain.new in let w = c.chain.auto in search rules
 
-pub primary-returns-else-is_longer : goal.primary-returns-else-is_longer
-primary-returns-else-is_longer t c = let a = c.if-t-eq-DIGITS.false in let b = c.if-t-ne-OPEN.false in let d = c.if-left-eq0.false in let e = c.token_at-n.ensures in let f = c.chain.ensures in search primary-on
+pub primary-returns : goal.primary-returns
+primary-returns t c = let a = c.if-t-eq-DIGITS.false in let b = c.if-t-ne-OPEN.false in let d = c.if-left-eq0.false in let e = c.token_at-n.ensures in let f = c.chain.ensures in let v = c.in_ok-held.was {u = tt} in let w = c.in_ok-behind.was {u = tt} in search (primary-on, v, w)

@@ -18,7 +18,7 @@ abbrev pub decreases-primary : goal.decreases-primary
 decreases-primary l = 7 * l.left
 
 abbrev pub invariant-more-loop-t : goal.invariant-more-loop-t
-invariant-more-loop-t l = (length l.pool ≡ length l.initial.pool) × (length l.places ≡ length l.initial.places) × (length l.code ≡ length l.initial.code) × (more_at l.left l.level l.s (sight l.query l.consts l.values l.names l.constants) l.pool l.places l.code l.state l.t ≡ more_at l.left l.level l.s (sight l.query l.consts l.values l.names l.constants) l.initial.pool l.initial.places l.initial.code l.initial.state l.initial.t)
+invariant-more-loop-t l = (length l.pool ≡ length l.initial.pool) × (length l.places ≡ length l.initial.places) × (length l.code ≡ length l.initial.code) × (more_at l.left l.level l.s (sight l.scope.query.now l.scope.consts.now l.scope.values.now l.scope.names.now l.scope.constants.now) l.pool l.places l.code l.state l.t ≡ more_at l.left l.level l.s (sight l.scope.query.now l.scope.consts.now l.scope.values.now l.scope.names.now l.scope.constants.now) l.initial.pool l.initial.places l.initial.code l.initial.state l.initial.t)
 
 abbrev pub decreases-more-loop-t : goal.decreases-more-loop-t
 decreases-more-loop-t l = 16 - l.state.listed

@@ -1,3 +1,4 @@
+use Rattle.std.proofs.lemmas.Result.{err_from_is_err_and}
 use Rattle.naming.specs.Working.ChainWays.{field-aside, field-empty, field-on, field_past, field-short}
 use Rattle.naming.proofs.licensees.licensees.Goals as goal
 
@@ -10,8 +11,10 @@ returns-then-code-size-lt-MOST_CODE c = search field-short
 pub returns-then-is_ending : goal.returns-then-is_ending
 returns-then-is_ending c = search field-empty
 
-pub returns-in_default : goal.returns-in_default
-returns-in_default c = search field-aside
+pub returns-in_err-all : goal.returns-in_err-all
+returns-in_err-all c =
+    let p = err_from_is_err_and c.from_residual.result c.from_residual.ensures.1 in
+    let w = c.in_err-all.was {u = tt} in rw (p.1, p.2) (search (field-aside, w))
 
-pub returns-in-On : goal.returns-in-On
-returns-in-On c = search field-on
+pub returns : goal.returns
+returns c = let w = c.in_ok-all.was {u = tt} in search (field-on, w)

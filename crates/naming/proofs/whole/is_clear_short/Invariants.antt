@@ -8,6 +8,3 @@ use Rattle.naming.proofs.whole.is_clear_short.Given as goal
 
 abbrev pub invariant-loop-a : goal.invariant-loop-a
 invariant-loop-a l = (l.i ≤ l.a) × (l.a ≤ l.e) × (all clear (take (l.a - l.i) (drop l.i l.s)) ≡ true)
-
-abbrev pub decreases-loop-a : goal.decreases-loop-a
-decreases-loop-a l = l.e - l.a

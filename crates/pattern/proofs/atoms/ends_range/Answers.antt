@@ -1,22 +1,16 @@
+use Rattle.std.proofs.Common.{rules}
 use Rattle.text.specs.Choice.{tests}
-use Rattle.pattern.specs.Working.Scan.{ends_range, way-ends-opens, way-ends-yes}
-use borrow.Author.Rules.{rules}
+use Rattle.pattern.specs.Working.Scan.{ends_range, way-ends}
+use Rattle.pattern.proofs.atoms.ends_range.Goals.{then-p-i-via-then-p-i, then-p-i-via-else-p-i+then-p-i-eq45, then-p-i-via-else-p-i+else-p-i-eq45+then-p-i-eq93}
 use Rattle.pattern.proofs.atoms.ends_range.Goals as goal
 
 pub returns-then-p-i : goal.returns-then-p-i
 unfolding ends_range
-returns-then-p-i c = search (rules, tests)
-
-pub returns-then-p-i-eq45 : goal.returns-then-p-i-eq45
-unfolding ends_range
-returns-then-p-i-eq45 c = search (rules, tests)
-
-pub returns-then-p-i-eq93 : goal.returns-then-p-i-eq93
-unfolding ends_range
-returns-then-p-i-eq93 c = search (rules, tests)
-
-pub returns-then-opens_name : goal.returns-then-opens_name
-returns-then-opens_name c = search way-ends-opens
+returns-then-p-i c = elim c.then-p-i.branch [
+  | then-p-i-via-then-p-i w ↦ search (rules, tests)
+  | then-p-i-via-else-p-i+then-p-i-eq45 w ↦ search (rules, tests)
+  | then-p-i-via-else-p-i+else-p-i-eq45+then-p-i-eq93 w ↦ search (rules, tests)
+]
 
 pub returns : goal.returns
-returns c = search way-ends-yes
+returns c = search way-ends

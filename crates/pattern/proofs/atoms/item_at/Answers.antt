@@ -1,6 +1,6 @@
+use Rattle.std.proofs.Common.{rules}
 use Rattle.text.specs.Choice.{tests}
 use Rattle.pattern.specs.Working.Scan.{item_at, way-item-byte, way-item-closed, way-item-dash, way-item-first, way-item-opens}
-use borrow.Author.Rules.{rules}
 use Rattle.pattern.proofs.atoms.item_at.Goals as goal
 
 pub returns-then-p-i : goal.returns-then-p-i
@@ -10,14 +10,14 @@ returns-then-p-i c = search (rules, tests)
 pub returns-then-first : goal.returns-then-first
 returns-then-first c = search way-item-first
 
-pub returns-then-p-i-eq93 : goal.returns-then-p-i-eq93
-returns-then-p-i-eq93 c = search way-item-closed
+pub returns-else-first : goal.returns-else-first
+returns-else-first c = search way-item-closed
 
-pub returns-then-p-i-eq45 : goal.returns-then-p-i-eq45
-returns-then-p-i-eq45 c = search way-item-dash
+pub returns-in-45 : goal.returns-in-45
+returns-in-45 c = search way-item-dash
 
 pub returns-then-opens_name : goal.returns-then-opens_name
 returns-then-opens_name c = search way-item-opens
 
-pub returns : goal.returns
-returns c = search way-item-byte
+pub returns-else-opens_name : goal.returns-else-opens_name
+returns-else-opens_name c = search way-item-byte

@@ -7,6 +7,6 @@ pub returns-then-t : goal.returns-then-t
 unfolding gated nowhere
 returns-then-t c = search (rules, tests)
 
-pub returns : goal.returns
+pub returns-else-t : goal.returns-else-t
 unfolding gated nowhere
-returns c = search (rules, tests)
+returns-else-t c = search (rules, tests)

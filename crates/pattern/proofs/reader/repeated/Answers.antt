@@ -1,14 +1,14 @@
 use Rattle.pattern.specs.Working.Parse.{way-once, way-opt, way-plus, way-star}
 use Rattle.pattern.proofs.reader.repeated.Goals as goal
 
-pub returns-then-x-next : goal.returns-then-x-next
-returns-then-x-next c = search way-star
+pub returns-in-Some : goal.returns-in-Some
+returns-in-Some c = way-star _ _ _ _ _ c.in-Some.ensures _ c.link.ensures _ c.or_empty.ensures
 
-pub returns-then-y-next : goal.returns-then-y-next
-returns-then-y-next c = search way-plus
+pub returns-in-Some-eat : goal.returns-in-Some-eat
+returns-in-Some-eat c = way-plus _ _ _ _ c.in_default.ensures _ c.in-Some-eat.ensures _ c.link-in-Some-eat.ensures
 
-pub returns-then-z-next : goal.returns-then-z-next
-returns-then-z-next c = search way-opt
+pub returns-in-Some-eat-2 : goal.returns-in-Some-eat-2
+returns-in-Some-eat-2 c = way-opt _ _ _ _ c.in_default.ensures c.in_default-eat.ensures _ c.in-Some-eat-2.ensures _ c.or_empty-in-Some-eat-2.ensures
 
 pub returns : goal.returns
-returns c = let a = c.before.before.before.before.before.before.before.before.before.before.args in search (way-once a.p.now a.part a.next)
+returns c = way-once _ _ _ _ c.in_default.ensures c.in_default-eat.ensures c.in_default-eat-2.ensures

@@ -7,6 +7,6 @@ pub returns-then-e : goal.returns-then-e
 unfolding chosen
 returns-then-e c = search (rules, tests)
 
-pub returns : goal.returns
+pub returns-else-e : goal.returns-else-e
 unfolding chosen
-returns c = search (rules, tests)
+returns-else-e c = search (rules, tests)

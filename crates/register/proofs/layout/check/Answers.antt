@@ -10,8 +10,8 @@ returns-then-s-ne-VERSION c = search check-version
 pub loop-i-init : goal.loop-i-init
 loop-i-init c = search check-start
 
-pub returns-then-s-at-gt1 : goal.returns-then-s-at-gt1
-returns-then-s-at-gt1 c = search check-bad
+pub returns-then-s-place-gt1 : goal.returns-then-s-place-gt1
+returns-then-s-place-gt1 c = search check-bad
 
 pub loop-i-preserved : goal.loop-i-preserved
 loop-i-preserved c = search check-more

@@ -1,11 +1,11 @@
 use Rattle.register.specs.Working.Ways.{free-here, free_more, free-end}
 use Rattle.register.proofs.places.free.Goals as goal
 
-pub loop-first-preserved : goal.loop-first-preserved
-loop-first-preserved c = search free_more
+pub returns-then-not-r-i : goal.returns-then-not-r-i
+returns-then-not-r-i c = search free-here
 
-pub returns-else-p : goal.returns-else-p
-returns-else-p c = search free-here
+pub loop-i-preserved : goal.loop-i-preserved
+loop-i-preserved c = search free_more
 
 pub returns : goal.returns
 returns c = search free-end

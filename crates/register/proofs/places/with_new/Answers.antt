@@ -4,5 +4,5 @@ use Rattle.register.proofs.places.with_new.Goals as goal
 pub returns-then-i-lt-MOST_PRINCIPALS : goal.returns-then-i-lt-MOST_PRINCIPALS
 returns-then-i-lt-MOST_PRINCIPALS c = search new-set
 
-pub returns : goal.returns
-returns c = search new-kept
+pub returns-else-i-lt-MOST_PRINCIPALS : goal.returns-else-i-lt-MOST_PRINCIPALS
+returns-else-i-lt-MOST_PRINCIPALS c = search new-kept

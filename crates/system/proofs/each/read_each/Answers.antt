@@ -1,12 +1,10 @@
-use mathlib.Core.Path.{refl, ◌∙◌}
-use Rattle.system.specs.Working.Each.{each-end, each-full, each_more, each-less}
+use mathlib.Core.Path.{◌≡◌, refl, ◌∙◌}
+use native.Mathlib.Omega.{arith}
+use Rattle.system.specs.Working.Each.{each-end, each-full, each_more}
 use Rattle.system.proofs.each.read_each.Goals as goal
 
 pub returns-then-is_full : goal.returns-then-is_full
 returns-then-is_full c = each-full _ _ _ _ _ _ _ _ _ _ _ _ _ _ c.loop-i.invariant.8 c.loop-i-test.true _ refl _ c.counted_at-n.ensures _ c.is_full.ensures c.if-is_full.true
-
-pub loop-i-smaller : goal.loop-i-smaller
-loop-i-smaller c = each-less _ _ _ c.loop-i-test.true c.behind-i.ensures
 
 pub loop-i-preserved : goal.loop-i-preserved
 loop-i-preserved c = (
@@ -18,8 +16,11 @@ loop-i-preserved c = (
   c.note-e.auto.conds ∙ c.loop-i.invariant.5,
   c.note-e.auto.ends ∙ c.loop-i.invariant.6,
   c.note-e.auto.page ∙ c.loop-i.invariant.7,
-  each_more _ _ _ _ _ _ _ _ _ _ _ _ _ _ c.loop-i.invariant.8 c.loop-i-test.true _ refl _ c.counted_at-n.ensures _ c.is_full.ensures c.if-is_full.false _ _ c.read_one-r.ensures _ _ _ _ _ c.note-e.ensures _ c.behind-i.ensures,
+  each_more _ _ _ _ _ _ _ _ _ _ _ _ _ _ c.loop-i.invariant.8 c.loop-i-test.true _ refl _ c.counted_at-n.ensures _ c.is_full.ensures c.if-is_full.false _ _ c.read_one-r.ensures _ _ _ _ _ c.note-e.ensures,
+  omega (arith, c.loop-i-test.true),
 )
 
 pub returns : goal.returns
-returns c = search each-end
+returns c =
+    let e : c.max.result ≡ c.loop-i.i = omega (arith, c.max.ensures, c.loop-i.auto.i, c.loop-i.invariant.9, c.loop-i-test.false) in
+    rw e (search each-end)

@@ -15,10 +15,10 @@ pub shape_of-page-then-w-texts : goal.shape_of-page-then-w-texts
 shape_of-page-then-w-texts c = c.grown.auto.page ∙ c.read_each-w.auto.page ∙ c.put_header.auto.page
 
 pub returns-then-w-texts : goal.returns-then-w-texts
-returns-then-w-texts c = fill-rest _ _ _ _ _ _ _ _ _ _ _ _ c.top_of-top.ensures _ c.put_header.ensures _ _ _ _ _ _ _ c.read_each-w.ensures c.if-w-texts.true _ _ _ _ c.front_bytes.ensures c.front_bytes-then-w-texts.ensures c.front_places.ensures c.front_bytes-then-w-texts-2.ensures _ _ c.grown.ensures
+returns-then-w-texts c = fill-rest _ _ _ _ _ _ _ _ _ _ _ _ c.requires _ c.put_header.ensures _ _ _ _ _ _ _ c.read_each-w.ensures c.if-w-texts.true _ _ _ _ c.front.ensures c.front-then-w-texts.ensures c.front-then-w-texts-2.ensures c.front-then-w-texts-3.ensures _ _ c.grown.ensures
 
 pub shape_of-page : goal.shape_of-page
 shape_of-page c = c.read_each-w.auto.page ∙ c.put_header.auto.page
 
 pub returns : goal.returns
-returns c = fill-all _ _ _ _ _ _ _ _ _ _ _ _ c.top_of-top.ensures _ c.put_header.ensures _ _ _ _ _ _ _ c.read_each-w.ensures c.if-w-texts.false _ c.solve_rows.ensures
+returns c = fill-all _ _ _ _ _ _ _ _ _ _ _ _ c.requires _ c.put_header.ensures _ _ _ _ _ _ _ c.read_each-w.ensures c.if-w-texts.false _ c.solve_rows.ensures

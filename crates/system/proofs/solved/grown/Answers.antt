@@ -26,17 +26,17 @@ slice_bounds-read_each-end-2 c = kept-long middle.pool _ c.copy_at-2.auto.dst
 pub slice_bounds-read_each-end-3 : goal.slice_bounds-read_each-end-3
 slice_bounds-read_each-end-3 c = kept-long most_principals _ c.copy_places.auto.dst
 
-pub slice_bounds-front_bytes-end : goal.slice_bounds-front_bytes-end
-slice_bounds-front_bytes-end c = kept-long most_consts _ (c.read_each-w.auto.consts ∙ c.copy_at.auto.dst)
+pub slice_bounds-front-end : goal.slice_bounds-front-end
+slice_bounds-front-end c = kept-long most_consts _ (c.read_each-w.auto.consts ∙ c.copy_at.auto.dst)
 
-pub slice_bounds-front_bytes-end-then-w-texts : goal.slice_bounds-front_bytes-end-then-w-texts
-slice_bounds-front_bytes-end-then-w-texts c = kept-long middle.pool _ (c.read_each-w.auto.pool ∙ c.copy_at-2.auto.dst)
+pub slice_bounds-front-end-then-w-texts : goal.slice_bounds-front-end-then-w-texts
+slice_bounds-front-end-then-w-texts c = kept-long middle.pool _ (c.read_each-w.auto.pool ∙ c.copy_at-2.auto.dst)
 
-pub slice_bounds-front_places-end : goal.slice_bounds-front_places-end
-slice_bounds-front_places-end c = kept-long most_principals _ (c.read_each-w.auto.places ∙ c.copy_places.auto.dst)
+pub slice_bounds-front-end-then-w-texts-2 : goal.slice_bounds-front-end-then-w-texts-2
+slice_bounds-front-end-then-w-texts-2 c = kept-long most_principals _ (c.read_each-w.auto.places ∙ c.copy_places.auto.dst)
 
-pub slice_bounds-front_bytes-end-then-w-texts-2 : goal.slice_bounds-front_bytes-end-then-w-texts-2
-slice_bounds-front_bytes-end-then-w-texts-2 c = kept-long most_principals _ c.copy_at-3.auto.dst
+pub slice_bounds-front-end-then-w-texts-3 : goal.slice_bounds-front-end-then-w-texts-3
+slice_bounds-front-end-then-w-texts-3 c = kept-long most_principals _ c.copy_at-3.auto.dst
 
 pub shape_of-code-then-w-texts : goal.shape_of-code-then-w-texts
 shape_of-code-then-w-texts c = c.grown_large.auto.code ∙ c.read_each-w.auto.code
@@ -54,7 +54,7 @@ pub shape_of-page-then-w-texts : goal.shape_of-page-then-w-texts
 shape_of-page-then-w-texts c = c.grown_large.auto.page ∙ c.read_each-w.auto.page
 
 pub returns-then-w-texts : goal.returns-then-w-texts
-returns-then-w-texts c = grown-rest middle _ _ _ _ _ _ _ _ _ _ _ _ _ _ _ _ _ (laid-is _ _ _ _ c.copy_at.ensures) (laid-is _ _ _ _ c.copy_at-2.ensures) (laid-is _ _ _ _ c.copy_places.ensures) (laid-is _ _ _ _ c.copy_at-3.ensures) _ _ _ _ _ _ _ c.read_each-w.ensures large [] c.if-w-texts.true _ _ _ _ c.front_bytes.ensures c.front_bytes-then-w-texts.ensures c.front_places.ensures c.front_bytes-then-w-texts-2.ensures _ c.grown_large.ensures
+returns-then-w-texts c = grown-rest middle _ _ _ _ _ _ _ _ _ _ _ _ _ _ _ _ _ (laid-is _ _ _ _ c.copy_at.ensures) (laid-is _ _ _ _ c.copy_at-2.ensures) (laid-is _ _ _ _ c.copy_places.ensures) (laid-is _ _ _ _ c.copy_at-3.ensures) _ _ _ _ _ _ _ c.read_each-w.ensures large [] c.if-w-texts.true _ _ _ _ c.front.ensures c.front-then-w-texts.ensures c.front-then-w-texts-2.ensures c.front-then-w-texts-3.ensures _ c.grown_large.ensures
 
 pub slice_bounds-solve_rows-end : goal.slice_bounds-solve_rows-end
 slice_bounds-solve_rows-end c = kept-long most_principals _ c.copy_at-3.auto.dst

@@ -1,16 +1,16 @@
+use Rattle.std.proofs.Common.{rules}
 use Rattle.text.specs.Working.Backward.{same-apart}
-use Rattle.text.specs.Working.Blocks.{long-like, long-unlike, long_rest}
-use borrow.Author.Rules.{rules}
+use Rattle.text.specs.Working.Blocks.{ahead-like, ahead-unlike, ahead_rest}
 use Rattle.text.proofs.long.same_long.Goals as goal
 
 pub returns-then-a-b : goal.returns-then-a-b
-returns-then-a-b c = search same-apart
+returns-then-a-b c = search (rules, same-apart)
 
-pub loop-i-preserved : goal.loop-i-preserved
-loop-i-preserved c = (search rules, search rules, search long-like)
+pub returns-then-not-same_part : goal.returns-then-not-same_part
+returns-then-not-same_part c = search (rules, ahead-unlike)
 
-pub returns-else-same_part : goal.returns-else-same_part
-returns-else-same_part c = search long-unlike
+pub loop-k-preserved : goal.loop-k-preserved
+loop-k-preserved c = search (rules, ahead-like)
 
 pub returns : goal.returns
-returns c = search long_rest
+returns c = search (rules, ahead_rest)

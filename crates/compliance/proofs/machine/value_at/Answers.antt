@@ -1,5 +1,0 @@
-use Rattle.compliance.specs.Working.Machine.{past_end}
-use Rattle.compliance.proofs.machine.value_at.Goals as goal
-
-pub returns : goal.returns
-returns c = search past_end

@@ -1,5 +1,0 @@
-use Rattle.compliance.specs.Working.RoundWays.{granted-is}
-use Rattle.compliance.proofs.rounds.granted.Goals as goal
-
-pub returns : goal.returns
-returns c = search granted-is

@@ -1,5 +1,0 @@
-use Rattle.machine.specs.Theorems.Wider.{run-left}
-use Rattle.machine.proofs.run_middle.Goals as goal
-
-pub returns : goal.returns
-returns c = search run-left

@@ -1,0 +1,11 @@
+use Rattle.pattern.specs.Working.Sim.{run_from}
+use Prim.Native.Nat.{◌-◌}
+use lib.ListN.{length}
+use mathlib.Core.Path.{◌≡◌}
+use Rattle.pattern.proofs.run.Pattern.run_plain.Given as goal
+
+abbrev pub invariant-loop-i : goal.invariant-loop-i
+invariant-loop-i l = run_from l.self.bytes.now l.s l.self.table.now l.self.whole.fm l.self.whole.lm l.self.whole.le l.i l.at ≡ run_from l.self.bytes.now l.s l.self.table.now l.self.whole.fm l.self.whole.lm l.self.whole.le 0 l.initial.at
+
+abbrev pub decreases-loop-i : goal.decreases-loop-i
+decreases-loop-i l = length l.s - l.i
