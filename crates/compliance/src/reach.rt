@@ -41,8 +41,7 @@ impl System<'_> {
     fn is_open(&self, done: &[bool], reach: &[u64], j: usize) -> bool
         ensures { result ≡ open_at self.now.authors.now done.now (flags_in (length self.now.direct.now) reach.now) j }
     {
-        let author = index_at(self.authors, j);
-        !item_or(done, j, false) && is_reached(self.direct.len(), reach, author)
+        !item_or(done, j, false) && is_reached(self.direct.len(), reach, index_at(self.authors, j))
     }
 
     // The first assertion that is.

@@ -11,13 +11,14 @@ use syntax;
 use syntax::fault::{Fault, misplaced};
 
 // What was read: its sort, the place of a bare word that is not settled yet, the end of the code, and the token behind it. A fault of
-// reason 0 is that of a reader that was given too little.
+// reason 0 is that of a reader that was given too little. The byte stands last: where a fault has its first word, the compiler would carry the
+// bytes beside it along.
 #[derive(Clone, Copy)]
 pub struct Found {
-    pub sort: u8,
     pub place: usize,
     pub top: usize,
     pub next: Token,
+    pub sort: u8,
 }
 
 // A place of the text in an entry.
@@ -160,6 +161,7 @@ pub fn finish(
 }
 
 // Writes the end of a clause, before the token t, which ends it.
+#[inline(always)]
 pub fn ended(s: &[u8], code: &mut [u32], top: usize, op: u32, t: Token) -> Result<Found, Fault>
     ensures { ran result code.new ≡ ended_at s.now code.old top op t }
 {

@@ -109,15 +109,15 @@ fn is_marked(name: &[u8]) -> bool
 // Where the names of an assertion's text are looked up: the query's record with the places of its compliance values and of its attributes' names, and
 // the decoded constants with the places of their names.
 #[derive(Clone, Copy)]
-pub struct Scope<'a> {
+pub struct Scope<'a, 't> {
     pub query: &'a [u8],
     pub consts: &'a [u8],
-    pub values: &'a [usize],
-    pub names: &'a [usize],
-    pub constants: &'a [usize],
+    pub values: &'t [usize],
+    pub names: &'t [usize],
+    pub constants: &'t [usize],
 }
 
-impl<'a> Scope<'a> {
+impl<'a> Scope<'a, '_> {
     // What the query gives a name: the four reserved ones, then its attributes.
     fn from_reserved(&self, name: &[u8]) -> &'a [u8]
         ensures { result.now ≡ query_in self.now.query.now self.now.consts.now self.now.values.now self.now.names.now name.now }

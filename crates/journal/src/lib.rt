@@ -30,7 +30,7 @@ pub enum Refusal {
 
 impl Refusal {
     // Its number.
-    fn number(self) -> u8
+    pub fn number(self) -> u8
         ensures { result ≡ number self }
     {
         match self {

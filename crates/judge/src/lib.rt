@@ -15,8 +15,8 @@ use syntax::fault::Fault;
 // The rank and the token behind the field. A fault of reason 0 is that of buffers that are too small.
 #[derive(Clone, Copy)]
 pub struct Ranked {
-    pub rank: u8,
     pub next: Token,
+    pub rank: u8,
 }
 
 // A rank in a byte.

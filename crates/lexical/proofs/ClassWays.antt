@@ -1,7 +1,7 @@
 -- The bytes of classes by comparisons. Assumes nothing.
 use Rattle.std.specs.Prelude.{◌≡◌, Bool, ℕ, ◌<◌, eqb}
 use Rattle.std.proofs.Common.{◌∙◌}
-use Rattle.lexical.specs.Class.{class_of, BLANK, LETTER, DIGIT}
+use Rattle.lexical.specs.Class.{class_of, or, BLANK, NEWLINE, LETTER, DIGIT, HASH}
 use Rattle.lexical.specs.Working.Runs.{blank, letter, numeral, blank-class, letter-class, numeral-class, newline-class, quote-class, hash-class, nul-class}
 use Rattle.lexical.specs.Theorems.Classes.{class-rule}
 
@@ -21,3 +21,6 @@ module _ (b : ℕ) (h : b < 256) (r : Bool) where
 
   pub by-numeral : r ≡ numeral b → r ≡ eqb (class_of b) DIGIT
   by-numeral e = e ∙ numeral-class b h
+
+  pub by-break : r ≡ or (eqb b 10) (eqb b 35) → r ≡ or (eqb (class_of b) NEWLINE) (eqb (class_of b) HASH)
+  by-break e = rw (← newline-class b h, ← hash-class b h) e

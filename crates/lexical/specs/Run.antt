@@ -25,6 +25,10 @@ WORD = Word
 abbrev pub NUMERALS : Run
 NUMERALS = Numerals
 
+-- the run of a number: 0 to 3 in this order, digits from 4 on
+abbrev pub numbered : ℕ → Run
+numbered k = pick (eqb k 0) BLANKS (pick (eqb k 1) WHITE (pick (eqb k 2) FREE (pick (eqb k 3) WORD NUMERALS)))
+
 -- does a class belong to the run k?
 unfoldable pub has_class : Run → ℕ → Bool
 has_class Blanks c = eqb c BLANK

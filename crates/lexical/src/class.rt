@@ -36,11 +36,17 @@ const CLASS: [u8; 256] = [
     0, 0, 0, 0, 0, 0, 0, 0, 0,
 ];
 
-// Tests of a byte's class that need no table.
+// Tests of a byte's class that need no table. The commonest bytes leave by the first comparison: as one condition the compiler would drop it.
 pub fn is_indent(b: u8) -> bool
     ensures { result ≡ eqb (class_of b) Class.BLANK }
 {
-    b == b' ' || b == b'\t'
+    if b' ' < b {
+        return false;
+    }
+    if b == b' ' {
+        return true;
+    }
+    b == b'\t'
 }
 
 #[tactic(auto, using(crate::proofs::ClassWays::classes))]
@@ -53,7 +59,13 @@ pub fn is_newline(b: u8) -> bool
 pub fn begins_name(b: u8) -> bool
     ensures { result ≡ eqb (class_of b) Class.LETTER }
 {
-    b.is_ascii_alphabetic() || b == b'_'
+    if b < b'A' {
+        return false;
+    }
+    if b'a' <= b {
+        return b <= b'z';
+    }
+    b <= b'Z' || b == b'_'
 }
 
 pub fn begins_number(b: u8) -> bool
@@ -80,7 +92,13 @@ pub fn is_hash(b: u8) -> bool
 pub fn is_break(b: u8) -> bool
     ensures { result ≡ or (eqb (class_of b) Class.NEWLINE) (eqb (class_of b) Class.HASH) }
 {
-    is_newline(b) || is_hash(b)
+    if b'#' < b {
+        return false;
+    }
+    if is_newline(b) {
+        return true;
+    }
+    is_hash(b)
 }
 
 // The class of any byte, by the table.

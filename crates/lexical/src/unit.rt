@@ -106,6 +106,7 @@ fn escaped_at(s: &[u8], i: usize) -> Unit
 }
 
 // The unit at i.
+#[inline(always)]
 #[tactic(auto, unfolding(crate::specs::Unit::unit_at))]
 pub fn unit_at(s: &[u8], i: usize) -> Unit
     ensures { result ≡ unit_at s.now i }

@@ -1,8 +1,20 @@
 // Words in any case of letters: held against a text at a place, and the keywords.
-ghost use Rattle.std.specs.Prelude.{◌≡◌};
-ghost use Rattle.lexical.specs.Word.{stands, spells, word_true, word_false};
+ghost use Rattle.std.specs.Prelude.{◌≡◌, eqb};
+ghost use Rattle.lexical.specs.Word.{lower, stands, spells, word_true, word_false};
 
 use crate::scan::byte_at;
+
+// Is c the small one of the byte b, or b itself where that is no capital letter? Held against a letter that is known it is two comparisons, which the
+// labels of short texts need.
+#[tactic(auto, using(text::specs::Choice::tests), unfolding(crate::specs::Word::lower))]
+fn is_lower(b: u8, c: u8) -> bool
+    ensures { result ≡ eqb (lower b) c }
+{
+    if b == c {
+        return !c.is_ascii_uppercase();
+    }
+    c.is_ascii_lowercase() && b == c - 32
+}
 
 // Does the word w, in small letters, stand in s at `at` in any case? Behind the end there is NUL.
 #[tactic(auto, using(crate::proofs::WordWays::standing))]
@@ -10,7 +22,7 @@ pub fn stands_at(s: &[u8], at: usize, w: &[u8]) -> bool
     ensures { result ≡ stands s.now at w.now }
 {
     for (i, c) in w.iter().enumerate() {
-        if byte_at(s, at, i).to_ascii_lowercase() != *c {
+        if !is_lower(byte_at(s, at, i), *c) {
             return false;
         }
     }

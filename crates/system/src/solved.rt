@@ -340,7 +340,13 @@ pub fn solved(
         top: top_of(values.len()),
         start,
     };
-    if LONG < query.len() || SOME_ROWS < texts.len() {
+    // Kept: two calls, so that its tables, too, stay out of this frame.
+    if LONG < query.len() {
+        return fill_long(
+            &shared, texts, &consts, &pool, &places, &direct, index, page,
+        );
+    }
+    if SOME_ROWS < texts.len() {
         return fill_long(
             &shared, texts, &consts, &pool, &places, &direct, index, page,
         );

@@ -30,6 +30,10 @@ digit = Digit
 abbrev pub word : Class
 word = Word
 
+-- the class of a number: 0 plain, 1 digits, words from 2 on
+abbrev pub numbered : ℕ → Class
+numbered k = pick (eqb k 0) Plain (pick (eqb k 1) Digit Word)
+
 unfoldable pub in_class : Class → ℕ → Bool
 in_class Plain b = is_plain b
 in_class Digit b = is_digit b

@@ -9,7 +9,7 @@ ghost use Rattle.text.specs.Scan.{run, past};
 ghost use Rattle.text.specs.Equal.{equal};
 ghost use Rattle.text.specs.Order.{order};
 ghost use Rattle.text.specs.Copy.{copied, put, copy_at};
-ghost use Rattle.text.specs.Class.{is_digit, is_letter, is_word, in_class};
+ghost use Rattle.text.specs.Class.{is_digit, is_letter, is_word, in_class, numbered};
 ghost use Rattle.text.specs.Counted.{pair_at, counted};
 ghost use Rattle.text.specs.Put.{put_pair, put_counted};
 ghost use Rattle.text.specs.Join.{joined};
@@ -84,7 +84,26 @@ fn same_above(a: &[u8], b: &[u8], low: usize) -> bool
             return false;
         }
     }
-    i == low || same_part(a, b, i.saturating_sub(8), 8)
+    if i == low {
+        return true;
+    }
+    if i < 8 {
+        return same_part(a, b, 0, 8);
+    }
+    same_part(a, b, i - 8, 8)
+}
+
+// The same of fewer than eight bytes, from the last one on.
+fn same_few(a: &[u8], b: &[u8]) -> bool
+    requires { length a.now ≡ length b.now }
+    ensures { result ≡ equal a.now b.now }
+{
+    for i in (0..a.len()).rev() {
+        if a[i] != b[i] {
+            return false;
+        }
+    }
+    true
 }
 
 // Do both hold the same bytes? Strings that differ often share their beginnings, so the last bytes come first.
@@ -95,13 +114,14 @@ pub fn same_bytes(a: &[u8], b: &[u8]) -> bool
         return false;
     }
     if a.len() < 8 {
-        return a == b;
+        return same_few(a, b);
     }
     let k = a.len() / 64;
     same_above(a, b, k * 64) && same_below(a, b, k)
 }
 
 // The order by byte; a proper prefix is less.
+#[tactic(auto, using(crate::specs::Working::Common::order_cmp))]
 pub fn compare(a: &[u8], b: &[u8]) -> Ordering
     ensures { result ≡ order a.now b.now }
 {
@@ -109,6 +129,7 @@ pub fn compare(a: &[u8], b: &[u8]) -> Ordering
 }
 
 // Copies src into dst at a place where it fits.
+#[tactic(auto, using(crate::specs::Working::Copying::pasting))]
 fn paste(dst: &mut [u8], at: usize, src: &[u8])
     requires { (at ≤ length dst.old) × (length src.now ≤ length dst.old - at) }
     ensures { dst.new ≡ put dst.old at src.now }
@@ -142,15 +163,32 @@ pub fn is_letter(b: u8) -> bool
     b.is_ascii_alphabetic()
 }
 
-// A letter, a digit or the underscore.
+// A letter, a digit or the underscore; small letters are the commonest, and are told by two comparisons.
 #[tactic(auto, using(crate::specs::Choice::tests), unfolding(crate::specs::Class::is_word, crate::specs::Class::is_letter, crate::specs::Class::is_digit))]
 pub fn is_word(b: u8) -> bool
     ensures { result ≡ is_word b }
 {
-    b.is_ascii_alphanumeric() || b == b'_'
+    if b'a' <= b {
+        return b <= b'z';
+    }
+    if b <= b'9' {
+        return b'0' <= b;
+    }
+    b == b'_' || is_letter(b)
 }
 
 impl Class {
+    // The class of a number: plain bytes, digits, and words from 2 on.
+    pub fn numbered(k: u8) -> Class
+        ensures { result ≡ numbered k }
+    {
+        match k {
+            0 => Class::Plain,
+            1 => Class::Digit,
+            _ => Class::Word,
+        }
+    }
+
     #[tactic(auto, using(crate::specs::Choice::tests), unfolding(crate::specs::Class::in_class, crate::specs::Class::is_plain))]
     pub fn contains(self, b: u8) -> bool
         ensures { result ≡ in_class self b }
@@ -177,13 +215,16 @@ pub fn front(s: &[u8], class: Class) -> usize
 }
 
 // The end of the word that starts at a place: letters, digits and underscores.
+#[tactic(auto, using(crate::specs::Scan::scan))]
 pub fn word_end(s: &[u8], at: usize) -> usize
     ensures { result ≡ past is_word s.now at }
 {
-    if s.len() <= at {
-        return at;
+    for i in at..s.len() {
+        if !is_word(s[i]) {
+            return i;
+        }
     }
-    at + front(&s[at..], Class::Word)
+    at.max(s.len())
 }
 
 // The number in two bytes, big-endian; a byte past the end counts as 0.

@@ -62,3 +62,5 @@ unfolding put
 paste-mid d at src v e =
     let n : at + length src - at ≡ length src = omega arith in
     rw (e, n) (ap (λ (x : List ℕ). take at d ++ (src ++ x)) (drop-drop (length src) at d) ∙ sym (append_assoc (take at d) src (drop (at + length src) d)))
+
+pub ruleset pasting = (paste-mid)
