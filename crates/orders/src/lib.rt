@@ -6,14 +6,11 @@ ghost use Rattle.std.specs.Prelude.{◌≡◌, Bool, length, take};
 ghost use Rattle.text.specs.Equal.{equal};
 ghost use Rattle.expression.specs.Tables.{first_from};
 
-// Lengths first, then bytes from the front: the first alone, then in the library's groups and one by one.
+// Lengths first, then bytes from the front, in the library's groups and then one by one.
 fn same_from_front(a: &[u8], b: &[u8]) -> bool
     ensures { result ≡ equal a.now b.now }
 {
-    if a.len() != b.len() {
-        return false;
-    }
-    a.first() == b.first() && text::compare(a, b).is_eq()
+    a.len() == b.len() && text::compare(a, b).is_eq()
 }
 
 // The last byte first, then lengths, then as the answer does it.

@@ -45,18 +45,13 @@ front-same a b Greater e = front-greater a b Greater e refl
 pub long-unlike : (a b : List ℕ) → (length a ≡ length b → ⊥) → eqb (length a) (length b) ≡ equal a b
 long-unlike a b h = ne_eqb (length a) (length b) h ∙ front_long a b h
 
+-- `same_from_last`
 lasts-alike : (o p : Option (Bor ℕ)) → option_copied o ≡ option_copied p → option_eq (λ (x y : Bor ℕ). eqb x.now y.now) o p ≡ true
 lasts-alike None None e = refl
 lasts-alike None (Some y) e = cc
 lasts-alike (Some x) None e = cc
 lasts-alike (Some x) (Some y) e = let z : x.now ≡ y.now = cc in eq-eqb x.now y.now z
 
-pub first-other : (a b : List ℕ) (o p : Option (Bor ℕ)) → option_copied o ≡ slice_get a 0 → option_copied p ≡ slice_get b 0
-    → (t : Bool) → t ≡ option_eq (λ (x y : Bor ℕ). eqb x.now y.now) o p → t ≡ false → t ≡ equal a b
-first-other a b o p oe pe t te tf =
-    tf ∙ differ a b (λ e. clash (te ∙ lasts-alike o p (oe ∙ ap (λ (c : List ℕ). slice_get c 0) e ∙ sym pe)) tf)
-
--- `same_from_last`
 pub last-other : (a b : List ℕ) (o p : Option (Bor ℕ)) → option_copied o ≡ slice_get a (length a - 1) → option_copied p ≡ slice_get b (length b - 1)
     → (t : Bool) → t ≡ option_eq (λ (x y : Bor ℕ). eqb x.now y.now) o p → t ≡ false → t ≡ equal a b
 last-other a b o p oe pe t te tf =
