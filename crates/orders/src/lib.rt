@@ -2,15 +2,46 @@
 // the others stand here to be measured beside it and serve nothing else.
 #![tactic(auto)]
 
-ghost use Rattle.std.specs.Prelude.{◌≡◌, Bool, length, take};
+ghost use Rattle.std.specs.Prelude.{◌≡◌, ◌<◌, ◌≤◌, ◌%◌, Bool, false, length, take, MatchOption};
 ghost use Rattle.text.specs.Equal.{equal};
 ghost use Rattle.expression.specs.Tables.{first_from};
 
-// Lengths first, then bytes from the front, in the library's groups and then one by one.
+// What is behind the blocks of N bytes of two strings of one length, or nothing where a block differs.
+fn behind_blocks<'a, const N: usize>(a: &'a [u8], b: &'a [u8]) -> Option<(&'a [u8], &'a [u8])>
+    requires { (0 < N) × (N ≤ 64) × (length a.now ≡ length b.now) }
+    ensures { MatchOption result (false ≡ equal a.now b.now) (λ r. (equal r.0.now r.1.now ≡ equal a.now b.now) × (length r.0.now ≡ length a.now % N) × (length r.1.now ≡ length a.now % N)) }
+{
+    let (these, rest) = a.as_chunks::<N>();
+    let (those, other) = b.as_chunks::<N>();
+    for k in 0..these.len() {
+        if these[k] != those[k] {
+            return None;
+        }
+    }
+    Some((rest, other))
+}
+
+// Lengths first, then bytes from the front: the first eight, in which most names differ, then all in blocks of 64, of eight and of one. Names below ten
+// bytes are held byte by byte; below a smaller bound the compiler lays that loop out flat, and the search then branches on every length that it reads.
 fn same_from_front(a: &[u8], b: &[u8]) -> bool
     ensures { result ≡ equal a.now b.now }
 {
-    a.len() == b.len() && text::compare(a, b).is_eq()
+    if a.len() != b.len() {
+        return false;
+    }
+    if a.len() < 10 {
+        return behind_blocks::<1>(a, b).is_some();
+    }
+    if !a.starts_with(&b[..8]) {
+        return false;
+    }
+    let Some((a, b)) = behind_blocks::<64>(a, b) else {
+        return false;
+    };
+    let Some((a, b)) = behind_blocks::<8>(a, b) else {
+        return false;
+    };
+    behind_blocks::<1>(a, b).is_some()
 }
 
 // The last byte first, then lengths, then as the answer does it.

@@ -15,10 +15,11 @@ use Rattle.text.specs.Working.Backward.{same-unlike, same-like}
 pub differ : (a b : List ℕ) → (a ≡ b → ⊥) → false ≡ equal a b
 differ a b h = split (equal a b) (λ e. absurd (h (equal-true a b e))) (λ e. sym e)
 
--- `same_from_front`
+-- lengths that differ
 pub front_long : (a b : List ℕ) → (length a ≡ length b → ⊥) → false ≡ equal a b
 front_long a b h = differ a b (λ e. h (ap length e))
 
+-- what the order of two names says of their equality
 abbrev is_equal : Order → Bool
 is_equal Less = false
 is_equal Equal = true
