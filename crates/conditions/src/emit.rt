@@ -11,14 +11,14 @@ use syntax;
 use syntax::fault::{Fault, misplaced};
 
 // What was read: its sort, the place of a bare word that is not settled yet, the end of the code, and the token behind it. A fault of
-// reason 0 is that of a reader that was given too little. The byte stands last: where a fault has its first word, the compiler would carry the
-// bytes beside it along.
+// reason 0 is that of a reader that was given too little. The sort is a whole word, as the reason of a fault is: a copy of a byte and of what is
+// beside it waits for the stores of both.
 #[derive(Clone, Copy)]
 pub struct Found {
     pub place: usize,
     pub top: usize,
     pub next: Token,
-    pub sort: u8,
+    pub sort: usize,
 }
 
 // A place of the text in an entry.
@@ -55,7 +55,7 @@ pub fn push(code: &mut [u32], top: usize, op: u32, at: usize) -> usize
 }
 
 // Writes a bare word as the test or the string that is wanted; anything else is written already.
-pub fn write_word(code: &mut [u32], top: usize, wanted: u8, sort: u8, place: usize) -> usize
+pub fn write_word(code: &mut [u32], top: usize, wanted: usize, sort: usize, place: usize) -> usize
     ensures value { result ≡ word_top code.old top sort }
     ensures code_after { code.new ≡ word_written code.old top wanted sort place }
 {
@@ -72,7 +72,7 @@ pub fn write_word(code: &mut [u32], top: usize, wanted: u8, sort: u8, place: usi
 }
 
 // Writes a bare word as what the operator takes.
-pub fn write_word_for(code: &mut [u32], top: usize, op: u32, sort: u8, place: usize) -> usize
+pub fn write_word_for(code: &mut [u32], top: usize, op: u32, sort: usize, place: usize) -> usize
     ensures value { result ≡ word_top code.old top sort }
     ensures code_after { code.new ≡ word_written code.old top (operand_of op) sort place }
 {
@@ -95,7 +95,7 @@ pub fn finish_any(
     code: &mut [u32],
     top: usize,
     op: u32,
-    sort: u8,
+    sort: usize,
     place: usize,
     next: Token,
 ) -> Result<Found, Fault>
@@ -120,7 +120,7 @@ pub fn finish_prefix(
     code: &mut [u32],
     top: usize,
     op: u32,
-    sort: u8,
+    sort: usize,
     place: usize,
     next: Token,
 ) -> Result<Found, Fault>
@@ -135,7 +135,7 @@ pub fn finish(
     code: &mut [u32],
     top: usize,
     op: u32,
-    sort: u8,
+    sort: usize,
     place: usize,
     next: Token,
 ) -> Result<Found, Fault>
@@ -183,7 +183,7 @@ pub fn valued(
     s: &[u8],
     code: &mut [u32],
     top: usize,
-    sort: u8,
+    sort: usize,
     place: usize,
     t: Token,
 ) -> Result<Found, Fault>
@@ -197,7 +197,7 @@ pub fn valued(
 }
 
 // Past the closing bracket t.
-pub fn closed(s: &[u8], sort: u8, place: usize, top: usize, t: Token) -> Result<Found, Fault>
+pub fn closed(s: &[u8], sort: usize, place: usize, top: usize, t: Token) -> Result<Found, Fault>
     ensures { result ≡ closed_at s.now sort place top t }
 {
     if t.kind != kind::CLOSE {

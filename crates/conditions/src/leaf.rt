@@ -38,7 +38,7 @@ fn literal(s: &[u8], code: &mut [u32], top: usize, t: Token) -> Result<Found, Fa
 }
 
 // The sort of a name: the bare words true and false are not settled yet.
-fn sort_of_name(s: &[u8], want: u8, start: usize, end: usize) -> u8
+fn sort_of_name(s: &[u8], want: usize, start: usize, end: usize) -> usize
     ensures { result ≡ word_sort s.now want start end }
 {
     if want != ANY {
@@ -54,7 +54,7 @@ fn sort_of_name(s: &[u8], want: u8, start: usize, end: usize) -> u8
 }
 
 // A name.
-fn name(s: &[u8], code: &mut [u32], top: usize, want: u8, t: Token) -> Result<Found, Fault>
+fn name(s: &[u8], code: &mut [u32], top: usize, want: usize, t: Token) -> Result<Found, Fault>
     ensures { ran result code.new ≡ name_read s.now code.old top want t }
 {
     let w = sort_of_name(s, want, t.start, t.end);
@@ -127,7 +127,7 @@ fn float(s: &[u8], code: &mut [u32], top: usize, t: Token) -> Result<Found, Faul
 }
 
 // A token that may stand as an operand and is neither a prefix operator nor a bracket.
-pub fn leaf(s: &[u8], code: &mut [u32], top: usize, want: u8, t: Token) -> Result<Found, Fault>
+pub fn leaf(s: &[u8], code: &mut [u32], top: usize, want: usize, t: Token) -> Result<Found, Fault>
     ensures { ran result code.new ≡ leaf_read s.now code.old top want t }
 {
     if t.kind == kind::LITERAL {

@@ -51,7 +51,7 @@ fn tested(
     code: &mut [u32],
     top: usize,
     nest: usize,
-    sort: u8,
+    sort: usize,
     place: usize,
     t: Token,
     d: usize,

@@ -8,26 +8,26 @@ ghost use Rattle.conditions.specs.Working.Numbered.{allows, begins, inside_level
 use lexical::kind;
 use syntax;
 
-pub const ANY: u8 = 0;
+pub const ANY: usize = 0;
 
-pub const TEXT: u8 = 1;
+pub const TEXT: usize = 1;
 
-pub const INTEGER: u8 = 2;
+pub const INTEGER: usize = 2;
 
-pub const FLOAT: u8 = 3;
+pub const FLOAT: usize = 3;
 
-pub const NUMBER: u8 = 4;
+pub const NUMBER: usize = 4;
 
-pub const TEST: u8 = 0;
+pub const TEST: usize = 0;
 
-pub const TRUE: u8 = 4;
+pub const TRUE: usize = 4;
 
-pub const FALSE: u8 = 5;
+pub const FALSE: usize = 5;
 
 pub const NONE: u32 = 0;
 
 // May a token of this kind stand where this is wanted?
-pub fn is_allowed(want: u8, k: usize) -> bool
+pub fn is_allowed(want: usize, k: usize) -> bool
     ensures { result ≡ allows want k }
 {
     if k == kind::OPEN {
@@ -46,7 +46,7 @@ pub fn is_allowed(want: u8, k: usize) -> bool
 }
 
 // The same where a number or anything is wanted.
-fn is_begun(want: u8, k: usize) -> bool
+fn is_begun(want: usize, k: usize) -> bool
     ensures { result ≡ begins want k }
 {
     if is_number(k) {
@@ -219,7 +219,7 @@ pub fn test_operator(k: usize) -> u32
 }
 
 // The operator behind what was read, or NONE.
-pub fn operator_of(sort: u8, k: usize) -> u32
+pub fn operator_of(sort: usize, k: usize) -> u32
     ensures { result ≡ operator sort k }
 {
     if sort == INTEGER {
@@ -264,7 +264,7 @@ pub fn prefix_operator(k: usize) -> u32
 }
 
 // Unary "-" is that of what stands behind it.
-pub fn prefix_of(op: u32, sort: u8) -> u32
+pub fn prefix_of(op: u32, sort: usize) -> u32
     ensures { result ≡ prefix_of op sort }
 {
     if op == syntax::NEGATE {
@@ -322,7 +322,7 @@ fn level_above(op: u32) -> u8
 }
 
 // What an operator takes.
-pub fn operand_of(op: u32) -> u8
+pub fn operand_of(op: u32) -> usize
     ensures { result ≡ operand_of op }
 {
     if syntax::JOIN < op {
@@ -344,7 +344,7 @@ pub fn operand_of(op: u32) -> u8
 }
 
 // The same of a comparison, of an operator of floats or of tests.
-fn operand_above(op: u32) -> u8
+fn operand_above(op: u32) -> usize
     ensures { result ≡ operand_above op }
 {
     if syntax::MATCHES < op {
@@ -360,7 +360,7 @@ fn operand_above(op: u32) -> u8
 }
 
 // What an operator gives.
-pub fn result_of(op: u32) -> u8
+pub fn result_of(op: u32) -> usize
     ensures { result ≡ result_of op }
 {
     if syntax::JOIN < op {
@@ -385,7 +385,7 @@ pub fn result_of(op: u32) -> u8
 }
 
 // The same of a comparison, of an operator of floats or of tests.
-fn result_above(op: u32) -> u8
+fn result_above(op: u32) -> usize
     ensures { result ≡ result_above op }
 {
     if syntax::AT_LEAST < op {
@@ -408,7 +408,7 @@ pub fn operand_level(op: u32) -> u8
 }
 
 // What is wanted behind a prefix operator.
-pub fn operand_want(op: u32, want: u8) -> u8
+pub fn operand_want(op: u32, want: usize) -> usize
     ensures { result ≡ operand_want op want }
 {
     if op == syntax::OPPOSITE {
@@ -427,7 +427,7 @@ pub fn operand_want(op: u32, want: u8) -> u8
 }
 
 // What is wanted to the right of an operator.
-pub fn right_want(op: u32) -> u8
+pub fn right_want(op: u32) -> usize
     ensures { result ≡ right_want op }
 {
     operand_of(op)
@@ -451,7 +451,7 @@ pub fn is_loose(level: u8, op: u32) -> bool
 }
 
 // How far what stands in brackets reaches.
-pub fn inside_level(want: u8) -> u8
+pub fn inside_level(want: usize) -> u8
     ensures { result ≡ inside_level want }
 {
     if want == ANY {
@@ -461,7 +461,7 @@ pub fn inside_level(want: u8) -> u8
 }
 
 // Is what was read of this sort, or a bare word that can become it?
-pub fn is_fit(wanted: u8, sort: u8) -> bool
+pub fn is_fit(wanted: usize, sort: usize) -> bool
     ensures { result ≡ fits wanted sort }
 {
     if sort == wanted {

@@ -1,6 +1,7 @@
 // Sets of places of a pattern, and what is known of a part of one.
 ghost use Rattle.std.specs.Prelude.{◌≡◌};
 ghost use Rattle.pattern.specs.Working.Places as P;
+ghost use Rattle.pattern.specs.Working.Skip as K;
 
 // A set of places of a pattern: 256 bits.
 // Kept: four fields and no array, since each word goes with constant bounds of its own (`link`, `step`), which a loop would compute.
@@ -178,4 +179,15 @@ pub fn or_empty(f: Part) -> Part
         ne: true,
         ..f
     }
+}
+
+// Word by word: the derived equality reads two words at once, and waits until both are stored.
+#[tactic(auto, using(text::specs::Choice::tests), unfolding(crate::specs::Working::Skip::same_places))]
+pub fn same_places(x: Places, y: Places) -> bool
+    ensures { result ≡ K.same_places x y }
+{
+    if x.a != y.a || x.b != y.b || x.c != y.c {
+        return false;
+    }
+    x.d == y.d
 }

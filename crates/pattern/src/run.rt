@@ -4,7 +4,7 @@ ghost use Rattle.pattern.specs.Working.Sim as M;
 ghost use Rattle.pattern.specs.Working.Skip as K;
 
 use crate::atoms::accepts_at;
-use crate::places::{Part, Places, join};
+use crate::places::{Part, Places, join, same_places};
 use crate::rows::row;
 
 // The places that come next, and 1 where a match ends here.
@@ -123,7 +123,7 @@ impl Pattern<'_> {
     fn is_idle(&self, x: Swept) -> bool
         ensures { result ≡ K.idle x self.now.whole.fm }
     {
-        x.hit == 0 && x.places == self.whole.fm
+        x.hit == 0 && same_places(x.places, self.whole.fm)
     }
 
     // Marks the bytes at which no match begins inside a string.
@@ -140,7 +140,7 @@ impl Pattern<'_> {
     fn skip_from(&self, m: &[bool; 256], s: &[u8], i: usize, at: Places) -> usize
         ensures { result ≡ K.skip_from m.now s.now i at self.now.whole.fm }
     {
-        if at == self.whole.fm {
+        if same_places(at, self.whole.fm) {
             skip(m, s, i)
         } else {
             i

@@ -1,8 +1,10 @@
-use Rattle.pattern.specs.Working.Skip.{way-from-skip, way-from-here}
+use Rattle.pattern.specs.Working.Skip.{same_places, way-from-skip, way-from-here}
 use Rattle.pattern.proofs.run.Pattern.skip_from.Goals as goal
 
-pub returns-then-eq : goal.returns-then-eq
-returns-then-eq c = search way-from-skip
+pub returns-then-same_places : goal.returns-then-same_places
+unfolding same_places
+returns-then-same_places c = search way-from-skip
 
-pub returns-else-eq : goal.returns-else-eq
-returns-else-eq c = search way-from-here
+pub returns-else-same_places : goal.returns-else-same_places
+unfolding same_places
+returns-else-same_places c = search way-from-here
