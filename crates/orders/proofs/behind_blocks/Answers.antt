@@ -2,6 +2,7 @@ use Rattle.std.proofs.Common.{rules, arith, ◌≡◌, ◌<◌, ◌*◌, ◌/◌
 use Rattle.orders.specs.Working.Blocks.{block-is, blocks-unlike, blocks-like, blocks_done}
 use Rattle.orders.proofs.behind_blocks.Goals as goal
 
+-- Block k of either is a part of it, so the parts in front of it grow by one block a turn; what is behind all of them decides the rest.
 pub as_chunks-requires : goal.as_chunks-requires
 as_chunks-requires g c = (omega (arith, c.requires), c.requires.0)
 
