@@ -419,7 +419,8 @@ fn installed_under_two_names() {
         fs::write(folder.join(file), content).expect("a file");
     }
     fs::create_dir_all(folder.join("tools")).expect("a folder");
-    fs::copy(common::root().join("tools/install"), folder.join("tools/install")).expect("a copy");
+    // A link and no copy: a program that was just written can't be started while the child of another test still has it open.
+    fs::hard_link(common::root().join("tools/install"), folder.join("tools/install")).expect("a link");
     let install = || Command::new(folder.join("tools/install")).arg(folder.join("bin")).output().expect("a shell");
     assert!(install().status.success());
     let read = |name: &str| {
@@ -430,6 +431,7 @@ fn installed_under_two_names() {
     assert_eq!((read("lampsickle"), read("lampsickle-record")), ("command line".into(), "record".into()));
     fs::remove_file(folder.join("target/bin/lampsickle")).expect("a file");
     assert!(!install().status.success());
+    fs::remove_dir_all(folder).expect("an end");
 }
 
 #[test]
