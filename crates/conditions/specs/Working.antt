@@ -16,3 +16,4 @@ pub mod PaceProgram
 pub mod Keeping
 pub mod Compiled
 pub mod Behind
+pub mod Sorts

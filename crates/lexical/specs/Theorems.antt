@@ -7,6 +7,7 @@ pub mod Examples
 pub mod KindLaws
 pub mod LineLaws
 pub mod LiteralLaws
+pub mod Marked
 pub mod TokenExamples
 pub mod TokenLaws
 pub mod TokensLaws

@@ -1,5 +1,5 @@
 // Scanning by an index: the byte some way on, and the end of a run of bytes.
-ghost use Rattle.std.specs.Prelude.{◌≡◌, ◌+◌, Bool, ℕ, get_or};
+ghost use Rattle.std.specs.Prelude.{◌≡◌, ◌+◌, Bool, false, ℕ, get_or};
 ghost use Rattle.text.specs.Scan.{past};
 ghost use Rattle.lexical.specs.Run.{in_run, numbered};
 ghost use Rattle.lexical.specs.Tests.{Tests};
@@ -57,6 +57,13 @@ impl Run {
     {
         end_of(s, at, |b| self.has(b))
     }
+}
+
+// The end of the bytes from `at` on that are marked. Any other test goes as the table of its answers (`marked-alike`).
+pub fn end_marked(s: &[u8], at: usize, marks: &[bool; 256]) -> usize
+    ensures { result ≡ past (λ b. get_or marks.now b false) s.now at }
+{
+    end_of(s, at, |b| marks[usize::from(b)])
 }
 
 // The end of the bytes from `at` on that pass a test.

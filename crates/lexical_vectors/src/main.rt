@@ -173,3 +173,19 @@ fn main(rt: HostRuntime) -> io::Result<()> {
     let mut text = large_buffer();
     show_all(&mut out, &file[..size], &mut text)
 }
+
+#[cfg(test)]
+mod tests {
+    use lexical::scan::end_marked;
+
+    // The table marks two bytes, the highest one among them.
+    #[test]
+    fn ends_at_a_byte_that_is_not_marked(rt: HostRuntime) {
+        let mut marks = [false; 256];
+        marks[97] = true;
+        marks[255] = true;
+        for (at, end) in [(0, 3), (2, 3), (3, 3), (4, 4), (9, 9)] {
+            assert_eq!(rt; end_marked(b"aa\xffb", at, &marks), end, "at {at}");
+        }
+    }
+}
