@@ -4,9 +4,9 @@ use Rattle.std.proofs.Common.{ap, ◌∙◌, sym, arith, get_or-drop}
 use borrow.Author.Tests.{ne_eqb}
 use Rattle.text.specs.Scan.{run, past}
 
-run-alike : (p q : ℕ → Bool) (xs : List ℕ) → ((i : ℕ) → p (get_or xs i 0) ≡ q (get_or xs i 0)) → run p xs ≡ run q xs
-run-alike p q [] h = refl
-run-alike p q (x ∷ xs) h = rw (h 0, run-alike p q xs (λ i. h (suc i))) refl
+elements-alike : (p q : ℕ → Bool) (xs : List ℕ) → ((i : ℕ) → p (get_or xs i 0) ≡ q (get_or xs i 0)) → run p xs ≡ run q xs
+elements-alike p q [] h = refl
+elements-alike p q (x ∷ xs) h = rw (h 0, elements-alike p q xs (λ i. h (suc i))) refl
 
 -- where the table has the test's answer for each byte, runs of bytes end alike
 pub marked-alike : (p : ℕ → Bool) (m : List Bool) → ((b : ℕ) → b < 256 → get_or m b false ≡ p b) → (s : List ℕ) → ((i : ℕ) → get_or s i 0 < 256) → (at : ℕ)
@@ -14,7 +14,7 @@ pub marked-alike : (p : ℕ → Bool) (m : List Bool) → ((b : ℕ) → b < 256
 unfolding past
 marked-alike p m f s h at =
     ap (λ (k : ℕ). at + k)
-    (run-alike (λ b. get_or m b false) p (drop at s) (λ i. ap (λ (b : ℕ). get_or m b false) (get_or-drop at s i 0) ∙ f (get_or s (at + i) 0) (h (at + i)) ∙ ap p (sym (get_or-drop at s i 0))))
+    (elements-alike (λ b. get_or m b false) p (drop at s) (λ i. ap (λ (b : ℕ). get_or m b false) (get_or-drop at s i 0) ∙ f (get_or s (at + i) 0) (h (at + i)) ∙ ap p (sym (get_or-drop at s i 0))))
 
 -- an instance: 0 is marked, and 0 passes
 zero-alone : (b : ℕ) → b < 256 → get_or (true ∷ []) b false ≡ eqb b 0
